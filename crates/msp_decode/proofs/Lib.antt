@@ -1,0 +1,4 @@
+mod TableLemmas
+mod HeadLemmas
+mod IllegalLemmas
+mod WordLemmas

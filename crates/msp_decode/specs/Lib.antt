@@ -1,0 +1,8 @@
+pub mod Tables
+pub mod Spelling
+pub mod Fields
+pub mod Heads
+pub mod Completion
+pub mod Following
+pub mod Faults
+pub mod Laws

@@ -1,0 +1,60 @@
+ghost use Rattle.std.specs.Prelude.{◌≡◌, ◌<◌};
+
+/// When a jump is taken: by Z, by C, by N, by N and V, or always.
+#[derive(Clone, Copy, Debug, PartialEq, Eq)]
+pub enum Cond {
+    /// Z is 0.
+    Ne,
+    /// Z is 1.
+    Eq,
+    /// C is 0.
+    Nc,
+    /// C is 1.
+    C,
+    /// N is 1.
+    N,
+    /// N is V.
+    Ge,
+    /// N differs from V.
+    L,
+    Always,
+}
+
+impl Cond {
+    ghost use Rattle.msp_decode.specs.Tables.{cond_number};
+    ghost use Rattle.msp_decode.specs.Fields.{cond_of};
+
+    /// The condition's number in a jump's word.
+    pub(crate) fn number(self) -> u16
+        ensures value { result ≡ cond_number self }
+        ensures fits { result < 8 }
+    {
+        match self {
+            Cond::Ne => 0,
+            Cond::Eq => 1,
+            Cond::Nc => 2,
+            Cond::C => 3,
+            Cond::N => 4,
+            Cond::Ge => 5,
+            Cond::L => 6,
+            Cond::Always => 7,
+        }
+    }
+
+    /// The condition of a number.
+    pub(crate) fn from_number(number: u16) -> Cond
+        requires { number < 8 }
+        ensures { result ≡ cond_of number }
+    {
+        match number {
+            0 => Cond::Ne,
+            1 => Cond::Eq,
+            2 => Cond::Nc,
+            3 => Cond::C,
+            4 => Cond::N,
+            5 => Cond::Ge,
+            6 => Cond::L,
+            _ => Cond::Always,
+        }
+    }
+}

@@ -1,0 +1,79 @@
+ghost use Rattle.std.specs.Prelude.{◌≡◌, ◌<◌};
+
+/// A register. R0 is the program counter, R1 the stack pointer, R2 the status register and first
+/// constant generator, R3 the second constant generator.
+#[derive(Clone, Copy, Debug, PartialEq, Eq)]
+pub enum Reg {
+    R0,
+    R1,
+    R2,
+    R3,
+    R4,
+    R5,
+    R6,
+    R7,
+    R8,
+    R9,
+    R10,
+    R11,
+    R12,
+    R13,
+    R14,
+    R15,
+}
+
+impl Reg {
+    ghost use Rattle.msp_decode.specs.Tables.{reg_number};
+    ghost use Rattle.msp_decode.specs.Fields.{reg_of};
+
+    /// The register's number, 0 to 15.
+    pub fn number(self) -> u16
+        ensures value { result ≡ reg_number self }
+        ensures fits { result < 16 }
+    {
+        match self {
+            Reg::R0 => 0,
+            Reg::R1 => 1,
+            Reg::R2 => 2,
+            Reg::R3 => 3,
+            Reg::R4 => 4,
+            Reg::R5 => 5,
+            Reg::R6 => 6,
+            Reg::R7 => 7,
+            Reg::R8 => 8,
+            Reg::R9 => 9,
+            Reg::R10 => 10,
+            Reg::R11 => 11,
+            Reg::R12 => 12,
+            Reg::R13 => 13,
+            Reg::R14 => 14,
+            Reg::R15 => 15,
+        }
+    }
+
+    /// The register of a number.
+    pub fn from_number(number: u16) -> Reg
+        requires { number < 16 }
+        ensures value { result ≡ reg_of number }
+        ensures back { reg_number result ≡ number }
+    {
+        match number {
+            0 => Reg::R0,
+            1 => Reg::R1,
+            2 => Reg::R2,
+            3 => Reg::R3,
+            4 => Reg::R4,
+            5 => Reg::R5,
+            6 => Reg::R6,
+            7 => Reg::R7,
+            8 => Reg::R8,
+            9 => Reg::R9,
+            10 => Reg::R10,
+            11 => Reg::R11,
+            12 => Reg::R12,
+            13 => Reg::R13,
+            14 => Reg::R14,
+            _ => Reg::R15,
+        }
+    }
+}

@@ -1,0 +1,59 @@
+ghost use Rattle.std.specs.Prelude.{◌≡◌, ◌∷◌, ◌≤◌, length, slice_get};
+ghost use Rattle.msp_decode.specs.Following.{following_words};
+
+use crate::following::Following;
+use std::marker::Model;
+
+/// The 1 to 3 words of an instruction, the extension words after the first.
+#[derive(Clone, Copy, Debug, PartialEq, Eq)]
+pub struct Words {
+    first: u16,
+    following: Following,
+}
+
+impl Model for Words {
+    ghost use Rattle.std.specs.Prelude.{◌≡◌, ◌∷◌, ℕ, List, slice_index, drop};
+    ghost use Rattle.std.proofs.Common.{ap};
+    ghost use Rattle.msp_decode.specs.Following.{following_words, following_of, following_of-following_words};
+
+    ghost Value = { List ℕ };
+
+    ghost view = { λ words. words.first ∷ following_words words.following };
+
+    ghost inverse = { λ words. record { first = slice_index words 0; following = following_of (drop 1 words) } };
+
+    ghost inverse_ok = { λ words _. ap (λ f. record { first = words.first; following = f }) (following_of-following_words words.following) };
+}
+
+impl Words {
+    pub(crate) fn new(first: u16, following: Following) -> Words
+        ensures { result ≡ first ∷ following_words following }
+    {
+        Words { first, following }
+    }
+
+    /// The number of words.
+    pub fn len(&self) -> usize
+        ensures value { result ≡ length self.now }
+        ensures least { 1 ≤ result }
+        ensures most { result ≤ 3 }
+    {
+        match self.following {
+            Following::Nothing => 1,
+            Following::One(_) => 2,
+            Following::Two(..) => 3,
+        }
+    }
+
+    /// The word at an index from 0; `None` past the last.
+    pub fn get(&self, i: usize) -> Option<u16>
+        ensures { result ≡ slice_get self.now i }
+    {
+        match (i, self.following) {
+            (0, _) => Some(self.first),
+            (1, Following::One(second) | Following::Two(second, _)) => Some(second),
+            (2, Following::Two(_, third)) => Some(third),
+            _ => None,
+        }
+    }
+}

@@ -1,0 +1,26 @@
+-- Sums of binary-coded decimals, one nibble a decimal place.
+use Rattle.std.specs.Prelude.{◌+◌, ◌*◌, ◌/◌, ◌%◌, ℕ, zero, suc, Bool, nat_lt, nat_le, if◌then◌else◌}
+use Rattle.word_arith.specs.declared.sizes.Size.{Size}
+use Rattle.word_arith.specs.declared.sizes.Size.TheVariants.{Byte, Word}
+use Rattle.word_arith.specs.Numbers.{number_of}
+
+-- the sum of the lowest decimal place, with the carry in
+abbrev pub lowest_sum : ℕ → ℕ → Bool → ℕ
+lowest_sum left right carry = left % 16 + right % 16 + number_of carry
+
+-- a sum below 10 is the digit; one of 10 or more is corrected by 6, and carries
+abbrev pub digit_of : ℕ → ℕ
+digit_of sum = if nat_lt sum 10 then sum else (sum + 6) % 16
+
+-- the lowest `places` decimal places of two numbers and a carry, and the carry out of them
+abbrev pub decimal_places : ℕ → ℕ → ℕ → Bool → ℕ × Bool
+decimal_places zero left right carry = (0, carry)
+decimal_places (suc places) left right carry =
+    let sum : ℕ = lowest_sum left right carry in
+    let higher : ℕ × Bool = decimal_places places (left / 16) (right / 16) (nat_le 10 sum) in
+    (higher.0 * 16 + digit_of sum, higher.1)
+
+-- a byte has two decimal places, a word has four
+abbrev pub decimal_sum : Size → ℕ → ℕ → Bool → ℕ × Bool
+decimal_sum Byte src dst carry = decimal_places 2 src dst carry
+decimal_sum Word src dst carry = decimal_places 4 src dst carry

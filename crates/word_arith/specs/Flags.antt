@@ -1,0 +1,10 @@
+-- The flags that a result has.
+use Rattle.std.specs.Prelude.{ℕ, Bool, ◌==◌}
+use Rattle.word_arith.specs.declared.sizes.Size.{Size}
+use Rattle.word_arith.specs.declared.flags.Flags.{Flags}
+use Rattle.word_arith.specs.Numbers.{is_negative}
+
+-- N is the result's top bit, Z is set where the result is 0; C and V are the operation's own
+abbrev pub flags_of : Size → ℕ → Bool → Bool → Flags
+flags_of size outcome carry overflow =
+    record { c = carry; z = outcome == 0; n = is_negative size outcome; v = overflow }

@@ -1,0 +1,33 @@
+-- Operands of 8 or 16 bits as whole numbers.
+use Rattle.std.specs.Prelude.{◌-◌, ◌/◌, ◌%◌, ℕ, Bool, true, false, nat_le}
+use Rattle.word_arith.specs.declared.sizes.Size.{Size}
+use Rattle.word_arith.specs.declared.sizes.Size.TheVariants.{Byte, Word}
+
+-- how many numbers there are of a size: an operand is below it
+abbrev pub span : Size → ℕ
+span Byte = 256
+span Word = 65536
+
+-- the operand of a size in a word: the low byte, or the whole word
+abbrev pub low_part : Size → ℕ → ℕ
+low_part size word = word % span size
+
+-- all bits inverted
+abbrev pub inverse : Size → ℕ → ℕ
+inverse size operand = span size - 1 - operand
+
+-- the top bit is set, so that the operand stands for a negative number
+abbrev pub is_negative : Size → ℕ → Bool
+is_negative size operand = nat_le (span size / 2) operand
+
+-- a carry as a number to add
+abbrev pub number_of : Bool → ℕ
+number_of true = 1
+number_of false = 0
+
+-- two signs agree
+abbrev pub alike : Bool → Bool → Bool
+alike true true = true
+alike true false = false
+alike false true = false
+alike false false = true

@@ -1,0 +1,25 @@
+/// An operation of two operands, by its mnemonic.
+#[derive(Clone, Copy, Debug, PartialEq, Eq)]
+pub enum Op2 {
+    Mov,
+    Add,
+    Addc,
+    Subc,
+    Sub,
+    Cmp,
+    Dadd,
+    Bit,
+    Bic,
+    Bis,
+    Xor,
+    And,
+}
+
+/// An operation of one operand that gives a result, by its mnemonic.
+#[derive(Clone, Copy, Debug, PartialEq, Eq)]
+pub enum Op1 {
+    Rrc,
+    Swpb,
+    Rra,
+    Sxt,
+}
