@@ -1,0 +1,23 @@
+/// The bounds of the executable region and the output region (APEX's ERmin, ERmax, ORmin and ORmax):
+/// addresses of their first and last words.
+#[derive(Clone, Copy, Debug, PartialEq, Eq)]
+pub struct Bounds {
+    pub er_min: u16,
+    pub er_max: u16,
+    pub or_min: u16,
+    pub or_max: u16,
+}
+
+/// An attestation report, as seen in the device's memory.
+#[derive(Clone, Copy, Debug)]
+pub struct ReportView<'a> {
+    /// The step that finished the call.
+    pub step: u64,
+    /// The EXEC flag.
+    pub exec: bool,
+    pub chal: [u8; 32],
+    pub bounds: Bounds,
+    /// The bytes of the output region, where the bounds are valid.
+    pub output: Option<&'a [u8]>,
+    pub mac: [u8; 32],
+}

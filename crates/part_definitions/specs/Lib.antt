@@ -1,0 +1,11 @@
+pub mod Dma
+pub mod Instruction
+pub mod Interrupts
+pub mod Memory
+pub mod Metadata
+pub mod NextAccess
+pub mod Pins
+pub mod Registers
+pub mod Serial
+pub mod Timer
+pub mod Words
