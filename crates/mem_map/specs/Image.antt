@@ -1,0 +1,15 @@
+-- An image as a finite map.
+use Rattle.std.specs.Prelude.{ℕ, Option, None, List, slice_index, slice_index_or, unwrap_or}
+use Rattle.part_definitions.specs.Memory.{PowerOn}
+use Rattle.mem_map.specs.declared.images.Image.{Image}
+
+-- the byte at a place, or nothing
+abbrev pub byte_in : Image → ℕ → Option ℕ
+byte_in image place = slice_index_or image.bytes.items place None
+
+-- powered on with a key and an image
+abbrev pub powered_with : List ℕ → (ℕ → Option ℕ) → PowerOn
+powered_with key image = record { key = λ i. slice_index key i; image = λ place. unwrap_or (image place) 0 }
+
+abbrev pub powered_on : List ℕ → Image → PowerOn
+powered_on key image = powered_with key (byte_in image)

@@ -1,0 +1,15 @@
+//! The memory of the device and the image that it is powered on with.
+//!
+//! An [`Image`] is a finite map from places to bytes. A [`Memory`] holds at each place the byte that
+//! was last written there, else the image's, the key's or the one that the memory map fixes.
+#![tactic(auto)]
+
+mod contents;
+mod images;
+mod places;
+
+pub use contents::Memory;
+pub use images::Image;
+
+#[cfg(test)]
+mod tests;
