@@ -1,0 +1,11 @@
+-- Which histories the serial port stands for.
+use Rattle.std.specs.Prelude.{◌≡◌, List}
+use Rattle.word_register.specs.Holding.{HoldsWrites}
+use Rattle.part_definitions.specs.Serial.{SerialEvent, SERIAL_CONTROL, serial_writes, waiting, dropped}
+use Rattle.serial_port.specs.declared.ports.Serial.{Serial}
+
+-- the port is as these events, newest first, left it
+pub record SerialStandsFor (port : Serial) (events : List SerialEvent) : Type 0 where
+  pub same_control : HoldsWrites port.control SERIAL_CONTROL (serial_writes events)
+  pub same_waiting : port.queue.items ≡ waiting events
+  pub same_dropped : port.dropped ≡ dropped events
