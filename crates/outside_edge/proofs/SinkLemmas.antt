@@ -1,0 +1,38 @@
+-- What a sink has taken after one more piece, and of several texts.
+use Rattle.std.proofs.Common.{◌+◌, ◌-◌, ℕ, List, ◌++◌, length, take, drop, append_assoc, arith, length-append}
+use Rattle.std.proofs.lemmas.List.{take_rest, take-append-le}
+use Rattle.std.proofs.Math.Seq.{take-add, take-append-add}
+use Rattle.outside_edge.specs.Sinks.{Takes, TakesFront}
+
+-- a front of the rest after a front is a longer front
+pub takes_more : {S : Type 0} (stands : S → List ℕ → Type 0) (old mid new : S) (bytes : List ℕ) (at n : ℕ)
+    → Takes stands old mid (take at bytes) → Takes stands mid new (take n (take (length bytes - at) (drop at bytes)))
+    → Takes stands old new (take (at + n) bytes)
+takes_more stands old mid new bytes at n first second = λ taken stood.
+    let more = second (taken ++ take at bytes) (first taken stood) in
+    rw (take-add at n bytes, ← append_assoc) (rw take_rest at more)
+
+-- one text after another
+pub takes_both : {S : Type 0} (stands : S → List ℕ → Type 0) (old mid new : S) (one two : List ℕ)
+    → Takes stands old mid one → Takes stands mid new two → Takes stands old new (one ++ two)
+takes_both stands old mid new one two first second = λ taken stood.
+    rw (← append_assoc) (second (taken ++ one) (first taken stood))
+
+-- a front of a text after another text
+pub front_after : {S : Type 0} (stands : S → List ℕ → Type 0) (old mid new : S) (one two : List ℕ)
+    → Takes stands old mid one → TakesFront stands mid new two → TakesFront stands old new (one ++ two)
+front_after stands old mid new one two first second = (
+  length one + second.0,
+  omega (arith, length-append one two, second.1),
+  λ taken stood. rw (take-append-add one two second.0, ← append_assoc) (second.2 (taken ++ one) (first taken stood)),
+)
+
+-- a front of a text is a front of a longer one
+pub front_of_more : {S : Type 0} (stands : S → List ℕ → Type 0) (old new : S) (one two : List ℕ)
+    → TakesFront stands old new one → TakesFront stands old new (one ++ two)
+front_of_more stands old new one two front =
+    let fits = front.1 in (
+      front.0,
+      omega (arith, length-append one two, front.1),
+      λ taken stood. rw (take-append-le front.0 one two fits) (front.2 taken stood),
+    )
