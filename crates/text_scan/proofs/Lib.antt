@@ -1,0 +1,4 @@
+pub mod FewDigits
+pub mod HexDigits
+pub mod FirstLine
+pub mod FirstWord

@@ -1,0 +1,5 @@
+pub mod Decimals
+pub mod Hexadecimals
+pub mod Items
+pub mod Reading
+pub mod Keys

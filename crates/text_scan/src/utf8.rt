@@ -1,0 +1,28 @@
+ghost use Rattle.std.specs.Prelude.{◌≡◌};
+ghost use Rattle.std.specs.Str.{is_utf8};
+ghost use Rattle.text_scan.specs.Reading.{utf8_of};
+
+use crate::faults::{FaultAt, FaultKind};
+use crate::lines::Lines;
+use std::str;
+
+/// The fault of the first line that is not UTF-8.
+pub fn check_utf8(text: &[u8]) -> Result<(), FaultAt>
+    ensures { result ≡ utf8_of text.now }
+{
+    for (line, bytes) in Lines::new(text) {
+        if !is_utf8(bytes) {
+            return Err(FaultAt {
+                line,
+                kind: FaultKind::Utf8,
+            });
+        }
+    }
+    Ok(())
+}
+
+fn is_utf8(bytes: &[u8]) -> bool
+    ensures { result ≡ is_utf8 bytes.now }
+{
+    str::from_utf8(bytes).is_ok()
+}
