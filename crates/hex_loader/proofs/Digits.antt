@@ -1,0 +1,76 @@
+-- The bytes of a record's digits, of which there are at most 260.
+use Rattle.std.proofs.Common.{◌≡◌, ◌≢◌, ◌<◌, ◌+◌, ◌*◌, ◌/◌, ◌%◌, ℕ, Bool, true, false, cond, List, length, get_or, min, Result, Ok, Err, refl, sym, ◌∙◌, arith, inl, inr}
+use Rattle.std.specs.Prelude.{MatchResult}
+use Rattle.std.specs.List.{list_all}
+use Rattle.std.specs.Char.{is_ascii_hexdigit}
+use Rattle.std.proofs.Math.Nat.{min-eq_left}
+use Rattle.std.proofs.lemmas.Bool.{cases_lt}
+use Rattle.std.proofs.lemmas.Bool.Decides.{eqb_tells}
+use Rattle.hex.specs.declared.error.FromHexError.{FromHexError}
+use Rattle.hex.specs.Hex.{decode_sized, IsBytes}
+use Rattle.hex.proofs.HexLemmas.{decode_sized-ok, decode_sized-twice, decode_of-ok}
+use Rattle.text_scan.specs.declared.faults.FaultKind.{FaultKind}
+use Rattle.text_scan.specs.declared.faults.FaultKind.TheVariants.{Digit, Count}
+use Rattle.text_scan.specs.Hexadecimals.{or_count, hex_bytes_of}
+use Rattle.hex_loader.specs.Records.{record_of, of_bytes}
+
+-- bytes that are more than any record has
+too_many : (decoded : Result (List ℕ) FromHexError)
+    → ((bytes : List ℕ) → decoded ≡ Ok bytes → (260 < length bytes) × IsBytes bytes)
+    → of_bytes (or_count decoded) ≡ Err Count
+too_many (Ok bytes) known =
+    let long = known bytes refl in
+    elim (eqb_tells (length bytes) (get_or bytes 0 0 + 5)) [
+      | inl same ↦ absurd (omega (arith, same.1, long.1 0))
+      | inr other ↦ rw other.0 refl
+    ]
+too_many (Err error) known = refl
+
+-- too little room
+no_room : (digits : List ℕ) (count : ℕ) → length digits ≢ 2 * count → or_count (decode_sized digits count) ≡ Err Count
+no_room digits count other =
+    elim (eqb_tells (length digits % 2) 1) [
+      | inl odd ↦ rw odd.0 refl
+      | inr even ↦
+          elim (eqb_tells (length digits / 2) count) [
+            | inl half ↦ absurd (other (omega (arith, even.1, half.1)))
+            | inr differs ↦ rw (even.0, differs.0) refl
+          ]
+    ]
+
+-- a wrong digit comes first
+same_fault : (are_digits : Bool) (x y : Result (List ℕ) FaultKind) → of_bytes x ≡ of_bytes y
+    → of_bytes (cond are_digits x (Err Digit)) ≡ of_bytes (cond are_digits y (Err Digit))
+same_fault true x y same = same
+same_fault false x y same = refl
+
+-- room for 260 bytes is enough
+pub of_bytes-room : (digits : List ℕ)
+    → of_bytes (hex_bytes_of (min (length digits / 2) 260) digits) ≡ of_bytes (hex_bytes_of (length digits / 2) digits)
+of_bytes-room digits =
+    elim (cases_lt 260 (length digits / 2)) [
+      | inl over ↦
+          let small : min (length digits / 2) 260 ≡ 260 = omega arith in
+          let count : ℕ = length digits / 2 in
+          let long = too_many (decode_sized digits count) (λ bytes decoded.
+          let twice = decode_sized-ok digits count bytes decoded in
+          let ok = decode_of-ok digits bytes (sym (decode_sized-twice digits count twice) ∙ decoded) in
+          (omega (arith, ok.2, over), ok.3)) in
+          rw small (same_fault (list_all is_ascii_hexdigit digits) (or_count (decode_sized digits 260)) (or_count (decode_sized digits count))
+          (rw (no_room digits 260 (λ same. omega arith)) (sym long)))
+      | inr fits ↦ rw (min-eq_left fits) refl
+    ]
+
+-- where no bytes were read
+pub err_read : (read : Result (List ℕ) FaultKind) (kind : FaultKind) (old new : List ℕ) (answer : Result Unit FaultKind) → answer ≡ Err kind
+    → MatchResult read (λ bytes. (answer ≡ Ok tt) × (new ≡ bytes)) (λ fault. (answer ≡ Err fault) × (new ≡ old))
+    → of_bytes read ≡ Err kind
+err_read (Ok bytes) kind old new answer is given = absurd cc
+err_read (Err fault) kind old new answer is given = cc
+
+-- where they were
+pub ok_read : (read : Result (List ℕ) FaultKind) (old new : List ℕ) (answer : Result Unit FaultKind) → answer ≡ Ok tt
+    → MatchResult read (λ bytes. (answer ≡ Ok tt) × (new ≡ bytes)) (λ fault. (answer ≡ Err fault) × (new ≡ old))
+    → of_bytes read ≡ record_of new
+ok_read (Ok bytes) old new answer is given = rw given.1 refl
+ok_read (Err fault) old new answer is given = absurd cc

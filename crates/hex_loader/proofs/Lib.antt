@@ -1,0 +1,9 @@
+pub mod Digits
+pub mod Encoded
+pub mod Placing
+pub mod ReadBack
+pub mod ReadLines
+pub mod RecordRead
+pub mod Runs
+pub mod ShownBytes
+pub mod Written

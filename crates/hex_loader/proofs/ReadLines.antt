@@ -1,0 +1,110 @@
+-- A text that is read line by line.
+use Rattle.std.proofs.Common.{◌≡◌, ◌∙◌, ◌+◌, ℕ, true, false, List, [], ◌∷◌, length, reverse, Some, None, refl, sym, ap, arith}
+use Rattle.std.specs.Str.Lines.{lines}
+use mathlib.Core.List.{reverse_aux}
+use Rattle.mem_map.specs.Image.{byte_in}
+use Rattle.text_scan.specs.declared.faults.FaultAt.{FaultAt}
+use Rattle.text_scan.specs.declared.faults.FaultKind.{FaultKind}
+use Rattle.text_scan.specs.declared.faults.FaultKind.TheVariants.{NoEnd}
+use Rattle.text_scan.specs.Items.{numbered}
+use Rattle.hex_loader.specs.declared.reader.Reader.{Reader}
+use Rattle.hex_loader.specs.Reading.{first_fault, line_fault, has_ended, hex_fault, hex_byte}
+use Rattle.hex_loader.specs.Reader.{ReaderStandsFor}
+
+-- the lines up to these were read, and have no fault
+pub record IsReadTo (text : List ℕ) (left : List (ℕ × List ℕ)) (count : ℕ) (reader : Reader) : Type 0 where
+  pub earlier : List (List ℕ)
+  pub rest : List (List ℕ)
+  pub numbers : left ≡ numbered (count + 1) rest
+  pub all : reverse (lines text) ≡ reverse_aux rest earlier
+  pub counted : count ≡ length earlier
+  pub no_fault : first_fault earlier ≡ None
+  pub stands : ReaderStandsFor reader earlier
+
+-- a first fault stays the first, whatever follows
+first_fault-stays : (rest earlier : List (List ℕ)) (fault : FaultAt)
+    → first_fault earlier ≡ Some fault → first_fault (reverse_aux rest earlier) ≡ Some fault
+first_fault-stays [] earlier fault first = first
+first_fault-stays (line ∷ rest) earlier fault first =
+    first_fault-stays rest (line ∷ earlier) fault (rw first refl)
+
+-- the next line of those that are left
+record Next (rest : List (List ℕ)) (count number : ℕ) (line : List ℕ) (left : List (ℕ × List ℕ)) : Type 0 where
+  after : List (List ℕ)
+  is : rest ≡ line ∷ after
+  number_is : number ≡ count + 1
+  left_is : left ≡ numbered (number + 1) after
+
+next_of : (rest : List (List ℕ)) (count number : ℕ) (line : List ℕ) (left : List (ℕ × List ℕ))
+    → numbered (count + 1) rest ≡ (number, line) ∷ left → Next rest count number line left
+next_of [] count number line left is = absurd cc
+next_of (first ∷ rest) count number line left is =
+    let head : ◌≡◌ {A = ℕ × List ℕ} (count + 1, first) (number, line) = cc in
+    let tail : numbered (count + 1 + 1) rest ≡ left = cc in
+    let same : count + 1 ≡ number = ap (λ (item : ℕ × List ℕ). item.0) head in
+    record {
+      after = rest;
+      is = ap (λ (item : ℕ × List ℕ). item.1 ∷ rest) head;
+      number_is = sym same;
+      left_is = sym tail ∙ ap (λ (n : ℕ). numbered (n + 1) rest) same;
+    }
+
+-- one line more
+pub line_read : (text : List ℕ) (left more : List (ℕ × List ℕ)) (count number : ℕ) (line : List ℕ) (reader new : Reader)
+    (at : IsReadTo text left count reader) → left ≡ (number, line) ∷ more
+    → None ≡ line_fault at.earlier line → ReaderStandsFor new (line ∷ at.earlier)
+    → IsReadTo text more number new
+line_read text left more count number line reader new at is sound stands =
+    let next = next_of at.rest count number line more (sym at.numbers ∙ is) in
+    record {
+      earlier = line ∷ at.earlier;
+      rest = next.after;
+      numbers = next.left_is;
+      all = at.all ∙ ap (λ (rest : List (List ℕ)). reverse_aux rest at.earlier) next.is;
+      counted = omega (arith, next.number_is, at.counted);
+      no_fault = rw (at.no_fault, ← sound) refl;
+      stands = stands;
+    }
+
+-- a line with a fault
+pub fault_read : (text : List ℕ) (left more : List (ℕ × List ℕ)) (count number : ℕ) (line : List ℕ) (reader : Reader) (kind : FaultKind)
+    (at : IsReadTo text left count reader) → left ≡ (number, line) ∷ more
+    → Some kind ≡ line_fault at.earlier line
+    → hex_fault text ≡ Some (record { line = number; kind = kind })
+fault_read text left more count number line reader kind at is fault =
+    let next = next_of at.rest count number line more (sym at.numbers ∙ is) in
+    let lines_are = at.all ∙ ap (λ (rest : List (List ℕ)). reverse_aux rest at.earlier) next.is in
+    let same : length at.earlier + 1 ≡ number = omega (arith, next.number_is, at.counted) in
+    let here : first_fault (line ∷ at.earlier) ≡ Some (record { line = number; kind = kind }) =
+    rw (at.no_fault, ← fault, same) refl in
+    let first = first_fault-stays next.after (line ∷ at.earlier) (record { line = number; kind = kind }) here in
+    rw (lines_are, first) refl
+
+none_of : (rest : List (List ℕ)) (first : ℕ) → [] ≡ numbered first rest → rest ≡ []
+none_of [] first is = refl
+none_of (line ∷ rest) first is = absurd cc
+
+-- where no line is left
+all_read : (text : List ℕ) (left : List (ℕ × List ℕ)) (count : ℕ) (reader : Reader) (at : IsReadTo text left count reader)
+    → left ≡ [] → reverse (lines text) ≡ at.earlier
+all_read text left count reader at none =
+    at.all ∙ ap (λ (rest : List (List ℕ)). reverse_aux rest at.earlier) (none_of at.rest (count + 1) (sym none ∙ at.numbers))
+
+pub no_end : (text : List ℕ) (left : List (ℕ × List ℕ)) (count : ℕ) (reader : Reader) → IsReadTo text left count reader
+    → left ≡ [] → reader.ended ≡ false → hex_fault text ≡ Some (record { line = count; kind = NoEnd })
+no_end text left count reader at none ended =
+    let lines_are = all_read text left count reader at none in
+    let open_ended : has_ended at.earlier ≡ false = sym at.stands.ended ∙ ended in
+    rw (lines_are, at.no_fault, open_ended, ← at.counted) refl
+
+pub no_fault : (text : List ℕ) (left : List (ℕ × List ℕ)) (count : ℕ) (reader : Reader) → IsReadTo text left count reader
+    → left ≡ [] → reader.ended ≡ true → hex_fault text ≡ None
+no_fault text left count reader at none ended =
+    let lines_are = all_read text left count reader at none in
+    let closed : has_ended at.earlier ≡ true = sym at.stands.ended ∙ ended in
+    rw (lines_are, at.no_fault, closed) refl
+
+pub bytes_read : (text : List ℕ) (left : List (ℕ × List ℕ)) (count : ℕ) (reader : Reader) → IsReadTo text left count reader
+    → left ≡ [] → (place : ℕ) → byte_in reader.image place ≡ hex_byte text place
+bytes_read text left count reader at none place =
+    rw (all_read text left count reader at none) (at.stands.bytes place)

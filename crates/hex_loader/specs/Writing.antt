@@ -1,0 +1,50 @@
+-- The Intel HEX text of an image, which is given as a function from places to bytes.
+use Rattle.std.specs.Prelude.{◌+◌, ◌-◌, ◌/◌, ◌%◌, ◌==◌, ◌&&◌, ◌||◌, ℕ, zero, suc, Bool, List, [], ◌∷◌, ◌++◌, length, sum, codes, if◌then◌else◌, Option, Some, None, is_some, is_none}
+use Rattle.hex.specs.Hex.{encode_upper}
+
+-- the byte that makes the sum of a record 0 modulo 256
+abbrev pub check_of : List ℕ → ℕ
+check_of bytes = (256 - sum bytes % 256) % 256
+
+-- count, address, type 00 and data of a record
+abbrev pub data_record : ℕ → List ℕ → List ℕ
+data_record address bytes = length bytes ∷ address / 256 ∷ address % 256 ∷ 0 ∷ bytes
+
+-- the line of a record, ended by LF
+abbrev pub line_of : ℕ → List ℕ → List ℕ
+line_of address bytes =
+    codes ":" ++ encode_upper (data_record address bytes ++ check_of (data_record address bytes) ∷ []) ++ 10 ∷ []
+
+-- a record begins at a byte that has no byte before it, and at each multiple of 16
+abbrev pub begins : (ℕ → Option ℕ) → ℕ → Bool
+begins image place = is_some (image place) && ((place % 16 == 0) || is_none (image (place - 1)))
+
+abbrev pub go_on : Option ℕ → List ℕ → List ℕ
+go_on (Some byte) bytes = byte ∷ bytes
+go_on None bytes = []
+
+-- the bytes from a place on that follow each other, at most so many
+abbrev pub run : (ℕ → Option ℕ) → ℕ → ℕ → List ℕ
+run image place zero = []
+run image place (suc most) = go_on (image place) (run image (place + 1) most)
+
+-- a record goes on to the last consecutive byte before the next multiple of 16
+abbrev pub record_bytes : (ℕ → Option ℕ) → ℕ → List ℕ
+record_bytes image place = run image place (16 - place % 16)
+
+-- the line of the record that begins at a place, where one does
+abbrev pub line_at : (ℕ → Option ℕ) → ℕ → List ℕ
+line_at image place = if begins image place then line_of place (record_bytes image place) else []
+
+-- the lines of the records that begin below a place, in ascending order
+unfoldable pub lines_below : (ℕ → Option ℕ) → ℕ → List ℕ
+lines_below image zero = []
+lines_below image (suc place) = lines_below image place ++ line_at image place
+
+-- the end record, and LF
+abbrev pub end_line : List ℕ
+end_line = codes ":00000001FF" ++ 10 ∷ []
+
+-- the text of an image
+abbrev pub hex_text : (ℕ → Option ℕ) → List ℕ
+hex_text image = lines_below image 65536 ++ end_line

@@ -1,0 +1,149 @@
+ghost use Rattle.std.specs.Prelude.{◌≡◌, ◌+◌, ◌∷◌, ◌==◌, ◌<◌, ◌^◌, ◌&&◌, ℕ, Bool, true, false, List, Option, Some, None, length, MatchResult, IfErr, IfOk, OnOk, if◌then◌else◌};
+ghost use Rattle.std.specs.Option.{option_or};
+ghost use Rattle.std.specs.Result.{result_err};
+ghost use Rattle.part_definitions.specs.Memory.{is_image_place};
+ghost use Rattle.mem_map.specs.Image.{byte_in};
+ghost use Rattle.text_scan.specs.declared.faults.FaultAt.{FaultAt};
+ghost use Rattle.hex_loader.specs.Records.{meaning, record_in};
+ghost use Rattle.hex_loader.specs.Reading.{byte_among, are_image_places, base_after, has_ended, byte_after, line_fault, hex_fault, hex_byte};
+
+use crate::records::{MOST_BYTES, Record, record_of_line};
+use mem_map::Image;
+use std::alloc::Global;
+use text_scan::{FaultAt, FaultKind, Lines, TextFault};
+
+/// The image of an Intel HEX text, or the first fault of its first faulty line. Where no line has a
+/// fault and there is no end record, the fault `NoEnd` has the number of lines.
+pub fn read_hex(alloc: Global, text: &[u8]) -> Result<Image, TextFault>
+    ensures bytes { IfOk result (λ image.
+        (place : ℕ) → byte_in image place ≡ hex_byte text.now place) }
+    ensures whole { OnOk result (hex_fault text.now ≡ None) }
+    ensures fault { (fault : FaultAt)
+        → result ≡ Err (TextFault.At fault)
+        → hex_fault text.now ≡ Some fault }
+{
+    let image = Image::new(alloc).map_err(TextFault::Memory)?;
+    read_into(image, text).map_err(TextFault::At)
+}
+
+/// Reads a text into an empty image.
+fn read_into(image: Image, text: &[u8]) -> Result<Image, FaultAt>
+    requires { (place : ℕ) → byte_in image place ≡ None }
+    ensures bytes { IfOk result (λ image.
+        (place : ℕ) → byte_in image place ≡ hex_byte text.now place) }
+    ensures fault { result_err result ≡ hex_fault text.now }
+{
+    let mut reader = Reader {
+        image,
+        base: 0,
+        ended: false,
+    };
+    let mut count = 0;
+    for (number, line) in Lines::new(text) {
+        if let Err(kind) = reader.read_line(line) {
+            return Err(FaultAt { line: number, kind });
+        }
+        count = number;
+    }
+    if !reader.ended {
+        return Err(FaultAt {
+            line: count,
+            kind: FaultKind::NoEnd,
+        });
+    }
+    Ok(reader.image)
+}
+
+/// Puts one byte at a place that an image may hold.
+fn set_byte(image: &mut Image, place: u64, byte: u8) -> bool
+    ensures taken { result ≡ is_image_place place }
+    ensures bytes { (other : ℕ)
+        → byte_in image.new other
+        ≡ (if result && (other == place) then Some byte else byte_in image.old other) }
+{
+    match u16::try_from(place) {
+        Ok(place) => image.set(place, byte),
+        Err(_) => false,
+    }
+}
+
+/// Puts these bytes from a place upwards.
+fn set_bytes(image: &mut Image, first: u64, bytes: &[u8]) -> Result<(), FaultKind>
+    requires { first + length bytes.now < 2 ^ 64 }
+    ensures taken { OnOk result (are_image_places first bytes.now ≡ true) }
+    ensures bytes { OnOk result ((place : ℕ) → byte_in image.new place
+        ≡ option_or (byte_among first bytes.now place) (byte_in image.old place)) }
+    ensures refused { IfErr result (λ kind.
+        (kind ≡ FaultKind.Place) × (are_image_places first bytes.now ≡ false)) }
+{
+    let mut place = first;
+    for byte in bytes {
+        if !set_byte(image, place, *byte) {
+            return Err(FaultKind::Place);
+        }
+        place += 1;
+    }
+    Ok(())
+}
+
+/// A text that is read line by line.
+#[derive(Drop)]
+pub struct Reader {
+    image: Image,
+    base: u32,
+    ended: bool,
+}
+
+impl Reader {
+    ghost use Rattle.std.specs.Prelude.{◌≡◌, ◌∷◌, ℕ, List, Ok, OnOk};
+    ghost use Rattle.std.specs.Result.{result_err};
+    ghost use Rattle.hex_loader.specs.Records.{meaning, record_in};
+    ghost use Rattle.hex_loader.specs.Reading.{base_after, record_fault, line_fault};
+    ghost use Rattle.hex_loader.specs.Reader.{ReaderStandsFor};
+
+    /// Does what a record says.
+    fn take(&mut self, found: Record<'_>) -> Result<(), FaultKind>
+        ensures fault { (earlier : List (List ℕ))
+            → ReaderStandsFor self.old earlier
+            → result_err result ≡ record_fault (base_after earlier) (Ok (meaning found.entry)) }
+        ensures taken { (earlier : List (List ℕ)) (line : List ℕ)
+            → ReaderStandsFor self.old earlier
+            → record_in line ≡ Ok (meaning found.entry)
+            → OnOk result (ReaderStandsFor self.new (line ∷ earlier)) }
+    {
+        match found {
+            Record::Data(address, bytes) => {
+                let first = u64::from(self.base) + u64::from(address);
+                set_bytes(&mut self.image, first, bytes)
+            }
+            Record::End => {
+                self.ended = true;
+                Ok(())
+            }
+            Record::Base(base) => {
+                self.base = base;
+                Ok(())
+            }
+            Record::Start => Ok(()),
+        }
+    }
+
+    fn read_line(&mut self, line: &[u8]) -> Result<(), FaultKind>
+        ensures fault { (earlier : List (List ℕ))
+            → ReaderStandsFor self.old earlier
+            → result_err result ≡ line_fault earlier line.now }
+        ensures taken { (earlier : List (List ℕ))
+            → ReaderStandsFor self.old earlier
+            → OnOk result (ReaderStandsFor self.new (line.now ∷ earlier)) }
+    {
+        if line.is_empty() {
+            return Ok(());
+        }
+        if self.ended {
+            return Err(FaultKind::AfterEnd);
+        }
+        let mut room = [0; MOST_BYTES];
+        let record = record_of_line(line, &mut room)?;
+        self.take(record)
+    }
+}
