@@ -1,0 +1,12 @@
+-- What a script says: events with their steps, in the order of the file.
+use Rattle.std.specs.Prelude.{ℕ, ◌==◌, List, map}
+use Rattle.std.specs.List.{filter}
+use Rattle.bus_signals.specs.declared.records.Event.{Event}
+
+-- an event with its step
+abbrev pub Timed : Type 0
+Timed = ℕ × Event
+
+-- the events of a step, in the order of the file
+abbrev pub events_of : List Timed → ℕ → List Event
+events_of script step = map (λ entry. entry.1) (filter (λ entry. entry.0 == step) script)
