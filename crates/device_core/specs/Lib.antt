@@ -1,0 +1,3 @@
+pub mod Processor
+pub mod Machine
+pub mod States
