@@ -1,0 +1,277 @@
+use crate::run::run;
+use crate::status::Status;
+use outside_edge::{MemShelf, MemSink, NeverFailShelf, NeverFailSink};
+use std::alloc::{AllocError, Global};
+use std::test::Fail;
+use text_scan::{FaultAt, FaultKind};
+
+/// Sends the letter A, and then jumps to itself.
+const LETTER_A: &[u8] = b":08C00000B24041007600FF3F51\n:02FFFE0000C041\n:00000001FF\n";
+
+const LETTER_A_TEXT: &[u8] = b"tx 4 41\nend 5 pc c006 exec 0\n";
+
+/// The bytes 00 to 3f.
+const KEY: &[u8] =
+    b"000102030405060708090a0b0c0d0e0f101112131415161718191a1b1c1d1e1f202122232425262728292a2b2c2d2e2f303132333435363738393a3b3c3d3e3f\n";
+
+/// The limit of an image and of a script.
+const LIMIT: usize = 1_048_576;
+
+fn words(alloc: Global, texts: &[&str]) -> Result<Vec<String>, AllocError> {
+    let mut words = Vec::new(alloc);
+    for text in texts {
+        words.push(String::from_str(alloc, text)?)?;
+    }
+    Ok(words)
+}
+
+fn files(
+    alloc: Global,
+    image: &[u8],
+    script: &[u8],
+    key: &[u8],
+) -> Result<Vec<(String, Vec<u8>)>, AllocError> {
+    let mut files = Vec::new(alloc);
+    files.push((String::from_str(alloc, "i")?, image.to_vec(alloc)?))?;
+    files.push((String::from_str(alloc, "s")?, script.to_vec(alloc)?))?;
+    files.push((String::from_str(alloc, "k")?, key.to_vec(alloc)?))?;
+    Ok(files)
+}
+
+/// A run of `play i s k STEPS`, and the bytes that it put.
+fn play(
+    alloc: Global,
+    image: &[u8],
+    script: &[u8],
+    key: &[u8],
+    steps: &str,
+) -> Result<(Status, Vec<u8>), AllocError> {
+    let mut shelf = MemShelf::new(files(alloc, image, script, key)?, 4096, Vec::new(alloc));
+    let mut sink = MemSink::new(Vec::new(alloc), 4096, 4096, Vec::new(alloc))?;
+    let words = words(alloc, &["play", "i", "s", "k", steps])?;
+    let status = run(alloc, words.as_slice(), &mut shelf, &mut sink);
+    Ok((status, sink.held().to_vec(alloc)?))
+}
+
+fn bad_image(line: u64, kind: FaultKind) -> Status {
+    Status::BadImage(FaultAt { line, kind })
+}
+
+#[test]
+fn prints_the_text_of_the_play(rt: HostRuntime) -> Result<(), Fail> {
+    let lower =
+        b":08c00000b24041007600ff3f51\r\n:02fffe0000c041\r\n:040000030000c00039\r\n:00000001ff\r\n";
+    let empty = b":00000001FF\n";
+    let rows: [(&[u8], &[u8], &str, &[u8]); 6] = [
+        (LETTER_A, b"", "5", LETTER_A_TEXT),
+        (LETTER_A, b"", "0000000005", LETTER_A_TEXT),
+        (LETTER_A, b"# nothing happens\n\n", "5", LETTER_A_TEXT),
+        (lower, b"", "5", LETTER_A_TEXT),
+        (LETTER_A, b"", "1", b"end 1 pc c000 exec 0\n"),
+        (
+            empty,
+            b"",
+            "4",
+            b"reset 1 I1\nreset 3 I1\nend 4 pc 0000 exec 0\n",
+        ),
+    ];
+    for (image, script, steps, text) in rows {
+        let (status, put) = play(rt.alloc(), image, script, KEY, steps)?;
+        assert_eq!(rt; status, Status::Done);
+        assert_eq!(rt; put.as_slice(), text);
+    }
+    Ok(())
+}
+
+#[test]
+fn refuses_files_that_are_not_in_their_grammar(rt: HostRuntime) -> Result<(), Fail> {
+    let no_end = b":08C00000B24041007600FF3F51\n:02FFFE0000C041\n";
+    let check = b":08C00000B24041007600FF3F50\n:02FFFE0000C041\n:00000001FF\n";
+    let bad_script = |line, kind| Status::BadScript(FaultAt { line, kind });
+    let bad_key = |line, kind| Status::BadKey(FaultAt { line, kind });
+    let order = b"at 5 reset\nat 4 reset\n";
+    let rows: [(&[u8], &[u8], &[u8], Status); 8] = [
+        (no_end, b"", KEY, bad_image(2, FaultKind::NoEnd)),
+        (check, b"", KEY, bad_image(1, FaultKind::Check)),
+        (LETTER_A, order, KEY, bad_script(2, FaultKind::Order)),
+        (
+            LETTER_A,
+            b"at 5 reset\n",
+            KEY,
+            bad_script(0, FaultKind::NotBuilt),
+        ),
+        (LETTER_A, b"x", KEY, bad_script(1, FaultKind::Word)),
+        (LETTER_A, b"", &KEY[1..], bad_key(1, FaultKind::Missing)),
+        (LETTER_A, b"", &[48; 257], bad_key(0, FaultKind::TooLong)),
+        (check, order, &KEY[1..], bad_key(1, FaultKind::Missing)),
+    ];
+    for (image, script, key, refusal) in rows {
+        let (status, put) = play(rt.alloc(), image, script, key, "5")?;
+        assert_eq!(rt; status, refusal);
+        assert_eq!(rt; put.len(), 0);
+    }
+    Ok(())
+}
+
+#[test]
+fn refuses_words_that_are_no_command(rt: HostRuntime) -> Result<(), Fail> {
+    let alloc = rt.alloc();
+    for steps in ["0", "10000001", "", "-1", "5 ", "00000000005"] {
+        let (status, put) = play(alloc, LETTER_A, b"", KEY, steps)?;
+        assert_eq!(rt; status, Status::Words);
+        assert_eq!(rt; put.len(), 0);
+    }
+    let rows: [&[&str]; 4] = [
+        &[],
+        &["--help"],
+        &["play", "i", "s", "k"],
+        &["dump", "i", "s", "k", "5"],
+    ];
+    for row in rows {
+        let mut shelf = MemShelf::new(files(alloc, LETTER_A, b"", KEY)?, 9, Vec::new(alloc));
+        let mut sink = MemSink::new(Vec::new(alloc), 99, 99, Vec::new(alloc))?;
+        let words = words(alloc, row)?;
+        let status = run(alloc, words.as_slice(), &mut shelf, &mut sink);
+        assert_eq!(rt; status, Status::Words);
+    }
+    Ok(())
+}
+
+/// The image with line ends after it, up to a length.
+fn padded(alloc: Global, length: usize) -> Result<Vec<u8>, AllocError> {
+    let mut image = LETTER_A.to_vec(alloc)?;
+    for _ in LETTER_A.len()..length {
+        image.push(b'\n')?;
+    }
+    Ok(image)
+}
+
+#[test]
+fn an_image_has_at_most_its_limit(rt: HostRuntime) -> Result<(), Fail> {
+    let most = padded(rt.alloc(), LIMIT)?;
+    let (status, put) = play(rt.alloc(), most.as_slice(), b"", KEY, "5")?;
+    assert_eq!(rt; status, Status::Done);
+    assert_eq!(rt; put.as_slice(), LETTER_A_TEXT);
+    let more = padded(rt.alloc(), LIMIT + 1)?;
+    let (status, put) = play(rt.alloc(), more.as_slice(), b"", KEY, "5")?;
+    assert_eq!(rt; status, bad_image(0, FaultKind::TooLong));
+    assert_eq!(rt; put.len(), 0);
+    Ok(())
+}
+
+/// What the image cut to its first `length` bytes is answered.
+fn cut_answer(length: usize) -> Status {
+    match length {
+        0 => bad_image(0, FaultKind::NoEnd),
+        1..=26 => bad_image(1, FaultKind::Count),
+        27 | 28 => bad_image(1, FaultKind::NoEnd),
+        29..=42 => bad_image(2, FaultKind::Count),
+        43 | 44 => bad_image(2, FaultKind::NoEnd),
+        45..=54 => bad_image(3, FaultKind::Count),
+        _ => Status::Done,
+    }
+}
+
+#[test]
+fn a_cut_image_is_refused_at_its_last_line(rt: HostRuntime) -> Result<(), Fail> {
+    assert_eq!(rt; LETTER_A.len(), 56);
+    for length in 0..57 {
+        let (status, _) = play(rt.alloc(), &LETTER_A[..length], b"", KEY, "5")?;
+        assert_eq!(rt; status, cut_answer(length));
+    }
+    Ok(())
+}
+
+#[test]
+fn a_file_that_is_not_held_is_absent(rt: HostRuntime) -> Result<(), Fail> {
+    let alloc = rt.alloc();
+    for row in [["x", "s", "k"], ["i", "x", "k"], ["i", "s", "x"]] {
+        let [image, script, key] = row;
+        let mut shelf = MemShelf::new(files(alloc, LETTER_A, b"", KEY)?, 9, Vec::new(alloc));
+        let mut sink = MemSink::new(Vec::new(alloc), 99, 99, Vec::new(alloc))?;
+        let words = words(alloc, &["play", image, script, key, "5"])?;
+        let status = run(alloc, words.as_slice(), &mut shelf, &mut sink);
+        assert_eq!(rt; status, Status::Absent);
+        assert_eq!(rt; sink.held().len(), 0);
+    }
+    Ok(())
+}
+
+#[test]
+fn a_failing_call_of_the_sink_leaves_a_front_of_the_text(rt: HostRuntime) -> Result<(), Fail> {
+    let alloc = rt.alloc();
+    let words = words(alloc, &["play", "i", "s", "k", "5"])?;
+    for call in 1..31u64 {
+        let mut shelf = MemShelf::new(files(alloc, LETTER_A, b"", KEY)?, 99, Vec::new(alloc));
+        let mut sink = MemSink::new(Vec::new(alloc), 99, 1, [call].to_vec(alloc)?)?;
+        let status = run(alloc, words.as_slice(), &mut shelf, &mut sink);
+        let expected = if call < 30 {
+            Status::WriteFault
+        } else {
+            Status::Done
+        };
+        assert_eq!(rt; status, expected);
+        assert_eq!(rt; sink.held(), &LETTER_A_TEXT[..call as usize - 1]);
+    }
+    Ok(())
+}
+
+#[test]
+fn a_failing_call_of_the_shelf_puts_nothing(rt: HostRuntime) -> Result<(), Fail> {
+    let alloc = rt.alloc();
+    let words = words(alloc, &["play", "i", "s", "k", "5"])?;
+    let mut failed = 0;
+    for call in 1..20u64 {
+        let failing = [call].to_vec(alloc)?;
+        let mut shelf = MemShelf::new(files(alloc, LETTER_A, b"", KEY)?, 50, failing);
+        let mut sink = MemSink::new(Vec::new(alloc), 99, 99, Vec::new(alloc))?;
+        match run(alloc, words.as_slice(), &mut shelf, &mut sink) {
+            Status::Done => break,
+            status => assert_eq!(rt; status, Status::ReadFault),
+        }
+        assert_eq!(rt; sink.held().len(), 0);
+        failed = call;
+    }
+    // Three pieces and the end of the key, two and the end of the image, the end of the script.
+    assert_eq!(rt; failed, 8);
+    Ok(())
+}
+
+// The faults can't come: their arm is proved to be out of reach.
+#[test]
+fn over_those_that_never_fail_no_fault_is_answered(rt: HostRuntime) -> Result<(), Fail> {
+    let alloc = rt.alloc();
+    let words = words(alloc, &["play", "i", "s", "k", "5"])?;
+    let mut shelf = NeverFailShelf::new(files(alloc, LETTER_A, b"", KEY)?, 7);
+    let mut sink = NeverFailSink::new();
+    match run(alloc, words.as_slice(), &mut shelf, &mut sink) {
+        Status::ReadFault | Status::WriteFault => unreachable!(),
+        status => assert_eq!(rt; status, Status::Done),
+    }
+    Ok(())
+}
+
+#[test]
+fn a_status_has_its_number_and_its_line(rt: HostRuntime) -> Result<(), Fail> {
+    let at = FaultAt {
+        line: 3,
+        kind: FaultKind::Check,
+    };
+    let rows: [(Status, u8, &str); 10] = [
+        (Status::Done, 0, "done"),
+        (Status::Rejected, 1, "rejected"),
+        (Status::Words, 2, "words are no command"),
+        (Status::Absent, 3, "file is absent"),
+        (Status::ReadFault, 4, "reading failed"),
+        (Status::WriteFault, 5, "writing failed"),
+        (Status::Memory, 6, "no memory"),
+        (Status::BadKey(at), 7, "bad key: line 3: Check"),
+        (Status::BadImage(at), 8, "bad image: line 3: Check"),
+        (Status::BadScript(at), 9, "bad script: line 3: Check"),
+    ];
+    for (status, code, line) in rows {
+        assert_eq!(rt; status.code(), code);
+        assert_eq!(rt; format!(in rt.alloc(); "{status}")?.as_str(), line);
+    }
+    Ok(())
+}
