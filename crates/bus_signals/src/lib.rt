@@ -5,14 +5,28 @@
 //! 2020): the key, the exclusive stack, the MAC, the metadata and the attestation ROM.
 #![tactic(auto)]
 
-mod accesses;
-mod map;
-mod master;
-mod records;
-mod reports;
+mod access;
+mod bounds;
+mod bus_master;
+mod bus_record;
+mod event;
+mod kind;
+mod law;
+mod region;
+mod report_view;
+mod rule;
+mod signals;
+mod trace_flag;
 
-pub use accesses::Access;
-pub use map::{CR, KR, META, MR, Region, XS};
-pub use master::BusMaster;
-pub use records::{BusRecord, Event, Kind, Rule, Signals};
-pub use reports::{Bounds, ReportView};
+pub use access::Access;
+pub use bounds::{Bounds, valid};
+pub use bus_master::BusMaster;
+pub use bus_record::BusRecord;
+pub use event::Event;
+pub use kind::Kind;
+pub use law::constants_are_of_the_map;
+pub use region::{CR, KR, META, MR, Region, XS, touches};
+pub use report_view::ReportView;
+pub use rule::Rule;
+pub use signals::Signals;
+pub use trace_flag::TraceFlag;

@@ -1,13 +1,14 @@
 -- The text of a play, step by step.
 use Rattle.std.proofs.Common.{◌≡◌, ◌≤◌, ◌+◌, ◌-◌, ◌++◌, ◌∷◌, ◌∙◌, [], ℕ, zero, suc, List, Option, Some, false, length, refl, ap, sym, arith, append_assoc, append-nil}
-use Rattle.bus_signals.specs.declared.records.BusRecord.{BusRecord}
-use Rattle.bus_signals.specs.declared.records.Event.{Event}
+use Rattle.bus_signals.specs.declared.bus_record.BusRecord.{BusRecord}
+use Rattle.bus_signals.specs.declared.event.Event.{Event}
 use Rattle.part_definitions.specs.Memory.{PowerOn}
 use Rattle.device_trace.specs.Logs.{logs_of}
 use Rattle.device_trace.specs.Step.{next_record}
 use Rattle.device_trace.specs.Progress.{next_pc_of}
 use Rattle.device_trace.specs.Trace.{trace, last_record, logs_after, play_of}
-use Rattle.device_trace.specs.Text.{sent_in, sent_last, sent_lines, reset_lines, step_lines, lines_of, end_line, play_text}
+use Rattle.device_trace.specs.Text.{sent_in, sent_last, sent_lines, reset_lines, step_lines, lines_of, play_text}
+use Rattle.printed_lines.specs.Lines.{end_line}
 
 pub length-trace : (start : PowerOn) (play : List (List Event)) → length (trace start play) ≡ length play
 unfolding trace

@@ -6,7 +6,7 @@ use Rattle.text_scan.specs.declared.faults.TextFault.{TextFault}
 use Rattle.text_scan.specs.declared.faults.TextFault.TheVariants as text
 use Rattle.text_scan.specs.Keys.{key_of}
 use Rattle.hex_loader.specs.Reading.{hex_fault, hex_byte}
-use Rattle.mem_map.specs.declared.images.Image.{Image}
+use Rattle.mem_map.specs.declared.image.Image.{Image}
 use Rattle.mem_map.specs.Image.{byte_in}
 use Rattle.play_script.specs.Script.{Timed}
 use Rattle.play_script.specs.Grammar.{script_of}

@@ -1,7 +1,7 @@
 -- The accesses of the last record of a play are well formed.
 use Rattle.std.proofs.Common.{◌≡◌, List, [], ◌∷◌, Some, All, arith}
-use Rattle.bus_signals.specs.declared.records.BusRecord.{BusRecord}
-use Rattle.bus_signals.specs.declared.records.Event.{Event}
+use Rattle.bus_signals.specs.declared.bus_record.BusRecord.{BusRecord}
+use Rattle.bus_signals.specs.declared.event.Event.{Event}
 use Rattle.part_definitions.specs.Memory.{PowerOn}
 use Rattle.device_trace.specs.Formed.{AccessesAreFormed}
 use Rattle.device_trace.specs.Trace.{trace, last_record}

@@ -1,7 +1,7 @@
 -- Progress: the registers of the code's processor, and the progress after a step that broke no rule.
 use Rattle.std.proofs.Common.{◌≡◌, ◌∙◌, ℕ, List, Option, None, refl, ap, sym}
-use Rattle.bus_signals.specs.declared.records.Kind.{Kind}
-use Rattle.bus_signals.specs.declared.records.Rule.{Rule}
+use Rattle.bus_signals.specs.declared.kind.Kind.{Kind}
+use Rattle.bus_signals.specs.declared.rule.Rule.{Rule}
 use Rattle.device_trace.specs.Progress.{Progress, registers_of, advanced}
 use Rattle.device_trace.specs.Logs.{progress_after}
 use Rattle.device_core.specs.declared.processor.Processor.{Processor}

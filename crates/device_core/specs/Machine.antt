@@ -1,9 +1,9 @@
 -- What a machine stands for.
 use Rattle.std.specs.Prelude.{◌≡◌, ℕ, false, List, length}
-use Rattle.bus_signals.specs.declared.records.Event.{Event}
+use Rattle.bus_signals.specs.declared.event.Event.{Event}
 use Rattle.part_definitions.specs.Memory.{PowerOn}
 use Rattle.mem_map.specs.Memory.{MemoryStandsFor}
-use Rattle.bus_signals.specs.declared.records.Signals.{Signals}
+use Rattle.bus_signals.specs.declared.signals.Signals.{Signals}
 use Rattle.device_trace.specs.Progress.{registers_of}
 use Rattle.device_trace.specs.Step.{signals_of}
 use Rattle.device_trace.specs.Trace.{trace, last_record, logs_after}

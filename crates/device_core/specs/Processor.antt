@@ -1,6 +1,6 @@
 -- The narrow processor: what its phase says of the words that it took.
 use Rattle.std.specs.Prelude.{ℕ, List, [], ◌∷◌, Option, Some, None}
-use Rattle.part_definitions.specs.Instruction.{Head, MoveToAbsolute, Jump}
+use Rattle.part_definitions.specs.NarrowInstruction.{Head, MoveToAbsolute, Jump}
 use Rattle.device_trace.specs.Progress.{Progress, AtBoundary, InInstruction}
 use Rattle.device_core.specs.declared.processor.Processor.{Processor}
 use Rattle.device_core.specs.declared.processor.Phase.{Phase}

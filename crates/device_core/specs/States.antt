@@ -1,6 +1,6 @@
 -- What a device stands for in each of its states.
 use Rattle.std.specs.Prelude.{◌≡◌, ℕ, List}
-use Rattle.bus_signals.specs.declared.records.Event.{Event}
+use Rattle.bus_signals.specs.declared.event.Event.{Event}
 use Rattle.part_definitions.specs.Memory.{PowerOn}
 use Rattle.device_trace.specs.Progress.{Progress, Held}
 use Rattle.device_trace.specs.Trace.{logs_after}

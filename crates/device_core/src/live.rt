@@ -1,7 +1,7 @@
 ghost use Rattle.std.specs.Prelude.{◌≡◌, ◌∷◌, ◌<◌, ◌+◌, ◌^◌, [], ℕ, List, Some, IsSome, false, length, ◌==◌};
 ghost use Rattle.std.specs.List.{list_any};
-ghost use Rattle.bus_signals.specs.Accesses.{span_of};
-ghost use Rattle.bus_signals.specs.declared.records.Event.{Event};
+ghost use Rattle.bus_signals.specs.Access.{span_of};
+ghost use Rattle.bus_signals.specs.declared.event.Event.{Event};
 ghost use Rattle.part_definitions.specs.Memory.{PowerOn};
 ghost use Rattle.mem_map.specs.Memory.{MemoryStandsFor};
 ghost use Rattle.device_trace.specs.Progress.{next_pc_of};

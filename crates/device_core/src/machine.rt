@@ -1,6 +1,6 @@
 ghost use Rattle.std.specs.Prelude.{◌≡◌, ◌∷◌, ◌<◌, ◌+◌, ◌^◌, ℕ, List, Some};
-ghost use Rattle.bus_signals.specs.declared.records.Event.{Event};
-ghost use Rattle.bus_signals.specs.declared.records.Kind.TheVariants.{Boot, Cpu};
+ghost use Rattle.bus_signals.specs.declared.event.Event.{Event};
+ghost use Rattle.bus_signals.specs.declared.kind.Kind.TheVariants.{Boot, Cpu};
 ghost use Rattle.part_definitions.specs.Memory.{PowerOn};
 ghost use Rattle.device_trace.specs.Progress.{Held};
 ghost use Rattle.device_trace.specs.Logs.{progress_after};

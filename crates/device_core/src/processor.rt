@@ -1,7 +1,7 @@
 ghost use Rattle.std.specs.Prelude.{◌≡◌, ◌<◌, ◌∷◌, [], Some, None, IsTrue};
-ghost use Rattle.bus_signals.specs.declared.records.Kind.TheVariants.{Boot, Cpu};
-ghost use Rattle.part_definitions.specs.Words.{with_pc};
-ghost use Rattle.part_definitions.specs.Instruction.{head_of, is_illegal, jump_target};
+ghost use Rattle.bus_signals.specs.declared.kind.Kind.TheVariants.{Boot, Cpu};
+ghost use Rattle.part_definitions.specs.CpuRegisters.{with_pc};
+ghost use Rattle.part_definitions.specs.NarrowInstruction.{head_of, is_illegal, jump_target};
 ghost use Rattle.device_trace.specs.Progress.{Held, AtBoundary, access_of, next_pc_of, is_opcode_next, advanced, instruction_after};
 ghost use Rattle.device_core.specs.Processor.{head_in, progress_in};
 
@@ -89,7 +89,7 @@ impl Processor {
     }
 
     /// The next access of the current instruction.
-    #[tactic(auto, unfolding(part_definitions::specs::NextAccess::next_access))]
+    #[tactic(auto, unfolding(part_definitions::specs::NarrowNextAccess::next_access))]
     pub fn access(&self) -> Access
         ensures { access_of (progress_in self.now) ≡ Some result }
     {
@@ -112,7 +112,7 @@ impl Processor {
     }
 
     /// Takes the opcode. An illegal word leaves the processor as it is.
-    #[tactic(auto, unfolding(part_definitions::specs::NextAccess::next_access))]
+    #[tactic(auto, unfolding(part_definitions::specs::NarrowNextAccess::next_access))]
     fn begin(&mut self, word: u16)
         requires { IsTrue (is_opcode_next (progress_in self.old)) }
         ensures { progress_in self.new ≡ instruction_after self.old.regs (word ∷ []) }
@@ -125,7 +125,7 @@ impl Processor {
     }
 
     /// Takes what the access read, 0 for a write.
-    #[tactic(auto, unfolding(part_definitions::specs::NextAccess::next_access))]
+    #[tactic(auto, unfolding(part_definitions::specs::NarrowNextAccess::next_access))]
     pub fn take(&mut self, value: u16)
         ensures { progress_in self.new ≡ advanced (progress_in self.old) Cpu value }
     {

@@ -1,5 +1,5 @@
 ghost use Rattle.std.specs.Prelude.{◌≡◌, ◌∷◌, ◌<◌, ◌+◌, ◌^◌, [], ℕ, List, IfOk, IsSome};
-ghost use Rattle.bus_signals.specs.declared.records.Event.{Event};
+ghost use Rattle.bus_signals.specs.declared.event.Event.{Event};
 ghost use Rattle.part_definitions.specs.Memory.{PowerOn};
 ghost use Rattle.mem_map.specs.Image.{powered_on};
 ghost use Rattle.device_core.specs.States.{HeldStandsFor, RunningStandsFor, LiveStandsFor, steps_of, steps_made, machine_of};

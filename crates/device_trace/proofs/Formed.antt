@@ -1,19 +1,19 @@
 -- The program counter stays even, so the accesses of the records are well formed.
 use Rattle.std.proofs.Common.{◌≡◌, ◌/◌, ◌%◌, ℕ, zero, suc, List, [], ◌∷◌, Option, Some, None, IfSome, All, refl, arith}
 use Rattle.std.proofs.Math.Nat.{mul-mod_left}
-use Rattle.word_arith.specs.declared.sizes.Size.TheVariants.{Byte, Word}
-use Rattle.bus_signals.specs.Accesses.{IsFormed}
-use Rattle.bus_signals.specs.declared.accesses.Access.{Access}
-use Rattle.bus_signals.specs.declared.accesses.Access.TheVariants.{Fetch, Read, Write}
-use Rattle.bus_signals.specs.declared.records.BusRecord.{BusRecord}
-use Rattle.bus_signals.specs.declared.records.Event.{Event}
-use Rattle.bus_signals.specs.declared.records.Kind.{Kind}
-use Rattle.bus_signals.specs.declared.records.Kind.TheVariants.{Boot, Cpu, Idle, Irq, Rom}
-use Rattle.bus_signals.specs.declared.records.Rule.{Rule}
+use Rattle.word_arith.specs.declared.size.Size.TheVariants.{Byte, Word}
+use Rattle.bus_signals.specs.Access.{IsFormed}
+use Rattle.bus_signals.specs.declared.access.Access.{Access}
+use Rattle.bus_signals.specs.declared.access.Access.TheVariants.{Fetch, Read, Write}
+use Rattle.bus_signals.specs.declared.bus_record.BusRecord.{BusRecord}
+use Rattle.bus_signals.specs.declared.event.Event.{Event}
+use Rattle.bus_signals.specs.declared.kind.Kind.{Kind}
+use Rattle.bus_signals.specs.declared.kind.Kind.TheVariants.{Boot, Cpu, Idle, Irq, Rom}
+use Rattle.bus_signals.specs.declared.rule.Rule.{Rule}
 use Rattle.part_definitions.specs.Memory.{PowerOn}
-use Rattle.part_definitions.specs.Words.{clear_registers, pc_of, with_pc}
-use Rattle.part_definitions.specs.Instruction.{Head, MoveToAbsolute, Jump, Part, FetchSource, FetchDestination, WriteResult, Latches, head_of, parts_of, asked, ended, learned, opcode_latches}
-use Rattle.part_definitions.specs.NextAccess.{walk, walk_head, next_access}
+use Rattle.part_definitions.specs.CpuRegisters.{clear_registers, pc_of, with_pc}
+use Rattle.part_definitions.specs.NarrowInstruction.{Head, MoveToAbsolute, Jump, Part, FetchSource, FetchDestination, WriteResult, Latches, head_of, parts_of, asked, ended, learned, opcode_latches}
+use Rattle.part_definitions.specs.NarrowNextAccess.{walk, walk_head, next_access}
 use Rattle.device_trace.specs.Progress.{Progress, Held, AtBoundary, InInstruction, registers_of, asked_access, access_of, progress_in, advanced}
 use Rattle.device_trace.specs.Logs.{Logs, progress_after, logs_of, with_events, with_record}
 use Rattle.device_trace.specs.Step.{access_recorded, without_number, signals_of, next_record}

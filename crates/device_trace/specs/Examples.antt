@@ -1,6 +1,6 @@
 -- Images that the definitions are tried against.
 use Rattle.std.specs.Prelude.{◌-◌, ℕ, List, [], ◌∷◌, if◌then◌else◌, nat_le, slice_index}
-use Rattle.bus_signals.specs.declared.records.Event.{Event}
+use Rattle.bus_signals.specs.declared.event.Event.{Event}
 use Rattle.part_definitions.specs.Memory.{PowerOn}
 use Rattle.device_trace.specs.Trace.{play_of}
 

@@ -1,10 +1,10 @@
 -- What happened to each part of the device, made from the records by one projection a part.
 use Rattle.std.specs.Prelude.{false, List, [], ◌∷◌, Option, Some, None, ℕ}
-use Rattle.bus_signals.specs.declared.accesses.Access.{Access}
-use Rattle.bus_signals.specs.declared.records.BusRecord.{BusRecord}
-use Rattle.bus_signals.specs.declared.records.Event.{Event}
-use Rattle.bus_signals.specs.declared.records.Kind.{Kind}
-use Rattle.bus_signals.specs.declared.records.Rule.{Rule}
+use Rattle.bus_signals.specs.declared.access.Access.{Access}
+use Rattle.bus_signals.specs.declared.bus_record.BusRecord.{BusRecord}
+use Rattle.bus_signals.specs.declared.event.Event.{Event}
+use Rattle.bus_signals.specs.declared.kind.Kind.{Kind}
+use Rattle.bus_signals.specs.declared.rule.Rule.{Rule}
 use Rattle.part_definitions.specs.Memory.{PowerOn, MemoryWrite, with_access, byte_at}
 use Rattle.device_trace.specs.Progress.{Progress, Held, advanced}
 

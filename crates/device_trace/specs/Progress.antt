@@ -1,12 +1,12 @@
 -- Where the processor stands between two steps.
 use Rattle.std.specs.Prelude.{◌++◌, ℕ, Bool, true, false, List, [], ◌∷◌, Option, Some, None}
-use Rattle.word_arith.specs.declared.sizes.Size.TheVariants.{Word}
-use Rattle.bus_signals.specs.declared.accesses.Access.{Access}
-use Rattle.bus_signals.specs.declared.accesses.Access.TheVariants.{Read}
-use Rattle.bus_signals.specs.declared.records.Kind.{Kind}
-use Rattle.bus_signals.specs.declared.records.Kind.TheVariants.{Boot, Cpu, Idle, Irq, Rom}
-use Rattle.part_definitions.specs.Words.{clear_registers, pc_of, with_pc}
-use Rattle.part_definitions.specs.NextAccess.{Next, Asks, Ends, next_access}
+use Rattle.word_arith.specs.declared.size.Size.TheVariants.{Word}
+use Rattle.bus_signals.specs.declared.access.Access.{Access}
+use Rattle.bus_signals.specs.declared.access.Access.TheVariants.{Read}
+use Rattle.bus_signals.specs.declared.kind.Kind.{Kind}
+use Rattle.bus_signals.specs.declared.kind.Kind.TheVariants.{Boot, Cpu, Idle, Irq, Rom}
+use Rattle.part_definitions.specs.CpuRegisters.{clear_registers, pc_of, with_pc}
+use Rattle.part_definitions.specs.NarrowNextAccess.{Next, Asks, Ends, next_access}
 
 pub data Progress : Type 0 where
   -- after power-on and after a reset

@@ -1,14 +1,14 @@
 -- One step: what it proposes, the rule that it breaks, and its record.
 use Rattle.std.specs.Prelude.{◌&&◌, ℕ, Bool, false, List, Option, Some, None, if◌then◌else◌}
-use Rattle.word_arith.specs.declared.sizes.Size.TheVariants.{Word}
-use Rattle.bus_signals.specs.declared.accesses.Access.{Access}
-use Rattle.bus_signals.specs.declared.accesses.Access.TheVariants.{Fetch, Read, Write}
-use Rattle.bus_signals.specs.declared.records.BusRecord.{BusRecord}
-use Rattle.bus_signals.specs.declared.records.Event.{Event}
-use Rattle.bus_signals.specs.declared.records.Rule.{Rule}
-use Rattle.bus_signals.specs.declared.records.Rule.TheVariants.{I1}
-use Rattle.bus_signals.specs.declared.records.Signals.{Signals}
-use Rattle.part_definitions.specs.Instruction.{is_illegal}
+use Rattle.word_arith.specs.declared.size.Size.TheVariants.{Word}
+use Rattle.bus_signals.specs.declared.access.Access.{Access}
+use Rattle.bus_signals.specs.declared.access.Access.TheVariants.{Fetch, Read, Write}
+use Rattle.bus_signals.specs.declared.bus_record.BusRecord.{BusRecord}
+use Rattle.bus_signals.specs.declared.event.Event.{Event}
+use Rattle.bus_signals.specs.declared.rule.Rule.{Rule}
+use Rattle.bus_signals.specs.declared.rule.Rule.TheVariants.{I1}
+use Rattle.bus_signals.specs.declared.signals.Signals.{Signals}
+use Rattle.part_definitions.specs.NarrowInstruction.{is_illegal}
 use Rattle.part_definitions.specs.Memory.{PowerOn, number_at}
 use Rattle.device_trace.specs.Progress.{registers_of, kind_of, next_pc_of, access_of, is_opcode_next}
 use Rattle.device_trace.specs.Logs.{Logs, logged_byte, with_events}

@@ -1,15 +1,13 @@
 -- The text of a play: a line for each step that sent a byte or reset the device, and an end line.
-use Rattle.std.specs.Prelude.{◌==◌, ◌/◌, ◌%◌, ◌++◌, ℕ, Bool, true, false, List, [], ◌∷◌, Option, Some, None, length, codes, if◌then◌else◌}
+use Rattle.std.specs.Prelude.{◌==◌, ◌%◌, ◌++◌, ℕ, false, List, [], ◌∷◌, Option, Some, None, length, if◌then◌else◌}
 use Rattle.std.specs.List.{list_any}
-use Rattle.std.specs.Fmt.{decimal}
-use Rattle.hex.specs.Hex.{encode_lower}
-use Rattle.bus_signals.specs.Accesses.{span_of}
-use Rattle.bus_signals.specs.declared.accesses.Access.{Access}
-use Rattle.bus_signals.specs.declared.accesses.Access.TheVariants.{Fetch, Read, Write}
-use Rattle.bus_signals.specs.declared.records.BusRecord.{BusRecord}
-use Rattle.bus_signals.specs.declared.records.Event.{Event}
-use Rattle.bus_signals.specs.declared.records.Rule.{Rule}
-use Rattle.bus_signals.specs.declared.records.Rule.TheVariants.{X0, A1, A2, A3, A4, K1, K2, K3, K4, K5, K6, I1}
+use Rattle.bus_signals.specs.Access.{span_of}
+use Rattle.bus_signals.specs.declared.access.Access.{Access}
+use Rattle.bus_signals.specs.declared.access.Access.TheVariants.{Fetch, Read, Write}
+use Rattle.bus_signals.specs.declared.bus_record.BusRecord.{BusRecord}
+use Rattle.bus_signals.specs.declared.event.Event.{Event}
+use Rattle.bus_signals.specs.declared.rule.Rule.{Rule}
+use Rattle.printed_lines.specs.Lines.{sent_line, reset_line, end_line}
 use Rattle.part_definitions.specs.Memory.{PowerOn}
 use Rattle.device_trace.specs.Progress.{next_pc_of}
 use Rattle.device_trace.specs.Trace.{trace, logs_after}
@@ -31,44 +29,6 @@ sent_in entry = byte_sent entry.reset entry.cpu
 abbrev pub sent_last : List BusRecord → Option ℕ
 sent_last [] = None
 sent_last (entry ∷ history) = sent_in entry
-
--- a word as four digits, a byte as two
-abbrev pub word_digits : ℕ → List ℕ
-word_digits word = encode_lower (word / 256 ∷ word % 256 ∷ [])
-
-abbrev pub byte_digits : ℕ → List ℕ
-byte_digits byte = encode_lower (byte ∷ [])
-
-abbrev pub flag_digit : Bool → List ℕ
-flag_digit true = codes "1"
-flag_digit false = codes "0"
-
-abbrev pub rule_name : Rule → List ℕ
-rule_name X0 = codes "X0"
-rule_name A1 = codes "A1"
-rule_name A2 = codes "A2"
-rule_name A3 = codes "A3"
-rule_name A4 = codes "A4"
-rule_name K1 = codes "K1"
-rule_name K2 = codes "K2"
-rule_name K3 = codes "K3"
-rule_name K4 = codes "K4"
-rule_name K5 = codes "K5"
-rule_name K6 = codes "K6"
-rule_name I1 = codes "I1"
-
--- in this step a byte was sent
-abbrev pub sent_line : ℕ → ℕ → List ℕ
-sent_line step byte = codes "tx " ++ decimal step ++ codes " " ++ byte_digits byte ++ codes "\n"
-
--- this step broke a rule
-abbrev pub reset_line : ℕ → Rule → List ℕ
-reset_line step rule = codes "reset " ++ decimal step ++ codes " " ++ rule_name rule ++ codes "\n"
-
--- after so many steps: the pc that the next step would have, and the EXEC flag
-abbrev pub end_line : ℕ → ℕ → Bool → List ℕ
-end_line steps pc exec =
-    codes "end " ++ decimal steps ++ codes " pc " ++ word_digits pc ++ codes " exec " ++ flag_digit exec ++ codes "\n"
 
 -- the lines of one step
 abbrev pub sent_lines : ℕ → Option ℕ → List ℕ

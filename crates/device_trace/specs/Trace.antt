@@ -1,7 +1,7 @@
 -- The trace of a play: the list of the records of its steps, newest first.
 use Rattle.std.specs.Prelude.{ℕ, zero, suc, List, [], ◌∷◌, Option, Some, None}
-use Rattle.bus_signals.specs.declared.records.BusRecord.{BusRecord}
-use Rattle.bus_signals.specs.declared.records.Event.{Event}
+use Rattle.bus_signals.specs.declared.bus_record.BusRecord.{BusRecord}
+use Rattle.bus_signals.specs.declared.event.Event.{Event}
 use Rattle.part_definitions.specs.Memory.{PowerOn}
 use Rattle.device_trace.specs.Logs.{Logs, logs_of}
 use Rattle.device_trace.specs.Step.{next_record}

@@ -1,5 +1,5 @@
 ghost use Rattle.std.specs.Prelude.{List, All};
-ghost use Rattle.bus_signals.specs.declared.records.Event.{Event};
+ghost use Rattle.bus_signals.specs.declared.event.Event.{Event};
 ghost use Rattle.part_definitions.specs.Memory.{PowerOn};
 ghost use Rattle.device_trace.specs.Formed.{AccessesAreFormed};
 ghost use Rattle.device_trace.specs.Trace.{trace};

@@ -1,8 +1,8 @@
 -- A transfer that was started, and its accesses.
 use Rattle.std.proofs.Common.{◌≡◌, ℕ, ◌<◌, ◌+◌, ◌*◌, false, List, [], ◌∷◌, length, Some, None, arith, ap, refl, ◌∙◌}
 use Rattle.std.proofs.lemmas.Bool.Decides.{nat_tests}
-use Rattle.word_arith.specs.declared.sizes.Size.TheVariants.{Word}
-use Rattle.bus_signals.specs.declared.accesses.Access.TheVariants.{Read, Write}
+use Rattle.word_arith.specs.declared.size.Size.TheVariants.{Word}
+use Rattle.bus_signals.specs.declared.access.Access.TheVariants.{Read, Write}
 use Rattle.part_definitions.specs.Dma.{DmaEvent, Transfer, transfer_of, transfer_access, is_active, with_value, place_of_word, latch}
 use Rattle.dma_engine.specs.Distance.{since_start, GoesByDistance}
 

@@ -1,7 +1,7 @@
 -- A transfer by the steps since its start.
 use Rattle.std.specs.Prelude.{◌≡◌, ◌<◌, ◌+◌, ◌*◌, ℕ, List, [], ◌∷◌, length, Some, None}
-use Rattle.word_arith.specs.declared.sizes.Size.TheVariants.{Word}
-use Rattle.bus_signals.specs.declared.accesses.Access.TheVariants.{Read, Write}
+use Rattle.word_arith.specs.declared.size.Size.TheVariants.{Word}
+use Rattle.bus_signals.specs.declared.access.Access.TheVariants.{Read, Write}
 use Rattle.part_definitions.specs.Dma.{DmaEvent, Started, Took, dma_access, place_of_word, latch}
 
 -- the engine took these values, newest first, since a start of a transfer

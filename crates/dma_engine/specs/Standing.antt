@@ -1,9 +1,9 @@
 -- Which histories the DMA engine stands for.
 use Rattle.std.specs.Prelude.{List}
-use Rattle.word_register.specs.Holding.{HoldsWrites}
+use Rattle.peripheral_register.specs.Holding.{HoldsWrites}
 use Rattle.part_definitions.specs.Dma.{DmaEvent, DMA_SOURCE, DMA_DESTINATION, DMA_LENGTH, dma_writes, transfer_of}
 use Rattle.dma_engine.specs.Progress.{ActivityStandsFor}
-use Rattle.dma_engine.specs.declared.engines.Dma.{Dma}
+use Rattle.dma_engine.specs.declared.dma.Dma.{Dma}
 
 -- the engine is as these events, newest first, left it
 pub record DmaStandsFor (dma : Dma) (events : List DmaEvent) : Type 0 where

@@ -5,9 +5,9 @@
 //! for that list with this event on it, and what it answers is what the definitions say of that list.
 #![tactic(auto)]
 
+mod activity;
 mod distance;
-mod engines;
-mod jobs;
+mod dma;
 
 pub use distance::transfer_goes_by_distance;
-pub use engines::Dma;
+pub use dma::Dma;

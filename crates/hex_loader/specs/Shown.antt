@@ -1,7 +1,7 @@
 -- The bytes of a memory as an image.
 use Rattle.std.specs.Prelude.{◌≡◌, ℕ, Bool, List, Option, Some, None, if◌then◌else◌}
 use Rattle.part_definitions.specs.Memory.{PowerOn, MemoryWrite, is_image_place, byte_at}
-use Rattle.mem_map.specs.declared.contents.Memory.{Memory}
+use Rattle.mem_map.specs.declared.memory.Memory.{Memory}
 use Rattle.mem_map.specs.Memory.{MemoryStandsFor}
 
 -- a byte for each place of RAM, program and vectors

@@ -1,10 +1,10 @@
 -- Which histories the timer and the pins stand for.
 use Rattle.std.specs.Prelude.{◌≡◌, ◌==◌, ℕ, List}
-use Rattle.word_register.specs.Holding.{HoldsWrites}
+use Rattle.peripheral_register.specs.Holding.{HoldsWrites}
 use Rattle.part_definitions.specs.Timer.{TimerEvent, TIMER_CONTROL, TIMER_COMPARE, timer_writes, timer_count, timer_flag, steps_of_count}
 use Rattle.part_definitions.specs.Pins.{pins_word}
-use Rattle.irq_timer.specs.declared.timers.Timer.{Timer}
-use Rattle.irq_timer.specs.declared.ports.Pins.{Pins}
+use Rattle.irq_timer.specs.declared.timer.Timer.{Timer}
+use Rattle.irq_timer.specs.declared.pins.Pins.{Pins}
 
 -- the timer is as these events, newest first, left it
 pub record TimerStandsFor (timer : Timer) (events : List TimerEvent) : Type 0 where

@@ -6,10 +6,10 @@
 //! answers is what the definitions say of that list.
 #![tactic(auto)]
 
-mod ports;
-mod requests;
-mod timers;
+mod pending;
+mod pins;
+mod timer;
 
-pub use ports::Pins;
-pub use requests::{Pending, best};
-pub use timers::Timer;
+pub use pending::{Pending, best};
+pub use pins::Pins;
+pub use timer::Timer;

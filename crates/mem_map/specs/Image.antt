@@ -1,7 +1,7 @@
 -- An image as a finite map.
 use Rattle.std.specs.Prelude.{ℕ, Option, None, List, slice_index, slice_index_or, unwrap_or}
 use Rattle.part_definitions.specs.Memory.{PowerOn}
-use Rattle.mem_map.specs.declared.images.Image.{Image}
+use Rattle.mem_map.specs.declared.image.Image.{Image}
 
 -- the byte at a place, or nothing
 abbrev pub byte_in : Image → ℕ → Option ℕ

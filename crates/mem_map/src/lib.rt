@@ -4,12 +4,12 @@
 //! was last written there, else the image's, the key's or the one that the memory map fixes.
 #![tactic(auto)]
 
-mod contents;
-mod images;
-mod places;
+mod image;
+mod memory;
+mod place;
 
-pub use contents::Memory;
-pub use images::Image;
+pub use image::Image;
+pub use memory::Memory;
 
 #[cfg(test)]
 mod tests;

@@ -2,14 +2,14 @@
 use Rattle.std.proofs.Common.{◌≡◌, ℕ, ◌<◌, ◌≤◌, ◌/◌, ◌%◌, ◌^◌, ◌==◌, ◌&&◌, ◌||◌, ◌↔◌, inl, inr, ℤ, Bool, true, false, not, nat_lt, refl, ap, sym, ◌∙◌, subst, arith, Option, Some, None, if◌then◌else◌}
 use Rattle.std.specs.Prelude.{IsTrue}
 use Rattle.std.proofs.lemmas.Bool.Decides.{nat_tests, leb_tells}
-use Rattle.word_arith.specs.declared.sizes.Size.{Size}
-use Rattle.word_arith.specs.declared.operations.Op2.{Op2}
-use Rattle.msp_decode.specs.declared.instructions.One.{One}
-use Rattle.msp_decode.specs.declared.conditions.Cond.{Cond}
-use Rattle.msp_decode.specs.declared.heads.SourceForm.{SourceForm}
-use Rattle.msp_decode.specs.declared.heads.DestForm.{DestForm}
-use Rattle.msp_decode.specs.declared.heads.Head.{Head}
-use Rattle.msp_decode.specs.declared.heads.Head.TheVariants.{Two, One as OneOperand, Reti, Jump}
+use Rattle.word_arith.specs.declared.size.Size.{Size}
+use Rattle.word_arith.specs.declared.op2.Op2.{Op2}
+use Rattle.msp_decode.specs.declared.instr.One.{One}
+use Rattle.msp_decode.specs.declared.cond.Cond.{Cond}
+use Rattle.msp_decode.specs.declared.head.SourceForm.{SourceForm}
+use Rattle.msp_decode.specs.declared.head.DestForm.{DestForm}
+use Rattle.msp_decode.specs.declared.head.Head.{Head}
+use Rattle.msp_decode.specs.declared.head.Head.TheVariants.{Two, One as OneOperand, Reti, Jump}
 use Rattle.msp_decode.specs.Tables.{op2_number, one_number, cond_number, size_number, source_mode, source_register, dest_mode, dest_register, offset_number}
 use Rattle.msp_decode.specs.Fields.{op2_of, one_of, cond_of, size_of, source_of, dest_of, offset_of}
 use Rattle.msp_decode.specs.Spelling.{has_form, has_range, has_size, takes_write, writes_operand, is_legal, word_of, Spells}

@@ -2,8 +2,8 @@
 use Rattle.std.proofs.Common.{◌≡◌, ℕ, ◌<◌, ◌≤◌, ◌/◌, ◌%◌, ◌^◌, ◌&&◌, ◌||◌, ◌⊎◌, ◌↔◌, inl, inr, Bool, true, false, not, refl, ap, sym, subst, ◌∙◌, arith, Option, Some, None, is_some, if◌then◌else◌}
 use Rattle.std.specs.Prelude.{IsNone}
 use Rattle.std.proofs.lemmas.Bool.Decides.{nat_tests, leb_tells}
-use Rattle.msp_decode.specs.declared.heads.Head.{Head}
-use Rattle.msp_decode.specs.declared.heads.Head.TheVariants.{Reti}
+use Rattle.msp_decode.specs.declared.head.Head.{Head}
+use Rattle.msp_decode.specs.declared.head.Head.TheVariants.{Reti}
 use Rattle.msp_decode.specs.Fields.{one_of, size_of, source_of}
 use Rattle.msp_decode.specs.Spelling.{has_form, has_size, takes_write, writes_operand, is_legal, IsIllegalWord}
 use Rattle.msp_decode.specs.Heads.{if_legal, one_head, two_head, jump_head, head_of}

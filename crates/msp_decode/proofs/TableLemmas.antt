@@ -3,21 +3,21 @@ use Rattle.std.proofs.Common.{◌≡◌, ℕ, ◌<◌, ◌≤◌, ℤ, pos, negs
 use Rattle.std.specs.Prelude.{IsTrue}
 use Rattle.std.proofs.lemmas.Int.{ints}
 use Rattle.std.proofs.lemmas.Bool.Decides.{nat_tests}
-use Rattle.word_arith.specs.declared.sizes.Size.{Size}
-use Rattle.word_arith.specs.declared.sizes.Size.TheVariants.{Byte, Word}
-use Rattle.word_arith.specs.declared.operations.Op2.{Op2}
-use Rattle.word_arith.specs.declared.operations.Op2.TheVariants.{Mov, Add, Addc, Subc, Sub, Cmp, Dadd, Bit, Bic, Bis, Xor, And}
-use Rattle.msp_decode.specs.declared.registers.Reg.{Reg}
-use Rattle.msp_decode.specs.declared.registers.Reg.TheVariants.{R0, R1, R2, R3, R4, R5, R6, R7, R8, R9, R10, R11, R12, R13, R14, R15}
-use Rattle.msp_decode.specs.declared.operands.Gen.TheVariants.{Zero, One as PlusOne, Two, Four, Eight, MinusOne}
-use Rattle.msp_decode.specs.declared.instructions.One.{One}
-use Rattle.msp_decode.specs.declared.instructions.One.TheVariants.{Rrc, Swpb, Rra, Sxt, Push, Call}
-use Rattle.msp_decode.specs.declared.conditions.Cond.{Cond}
-use Rattle.msp_decode.specs.declared.conditions.Cond.TheVariants.{Ne, Eq, Nc, C, N, Ge, L, Always}
-use Rattle.msp_decode.specs.declared.heads.SourceForm.{SourceForm}
-use Rattle.msp_decode.specs.declared.heads.SourceForm.TheVariants.{Register, Indexed, Indirect, IndirectInc, Immediate, Constant}
-use Rattle.msp_decode.specs.declared.heads.DestForm.{DestForm}
-use Rattle.msp_decode.specs.declared.heads.DestForm.TheVariants.{Register as DestRegister, Indexed as DestIndexed}
+use Rattle.word_arith.specs.declared.size.Size.{Size}
+use Rattle.word_arith.specs.declared.size.Size.TheVariants.{Byte, Word}
+use Rattle.word_arith.specs.declared.op2.Op2.{Op2}
+use Rattle.word_arith.specs.declared.op2.Op2.TheVariants.{Mov, Add, Addc, Subc, Sub, Cmp, Dadd, Bit, Bic, Bis, Xor, And}
+use Rattle.msp_decode.specs.declared.reg.Reg.{Reg}
+use Rattle.msp_decode.specs.declared.reg.Reg.TheVariants.{R0, R1, R2, R3, R4, R5, R6, R7, R8, R9, R10, R11, R12, R13, R14, R15}
+use Rattle.msp_decode.specs.declared.operand.Gen.TheVariants.{Zero, One as PlusOne, Two, Four, Eight, MinusOne}
+use Rattle.msp_decode.specs.declared.instr.One.{One}
+use Rattle.msp_decode.specs.declared.instr.One.TheVariants.{Rrc, Swpb, Rra, Sxt, Push, Call}
+use Rattle.msp_decode.specs.declared.cond.Cond.{Cond}
+use Rattle.msp_decode.specs.declared.cond.Cond.TheVariants.{Ne, Eq, Nc, C, N, Ge, L, Always}
+use Rattle.msp_decode.specs.declared.head.SourceForm.{SourceForm}
+use Rattle.msp_decode.specs.declared.head.SourceForm.TheVariants.{Register, Indexed, Indirect, IndirectInc, Immediate, Constant}
+use Rattle.msp_decode.specs.declared.head.DestForm.{DestForm}
+use Rattle.msp_decode.specs.declared.head.DestForm.TheVariants.{Register as DestRegister, Indexed as DestIndexed}
 use Rattle.msp_decode.specs.Tables.{reg_number, op2_number, one_number, cond_number, size_number, source_mode, source_register, dest_mode, dest_register, offset_number}
 use Rattle.msp_decode.specs.Fields.{reg_of, op2_of, one_of, cond_of, size_of, source_of, dest_of, offset_of}
 use Rattle.msp_decode.specs.Spelling.{has_form, has_range}

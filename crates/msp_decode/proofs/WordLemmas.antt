@@ -3,14 +3,14 @@ use Rattle.std.proofs.Common.{◌≡◌, ℕ, ◌<◌, ◌^◌, ◌&&◌, ◌||�
 use Rattle.std.specs.Prelude.{IsTrue, slice_index}
 use Rattle.msp_decode.specs.declared.encoding.EncodeFault.{EncodeFault}
 use Rattle.msp_decode.specs.declared.encoding.EncodeFault.TheVariants.{NoByteForm, NotWritable, NoSuchForm, OffsetRange}
-use Rattle.msp_decode.specs.declared.operands.Source.TheVariants.{Reg, Indexed, Indirect, IndirectInc, Immediate, Constant}
-use Rattle.msp_decode.specs.declared.operands.Dest.TheVariants.{Reg as DestReg, Indexed as DestIndexed}
-use Rattle.msp_decode.specs.declared.heads.SourceForm.TheVariants.{Register as RegisterForm, Indexed as IndexedForm, Indirect as IndirectForm, IndirectInc as IndirectIncForm, Immediate as ImmediateForm, Constant as ConstantForm}
-use Rattle.msp_decode.specs.declared.heads.DestForm.TheVariants.{Register as DestRegisterForm, Indexed as DestIndexedForm}
-use Rattle.msp_decode.specs.declared.instructions.Instr.{Instr}
-use Rattle.msp_decode.specs.declared.instructions.Instr.TheVariants.{Two, One, Reti, Jump}
-use Rattle.msp_decode.specs.declared.heads.Head.{Head}
-use Rattle.msp_decode.specs.declared.heads.Head.TheVariants.{Two as TwoHead, One as OneHead, Reti as RetiHead, Jump as JumpHead}
+use Rattle.msp_decode.specs.declared.operand.Source.TheVariants.{Reg, Indexed, Indirect, IndirectInc, Immediate, Constant}
+use Rattle.msp_decode.specs.declared.operand.Dest.TheVariants.{Reg as DestReg, Indexed as DestIndexed}
+use Rattle.msp_decode.specs.declared.head.SourceForm.TheVariants.{Register as RegisterForm, Indexed as IndexedForm, Indirect as IndirectForm, IndirectInc as IndirectIncForm, Immediate as ImmediateForm, Constant as ConstantForm}
+use Rattle.msp_decode.specs.declared.head.DestForm.TheVariants.{Register as DestRegisterForm, Indexed as DestIndexedForm}
+use Rattle.msp_decode.specs.declared.instr.Instr.{Instr}
+use Rattle.msp_decode.specs.declared.instr.Instr.TheVariants.{Two, One, Reti, Jump}
+use Rattle.msp_decode.specs.declared.head.Head.{Head}
+use Rattle.msp_decode.specs.declared.head.Head.TheVariants.{Two as TwoHead, One as OneHead, Reti as RetiHead, Jump as JumpHead}
 use Rattle.msp_decode.specs.Spelling.{has_form, has_range, has_size, takes_write, writes_operand, is_legal, word_of}
 use Rattle.msp_decode.specs.Completion.{extension_count, completed, head_part, extension_words, words_of}
 use Rattle.msp_decode.specs.Faults.{first_fault}

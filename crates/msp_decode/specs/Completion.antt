@@ -1,17 +1,17 @@
 -- Instructions, their heads and their extension words.
 use Rattle.std.specs.Prelude.{◌+◌, ◌++◌, ◌==◌, ℕ, List, [], ◌∷◌, if◌then◌else◌}
-use Rattle.msp_decode.specs.declared.operands.Source.{Source}
-use Rattle.msp_decode.specs.declared.operands.Source.TheVariants.{Reg, Indexed, Indirect, IndirectInc, Immediate, Constant}
-use Rattle.msp_decode.specs.declared.operands.Dest.{Dest}
-use Rattle.msp_decode.specs.declared.operands.Dest.TheVariants.{Reg as DestReg, Indexed as DestIndexed}
-use Rattle.msp_decode.specs.declared.heads.SourceForm.{SourceForm}
-use Rattle.msp_decode.specs.declared.heads.SourceForm.TheVariants.{Register as RegisterForm, Indexed as IndexedForm, Indirect as IndirectForm, IndirectInc as IndirectIncForm, Immediate as ImmediateForm, Constant as ConstantForm}
-use Rattle.msp_decode.specs.declared.heads.DestForm.{DestForm}
-use Rattle.msp_decode.specs.declared.heads.DestForm.TheVariants.{Register as DestRegisterForm, Indexed as DestIndexedForm}
-use Rattle.msp_decode.specs.declared.instructions.Instr.{Instr}
-use Rattle.msp_decode.specs.declared.instructions.Instr.TheVariants.{Two, One, Reti, Jump}
-use Rattle.msp_decode.specs.declared.heads.Head.{Head}
-use Rattle.msp_decode.specs.declared.heads.Head.TheVariants.{Two as TwoHead, One as OneHead, Reti as RetiHead, Jump as JumpHead}
+use Rattle.msp_decode.specs.declared.operand.Source.{Source}
+use Rattle.msp_decode.specs.declared.operand.Source.TheVariants.{Reg, Indexed, Indirect, IndirectInc, Immediate, Constant}
+use Rattle.msp_decode.specs.declared.operand.Dest.{Dest}
+use Rattle.msp_decode.specs.declared.operand.Dest.TheVariants.{Reg as DestReg, Indexed as DestIndexed}
+use Rattle.msp_decode.specs.declared.head.SourceForm.{SourceForm}
+use Rattle.msp_decode.specs.declared.head.SourceForm.TheVariants.{Register as RegisterForm, Indexed as IndexedForm, Indirect as IndirectForm, IndirectInc as IndirectIncForm, Immediate as ImmediateForm, Constant as ConstantForm}
+use Rattle.msp_decode.specs.declared.head.DestForm.{DestForm}
+use Rattle.msp_decode.specs.declared.head.DestForm.TheVariants.{Register as DestRegisterForm, Indexed as DestIndexedForm}
+use Rattle.msp_decode.specs.declared.instr.Instr.{Instr}
+use Rattle.msp_decode.specs.declared.instr.Instr.TheVariants.{Two, One, Reti, Jump}
+use Rattle.msp_decode.specs.declared.head.Head.{Head}
+use Rattle.msp_decode.specs.declared.head.Head.TheVariants.{Two as TwoHead, One as OneHead, Reti as RetiHead, Jump as JumpHead}
 use Rattle.msp_decode.specs.Spelling.{word_of}
 
 -- how many extension words a source has

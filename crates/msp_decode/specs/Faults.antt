@@ -1,7 +1,7 @@
 -- What has no word: the faults of an instruction, in the order in which they are tried.
 use Rattle.std.specs.Prelude.{◌&&◌, Bool, false, not, if◌then◌else◌, Option, Some, None}
-use Rattle.msp_decode.specs.declared.heads.Head.{Head}
-use Rattle.msp_decode.specs.declared.heads.Head.TheVariants.{Two, One, Reti, Jump}
+use Rattle.msp_decode.specs.declared.head.Head.{Head}
+use Rattle.msp_decode.specs.declared.head.Head.TheVariants.{Two, One, Reti, Jump}
 use Rattle.msp_decode.specs.declared.encoding.EncodeFault.{EncodeFault}
 use Rattle.msp_decode.specs.declared.encoding.EncodeFault.TheVariants.{NoByteForm, NotWritable, NoSuchForm, OffsetRange}
 use Rattle.msp_decode.specs.Spelling.{has_size, has_form, has_range, takes_write, writes_operand}

@@ -1,7 +1,7 @@
 -- The head of an instruction word, as a function that computes.
 use Rattle.std.specs.Prelude.{◌/◌, ◌%◌, ◌==◌, ℕ, nat_lt, if◌then◌else◌, Option, Some, None}
-use Rattle.msp_decode.specs.declared.heads.Head.{Head}
-use Rattle.msp_decode.specs.declared.heads.Head.TheVariants.{Two, One as OneOperand, Reti, Jump}
+use Rattle.msp_decode.specs.declared.head.Head.{Head}
+use Rattle.msp_decode.specs.declared.head.Head.TheVariants.{Two, One as OneOperand, Reti, Jump}
 use Rattle.msp_decode.specs.Spelling.{is_legal}
 use Rattle.msp_decode.specs.Fields.{op2_of, one_of, cond_of, size_of, source_of, dest_of, offset_of}
 

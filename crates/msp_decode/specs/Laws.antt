@@ -1,7 +1,7 @@
 -- The laws of spellings.
 use Rattle.std.specs.Prelude.{◌≡◌, ◌↔◌, ◌<◌, ◌^◌, ◌+◌, ℕ, List, [], ◌∷◌, take, length, slice_index, Some, None, IsNone}
-use Rattle.msp_decode.specs.declared.heads.Head.{Head}
-use Rattle.msp_decode.specs.declared.instructions.Instr.{Instr}
+use Rattle.msp_decode.specs.declared.head.Head.{Head}
+use Rattle.msp_decode.specs.declared.instr.Instr.{Instr}
 use Rattle.msp_decode.specs.Spelling.{Spells, IsIllegalWord}
 use Rattle.msp_decode.specs.Heads.{head_of}
 use Rattle.msp_decode.specs.Completion.{completed, extension_count, head_part, words_of}

@@ -1,13 +1,13 @@
 -- What an instruction word spells.
 use Rattle.std.specs.Prelude.{◌≡◌, ◌<◌, ◌≤◌, ◌⊎◌, ◌+◌, ◌*◌, ◌/◌, ◌%◌, ◌==◌, ◌&&◌, ◌||◌, ℕ, ℤ, pos, negsuc, Bool, true, false, not, nat_lt, IsTrue}
-use Rattle.word_arith.specs.declared.sizes.Size.{Size}
-use Rattle.word_arith.specs.declared.sizes.Size.TheVariants.{Byte, Word}
-use Rattle.msp_decode.specs.declared.instructions.One.{One}
-use Rattle.msp_decode.specs.declared.instructions.One.TheVariants.{Rrc, Swpb, Rra, Sxt, Push, Call}
-use Rattle.msp_decode.specs.declared.heads.Head.{Head}
-use Rattle.msp_decode.specs.declared.heads.Head.TheVariants.{Two, One as OneOperand, Reti, Jump}
-use Rattle.msp_decode.specs.declared.heads.SourceForm.{SourceForm}
-use Rattle.msp_decode.specs.declared.heads.SourceForm.TheVariants.{Register, Indexed, Indirect, IndirectInc, Immediate, Constant}
+use Rattle.word_arith.specs.declared.size.Size.{Size}
+use Rattle.word_arith.specs.declared.size.Size.TheVariants.{Byte, Word}
+use Rattle.msp_decode.specs.declared.instr.One.{One}
+use Rattle.msp_decode.specs.declared.instr.One.TheVariants.{Rrc, Swpb, Rra, Sxt, Push, Call}
+use Rattle.msp_decode.specs.declared.head.Head.{Head}
+use Rattle.msp_decode.specs.declared.head.Head.TheVariants.{Two, One as OneOperand, Reti, Jump}
+use Rattle.msp_decode.specs.declared.head.SourceForm.{SourceForm}
+use Rattle.msp_decode.specs.declared.head.SourceForm.TheVariants.{Register, Indexed, Indirect, IndirectInc, Immediate, Constant}
 use Rattle.msp_decode.specs.Tables.{reg_number, op2_number, one_number, cond_number, size_number, source_mode, source_register, dest_mode, dest_register, offset_number}
 
 -- SWPB, SXT and CALL are of words alone

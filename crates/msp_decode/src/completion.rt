@@ -1,9 +1,9 @@
 ghost use Rattle.std.specs.Prelude.{◌≡◌, ◌≤◌, ◌+◌, ℕ, [], ◌∷◌, take};
 ghost use Rattle.msp_decode.specs.Completion.{head_part, extension_words, source_extensions, dest_extensions, extension_count, completed_source, completed_dest, completed};
 
-use crate::heads::{DestForm, Head, SourceForm};
-use crate::instructions::Instr;
-use crate::operands::{Dest, Source};
+use crate::head::{DestForm, Head, SourceForm};
+use crate::instr::Instr;
+use crate::operand::{Dest, Source};
 
 fn source_extensions(source: SourceForm) -> u8
     ensures value { result ≡ source_extensions source }

@@ -1,12 +1,12 @@
 ghost use Rattle.std.specs.Prelude.{◌≡◌, ◌↔◌, ◌<◌, ◌≤◌, IsNone};
-ghost use Rattle.msp_decode.specs.declared.heads.Head.{Head};
+ghost use Rattle.msp_decode.specs.declared.head.Head.{Head};
 ghost use Rattle.msp_decode.specs.Spelling.{Spells, IsIllegalWord};
 ghost use Rattle.msp_decode.specs.Heads.{head_of, one_head, two_head, jump_head, if_legal};
 
-use crate::conditions::Cond;
+use crate::cond::Cond;
 use crate::fields::{offset_from_number, op2_from_number, size_from_number};
-use crate::heads::{DestForm, Head, SourceForm};
-use crate::instructions::One;
+use crate::head::{DestForm, Head, SourceForm};
+use crate::instr::One;
 
 fn one_operand(word: u16) -> Option<Head>
     requires least { 0x1000 ≤ word }

@@ -1,6 +1,6 @@
 ghost use Rattle.std.specs.Prelude.{◌≡◌, ◌↔◌, ◌<◌, ◌^◌, IsTrue, IsNone, IfOk, option_to_list};
 ghost use Rattle.msp_decode.specs.declared.encoding.EncodeFault.{EncodeFault};
-ghost use Rattle.msp_decode.specs.declared.heads.Head.TheVariants.{One as OneHead};
+ghost use Rattle.msp_decode.specs.declared.head.Head.TheVariants.{One as OneHead};
 ghost use Rattle.msp_decode.specs.Spelling.{is_legal, word_of};
 ghost use Rattle.msp_decode.specs.Completion.{source_form, dest_form, head_part, source_words, dest_words, extension_words, words_of};
 ghost use Rattle.msp_decode.specs.Following.{following_words};
@@ -9,10 +9,10 @@ ghost use Rattle.msp_decode.specs.Laws.{AreReadAs};
 
 use crate::fields::{has_range, offset_number, op2_number, size_number};
 use crate::following::Following;
-use crate::heads::{DestForm, Head, SourceForm};
-use crate::instructions::{Instr, One};
-use crate::operands::{Dest, Source};
-use crate::spelled::Words;
+use crate::head::{DestForm, Head, SourceForm};
+use crate::instr::{Instr, One};
+use crate::operand::{Dest, Source};
+use crate::words::Words;
 use thiserror::Error;
 use word_arith::Size;
 

@@ -9,27 +9,27 @@
 #![tactic(auto)]
 
 mod completion;
-mod conditions;
+mod cond;
 mod decoding;
 mod encoding;
 mod fields;
 mod following;
-mod heads;
-mod instructions;
+mod head;
+mod instr;
 mod laws;
-mod operands;
-mod registers;
-mod spelled;
+mod operand;
+mod reg;
 #[cfg(test)]
 mod tests;
+mod words;
 
 pub use completion::{complete, extensions};
-pub use conditions::Cond;
+pub use cond::Cond;
 pub use decoding::decode;
 pub use encoding::{EncodeFault, encode};
-pub use heads::{DestForm, Head, SourceForm};
-pub use instructions::{Instr, One};
+pub use head::{DestForm, Head, SourceForm};
+pub use instr::{Instr, One};
 pub use laws::{heads_are_spelled, illegal_words_spell_nothing, words_are_read, words_are_written};
-pub use operands::{Dest, Gen, Source};
-pub use registers::Reg;
-pub use spelled::Words;
+pub use operand::{Dest, Gen, Source};
+pub use reg::Reg;
+pub use words::Words;

@@ -1,10 +1,10 @@
 -- The DMA engine: its registers and its accesses, by what happened to it.
 use Rattle.std.specs.Prelude.{◌==◌, ◌&&◌, ◌+◌, ◌*◌, ◌/◌, ◌%◌, ℕ, Bool, List, [], ◌∷◌, length, if◌then◌else◌, nat_lt, Option, Some, None}
-use Rattle.word_arith.specs.declared.sizes.Size.{Size}
-use Rattle.word_arith.specs.declared.sizes.Size.TheVariants.{Word}
-use Rattle.bus_signals.specs.declared.accesses.Access.{Access}
-use Rattle.bus_signals.specs.declared.accesses.Access.TheVariants.{Read, Write}
-use Rattle.part_definitions.specs.Registers.{RegisterWrite, register_of, register_word, covers, part_of}
+use Rattle.word_arith.specs.declared.size.Size.{Size}
+use Rattle.word_arith.specs.declared.size.Size.TheVariants.{Word}
+use Rattle.bus_signals.specs.declared.access.Access.{Access}
+use Rattle.bus_signals.specs.declared.access.Access.TheVariants.{Read, Write}
+use Rattle.part_definitions.specs.PeripheralRegister.{RegisterWrite, register_of, register_word, covers, part_of}
 
 -- DCTL starts a transfer, from DSRC to DDST, of DLEN words
 abbrev pub DMA_CONTROL : ℕ

@@ -1,11 +1,10 @@
 -- Memory: the bytes that were written, over the key, the image and the fixed contents of the map.
 use Rattle.std.specs.Prelude.{◌==◌, ◌&&◌, ◌||◌, ◌+◌, ◌-◌, ◌*◌, ◌/◌, ◌%◌, ℕ, zero, suc, Bool, not, List, [], ◌∷◌, if◌then◌else◌, nat_le, Option, Some, None}
-use Rattle.word_arith.specs.declared.sizes.Size.{Size}
-use Rattle.word_arith.specs.declared.sizes.Size.TheVariants.{Byte, Word}
-use Rattle.bus_signals.specs.declared.map.TheConstants.{KR, XS, CR}
-use Rattle.bus_signals.specs.declared.accesses.Access.{Access}
-use Rattle.bus_signals.specs.declared.accesses.Access.TheVariants.{Fetch, Read, Write}
-use Rattle.bus_signals.specs.Map.{lies_in}
+use Rattle.word_arith.specs.declared.size.Size.{Size}
+use Rattle.word_arith.specs.declared.size.Size.TheVariants.{Byte, Word}
+use Rattle.bus_signals.specs.declared.access.Access.{Access}
+use Rattle.bus_signals.specs.declared.access.Access.TheVariants.{Fetch, Read, Write}
+use Rattle.bus_signals.specs.Map.{lies_in, ram_region, program_region, vector_region, key_region, stack_region, rom_region, EXEC_WORD, ROM_EXIT}
 
 -- what the device is powered on with: the bytes of the key by their numbers, and those of the image
 -- by their places, 0 where it has none
@@ -13,23 +12,23 @@ pub record PowerOn : Type 0 where
   pub key : ℕ → ℕ
   pub image : ℕ → ℕ
 
--- RAM is 0200..21FF, program and vectors are C000..FFFF: the places that an image may hold
+-- RAM, and the program up to the end of the vectors: the places that an image may hold
 abbrev pub is_ram : ℕ → Bool
-is_ram place = nat_le 0x0200 place && nat_le place 0x21FF
+is_ram place = lies_in ram_region place
 
 abbrev pub is_program : ℕ → Bool
-is_program place = nat_le 0xC000 place && nat_le place 0xFFFF
+is_program place = nat_le program_region.first place && nat_le place vector_region.last
 
 abbrev pub is_image_place : ℕ → Bool
 is_image_place place = is_ram place || is_program place
 
--- the EXEC word at 0268 shows the EXEC flag
+-- the two bytes of the EXEC word show the EXEC flag
 abbrev pub is_exec_word : ℕ → Bool
-is_exec_word place = nat_le 0x0268 place && nat_le place 0x0269
+is_exec_word place = nat_le EXEC_WORD place && nat_le place (EXEC_WORD + 1)
 
 -- the places where a write leaves its byte
 abbrev pub takes_write : ℕ → Bool
-takes_write place = (is_image_place place && not (is_exec_word place)) || lies_in XS place
+takes_write place = (is_image_place place && not (is_exec_word place)) || lies_in stack_region place
 
 -- the byte there before the first write
 abbrev pub first_byte : PowerOn → ℕ → ℕ
@@ -38,17 +37,17 @@ first_byte start place = if is_image_place place then start.image place else 0
 -- the attestation ROM reads as words 4303 (NOP), and as 4130 (RET) at its last place, BFFE
 abbrev pub rom_byte : ℕ → ℕ
 rom_byte place =
-    if place == 0xBFFE then 0x30
-    else if place == 0xBFFF then 0x41
+    if place == ROM_EXIT then 0x30
+    else if place == ROM_EXIT + 1 then 0x41
     else if place % 2 == 0 then 0x03
     else 0x43
 
 -- the byte at a place that takes no write
 abbrev pub fixed_byte : PowerOn → Bool → ℕ → ℕ
 fixed_byte start exec place =
-    if lies_in KR place then start.key (place - KR.first)
-    else if lies_in CR place then rom_byte place
-    else if (place == 0x0268) && exec then 1
+    if lies_in key_region place then start.key (place - key_region.first)
+    else if lies_in rom_region place then rom_byte place
+    else if (place == EXEC_WORD) && exec then 1
     else 0
 
 -- a byte was written to a place
@@ -69,25 +68,25 @@ byte_at start exec writes place =
     else fixed_byte start exec place
 
 -- the byte or the little-endian word at a place; the address of a word has bit 0 cleared
-abbrev pub aligned : Size → ℕ → ℕ
-aligned Byte place = place
-aligned Word place = place / 2 * 2
+abbrev pub aligned_place : Size → ℕ → ℕ
+aligned_place Byte place = place
+aligned_place Word place = place / 2 * 2
 
-abbrev pub joined : Size → (ℕ → ℕ) → ℕ → ℕ
-joined Byte bytes place = bytes place
-joined Word bytes place = bytes place + 256 * bytes (place + 1)
+abbrev pub number_from : Size → (ℕ → ℕ) → ℕ → ℕ
+number_from Byte bytes place = bytes place
+number_from Word bytes place = bytes place + 256 * bytes (place + 1)
 
 abbrev pub number_at : (ℕ → ℕ) → ℕ → Size → ℕ
-number_at bytes place size = joined size bytes (aligned size place)
+number_at bytes place size = number_from size bytes (aligned_place size place)
 
 -- the bytes of a number, written at a place in front of the earlier writes
 abbrev pub with_bytes : Size → ℕ → ℕ → List MemoryWrite → List MemoryWrite
 with_bytes Byte place number writes = record { place = place; byte = number % 256 } ∷ writes
 with_bytes Word place number writes =
-    record { place = place + 1; byte = number / 256 } ∷ record { place = place; byte = number % 256 } ∷ writes
+    record { place = place + 1; byte = number / 256 % 256 } ∷ record { place = place; byte = number % 256 } ∷ writes
 
 abbrev pub with_number : ℕ → Size → ℕ → List MemoryWrite → List MemoryWrite
-with_number place size number writes = with_bytes size (aligned size place) number writes
+with_number place size number writes = with_bytes size (aligned_place size place) number writes
 
 -- the writes after an access
 abbrev pub with_access : Option Access → List MemoryWrite → List MemoryWrite

@@ -1,7 +1,7 @@
 -- The pins of port 1.
 use Rattle.std.specs.Prelude.{◌==◌, ℕ, List, [], ◌∷◌, if◌then◌else◌}
-use Rattle.word_arith.specs.declared.sizes.Size.{Size}
-use Rattle.part_definitions.specs.Registers.{register_of, part_of}
+use Rattle.word_arith.specs.declared.size.Size.{Size}
+use Rattle.part_definitions.specs.PeripheralRegister.{register_of, part_of}
 
 -- P1IN reads the pins
 abbrev pub PINS_IN : ℕ

@@ -1,7 +1,7 @@
 -- The serial port: its receive queue and its registers, by what happened to it.
 use Rattle.std.specs.Prelude.{◌==◌, ◌&&◌, ◌||◌, ◌+◌, ◌%◌, ◌++◌, ℕ, Bool, false, List, [], ◌∷◌, length, drop, if◌then◌else◌, not, nat_lt, Option, Some, None}
-use Rattle.word_arith.specs.declared.sizes.Size.{Size}
-use Rattle.part_definitions.specs.Registers.{RegisterWrite, register_of, register_word, covers, part_of}
+use Rattle.word_arith.specs.declared.size.Size.{Size}
+use Rattle.part_definitions.specs.PeripheralRegister.{RegisterWrite, register_of, register_word, covers, part_of}
 
 -- SCTL enables the interrupt, SSTAT tells of the queue, SRXD gives a byte, STXD sends one
 abbrev pub SERIAL_CONTROL : ℕ

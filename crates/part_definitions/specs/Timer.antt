@@ -1,8 +1,8 @@
 -- The timer: its registers and its flag, by what happened to it.
 use Rattle.std.specs.Prelude.{◌==◌, ◌&&◌, ◌||◌, ◌+◌, ◌-◌, ◌/◌, ◌%◌, ℕ, Bool, List, [], ◌∷◌, if◌then◌else◌, nat_lt}
 use Rattle.std.specs.List.{list_any}
-use Rattle.word_arith.specs.declared.sizes.Size.{Size}
-use Rattle.part_definitions.specs.Registers.{RegisterWrite, register_of, register_word, part_of}
+use Rattle.word_arith.specs.declared.size.Size.{Size}
+use Rattle.part_definitions.specs.PeripheralRegister.{RegisterWrite, register_of, register_word, part_of}
 
 -- TCTL starts and stops the timer, TCNT counts, TCMP is the last number that it counts to
 abbrev pub TIMER_CONTROL : ℕ

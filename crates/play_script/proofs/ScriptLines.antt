@@ -1,7 +1,7 @@
 -- Lemmas on the lines of a script.
 use Rattle.std.proofs.Common.{◌≡◌, ◌∙◌, ap, All, ℕ, ◌≤◌, List, [], ◌∷◌, ◌++◌, true, false, Result, Ok, Err, refl, sym, append_assoc, append-nil, arith}
 use Rattle.std.proofs.lemmas.List.Elements.{All-append, All-map}
-use Rattle.bus_signals.specs.declared.records.Event.{Event}
+use Rattle.bus_signals.specs.declared.event.Event.{Event}
 use Rattle.text_scan.specs.declared.faults.FaultAt.{FaultAt}
 use Rattle.text_scan.specs.declared.faults.TextFault.{TextFault}
 use Rattle.text_scan.specs.declared.faults.TextFault.TheVariants.{At, Memory}

@@ -4,8 +4,8 @@ use Rattle.std.specs.List.{zip}
 use Rattle.std.specs.List.Sorted.{IsNonDecreasing}
 use Rattle.std.proofs.lemmas.List.Sorted.{IsNonDecreasingBy-push}
 use Rattle.std.proofs.lemmas.Bool.{eq-eqb, ne_eqb, cases_lt}
-use Rattle.bus_signals.specs.declared.records.Event.{Event}
-use Rattle.bus_signals.specs.declared.records.Event.TheVariants.{Reset}
+use Rattle.bus_signals.specs.declared.event.Event.{Event}
+use Rattle.bus_signals.specs.declared.event.Event.TheVariants.{Reset}
 use Rattle.play_script.specs.Script.{Timed, events_of}
 
 -- one more

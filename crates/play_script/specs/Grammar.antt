@@ -1,8 +1,8 @@
 -- The grammar of a script: what each line says, and the first fault.
 use Rattle.std.specs.Prelude.{ℕ, List, [], ◌∷◌, ◌++◌, map, if◌then◌else◌, nat_lt, Result, Ok, Err, codes}
 use Rattle.std.specs.Str.{bytes_eq}
-use Rattle.bus_signals.specs.declared.records.Event.{Event}
-use Rattle.bus_signals.specs.declared.records.Event.TheVariants.{Rx, Pins, Dma, Reset}
+use Rattle.bus_signals.specs.declared.event.Event.{Event}
+use Rattle.bus_signals.specs.declared.event.Event.TheVariants.{Rx, Pins, Dma, Reset}
 use Rattle.play_script.specs.Script.{Timed}
 use Rattle.text_scan.specs.declared.faults.FaultAt.{FaultAt}
 use Rattle.text_scan.specs.declared.faults.FaultKind.{FaultKind}

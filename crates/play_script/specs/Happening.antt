@@ -1,7 +1,7 @@
 -- What the calls that read parts of a line answer.
 use Rattle.std.specs.Prelude.{◌≡◌, ℕ, List, [], ◌∷◌, map, Result, Ok, Err}
-use Rattle.bus_signals.specs.declared.records.Event.{Event}
-use Rattle.bus_signals.specs.declared.records.Event.TheVariants.{Rx}
+use Rattle.bus_signals.specs.declared.event.Event.{Event}
+use Rattle.bus_signals.specs.declared.event.Event.TheVariants.{Rx}
 use Rattle.text_scan.specs.declared.faults.FaultKind.{FaultKind}
 use Rattle.text_scan.specs.declared.faults.FaultAt.{FaultAt}
 use Rattle.text_scan.specs.declared.faults.TextFault.{TextFault}

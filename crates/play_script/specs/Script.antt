@@ -1,7 +1,7 @@
 -- What a script says: events with their steps, in the order of the file.
 use Rattle.std.specs.Prelude.{ℕ, ◌==◌, List, map}
 use Rattle.std.specs.List.{filter}
-use Rattle.bus_signals.specs.declared.records.Event.{Event}
+use Rattle.bus_signals.specs.declared.event.Event.{Event}
 
 -- an event with its step
 abbrev pub Timed : Type 0

@@ -1,5 +1,5 @@
 ghost use Rattle.std.specs.Prelude.{◌≡◌, ◌∷◌, [], List, map, Ok, Err, IfOk, IfErr};
-ghost use Rattle.bus_signals.specs.declared.records.Event.TheVariants.{Rx};
+ghost use Rattle.bus_signals.specs.declared.event.Event.TheVariants.{Rx};
 ghost use Rattle.text_scan.specs.Items.{words_of};
 ghost use Rattle.play_script.specs.Grammar.{arrivals_of, pins_of, start_of, happening_of, line_of};
 ghost use Rattle.play_script.specs.Happening.{ReadsLine, ReadsOn};

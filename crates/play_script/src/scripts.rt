@@ -4,7 +4,7 @@ ghost use Rattle.std.specs.List.Sorted.{IsNonDecreasing};
 ghost use Rattle.play_script.specs.Script.{Timed, events_of};
 ghost use Rattle.play_script.specs.Grammar.{timed};
 ghost use Rattle.play_script.specs.Happening.{events_in};
-ghost use Rattle.bus_signals.specs.declared.records.Event.TheVariants.{Rx};
+ghost use Rattle.bus_signals.specs.declared.event.Event.TheVariants.{Rx};
 
 use crate::happenings::Happening;
 use bus_signals::Event;

@@ -1,5 +1,5 @@
 ghost use Rattle.std.specs.Prelude.{◌≡◌, ◌+◌, ◌≤◌, ◌/◌, ◌%◌, ◌++◌, ◌∷◌, [], ℕ, List, length, decimal};
-ghost use Rattle.device_trace.specs.Text.{byte_digits, word_digits};
+ghost use Rattle.printed_lines.specs.Lines.{byte_digits, word_digits};
 ghost use Rattle.report_text.specs.declared.buffer.TheConstants.{ROOM};
 
 use arrayvec::ArrayVec;

@@ -1,7 +1,7 @@
 ghost use Rattle.std.specs.Prelude.{◌≡◌, ◌≤◌, OnOk, OnErr, length};
 ghost use Rattle.outside_edge.specs.Counts.{Rose};
 ghost use Rattle.outside_edge.specs.Sinks.{Takes, TakesFront};
-ghost use Rattle.device_trace.specs.Text.{sent_line, reset_line, end_line, rule_name, flag_digit};
+ghost use Rattle.printed_lines.specs.Lines.{sent_line, reset_line, end_line, rule_name, flag_digit};
 
 use crate::buffer::Line;
 use bus_signals::Rule;

@@ -1,8 +1,8 @@
 -- Which histories the serial port stands for.
 use Rattle.std.specs.Prelude.{◌≡◌, List}
-use Rattle.word_register.specs.Holding.{HoldsWrites}
+use Rattle.peripheral_register.specs.Holding.{HoldsWrites}
 use Rattle.part_definitions.specs.Serial.{SerialEvent, SERIAL_CONTROL, serial_writes, waiting, dropped}
-use Rattle.serial_port.specs.declared.ports.Serial.{Serial}
+use Rattle.serial_port.specs.declared.serial.Serial.{Serial}
 
 -- the port is as these events, newest first, left it
 pub record SerialStandsFor (port : Serial) (events : List SerialEvent) : Type 0 where

@@ -6,7 +6,7 @@
 #![tactic(auto)]
 
 mod order;
-mod ports;
+mod serial;
 
 pub use order::bytes_keep_order;
-pub use ports::Serial;
+pub use serial::Serial;

@@ -1,8 +1,8 @@
 -- Results are numbers of their size.
 use Rattle.std.proofs.Common.{ℕ, ◌<◌, bit_or, bit_xor, bit_and, arith}
 use Rattle.std.proofs.lemmas.Nat.{or_lt, xor_lt, and_le_l}
-use Rattle.word_arith.specs.declared.sizes.Size.{Size}
-use Rattle.word_arith.specs.declared.sizes.Size.TheVariants.{Byte, Word}
+use Rattle.word_arith.specs.declared.size.Size.{Size}
+use Rattle.word_arith.specs.declared.size.Size.TheVariants.{Byte, Word}
 use Rattle.word_arith.specs.Numbers.{span}
 
 pub and_fits : (size : Size) (left right : ℕ) → left < span size → bit_and left right < span size

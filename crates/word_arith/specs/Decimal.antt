@@ -1,7 +1,7 @@
 -- Sums of binary-coded decimals, one nibble a decimal place.
 use Rattle.std.specs.Prelude.{◌+◌, ◌*◌, ◌/◌, ◌%◌, ℕ, zero, suc, Bool, nat_lt, nat_le, if◌then◌else◌}
-use Rattle.word_arith.specs.declared.sizes.Size.{Size}
-use Rattle.word_arith.specs.declared.sizes.Size.TheVariants.{Byte, Word}
+use Rattle.word_arith.specs.declared.size.Size.{Size}
+use Rattle.word_arith.specs.declared.size.Size.TheVariants.{Byte, Word}
 use Rattle.word_arith.specs.Numbers.{number_of}
 
 -- the sum of the lowest decimal place, with the carry in

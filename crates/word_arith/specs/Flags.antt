@@ -1,6 +1,6 @@
 -- The flags that a result has.
 use Rattle.std.specs.Prelude.{ℕ, Bool, ◌==◌}
-use Rattle.word_arith.specs.declared.sizes.Size.{Size}
+use Rattle.word_arith.specs.declared.size.Size.{Size}
 use Rattle.word_arith.specs.declared.flags.Flags.{Flags}
 use Rattle.word_arith.specs.Numbers.{is_negative}
 

@@ -1,7 +1,7 @@
 -- Operands of 8 or 16 bits as whole numbers.
 use Rattle.std.specs.Prelude.{◌-◌, ◌/◌, ◌%◌, ℕ, Bool, true, false, nat_le}
-use Rattle.word_arith.specs.declared.sizes.Size.{Size}
-use Rattle.word_arith.specs.declared.sizes.Size.TheVariants.{Byte, Word}
+use Rattle.word_arith.specs.declared.size.Size.{Size}
+use Rattle.word_arith.specs.declared.size.Size.TheVariants.{Byte, Word}
 
 -- how many numbers there are of a size: an operand is below it
 abbrev pub span : Size → ℕ

@@ -1,10 +1,10 @@
 -- Operations of one operand: result and flags, one line an operation.
 use Rattle.std.specs.Prelude.{◌+◌, ◌*◌, ◌/◌, ◌%◌, ℕ, Bool, false, not, ◌==◌, if◌then◌else◌}
-use Rattle.word_arith.specs.declared.sizes.Size.{Size}
-use Rattle.word_arith.specs.declared.sizes.Size.TheVariants.{Byte, Word}
+use Rattle.word_arith.specs.declared.size.Size.{Size}
+use Rattle.word_arith.specs.declared.size.Size.TheVariants.{Byte, Word}
 use Rattle.word_arith.specs.declared.flags.Flags.{Flags}
-use Rattle.word_arith.specs.declared.operations.Op1.{Op1}
-use Rattle.word_arith.specs.declared.operations.Op1.TheVariants.{Rrc, Swpb, Rra, Sxt}
+use Rattle.word_arith.specs.declared.op1.Op1.{Op1}
+use Rattle.word_arith.specs.declared.op1.Op1.TheVariants.{Rrc, Swpb, Rra, Sxt}
 use Rattle.word_arith.specs.Numbers.{span, low_part, is_negative, number_of}
 use Rattle.word_arith.specs.Flags.{flags_of}
 

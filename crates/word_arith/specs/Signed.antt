@@ -1,8 +1,8 @@
 -- Operands as signed numbers, and what the flags of a sum and of a comparison say of them.
 use Rattle.std.specs.Prelude.{◌≡◌, ◌↔◌, ◌<◌, ◌≤◌, ◌+ℤ◌, ◌-ℤ◌, ◌<ℤ◌, ℕ, ℤ, pos, Bool, IsTrue, IsFalse, if◌then◌else◌}
-use Rattle.word_arith.specs.declared.sizes.Size.{Size}
+use Rattle.word_arith.specs.declared.size.Size.{Size}
 use Rattle.word_arith.specs.declared.flags.Flags.{Flags}
-use Rattle.word_arith.specs.declared.operations.Op2.TheVariants.{Cmp}
+use Rattle.word_arith.specs.declared.op2.Op2.TheVariants.{Cmp}
 use Rattle.word_arith.specs.Numbers.{span, is_negative, number_of, alike}
 use Rattle.word_arith.specs.Sums.{sum_of}
 use Rattle.word_arith.specs.TwoOperands.{alu_of}

@@ -1,6 +1,6 @@
 -- Binary sums with carry and overflow.
 use Rattle.std.specs.Prelude.{◌+◌, ◌%◌, ◌&&◌, ℕ, Bool, not, nat_le}
-use Rattle.word_arith.specs.declared.sizes.Size.{Size}
+use Rattle.word_arith.specs.declared.size.Size.{Size}
 use Rattle.word_arith.specs.declared.flags.Flags.{Flags}
 use Rattle.word_arith.specs.Numbers.{span, is_negative, number_of, alike}
 use Rattle.word_arith.specs.Flags.{flags_of}

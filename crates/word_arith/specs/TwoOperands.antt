@@ -1,9 +1,9 @@
 -- Operations of two operands: result and flags, one line an operation.
 use Rattle.std.specs.Prelude.{ℕ, Bool, true, false, not, ◌&&◌, ◌==◌, bit_and, bit_or, bit_xor}
-use Rattle.word_arith.specs.declared.sizes.Size.{Size}
+use Rattle.word_arith.specs.declared.size.Size.{Size}
 use Rattle.word_arith.specs.declared.flags.Flags.{Flags}
-use Rattle.word_arith.specs.declared.operations.Op2.{Op2}
-use Rattle.word_arith.specs.declared.operations.Op2.TheVariants.{Mov, Add, Addc, Subc, Sub, Cmp, Dadd, Bit, Bic, Bis, Xor, And}
+use Rattle.word_arith.specs.declared.op2.Op2.{Op2}
+use Rattle.word_arith.specs.declared.op2.Op2.TheVariants.{Mov, Add, Addc, Subc, Sub, Cmp, Dadd, Bit, Bic, Bis, Xor, And}
 use Rattle.word_arith.specs.Numbers.{low_part, inverse, is_negative}
 use Rattle.word_arith.specs.Flags.{flags_of}
 use Rattle.word_arith.specs.Sums.{sum_of}

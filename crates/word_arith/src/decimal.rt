@@ -2,7 +2,7 @@ ghost use Rattle.std.specs.Prelude.{◌≡◌, ◌<◌, ◌^◌};
 ghost use Rattle.word_arith.specs.Decimal.{decimal_places, decimal_sum};
 ghost use Rattle.word_arith.specs.Numbers.{span};
 
-use crate::sizes::Size;
+use crate::size::Size;
 
 /// One decimal place: the digit and the carry of two nibbles and a carry.
 fn add_digits(left: u16, right: u16, carry: bool) -> (u16, bool)

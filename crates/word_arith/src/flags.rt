@@ -1,6 +1,6 @@
 ghost use Rattle.std.specs.Prelude.{◌≡◌};
 
-use crate::sizes::Size;
+use crate::size::Size;
 
 /// The flags of an operation: carry, zero, negative and overflow.
 #[derive(Clone, Copy, Debug, PartialEq, Eq)]

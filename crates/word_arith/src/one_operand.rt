@@ -3,8 +3,8 @@ ghost use Rattle.word_arith.specs.Numbers.{span};
 ghost use Rattle.word_arith.specs.OneOperand.{shifted_size, shift_result, shift_of, extend_of};
 
 use crate::flags::Flags;
-use crate::operations::Op1;
-use crate::sizes::Size;
+use crate::op1::Op1;
+use crate::size::Size;
 
 /// Shifts right by one place and puts a bit in at the top; the bit that leaves is the carry.
 fn shift_right(size: Size, dst: u16, top: bool) -> (u16, Flags)

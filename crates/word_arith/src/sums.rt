@@ -3,7 +3,7 @@ ghost use Rattle.word_arith.specs.Numbers.{span};
 ghost use Rattle.word_arith.specs.Sums.{sum_of};
 
 use crate::flags::Flags;
-use crate::sizes::Size;
+use crate::size::Size;
 
 /// The sum of two operands and a carry, with its flags.
 pub(crate) fn add(size: Size, left: u16, right: u16, carry: bool) -> (u16, Flags)

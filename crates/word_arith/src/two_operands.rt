@@ -4,8 +4,8 @@ ghost use Rattle.word_arith.specs.TwoOperands.{alu_result, alu_of, test_of, deci
 
 use crate::decimal::bcd_add;
 use crate::flags::Flags;
-use crate::operations::Op2;
-use crate::sizes::Size;
+use crate::op2::Op2;
+use crate::size::Size;
 use crate::sums::add;
 
 /// A result of bits with its flags: the carry says that it is not 0.

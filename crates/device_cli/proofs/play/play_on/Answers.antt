@@ -1,6 +1,7 @@
 use Rattle.std.proofs.Common.{◌≡◌, [], false, arith, add-one, append-nil}
 use Rattle.part_definitions.specs.Memory.{PowerOn}
-use Rattle.device_trace.specs.Text.{lines_of, end_line}
+use Rattle.device_trace.specs.Text.{lines_of}
+use Rattle.printed_lines.specs.Lines.{end_line}
 use Rattle.device_trace.specs.Trace.{trace, play_of}
 use Rattle.play_script.specs.Script.{events_of}
 use Rattle.device_core.specs.States.{HeldStandsFor}

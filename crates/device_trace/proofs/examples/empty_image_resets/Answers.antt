@@ -1,7 +1,7 @@
 use Rattle.std.proofs.Common.{refl}
 use Rattle.std.specs.Fmt.{digits}
 use Rattle.hex.specs.Hex.{encode_with}
-use Rattle.part_definitions.specs.NextAccess.{next_access}
+use Rattle.part_definitions.specs.NarrowNextAccess.{next_access}
 use Rattle.device_trace.specs.Logs.{with_events, with_record, logs_of}
 use Rattle.device_trace.specs.Step.{signals_of, first_rule, next_record}
 use Rattle.device_trace.specs.Trace.{trace}

@@ -1,5 +1,5 @@
 use Rattle.std.proofs.Common.{◌≡◌, ◌≤◌, ◌++◌, All, map, take}
-use Rattle.bus_signals.specs.declared.records.Event.TheVariants.{Rx}
+use Rattle.bus_signals.specs.declared.event.Event.TheVariants.{Rx}
 use Rattle.play_script.specs.Grammar.{timed}
 use Rattle.play_script.proofs.scripts.Script.add_arrivals.Given as goal
 

@@ -1,0 +1,49 @@
+-- The bounds of the executable region ER and the output region OR, and which are valid. (APEX.)
+use Rattle.std.specs.Prelude.{◌+◌, ◌==◌, ◌&&◌, ◌||◌, ◌%◌, ◌^◌, ℕ, Bool, nat_le, nat_lt}
+use Rattle.bus_signals.specs.declared.region.Region.{Region}
+use Rattle.bus_signals.specs.declared.bounds.Bounds.{Bounds}
+use Rattle.bus_signals.specs.Map.{ram_region, program_region, mac_region, metadata_region}
+
+-- from one word to another, the second byte of the last among them; an end past FFFF wraps
+abbrev pub words_region : ℕ → ℕ → Region
+words_region first last = record { first = first; last = (last + 1) % 2 ^ 16 }
+
+abbrev pub executable_region : Bounds → Region
+executable_region bounds = words_region bounds.er_min bounds.er_max
+
+abbrev pub output_region : Bounds → Region
+output_region bounds = words_region bounds.or_min bounds.or_max
+
+abbrev pub is_even : ℕ → Bool
+is_even place = place % 2 == 0
+
+-- one region lies wholly in another
+abbrev pub is_part_of : Region → Region → Bool
+is_part_of inner outer = nat_le outer.first inner.first && nat_le inner.last outer.last
+
+-- no address lies in both
+abbrev pub is_disjoint : Region → Region → Bool
+is_disjoint left right = nat_lt left.last right.first || nat_lt right.last left.first
+
+-- a region in RAM or in the program that has no byte of the MAC and none of the metadata
+abbrev pub is_free_region : Region → Bool
+is_free_region region =
+    (is_part_of region ram_region || is_part_of region program_region)
+    && is_disjoint region mac_region
+    && is_disjoint region metadata_region
+
+-- the same without a wrap, as validity sees it
+abbrev pub unwrapped_region : ℕ → ℕ → Region
+unwrapped_region first last = record { first = first; last = last + 1 }
+
+-- two even places in order, of such a region
+abbrev pub is_valid_region : ℕ → ℕ → Bool
+is_valid_region first last =
+    is_even first && is_even last && nat_le first last && is_free_region (unwrapped_region first last)
+
+-- both regions are valid, and disjoint
+abbrev pub are_valid : Bounds → Bool
+are_valid bounds =
+    is_valid_region bounds.er_min bounds.er_max && is_valid_region bounds.or_min bounds.or_max
+    && is_disjoint (unwrapped_region bounds.er_min bounds.er_max)
+    (unwrapped_region bounds.or_min bounds.or_max)

@@ -1,0 +1,26 @@
+-- What an attestation report tells.
+use Rattle.std.specs.Prelude.{ℕ, Bool, List, Option, option_map}
+use Rattle.bus_signals.specs.declared.bounds.Bounds.{Bounds}
+use Rattle.bus_signals.specs.declared.report_view.ReportView.{ReportView}
+
+-- the step that finished the call, the EXEC flag, the challenge, the bounds, the bytes of the
+-- output region where the bounds are valid, and the MAC
+pub record ReportFields : Type 0 where
+  pub step : ℕ
+  pub exec : Bool
+  pub chal : List ℕ
+  pub bounds : Bounds
+  pub output : Option (List ℕ)
+  pub mac : List ℕ
+
+-- what a view of memory tells
+abbrev pub fields_of : ReportView → ReportFields
+fields_of view =
+    record {
+      step = view.step;
+      exec = view.exec;
+      chal = view.chal;
+      bounds = view.bounds;
+      output = option_map (λ bytes. bytes.now) view.output;
+      mac = view.mac;
+    }

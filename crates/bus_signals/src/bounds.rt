@@ -1,0 +1,72 @@
+ghost use Rattle.std.specs.Prelude.{◌≡◌, ◌≤◌};
+ghost use Rattle.bus_signals.specs.Bounds.{is_part_of, is_free_region, is_valid_region, are_valid, is_disjoint};
+
+use crate::region::{META, MR, Region};
+
+/// The bounds of the executable region and the output region (APEX's ERmin, ERmax, ORmin and ORmax):
+/// addresses of their first and last words.
+#[derive(Clone, Copy, Debug, PartialEq, Eq)]
+pub struct Bounds {
+    pub er_min: u16,
+    pub er_max: u16,
+    pub or_min: u16,
+    pub or_max: u16,
+}
+
+/// RAM, of which the MAC and the metadata are parts.
+const RAM: Region = Region {
+    first: 0x0200,
+    last: 0x21FF,
+};
+
+/// The program, without the vectors above it.
+const PROGRAM: Region = Region {
+    first: 0xC000,
+    last: 0xFFDF,
+};
+
+impl Region {
+    fn is_part_of(self, outer: Region) -> bool
+        ensures { result ≡ is_part_of self outer }
+    {
+        outer.first <= self.first && self.last <= outer.last
+    }
+
+    fn is_disjoint(self, other: Region) -> bool
+        ensures { result ≡ is_disjoint self other }
+    {
+        self.last < other.first || other.last < self.first
+    }
+
+    fn is_free(self) -> bool
+        ensures { result ≡ is_free_region self }
+    {
+        (self.is_part_of(RAM) || self.is_part_of(PROGRAM))
+            && self.is_disjoint(MR)
+            && self.is_disjoint(META)
+    }
+}
+
+/// Whether a region may run from the word at `first` to the word at `last`.
+fn is_valid_region(first: u16, last: u16) -> bool
+    ensures { result ≡ is_valid_region first last }
+{
+    first % 2 == 0
+        && last % 2 == 0
+        && first <= last
+        && Region {
+            first,
+            last: last + 1,
+        }
+        .is_free()
+}
+
+/// Whether the bounds are valid: even and in order, both regions wholly in RAM or wholly in the
+/// program, apart from each other, from the MAC and from the metadata (APEX).
+pub fn valid(bounds: &Bounds) -> bool
+    ensures { result ≡ are_valid bounds.now }
+{
+    is_valid_region(bounds.er_min, bounds.er_max)
+        && is_valid_region(bounds.or_min, bounds.or_max)
+        && (bounds.er_max + 1 < bounds.or_min || bounds.or_max + 1 < bounds.er_min)
+}

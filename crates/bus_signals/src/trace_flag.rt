@@ -1,0 +1,26 @@
+ghost use Rattle.std.specs.Prelude.{◌≡◌, [], ◌∷◌, Bool, List};
+ghost use Rattle.bus_signals.specs.Seen.{Seen};
+
+use crate::bounds::Bounds;
+use crate::bus_record::BusRecord;
+
+/// A flag over the records of a trace, each with the bounds as they stood before it.
+pub trait TraceFlag: Drop {
+    ghost use Rattle.bus_signals.specs.Seen.{Seen};
+
+    /// What the flag is after these records, the newest first.
+    ghost flag_of: { List Seen → Bool };
+
+    /// The records that the value stands for having seen.
+    ghost has_seen: { Self → List Seen → Type 0 };
+
+    /// Sees the next record.
+    fn see(&mut self, entry: &BusRecord, bounds: &Bounds)
+        ensures { (seen : List Seen)
+            → has_seen self.old seen
+            → has_seen self.new (record { entry = entry.now; bounds = bounds.now } ∷ seen) };
+
+    /// The flag.
+    fn value(&self) -> bool
+        ensures { (seen : List Seen) → has_seen self.now seen → result ≡ flag_of seen };
+}

@@ -1,0 +1,94 @@
+ghost use Rattle.std.specs.Prelude.{◌≡◌, ◌%◌, ◌<◌, IfSome};
+ghost use Rattle.bus_signals.specs.Access.{IsFormed};
+ghost use Rattle.part_definitions.specs.Dma.{Transfer, new_transfer, transfer_access, is_active, after_start, with_value};
+
+use bus_signals::Access;
+use word_arith::Size;
+
+/// What is left of a transfer: the places of its next word, and the number of its words.
+#[derive(Clone, Copy, Debug)]
+pub struct Job {
+    pub source: u16,
+    pub destination: u16,
+    pub words: u16,
+    ghost even_source: { source % 2 ≡ 0 },
+    ghost even_destination: { destination % 2 ≡ 0 },
+    ghost some_words: { 0 < words },
+}
+
+/// What the engine does next.
+#[derive(Clone, Copy, Debug)]
+pub enum Activity {
+    Idle,
+    Reads(Job),
+    /// Writes the word that it read, which is in the latch.
+    Writes(Job, u16),
+}
+
+impl Activity {
+    ghost use Rattle.dma_engine.specs.Progress.{ActivityStandsFor};
+
+    /// The beginning of a transfer; of no words there is none.
+    pub fn begin(source: u16, destination: u16, words: u16) -> Activity
+        ensures { ActivityStandsFor result (new_transfer source destination words) }
+    {
+        if words == 0 {
+            Activity::Idle
+        } else {
+            Activity::Reads(Job {
+                source: source / 2 * 2,
+                destination: destination / 2 * 2,
+                words,
+            })
+        }
+    }
+
+    /// What it does after a start, which is ignored while a transfer is active.
+    pub fn started(self, source: u16, destination: u16, words: u16) -> Activity
+        ensures { (progress : Transfer) →
+            ActivityStandsFor self progress →
+            ActivityStandsFor result (after_start progress (new_transfer source destination words)) }
+    {
+        if self.is_active() {
+            self
+        } else {
+            Activity::begin(source, destination, words)
+        }
+    }
+
+    pub fn is_active(self) -> bool
+        ensures { (progress : Transfer) →
+            ActivityStandsFor self progress → result ≡ is_active progress }
+    {
+        !matches!(self, Activity::Idle)
+    }
+
+    pub fn access(self) -> Option<Access>
+        ensures access { (progress : Transfer) →
+            ActivityStandsFor self progress → result ≡ transfer_access progress }
+        ensures formed { IfSome result IsFormed }
+    {
+        match self {
+            Activity::Idle => None,
+            Activity::Reads(job) => Some(Access::Read(job.source, Size::Word)),
+            Activity::Writes(job, word) => Some(Access::Write(job.destination, Size::Word, word)),
+        }
+    }
+
+    /// What it does after the access was made and gave this value.
+    pub fn after(self, value: u16) -> Activity
+        ensures { (progress : Transfer) →
+            ActivityStandsFor self progress → ActivityStandsFor result (with_value progress value) }
+    {
+        match self {
+            Activity::Idle => Activity::Idle,
+            Activity::Reads(job) => Activity::Writes(job, value),
+            Activity::Writes(job, _) if job.words == 1 => Activity::Idle,
+            Activity::Writes(job, _) => Activity::Reads(Job {
+                source: job.source.wrapping_add(2),
+                destination: job.destination.wrapping_add(2),
+                words: job.words - 1,
+            }),
+        }
+    }
+}

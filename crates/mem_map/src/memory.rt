@@ -1,0 +1,142 @@
+ghost use Rattle.std.specs.Prelude.{◌≡◌, ◌<◌, ◌≤◌, ◌^◌, ◌+◌, ◌-◌, ◌&&◌, ◌||◌, ◌∷◌, [], ℕ, Bool, true, false, List, IfOk, IfSome, IsSome, IsTrue, ◌↔◌, nat_le, vec_len};
+ghost use Rattle.word_arith.specs.declared.size.Size.{Size};
+ghost use Rattle.part_definitions.specs.Memory.{PowerOn, MemoryWrite, byte_at, number_at, with_number, bytes_from, is_ram, is_program};
+ghost use Rattle.part_definitions.specs.Metadata.{bounds_in};
+ghost use Rattle.mem_map.specs.Image.{powered_on};
+
+use crate::image::Image;
+use crate::place::{PLACES, is_image_place, lies_in, rom_byte, takes_write};
+use bus_signals::{Bounds, CR, KR};
+use std::alloc::{AllocError, Global};
+use word_arith::Size;
+
+/// The byte at a place before the first write.
+fn power_on_byte(key: &[u8; 64], image: &Image, place: u16) -> u8
+    ensures { result ≡ byte_at (powered_on key.now image.now) false [] place }
+{
+    if is_image_place(place) && takes_write(place) {
+        image.get(place).unwrap_or(0)
+    } else if lies_in(KR, place) {
+        key[usize::from(place - KR.first)]
+    } else if lies_in(CR, place) {
+        rom_byte(place)
+    } else {
+        0
+    }
+}
+
+/// The device's memory, with peripherals read as unmapped.
+#[derive(Drop)]
+pub struct Memory {
+    bytes: Vec<u8>,
+    ghost whole: { vec_len bytes ≡ 65536 },
+}
+
+impl Memory {
+    ghost use Rattle.mem_map.specs.Memory.{MemoryStandsFor};
+
+    /// The memory at power-on.
+    pub fn new(alloc: Global, key: &[u8; 64], image: &Image) -> Result<Memory, AllocError>
+        ensures { IfOk result (λ memory.
+            MemoryStandsFor memory (powered_on key.now image.now) false []) }
+    {
+        let mut bytes = Vec::with_capacity(alloc, PLACES)?;
+        for place in 0..PLACES {
+            bytes.push(power_on_byte(key, image, place as u16))?;
+        }
+        Ok(Memory { bytes })
+    }
+
+    fn byte(&self, place: u16) -> u8
+        ensures { (start : PowerOn) (exec : Bool) (writes : List MemoryWrite)
+            → MemoryStandsFor self.now start exec writes
+            → result ≡ byte_at start exec writes place }
+    {
+        self.bytes[usize::from(place)]
+    }
+
+    fn set_byte(&mut self, place: u16, byte: u8)
+        ensures { (start : PowerOn) (exec : Bool) (writes : List MemoryWrite)
+            → MemoryStandsFor self.old start exec writes
+            → MemoryStandsFor self.new start exec (record { place = place; byte = byte } ∷ writes) }
+    {
+        if takes_write(place) {
+            self.bytes[usize::from(place)] = byte;
+        }
+    }
+
+    /// The byte or the little-endian word at a place. The address of a word has bit 0 cleared.
+    pub fn read(&self, place: u16, size: Size) -> u16
+        ensures { (start : PowerOn) (exec : Bool) (writes : List MemoryWrite)
+            → MemoryStandsFor self.now start exec writes
+            → result ≡ number_at (byte_at start exec writes) place size }
+    {
+        match size {
+            Size::Byte => u16::from(self.byte(place)),
+            Size::Word => {
+                let low = place / 2 * 2;
+                u16::from_le_bytes([self.byte(low), self.byte(low + 1)])
+            }
+        }
+    }
+
+    /// Writes a byte or a little-endian word. The address of a word has bit 0 cleared. Where the
+    /// memory map takes no write nothing changes.
+    pub fn write(&mut self, place: u16, size: Size, value: u16)
+        ensures { (start : PowerOn) (exec : Bool) (writes : List MemoryWrite)
+            → MemoryStandsFor self.old start exec writes
+            → MemoryStandsFor self.new start exec (with_number place size value writes) }
+    {
+        let [low, high] = value.to_le_bytes();
+        match size {
+            Size::Byte => self.set_byte(place, low),
+            Size::Word => {
+                let even = place / 2 * 2;
+                self.set_byte(even, low);
+                self.set_byte(even + 1, high);
+            }
+        }
+    }
+
+    /// Shows the EXEC flag at byte 0268.
+    pub fn set_exec(&mut self, on: bool)
+        ensures { (start : PowerOn) (exec : Bool) (writes : List MemoryWrite)
+            → MemoryStandsFor self.old start exec writes
+            → MemoryStandsFor self.new start on writes }
+    {
+        self.bytes[0x0268] = u8::from(on);
+    }
+
+    /// The bounds of the executable and the output region, as the metadata has them.
+    pub fn bounds(&self) -> Bounds
+        ensures { (start : PowerOn) (exec : Bool) (writes : List MemoryWrite)
+            → MemoryStandsFor self.now start exec writes
+            → result ≡ bounds_in (byte_at start exec writes) }
+    {
+        Bounds {
+            er_min: self.read(0x0260, Size::Word),
+            er_max: self.read(0x0262, Size::Word),
+            or_min: self.read(0x0264, Size::Word),
+            or_max: self.read(0x0266, Size::Word),
+        }
+    }
+
+    /// The bytes of a range that lies wholly in RAM, or wholly in program and vectors; `last` is the
+    /// address of its last byte.
+    pub fn span(&self, first: u16, last: u16) -> Option<&[u8]>
+        ensures within { IsSome result ↔ IsTrue (nat_le first last
+            && ((is_ram first && is_ram last) || (is_program first && is_program last))) }
+        ensures bytes { (start : PowerOn) (exec : Bool) (writes : List MemoryWrite)
+            → MemoryStandsFor self.now start exec writes
+            → IfSome result (λ bytes.
+            bytes.now ≡ bytes_from (byte_at start exec writes) first (last + 1 - first)) }
+    {
+        let is_ram = 0x0200 <= first && last <= 0x21FF;
+        let is_program = 0xC000 <= first;
+        if first <= last && (is_ram || is_program) {
+            Some(&self.bytes[usize::from(first)..usize::from(last) + 1])
+        } else {
+            None
+        }
+    }
+}

@@ -1,0 +1,131 @@
+-- A call of the attestation ROM: its accesses, by the words that passed in it so far, those that it
+-- read and those that it wrote to the MAC. (VRASED.)
+use Rattle.std.specs.Prelude.{◌==◌, ◌++◌, ◌+◌, ◌-◌, ◌*◌, ◌/◌, ◌%◌, ℕ, Bool, true, false, List, [], ◌∷◌, length, take, drop, slice_index, nat_lt, if◌then◌else◌}
+use Rattle.word_arith.specs.declared.size.Size.TheVariants.{Word}
+use Rattle.bus_signals.specs.declared.access.Access.{Access}
+use Rattle.bus_signals.specs.declared.bounds.Bounds.{Bounds}
+use Rattle.bus_signals.specs.Map.{key_region, metadata_region, mac_region, DERIVED_KEY, INNER_DIGEST, ROM_ENTRY, ROM_BODY, ROM_EXIT}
+use Rattle.part_definitions.specs.Accesses.{read_at, write_at}
+use Rattle.bus_signals.specs.Bounds.{are_valid}
+use Rattle.part_definitions.specs.Hmac.{hmac, inner_digest}
+
+-- one access of a call, with its number among those of its sort
+pub data CallItem : Type 0 where
+  KeyRead : ℕ → CallItem
+  MetadataRead : ℕ → CallItem
+  DerivedKeyWrite : ℕ → CallItem
+  RegionRead : ℕ → CallItem
+  InnerDigestWrite : ℕ → CallItem
+  MacWrite : ℕ → CallItem
+  ReturnRead : CallItem
+
+-- the bounds are words 16 to 19 of the metadata, which come after the 32 words of the key
+abbrev pub bounds_read : List ℕ → Bounds
+bounds_read words =
+    record {
+      er_min = slice_index words 48;
+      er_max = slice_index words 49;
+      or_min = slice_index words 50;
+      or_max = slice_index words 51;
+    }
+
+-- how many words there are from one place to another
+abbrev pub words_between : ℕ → ℕ → ℕ
+words_between first last = (last - first) / 2 + 1
+
+abbrev pub executable_words : Bounds → ℕ
+executable_words bounds = words_between bounds.er_min bounds.er_max
+
+-- how many words of ER and OR a call reads
+abbrev pub region_words : Bounds → ℕ
+region_words bounds =
+    if are_valid bounds
+    then executable_words bounds + words_between bounds.or_min bounds.or_max
+    else 0
+
+-- a call's accesses in order, where it reads so many words of ER and OR: the one after so many
+-- words that passed
+abbrev pub item_after : ℕ → ℕ → CallItem
+item_after region passed =
+    if nat_lt passed 32 then KeyRead passed
+    else if nat_lt passed 53 then MetadataRead (passed - 32)
+    else if nat_lt passed 69 then DerivedKeyWrite (passed - 53)
+    else if nat_lt passed (69 + region) then RegionRead (passed - 69)
+    else if nat_lt passed (85 + region) then InnerDigestWrite (passed - (69 + region))
+    else if nat_lt passed (101 + region) then MacWrite (passed - (85 + region))
+    else ReturnRead
+
+abbrev pub call_item : List ℕ → CallItem
+call_item words = item_after (region_words (bounds_read words)) (length words)
+
+-- word i of ER and then of OR
+abbrev pub region_place : Bounds → ℕ → ℕ
+region_place bounds i =
+    if nat_lt i (executable_words bounds) then bounds.er_min + 2 * i
+    else bounds.or_min + 2 * (i - executable_words bounds)
+
+-- the access of an item, with the number that it writes, in a call with this stack pointer
+abbrev pub item_access : ℕ → Bounds → CallItem → ℕ → Access
+item_access sp bounds (KeyRead i) number = read_at Word (key_region.first + 2 * i)
+item_access sp bounds (MetadataRead i) number = read_at Word (metadata_region.first + 2 * i)
+item_access sp bounds (DerivedKeyWrite i) number = write_at Word (DERIVED_KEY + 2 * i) number
+item_access sp bounds (RegionRead i) number = read_at Word (region_place bounds i)
+item_access sp bounds (InnerDigestWrite i) number = write_at Word (INNER_DIGEST + 2 * i) number
+item_access sp bounds (MacWrite i) number = write_at Word (mac_region.first + 2 * i) number
+item_access sp bounds ReturnRead number = read_at Word sp
+
+-- the `pc` of an item: the first read of the key is the entry, the return read is the exit
+abbrev pub item_pc : CallItem → ℕ
+item_pc (KeyRead i) = if i == 0 then ROM_ENTRY else ROM_BODY
+item_pc ReturnRead = ROM_EXIT
+item_pc item = ROM_BODY
+
+abbrev pub is_return : CallItem → Bool
+is_return ReturnRead = true
+is_return item = false
+
+-- words as their bytes in memory order, and a word of such bytes
+abbrev pub bytes_of_words : List ℕ → List ℕ
+bytes_of_words [] = []
+bytes_of_words (word ∷ words) = word % 256 ∷ word / 256 ∷ bytes_of_words words
+
+abbrev pub word_of_bytes : List ℕ → ℕ → ℕ
+word_of_bytes bytes i = slice_index bytes (2 * i) + 256 * slice_index bytes (2 * i + 1)
+
+-- what a call read, as bytes
+abbrev pub key_read : List ℕ → List ℕ
+key_read words = bytes_of_words (take 32 words)
+
+abbrev pub metadata_read : List ℕ → List ℕ
+metadata_read words = bytes_of_words (take 21 (drop 32 words))
+
+abbrev pub region_read : List ℕ → List ℕ
+region_read words = bytes_of_words (take (region_words (bounds_read words)) (drop 69 words))
+
+-- the key of one challenge, the first 32 bytes of the metadata
+abbrev pub derived_key : (List ℕ → List ℕ) → List ℕ → List ℕ → List ℕ
+derived_key digest key metadata = hmac digest key (take 32 metadata)
+
+-- the MAC of metadata and region
+abbrev pub attestation_tag : (List ℕ → List ℕ) → List ℕ → List ℕ → List ℕ → List ℕ
+attestation_tag digest key metadata rest =
+    hmac digest (derived_key digest key metadata) (metadata ++ rest)
+
+-- what a call makes of the words that passed in it
+abbrev pub derived_in : (List ℕ → List ℕ) → List ℕ → List ℕ
+derived_in digest words = derived_key digest (key_read words) (metadata_read words)
+
+abbrev pub inner_in : (List ℕ → List ℕ) → List ℕ → List ℕ
+inner_in digest words =
+    inner_digest digest (derived_in digest words) (metadata_read words ++ region_read words)
+
+abbrev pub tag_in : (List ℕ → List ℕ) → List ℕ → List ℕ
+tag_in digest words =
+    attestation_tag digest (key_read words) (metadata_read words) (region_read words)
+
+-- the word that a call writes there, 0 where it reads
+abbrev pub written_word : (List ℕ → List ℕ) → List ℕ → CallItem → ℕ
+written_word digest words (DerivedKeyWrite i) = word_of_bytes (derived_in digest words) i
+written_word digest words (InnerDigestWrite i) = word_of_bytes (inner_in digest words) i
+written_word digest words (MacWrite i) = word_of_bytes (tag_in digest words) i
+written_word digest words item = 0

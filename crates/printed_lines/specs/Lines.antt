@@ -1,0 +1,66 @@
+-- The printed lines: digits, names, and one line a sort.
+use Rattle.std.specs.Prelude.{◌/◌, ◌%◌, ◌++◌, ℕ, Bool, true, false, List, [], ◌∷◌, Option, Some, None, codes}
+use Rattle.std.specs.Fmt.{decimal}
+use Rattle.hex.specs.Hex.{encode_lower}
+use Rattle.bus_signals.specs.declared.rule.Rule.{Rule}
+use Rattle.bus_signals.specs.declared.rule.Rule.TheVariants.{X0, A1, A2, A3, A4, K1, K2, K3, K4, K5, K6, I1}
+use Rattle.bus_signals.specs.declared.bounds.Bounds.{Bounds}
+use Rattle.bus_signals.specs.Report.{ReportFields}
+
+-- a word as four digits, a byte as two
+abbrev pub word_digits : ℕ → List ℕ
+word_digits word = encode_lower (word / 256 ∷ word % 256 ∷ [])
+
+abbrev pub byte_digits : ℕ → List ℕ
+byte_digits byte = encode_lower (byte ∷ [])
+
+abbrev pub flag_digit : Bool → List ℕ
+flag_digit true = codes "1"
+flag_digit false = codes "0"
+
+abbrev pub rule_name : Rule → List ℕ
+rule_name X0 = codes "X0"
+rule_name A1 = codes "A1"
+rule_name A2 = codes "A2"
+rule_name A3 = codes "A3"
+rule_name A4 = codes "A4"
+rule_name K1 = codes "K1"
+rule_name K2 = codes "K2"
+rule_name K3 = codes "K3"
+rule_name K4 = codes "K4"
+rule_name K5 = codes "K5"
+rule_name K6 = codes "K6"
+rule_name I1 = codes "I1"
+
+-- in this step a byte was sent
+abbrev pub sent_line : ℕ → ℕ → List ℕ
+sent_line step byte = codes "tx " ++ decimal step ++ codes " " ++ byte_digits byte ++ codes "\n"
+
+-- this step broke a rule
+abbrev pub reset_line : ℕ → Rule → List ℕ
+reset_line step rule = codes "reset " ++ decimal step ++ codes " " ++ rule_name rule ++ codes "\n"
+
+-- the bounds of the executable region, and of the output region
+abbrev pub bounds_words : Bounds → List ℕ
+bounds_words bounds =
+    codes "er " ++ word_digits bounds.er_min ++ codes " " ++ word_digits bounds.er_max
+    ++ codes " or " ++ word_digits bounds.or_min ++ codes " " ++ word_digits bounds.or_max
+
+-- the output, `-` where the bounds are invalid
+abbrev pub output_word : Option (List ℕ) → List ℕ
+output_word None = codes "-"
+output_word (Some bytes) = encode_lower bytes
+
+-- this step finished a call
+abbrev pub report_line : ReportFields → List ℕ
+report_line report =
+    codes "report " ++ decimal report.step ++ codes " exec " ++ flag_digit report.exec
+    ++ codes " chal " ++ encode_lower report.chal ++ codes " " ++ bounds_words report.bounds
+    ++ codes " data " ++ output_word report.output
+    ++ codes " mac " ++ encode_lower report.mac ++ codes "\n"
+
+-- after so many steps: the pc that the next step would have, and the EXEC flag
+abbrev pub end_line : ℕ → ℕ → Bool → List ℕ
+end_line steps pc exec =
+    codes "end " ++ decimal steps ++ codes " pc " ++ word_digits pc
+    ++ codes " exec " ++ flag_digit exec ++ codes "\n"
