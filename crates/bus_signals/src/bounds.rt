@@ -1,5 +1,5 @@
 ghost use Rattle.std.specs.Prelude.{◌≡◌, ◌≤◌};
-ghost use Rattle.bus_signals.specs.Bounds.{is_part_of, is_free_region, is_valid_region, are_valid, is_disjoint};
+ghost use Rattle.bus_signals.specs.Bounds.{words_region, executable_region, output_region, is_part_of, is_free_region, is_valid_region, are_valid, is_disjoint};
 
 use crate::region::{META, MR, Region};
 
@@ -11,6 +11,32 @@ pub struct Bounds {
     pub er_max: u16,
     pub or_min: u16,
     pub or_max: u16,
+}
+
+impl Bounds {
+    /// The executable region. Where ERmax is FFFE or above, its last address wraps.
+    pub fn executable_region(&self) -> Region
+        ensures { result ≡ executable_region self.now }
+    {
+        words_region(self.er_min, self.er_max)
+    }
+
+    /// The output region, likewise.
+    pub fn output_region(&self) -> Region
+        ensures { result ≡ output_region self.now }
+    {
+        words_region(self.or_min, self.or_max)
+    }
+}
+
+// From one word to another, the second byte of the last among them.
+fn words_region(first: u16, last: u16) -> Region
+    ensures { result ≡ words_region first last }
+{
+    Region {
+        first,
+        last: last.wrapping_add(1),
+    }
 }
 
 /// RAM, of which the MAC and the metadata are parts.

@@ -18,14 +18,14 @@ mod rule;
 mod signals;
 mod trace_flag;
 
-pub use access::Access;
+pub use access::{Access, some_reads, some_writes};
 pub use bounds::{Bounds, valid};
 pub use bus_master::BusMaster;
 pub use bus_record::BusRecord;
 pub use event::Event;
 pub use kind::Kind;
 pub use law::constants_are_of_the_map;
-pub use region::{CR, KR, META, MR, Region, XS, touches};
+pub use region::{CR, KR, META, MR, Region, XS, some_touches, touches};
 pub use report_view::ReportView;
 pub use rule::Rule;
 pub use signals::Signals;

@@ -1,8 +1,8 @@
-ghost use Rattle.std.specs.Prelude.{◌≡◌};
+ghost use Rattle.std.specs.Prelude.{◌≡◌, IfSome};
 ghost use Rattle.std.specs.List.{list_any};
 ghost use Rattle.bus_signals.specs.declared.access.Access.TheVariants.{Read};
 ghost use Rattle.bus_signals.specs.Access.{IsFormed, span_of};
-ghost use Rattle.bus_signals.specs.Map.{lies_in, touches};
+ghost use Rattle.bus_signals.specs.Map.{lies_in, touches, some_touches};
 
 use crate::access::Access;
 use word_arith::Size;
@@ -45,7 +45,8 @@ pub const CR: Region = Region {
 };
 
 impl Region {
-    fn contains(self, place: u16) -> bool
+    /// Whether the region has this address.
+    pub fn contains(self, place: u16) -> bool
         ensures { result ≡ lies_in self place }
     {
         self.first <= place && place <= self.last
@@ -71,4 +72,12 @@ pub fn touches(access: &Access, region: Region) -> bool
         Access::Fetch(place) => region.holds_some(place, Size::Word),
         Access::Read(place, size) | Access::Write(place, size, _) => region.holds_some(place, size),
     }
+}
+
+/// Whether there is an access, and it touches the region.
+pub fn some_touches(access: Option<Access>, region: Region) -> bool
+    requires { IfSome access IsFormed }
+    ensures { result ≡ some_touches access region }
+{
+    access.is_some_and(|access| touches(&access, region))
 }

@@ -1,4 +1,5 @@
-ghost use Rattle.std.specs.Prelude.{◌≡◌, [], ◌∷◌, Bool, List};
+ghost use Rattle.std.specs.Prelude.{◌≡◌, ◌∷◌, Bool, List, IfSome};
+ghost use Rattle.bus_signals.specs.Access.{IsFormed};
 ghost use Rattle.bus_signals.specs.Seen.{Seen};
 
 use crate::bounds::Bounds;
@@ -16,6 +17,8 @@ pub trait TraceFlag: Drop {
 
     /// Sees the next record.
     fn see(&mut self, entry: &BusRecord, bounds: &Bounds)
+        requires cpu { IfSome entry.now.cpu IsFormed }
+        requires dma { IfSome entry.now.dma IsFormed }
         ensures { (seen : List Seen)
             → has_seen self.old seen
             → has_seen self.new (record { entry = entry.now; bounds = bounds.now } ∷ seen) };
