@@ -1,0 +1,99 @@
+ghost use Rattle.std.specs.Prelude.{◌≡◌, [], ◌∷◌, List, IfSome};
+ghost use Rattle.bus_signals.specs.declared.bounds.Bounds.{Bounds};
+ghost use Rattle.bus_signals.specs.Access.{IsFormed};
+ghost use Rattle.bus_signals.specs.Seen.{Seen};
+ghost use Rattle.part_definitions.specs.Flag.{last_pc};
+ghost use Rattle.part_definitions.specs.Monitors.{in_rom, atomicity_rule};
+ghost use Rattle.part_definitions.specs.Monitors.{breaks_a1, breaks_a2, breaks_a3, breaks_a4};
+
+use bus_signals::{BusRecord, CR, KR, Kind, Rule, Signals, XS, some_reads, some_touches};
+
+/// Where a call of the ROM begins (VRASED's CRmin).
+const ROM_ENTRY: u16 = CR.first;
+
+/// Where a call of the ROM ends (VRASED's CRmax).
+const ROM_EXIT: u16 = CR.last - 1;
+
+/// The rules A1 to A4.
+#[derive(Clone, Copy, Debug)]
+pub struct AtomMonitor {
+    /// The last record was in the ROM, and not at its exit.
+    is_inside: bool,
+}
+
+impl AtomMonitor {
+    ghost use Rattle.atomicity_monitor.specs.AtomMonitor.{AtomMonitorStandsFor};
+
+    /// A monitor that has seen no record.
+    pub fn new() -> AtomMonitor
+        ensures { AtomMonitorStandsFor result [] }
+    {
+        AtomMonitor { is_inside: false }
+    }
+
+    /// The first of A3, A2, A1 and A4 that a step breaks after the records seen.
+    #[tactic(auto, unfolding(part_definitions::specs::Monitors::atomicity_rule))]
+    pub fn check(&self, now: &Signals) -> Option<Rule>
+        requires { IfSome now.now.cpu IsFormed }
+        ensures { (seen : List Seen) →
+            AtomMonitorStandsFor self.now seen → result ≡ atomicity_rule (last_pc seen) now.now }
+    {
+        let in_rom = CR.contains(now.pc);
+        if breaks_a3(now, in_rom) {
+            Some(Rule::A3)
+        } else if self.breaks_a2(now, in_rom) {
+            Some(Rule::A2)
+        } else if self.breaks_a1(now, in_rom) {
+            Some(Rule::A1)
+        } else if breaks_a4(now) {
+            Some(Rule::A4)
+        } else {
+            None
+        }
+    }
+
+    /// Sees the next record.
+    pub fn see(&mut self, entry: &BusRecord)
+        ensures { (bounds : Bounds) (seen : List Seen) →
+            AtomMonitorStandsFor self.old seen →
+            AtomMonitorStandsFor self.new (record { entry = entry.now; bounds = bounds } ∷ seen) }
+    {
+        self.is_inside = CR.contains(entry.pc) && entry.pc != ROM_EXIT;
+    }
+
+    // A1: the ROM is left from another place than its exit.
+    fn breaks_a1(&self, now: &Signals, inside: bool) -> bool
+        requires { inside ≡ in_rom now.now.pc }
+        ensures { (seen : List Seen) →
+            AtomMonitorStandsFor self.now seen → result ≡ breaks_a1 (last_pc seen) now.now }
+    {
+        self.is_inside && !inside && now.kind != Kind::Boot
+    }
+
+    // A2: the ROM is entered at another place than its entry.
+    fn breaks_a2(&self, now: &Signals, inside: bool) -> bool
+        requires { inside ≡ in_rom now.now.pc }
+        ensures { (seen : List Seen) →
+            AtomMonitorStandsFor self.now seen → result ≡ breaks_a2 (last_pc seen) now.now }
+    {
+        inside && now.pc != ROM_ENTRY && !self.is_inside
+    }
+}
+
+// A3: an interrupt could be accepted in the ROM.
+fn breaks_a3(now: &Signals, inside: bool) -> bool
+    requires { inside ≡ in_rom now.now.pc }
+    ensures { result ≡ breaks_a3 now.now }
+{
+    inside && now.irq
+}
+
+// A4: the return read touches the key or the exclusive stack.
+fn breaks_a4(now: &Signals) -> bool
+    requires { IfSome now.now.cpu IsFormed }
+    ensures { result ≡ breaks_a4 now.now }
+{
+    now.pc == ROM_EXIT
+        && some_reads(now.cpu)
+        && (some_touches(now.cpu, KR) || some_touches(now.cpu, XS))
+}

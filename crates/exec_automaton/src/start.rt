@@ -1,0 +1,18 @@
+ghost use Rattle.std.specs.Prelude.{◌≡◌};
+ghost use Rattle.part_definitions.specs.Flag.{is_opcode_fetch, starts_run};
+
+use bus_signals::{Access, Bounds, BusRecord, Kind, valid};
+
+/// Whether a record starts a run: the opcode fetch at ERmin, with valid bounds.
+pub fn starts_run(entry: &BusRecord, bounds: &Bounds) -> bool
+    ensures { result ≡ starts_run (record { entry = entry.now; bounds = bounds.now }) }
+{
+    entry.pc == bounds.er_min && is_opcode_fetch(entry) && valid(bounds)
+}
+
+// An opcode fetch fetches at its own `pc`.
+fn is_opcode_fetch(entry: &BusRecord) -> bool
+    ensures { result ≡ is_opcode_fetch entry.now }
+{
+    entry.kind == Kind::Cpu && entry.cpu == Some(Access::Fetch(entry.pc))
+}

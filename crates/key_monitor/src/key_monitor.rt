@@ -1,0 +1,116 @@
+ghost use Rattle.std.specs.Prelude.{◌≡◌, IfSome};
+ghost use Rattle.bus_signals.specs.Access.{IsFormed};
+ghost use Rattle.part_definitions.specs.Monitors.{in_rom, is_written_by_rom, leaves_stack_and_mac, key_rule};
+ghost use Rattle.part_definitions.specs.Monitors.{breaks_k1, breaks_k2, breaks_k3, breaks_k4, breaks_k5, breaks_k6};
+
+use bus_signals::{Access, CR, KR, MR, Rule, Signals, XS, some_touches, some_writes};
+use word_arith::Size;
+
+/// The rules K1 to K6. They look at one step alone, so the monitor keeps nothing.
+#[derive(Clone, Copy, Debug)]
+pub struct KeyMonitor;
+
+impl KeyMonitor {
+    pub fn new() -> KeyMonitor {
+        KeyMonitor
+    }
+
+    /// The first of the rules that a step breaks.
+    #[tactic(auto, unfolding(part_definitions::specs::Monitors::key_rule))]
+    pub fn check(&self, now: &Signals) -> Option<Rule>
+        requires cpu { IfSome now.now.cpu IsFormed }
+        requires dma { IfSome now.now.dma IsFormed }
+        ensures { result ≡ key_rule now.now }
+    {
+        let in_rom = CR.contains(now.pc);
+        if breaks_k1(now, in_rom) {
+            Some(Rule::K1)
+        } else if breaks_k2(now, in_rom) {
+            Some(Rule::K2)
+        } else if breaks_k3(now, in_rom) {
+            Some(Rule::K3)
+        } else if breaks_k4(now) {
+            Some(Rule::K4)
+        } else if breaks_k5(now) {
+            Some(Rule::K5)
+        } else if breaks_k6(now, in_rom) {
+            Some(Rule::K6)
+        } else {
+            None
+        }
+    }
+}
+
+// K1: from outside the ROM a fetch or read touches the key.
+fn breaks_k1(now: &Signals, inside: bool) -> bool
+    requires place { inside ≡ in_rom now.now.pc }
+    requires formed { IfSome now.now.cpu IsFormed }
+    ensures { result ≡ breaks_k1 now.now }
+{
+    !inside && some_touches(now.cpu, KR) && !some_writes(now.cpu)
+}
+
+// K2: from outside the ROM an access touches the exclusive stack.
+fn breaks_k2(now: &Signals, inside: bool) -> bool
+    requires place { inside ≡ in_rom now.now.pc }
+    requires formed { IfSome now.now.cpu IsFormed }
+    ensures { result ≡ breaks_k2 now.now }
+{
+    !inside && some_touches(now.cpu, XS)
+}
+
+// K3: the ROM writes outside the exclusive stack and the MAC.
+fn breaks_k3(now: &Signals, inside: bool) -> bool
+    requires place { inside ≡ in_rom now.now.pc }
+    requires formed { IfSome now.now.cpu IsFormed }
+    ensures { result ≡ breaks_k3 now.now }
+{
+    inside && some_writes(now.cpu) && leaves_stack_and_mac(now.cpu)
+}
+
+// K4: the DMA touches the key.
+fn breaks_k4(now: &Signals) -> bool
+    requires { IfSome now.now.dma IsFormed }
+    ensures { result ≡ breaks_k4 now.now }
+{
+    some_touches(now.dma, KR)
+}
+
+// K5: the DMA touches the exclusive stack.
+fn breaks_k5(now: &Signals) -> bool
+    requires { IfSome now.now.dma IsFormed }
+    ensures { result ≡ breaks_k5 now.now }
+{
+    some_touches(now.dma, XS)
+}
+
+// K6: the DMA has an access while the ROM runs.
+fn breaks_k6(now: &Signals, inside: bool) -> bool
+    requires { inside ≡ in_rom now.now.pc }
+    ensures { result ≡ breaks_k6 now.now }
+{
+    inside && now.dma.is_some()
+}
+
+// A byte of the access lies outside the exclusive stack and the MAC.
+fn leaves_stack_and_mac(access: Option<Access>) -> bool
+    requires { IfSome access IsFormed }
+    ensures { result ≡ leaves_stack_and_mac access }
+{
+    match access {
+        None => false,
+        Some(Access::Read(place, Size::Byte) | Access::Write(place, Size::Byte, _)) => {
+            !is_written_by_rom(place)
+        }
+        Some(Access::Fetch(place) | Access::Read(place, _) | Access::Write(place, _, _)) => {
+            !is_written_by_rom(place) || !is_written_by_rom(place + 1)
+        }
+    }
+}
+
+// A call of the ROM writes here.
+fn is_written_by_rom(place: u16) -> bool
+    ensures { result ≡ is_written_by_rom place }
+{
+    XS.contains(place) || MR.contains(place)
+}
