@@ -11,7 +11,7 @@ impl Size {
     ghost use Rattle.word_arith.specs.Numbers.{span, low_part, inverse, is_negative};
 
     /// The operand of this size in a word.
-    pub(crate) fn low_part(self, word: u16) -> u16
+    pub fn low_part(self, word: u16) -> u16
         ensures value { result ≡ low_part self word }
         ensures fits { result < span self }
     {

@@ -1,0 +1,73 @@
+ghost use Rattle.std.specs.Prelude.{◌≡◌};
+ghost use Rattle.bus_signals.specs.Access.{IsFormed};
+ghost use Rattle.part_definitions.specs.Accesses.{fetch_at, read_at, write_at};
+ghost use Rattle.part_definitions.specs.Operands.{size_of};
+ghost use Rattle.part_definitions.specs.Instruction.{bus_access};
+
+use crate::outcome::outcome_of;
+use crate::register::{lowered_sp, pc_in, sp_in};
+use bus_signals::Access;
+use msp_decode::Head;
+use part_definitions::{CpuAccess, Working};
+use word_arith::Size;
+
+/// A fetch of the word at a place.
+pub fn fetch_at(place: u16) -> Access
+    ensures value { result ≡ fetch_at place }
+    ensures formed { IsFormed result }
+{
+    Access::Fetch(place / 2 * 2)
+}
+
+/// A read at a place.
+pub fn read_at(size: Size, place: u16) -> Access
+    ensures value { result ≡ read_at size place }
+    ensures formed { IsFormed result }
+{
+    match size {
+        Size::Byte => Access::Read(place, Size::Byte),
+        Size::Word => Access::Read(place / 2 * 2, Size::Word),
+    }
+}
+
+/// A write at a place; of a byte it carries the low byte.
+pub fn write_at(size: Size, place: u16, number: u16) -> Access
+    ensures value { result ≡ write_at size place number }
+    ensures formed { IsFormed result }
+{
+    match size {
+        Size::Byte => Access::Write(place, Size::Byte, number % 0x100),
+        Size::Word => Access::Write(place / 2 * 2, Size::Word, number),
+    }
+}
+
+/// B/W of an instruction; RETI and jumps are of words.
+pub fn size_of(head: Head) -> Size
+    ensures { result ≡ size_of head }
+{
+    match head {
+        Head::Two(_, size, _, _) | Head::One(_, size, _) => size,
+        Head::Reti | Head::Jump(..) => Size::Word,
+    }
+}
+
+/// What an instruction asks of the bus.
+pub fn bus_access(head: Head, access: CpuAccess, working: &Working) -> Access
+    ensures value { result ≡ bus_access head access working.now }
+    ensures formed { IsFormed result }
+{
+    match access {
+        CpuAccess::FetchImmediate
+        | CpuAccess::FetchSourceIndex(_)
+        | CpuAccess::FetchDestinationIndex(_) => fetch_at(pc_in(&working.regs)),
+        CpuAccess::ReadSource | CpuAccess::ReadIncrementing(_) | CpuAccess::ReadDestination => {
+            read_at(size_of(head), working.place)
+        }
+        CpuAccess::WriteResult => {
+            write_at(size_of(head), working.place, outcome_of(head, working).0)
+        }
+        CpuAccess::PushSource => write_at(size_of(head), lowered_sp(&working.regs), working.source),
+        CpuAccess::PushPc => write_at(Size::Word, lowered_sp(&working.regs), pc_in(&working.regs)),
+        CpuAccess::PopSr | CpuAccess::PopPc => read_at(Size::Word, sp_in(&working.regs)),
+    }
+}

@@ -1,0 +1,291 @@
+ghost use Rattle.std.specs.Prelude.{◌≡◌, ◌∷◌, [], true, false, not, List, ℕ, Some, IsTrue};
+ghost use Rattle.bus_signals.specs.Access.{IsFormed};
+ghost use Rattle.part_definitions.specs.CpuRegisters.{sp_of, with_pc, with_sp, allows_interrupts, is_asleep};
+ghost use Rattle.part_definitions.specs.NextAccess.{Asks, is_illegal, next_access, walk};
+ghost use Rattle.part_definitions.specs.CpuState.{CpuState, Boundary, clear_cpu, registers_of, cpu_pc, is_at_boundary, is_entering, cpu_access, cpu_after, cpu_takes, entry_begun};
+ghost use Rattle.msp_exec.specs.declared.phase.Phase.TheVariants.{Boundary as AtBoundary};
+ghost use Rattle.msp_exec.specs.Order.{accesses_from};
+ghost use Rattle.msp_exec.specs.Course.{is_entry, takes_value, cpu_course, entry_course, CpuStandsFor, Follows};
+
+use crate::access::{bus_access, fetch_at, read_at, size_of, write_at};
+use crate::operand::{learn, working_at_start};
+use crate::order::{first_access, following_access};
+use crate::outcome::end;
+use crate::phase::{EntryAccess, Phase};
+use crate::register::{enter_handler, lowered_sp, pc_in, set_pc, set_sp, sp_in, sr_in};
+use bus_signals::{Access, BusMaster};
+use msp_decode::{Head, decode};
+use part_definitions::{CpuAccess, Working};
+use word_arith::Size;
+
+/// The processor: its registers, and how far the current instruction or interrupt entry is.
+#[derive(Clone, Copy, Debug)]
+pub struct Cpu {
+    /// The registers at the last boundary.
+    regs: [u16; 16],
+    /// What is known in the middle of an instruction.
+    working: Working,
+    phase: Phase,
+}
+
+impl Cpu {
+    /// A processor whose registers are 0, at a boundary.
+    pub fn new() -> Cpu
+        ensures { CpuStandsFor result clear_cpu }
+    {
+        Cpu {
+            regs: [0; 16],
+            working: Working {
+                regs: [0; 16],
+                source: 0,
+                place: 0,
+                destination: 0,
+            },
+            phase: Phase::Boundary,
+        }
+    }
+
+    /// The registers at the last boundary.
+    pub fn regs(&self) -> [u16; 16]
+        ensures { (state : CpuState) → CpuStandsFor self.now state → result ≡ registers_of state }
+    {
+        self.regs
+    }
+
+    /// Whether no instruction and no interrupt entry is in progress.
+    pub fn at_boundary(&self) -> bool
+        ensures { (state : CpuState) → CpuStandsFor self.now state → result ≡ is_at_boundary state }
+    {
+        matches!(self.phase, Phase::Boundary)
+    }
+
+    /// Whether an interrupt entry is in progress.
+    pub fn is_entering(&self) -> bool
+        ensures { (state : CpuState) → CpuStandsFor self.now state → result ≡ is_entering state }
+    {
+        matches!(self.phase, Phase::Entering(..))
+    }
+
+    /// The address of the current instruction; at a boundary the program counter.
+    pub fn pc(&self) -> u16
+        ensures { (state : CpuState) → CpuStandsFor self.now state → result ≡ cpu_pc state }
+    {
+        pc_in(&self.regs)
+    }
+
+    /// The stack pointer at the last boundary.
+    pub fn sp(&self) -> u16
+        ensures { (state : CpuState)
+            → CpuStandsFor self.now state
+            → result ≡ sp_of (registers_of state) }
+    {
+        sp_in(&self.regs)
+    }
+
+    /// GIE at the last boundary.
+    pub fn allows_interrupts(&self) -> bool
+        ensures { (state : CpuState)
+            → CpuStandsFor self.now state
+            → result ≡ allows_interrupts (registers_of state) }
+    {
+        sr_in(&self.regs) / 8 % 2 == 1
+    }
+
+    /// CPUOFF at the last boundary.
+    pub fn is_asleep(&self) -> bool
+        ensures { (state : CpuState)
+            → CpuStandsFor self.now state
+            → result ≡ is_asleep (registers_of state) }
+    {
+        sr_in(&self.regs) / 16 % 2 == 1
+    }
+
+    /// Sets the program counter and the stack pointer.
+    pub fn start(&mut self, pc: u16, sp: u16)
+        requires { (state : CpuState) × CpuStandsFor self.old state × IsTrue (is_at_boundary state) }
+        ensures { (state : CpuState)
+            → CpuStandsFor self.old state
+            → CpuStandsFor self.new (Boundary (with_sp (with_pc (registers_of state) pc) sp)) }
+    {
+        set_pc(&mut self.regs, pc);
+        set_sp(&mut self.regs, sp);
+    }
+
+    /// Accepts an interrupt: the next three accesses enter the handler that the word at this address
+    /// names.
+    pub fn begin_irq(&mut self, vector: u16)
+        requires { (state : CpuState) × CpuStandsFor self.old state × IsTrue (is_at_boundary state) }
+        ensures { (state : CpuState)
+            → CpuStandsFor self.old state
+            → CpuStandsFor self.new (entry_begun (registers_of state) vector) }
+    {
+        self.phase = Phase::Entering(EntryAccess::PushPc, vector);
+    }
+
+    #[tactic(auto, unfolding(part_definitions::specs::NextAccess::entry_access))]
+    fn entry_access(&self, access: EntryAccess, vector: u16) -> Access
+        ensures value { entry_course self.now.regs access vector [] ≡ Asks result }
+        ensures formed { IsFormed result }
+    {
+        let regs = &self.regs;
+        match access {
+            EntryAccess::PushPc => write_at(Size::Word, lowered_sp(regs), pc_in(regs)),
+            EntryAccess::PushSr => write_at(Size::Word, sp_in(regs).wrapping_sub(4), sr_in(regs)),
+            EntryAccess::ReadVector => read_at(Size::Word, vector),
+        }
+    }
+
+    #[tactic(auto, unfolding(part_definitions::specs::NextAccess::next_access))]
+    fn phase_access(&self) -> Access
+        ensures value { cpu_course self.now [] ≡ Asks result }
+        ensures formed { IsFormed result }
+    {
+        match self.phase {
+            Phase::Boundary => fetch_at(pc_in(&self.regs)),
+            Phase::Executing(head, access) => bus_access(head, access, &self.working),
+            Phase::Writing(size, number) => write_at(size, self.working.place, number),
+            Phase::Entering(access, vector) => self.entry_access(access, vector),
+        }
+    }
+
+    /// The access that it asks for; it always asks for one.
+    #[tactic(auto, using(crate::proofs::Courses::cpu_access_some))]
+    pub fn access(&self) -> Access
+        ensures value { (state : CpuState)
+            → CpuStandsFor self.now state
+            → cpu_access state ≡ Some result }
+        ensures formed { IsFormed result }
+    {
+        self.phase_access()
+    }
+
+    fn complete(&mut self)
+        ensures regs { self.new.regs ≡ self.old.working.regs }
+        ensures phase { self.new.phase ≡ AtBoundary }
+    {
+        self.regs = self.working.regs;
+        self.phase = Phase::Boundary;
+    }
+
+    /// Goes on to an access of the instruction, or completes it.
+    fn advance(&mut self, head: Head, next: Option<CpuAccess>)
+        ensures { Follows self.new self.old.regs false
+            (walk head (accesses_from head next) self.old.working) }
+    {
+        match next {
+            None => {
+                end(&mut self.working, head);
+                self.complete();
+            }
+            Some(CpuAccess::WriteResult) => {
+                let number = end(&mut self.working, head);
+                self.phase = Phase::Writing(size_of(head), number);
+            }
+            Some(access) => self.phase = Phase::Executing(head, access),
+        }
+    }
+
+    #[tactic(auto, unfolding(part_definitions::specs::NextAccess::entry_access))]
+    fn advance_entry(&mut self, access: EntryAccess, vector: u16, value: u16)
+        ensures { Follows self.new self.old.regs true
+            (λ values. entry_course self.old.regs access vector (value ∷ values)) }
+    {
+        match access {
+            EntryAccess::PushPc => self.phase = Phase::Entering(EntryAccess::PushSr, vector),
+            EntryAccess::PushSr => self.phase = Phase::Entering(EntryAccess::ReadVector, vector),
+            EntryAccess::ReadVector => {
+                enter_handler(&mut self.regs, value);
+                self.phase = Phase::Boundary;
+            }
+        }
+    }
+
+    /// Begins the instruction of a word, if it is not illegal.
+    #[tactic(auto, unfolding(part_definitions::specs::NextAccess::next_access))]
+    fn begin(&mut self, word: u16) -> bool
+        ensures taken { result ≡ not (is_illegal word) }
+        ensures follows { result ≡ true
+            → Follows self.new self.old.regs false
+            (λ values. next_access self.old.regs (word ∷ values)) }
+        ensures refused { result ≡ false → self.new ≡ self.old }
+    {
+        match decode(word) {
+            Some(head) => {
+                self.working = working_at_start(head, self.regs);
+                self.advance(head, first_access(head));
+                true
+            }
+            None => false,
+        }
+    }
+
+    fn step(&mut self, value: u16) -> bool
+        ensures taken { result ≡ takes_value self.old.phase value }
+        ensures follows { result ≡ true
+            → Follows self.new self.old.regs (is_entry self.old.phase)
+            (λ values. cpu_course self.old (value ∷ values)) }
+        ensures refused { result ≡ false → self.new ≡ self.old }
+    {
+        match self.phase {
+            Phase::Boundary => return self.begin(value),
+            Phase::Executing(head, access) => {
+                learn(&mut self.working, head, access, value);
+                self.advance(head, following_access(head, access));
+            }
+            Phase::Writing(..) => self.complete(),
+            Phase::Entering(access, vector) => self.advance_entry(access, vector, value),
+        }
+        true
+    }
+
+    /// Takes what the access read, 0 for a write. An illegal word at an opcode fetch is not taken: then
+    /// the answer is false, and nothing changes.
+    #[tactic(auto, using(crate::proofs::Courses::takes_value_same))]
+    pub fn try_take(&mut self, value: u16) -> bool
+        ensures taken { (state : CpuState)
+            → CpuStandsFor self.old state
+            → result ≡ cpu_takes state value }
+        ensures stands { (state : CpuState)
+            → CpuStandsFor self.old state
+            → result ≡ true
+            → CpuStandsFor self.new (cpu_after state value) }
+        ensures refused { result ≡ false → self.new ≡ self.old }
+    {
+        self.step(value)
+    }
+}
+
+impl BusMaster for Cpu {
+    ghost use Rattle.std.specs.Prelude.{IsTrue};
+    ghost use Rattle.part_definitions.specs.CpuState.{CpuState, clear_cpu, cpu_access, cpu_after, cpu_takes};
+    ghost use Rattle.msp_exec.specs.Course.{CpuStandsFor};
+
+    ghost Meaning = { CpuState };
+
+    ghost stands = { CpuStandsFor };
+
+    ghost asks = { cpu_access };
+
+    ghost takes = { λ state value. IsTrue (cpu_takes state value) };
+
+    ghost moved = { cpu_after };
+
+    ghost cleared = { λ state. clear_cpu };
+
+    fn ask(&self) -> Option<Access> {
+        Some(self.access())
+    }
+
+    fn take(&mut self, value: u16) {
+        let _ = self.try_take(value);
+    }
+
+    fn clear(&mut self)
+        ensures cleared { CpuStandsFor self.new clear_cpu }
+        ensures stands { (state : CpuState)
+            → CpuStandsFor self.old state
+            → CpuStandsFor self.new clear_cpu }
+    {
+        *self = Cpu::new();
+    }
+}

@@ -1,0 +1,112 @@
+ghost use Rattle.std.specs.Prelude.{◌≡◌};
+ghost use Rattle.part_definitions.specs.Instruction.{operand_result, result_of, has_result, after_two, after_one, is_taken, jump_target, after_jump, registers_after};
+
+use crate::operand::destination_in;
+use crate::register::{flags_in, pc_in, set_flags, set_pc, set_register};
+use msp_decode::{Cond, DestForm, Head, One, SourceForm};
+use part_definitions::Working;
+use word_arith::{Flags, Op1, Op2, Size, alu, shift};
+
+/// Result and flags of one operand; PUSH and CALL have the operand as it is.
+fn operand_outcome(op: One, size: Size, operand: u16, flags: Flags) -> (u16, Flags)
+    ensures { result ≡ operand_result op size operand flags }
+{
+    match op {
+        One::Rrc => shift(Op1::Rrc, size, operand, flags),
+        One::Swpb => shift(Op1::Swpb, size, operand, flags),
+        One::Rra => shift(Op1::Rra, size, operand, flags),
+        One::Sxt => shift(Op1::Sxt, size, operand, flags),
+        One::Push | One::Call => (operand, flags),
+    }
+}
+
+/// Result and flags once the operands are known; 0 of RETI and of jumps, which leave the flags.
+pub fn outcome_of(head: Head, working: &Working) -> (u16, Flags)
+    ensures { result ≡ result_of head working.now }
+{
+    let flags = flags_in(&working.regs);
+    match head {
+        Head::Two(op, size, _, form) => {
+            let destination = destination_in(size, form, working);
+            alu(op, size, working.source, destination, flags)
+        }
+        Head::One(op, size, _) => operand_outcome(op, size, working.source, flags),
+        Head::Reti | Head::Jump(..) => (0, flags),
+    }
+}
+
+/// Leaves flags and result of two operands; CMP and BIT have no result.
+fn end_two(regs: &mut [u16; 16], op: Op2, form: DestForm, outcome: (u16, Flags))
+    ensures { regs.new ≡ after_two op form outcome regs.old }
+{
+    let (number, flags) = outcome;
+    set_flags(regs, flags);
+    match (op, form) {
+        (Op2::Cmp | Op2::Bit, _) | (_, DestForm::Indexed(_)) => {}
+        (_, DestForm::Register(register)) => set_register(regs, register, number),
+    }
+}
+
+/// Leaves flags and result of one operand; PUSH leaves nothing, and CALL the program counter.
+fn end_one(regs: &mut [u16; 16], op: One, form: SourceForm, outcome: (u16, Flags))
+    ensures { regs.new ≡ after_one op form outcome regs.old }
+{
+    let (number, flags) = outcome;
+    match op {
+        One::Push => {}
+        One::Call => set_pc(regs, number),
+        One::Rrc | One::Swpb | One::Rra | One::Sxt => {
+            set_flags(regs, flags);
+            if let SourceForm::Register(register) = form {
+                set_register(regs, register, number);
+            }
+        }
+    }
+}
+
+/// Whether a jump is taken with these flags.
+fn is_taken(condition: Cond, flags: Flags) -> bool
+    ensures { result ≡ is_taken condition flags }
+{
+    match condition {
+        Cond::Ne => !flags.z,
+        Cond::Eq => flags.z,
+        Cond::Nc => !flags.c,
+        Cond::C => flags.c,
+        Cond::N => flags.n,
+        Cond::Ge => flags.n == flags.v,
+        Cond::L => flags.n != flags.v,
+        Cond::Always => true,
+    }
+}
+
+/// Where a jump goes from the address after it; the offset counts words.
+fn jump_target(pc: u16, offset: i16) -> u16
+    ensures { result ≡ jump_target pc offset }
+{
+    let words = offset.cast_unsigned();
+    pc.wrapping_add(words).wrapping_add(words)
+}
+
+fn jump(regs: &mut [u16; 16], condition: Cond, offset: i16)
+    ensures { regs.new ≡ after_jump condition offset regs.old }
+{
+    if is_taken(condition, flags_in(regs)) {
+        set_pc(regs, jump_target(pc_in(regs), offset));
+    }
+}
+
+/// Leaves the registers as they are after the instruction; the answer is its result.
+pub fn end(working: &mut Working, head: Head) -> u16
+    ensures number { result ≡ (result_of head working.old).0 }
+    ensures after { working.new ≡ record working.old { regs = registers_after head working.old } }
+{
+    let outcome = outcome_of(head, working);
+    match head {
+        Head::Two(op, _, _, form) => end_two(&mut working.regs, op, form, outcome),
+        Head::One(op, _, form) => end_one(&mut working.regs, op, form, outcome),
+        Head::Reti => {}
+        Head::Jump(condition, offset) => jump(&mut working.regs, condition, offset),
+    }
+    outcome.0
+}
