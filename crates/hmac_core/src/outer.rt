@@ -1,0 +1,39 @@
+ghost use Rattle.std.specs.Prelude.{◌≡◌, ℕ, List};
+ghost use Rattle.part_definitions.specs.Hmac.{key_block, outer_input};
+
+use crate::digest32::Digest32;
+use crate::key_block::BLOCK;
+use crate::pad::with_mask;
+
+/// The mask of the outer pad.
+const OUTER_PAD: u8 = 0x5C;
+
+/// The outer half of an HMAC, which takes the inner digest.
+#[derive(Drop)]
+pub struct Outer<D> {
+    digest: D,
+}
+
+impl<D: Digest32> Outer<D> {
+    ghost use Rattle.hmac_core.specs.Standing.{OuterStandsFor};
+
+    pub(crate) fn new(block: &[u8; BLOCK]) -> Outer<D>
+        ensures { (key : List ℕ) →
+            block.now ≡ key_block D.digest_of key →
+            OuterStandsFor D.has_taken D.digest_of result key }
+    {
+        let mut digest = D::begin();
+        digest.update(&with_mask(OUTER_PAD, block));
+        Outer { digest }
+    }
+
+    /// The code of the message with this inner digest.
+    pub fn finish(mut self, inner: &[u8; 32]) -> [u8; 32]
+        ensures { (key : List ℕ) →
+            OuterStandsFor D.has_taken D.digest_of self key →
+            result ≡ D.digest_of (outer_input D.digest_of key inner.now) }
+    {
+        self.digest.update(inner);
+        self.digest.finish()
+    }
+}
