@@ -1,7 +1,7 @@
 -- What a sink took of a text that is put in pieces.
 use Rattle.std.proofs.Common.{◌≡◌, ◌++◌, [], List, ℕ, Result, Ok, Err, OnErr, append-nil}
-use Rattle.outside_edge.specs.Sinks.{Takes, TakesFront}
-use Rattle.outside_edge.proofs.SinkLemmas.{takes_both, front_after, front_of_more}
+use Rattle.outside_edge.specs.Sink.{Takes, TakesPrefix}
+use Rattle.outside_edge.proofs.SinkLemmas.{takes_both, prefix_after, prefix_of_more}
 
 pub on_err : {A E P Q : Type 0} (result : Result A E) → (P → Q) → OnErr result P → OnErr result Q
 on_err (Ok value) follows holds = holds
@@ -30,8 +30,8 @@ pub front-append :
     {S : Type 0} (stands : S → List ℕ → Type 0) (old mid new : S) (before piece rest text : List ℕ)
     → text ≡ before ++ (piece ++ rest)
     → Takes stands old mid before
-    → TakesFront stands mid new piece
-    → TakesFront stands old new text
+    → TakesPrefix stands mid new piece
+    → TakesPrefix stands old new text
 front-append stands old mid new before piece rest text begins takes front =
     rw begins
-    (front_after stands old mid new before (piece ++ rest) takes (front_of_more stands mid new piece rest front))
+    (prefix_after stands old mid new before (piece ++ rest) takes (prefix_of_more stands mid new piece rest front))

@@ -3,9 +3,9 @@ use Rattle.std.proofs.Common.{◌≡◌, ◌<◌, ◌≤◌, ◌∙◌, ℕ, suc
 use Rattle.std.specs.Prelude.{IsSomeAnd, nat_lt}
 use Rattle.std.proofs.lemmas.Bool.{lt-ltb, le-ltb}
 use Rattle.std.proofs.lemmas.List.{length-replicate}
-use Rattle.outside_edge.specs.Files.{file_of}
-use Rattle.text_scan.specs.declared.faults.FaultAt.{FaultAt}
-use Rattle.text_scan.specs.declared.faults.FaultKind.TheVariants.{TooLong}
+use Rattle.outside_edge.specs.File.{file_of}
+use Rattle.text_scan.specs.declared.fault_at.FaultAt.{FaultAt}
+use Rattle.text_scan.specs.declared.fault_kind.FaultKind.TheVariants.{TooLong}
 use Rattle.device_cli.specs.declared.files.Unread.{Unread}
 use Rattle.device_cli.specs.declared.files.Unread.TheVariants.{Absent, Failed, Memory, Bad}
 use Rattle.device_cli.specs.Files.{Held, within_limit, Gives, ShelfCounts, ReadsFile}

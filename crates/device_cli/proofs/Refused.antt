@@ -1,8 +1,8 @@
 -- The answer where the second or the third file gave no value.
 use Rattle.std.proofs.Common.{◌≡◌, ◌≤◌, ℕ, List, Option, Result, Ok, Err, inl, inr, arith, subst}
-use Rattle.text_scan.specs.declared.faults.FaultAt.{FaultAt}
-use Rattle.outside_edge.specs.Counts.{Rose}
-use Rattle.play_script.specs.Script.{Timed}
+use Rattle.text_scan.specs.declared.fault_at.FaultAt.{FaultAt}
+use Rattle.outside_edge.specs.Count.{Rose}
+use Rattle.play_script.specs.Script.{TimedEvent}
 use Rattle.device_cli.specs.declared.files.Unread.{Unread}
 use Rattle.device_cli.specs.declared.files.Unread.TheVariants.{Absent, Failed, Memory, Bad}
 use Rattle.device_cli.specs.declared.run.Input.TheVariants.{Image, Script}
@@ -40,7 +40,7 @@ pub script-Means :
     (files : Held) (command : PlayCommand) (f₀ f₁ f₂ m₀ m₁ m₂ : ℕ) (unread : Unread)
     → f₀ ≤ f₁ → m₀ ≤ m₁
     → HasKey files command → HasImage files command
-    → ReadsFile {V = List Timed} files command.script script_file_of (counts f₁ f₂ m₁ m₂) (Err unread)
+    → ReadsFile {V = List TimedEvent} files command.script script_file_of (counts f₁ f₂ m₁ m₂) (Err unread)
     → Means files (counts f₀ f₂ m₀ m₂) (λ text. ⊥) (λ text. ⊥) ⊥ command (refusal_for Script unread)
 script-Means files command f₀ f₁ f₂ m₀ m₁ m₂ Absent faults misses key image why = Rose-earlier m₀ m₁ m₂ misses why.1
 script-Means files command f₀ f₁ f₂ m₀ m₁ m₂ Failed faults misses key image why = Rose-earlier f₀ f₁ f₂ faults why
@@ -62,7 +62,7 @@ Gives-same files later name reader outcome same gives = subst (λ held. Gives he
 -- how the play of what was read ended, as the answer to the command
 pub Ends-Means :
     (files : Held) (counted : ShelfCounts) (taken front : List ℕ → Type 0) (sink_rose : Type 0) (command : PlayCommand)
-    (key : List ℕ) (image : ℕ → Option ℕ) (script : List Timed) (status : Status)
+    (key : List ℕ) (image : ℕ → Option ℕ) (script : List TimedEvent) (status : Status)
     → Gives files command.key key_file_of (Ok key)
     → Gives files command.image image_file_of (Ok image)
     → Gives files command.script script_file_of (Ok script)

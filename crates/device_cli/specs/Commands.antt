@@ -1,8 +1,8 @@
 -- The commands: which words are one, and what they ask for.
 use Rattle.std.specs.Prelude.{ℕ, List, [], ◌∷◌, Option, Some, None, Result, Ok, Err, String, string_bytes, bytes_eq, codes, map, if◌then◌else◌}
 use Rattle.std.specs.declared.alloc.Global.{Global}
-use Rattle.text_scan.specs.Decimals.{decimal_of}
-use Rattle.text_scan.specs.declared.faults.FaultKind.{FaultKind}
+use Rattle.text_scan.specs.Decimal.{decimal_of}
+use Rattle.text_scan.specs.declared.fault_kind.FaultKind.{FaultKind}
 use Rattle.device_cli.specs.declared.play.TheConstants.{MOST_STEPS}
 use Rattle.device_cli.specs.declared.commands.Play.{Play}
 

@@ -1,10 +1,10 @@
 -- What the files of a command give: a value, or the reason why there is none.
 use Rattle.std.specs.Prelude.{◌≡◌, ℕ, List, length, Option, Some, None, IfSome, Result, Ok, Err, if◌then◌else◌, nat_lt, Vec}
 use Rattle.std.specs.declared.alloc.Global.{Global}
-use Rattle.outside_edge.specs.Counts.{Rose}
-use Rattle.outside_edge.specs.Files.{file_of}
-use Rattle.text_scan.specs.declared.faults.FaultAt.{FaultAt}
-use Rattle.text_scan.specs.declared.faults.FaultKind.TheVariants.{TooLong}
+use Rattle.outside_edge.specs.Count.{Rose}
+use Rattle.outside_edge.specs.File.{file_of}
+use Rattle.text_scan.specs.declared.fault_at.FaultAt.{FaultAt}
+use Rattle.text_scan.specs.declared.fault_kind.FaultKind.TheVariants.{TooLong}
 use Rattle.device_cli.specs.declared.files.Unread.{Unread}
 use Rattle.device_cli.specs.declared.files.Unread.TheVariants.{Absent, Failed, Memory, Bad}
 
@@ -47,7 +47,7 @@ abbrev pub bytes_in : Result (Vec ℕ Global) Unread → Result (List ℕ) Unrea
 bytes_in (Ok bytes) = Ok bytes.items
 bytes_in (Err unread) = Err unread
 
--- a text was parsed, or it was not and this is why: its first fault, or want of memory
+-- a text was parsed, or it was not and this is why: its first fault, or out of memory
 abbrev pub Parses : {V : Type 0} → Result V Unread → Result V FaultAt → Type 0
 Parses (Ok value) outcome = outcome ≡ Ok value
 Parses (Err (Bad fault)) outcome = outcome ≡ Err fault

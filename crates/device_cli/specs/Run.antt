@@ -1,13 +1,13 @@
 -- What each answer of a run means.
 use Rattle.std.specs.Prelude.{◌≡◌, ℕ, List, Option, Some, None, Result, Ok, Err, option_map}
 use Rattle.std.specs.Option.{option_or}
-use Rattle.outside_edge.specs.Counts.{Rose}
-use Rattle.outside_edge.specs.Files.{file_of}
+use Rattle.outside_edge.specs.Count.{Rose}
+use Rattle.outside_edge.specs.File.{file_of}
 use Rattle.mem_map.specs.Image.{powered_with}
 use Rattle.device_trace.specs.Text.{play_text}
 use Rattle.device_trace.specs.Trace.{play_of}
-use Rattle.play_script.specs.Script.{Timed, events_of}
-use Rattle.text_scan.specs.declared.faults.FaultAt.{FaultAt}
+use Rattle.play_script.specs.Script.{TimedEvent, events_of}
+use Rattle.text_scan.specs.declared.fault_at.FaultAt.{FaultAt}
 use Rattle.device_cli.specs.declared.status.Status.{Status}
 use Rattle.device_cli.specs.declared.status.Status.TheVariants.{Done, Rejected, Words, Absent, ReadFault, WriteFault, Memory, BadKey, BadImage, BadScript, BadPolicy, BadReports, BadSource}
 use Rattle.device_cli.specs.Commands.{PlayCommand}
@@ -15,7 +15,7 @@ use Rattle.device_cli.specs.Files.{Held, Gives, ShelfCounts}
 use Rattle.device_cli.specs.Inputs.{key_file_of, image_file_of, script_file_of}
 
 -- the text of a play: powered on with a key and an image, so many steps of a script
-abbrev pub text_of : List ℕ → (ℕ → Option ℕ) → List Timed → ℕ → List ℕ
+abbrev pub text_of : List ℕ → (ℕ → Option ℕ) → List TimedEvent → ℕ → List ℕ
 text_of key image script steps = play_text (powered_with key image) (play_of (events_of script) steps)
 
 -- the key of the command's file, where it is in its grammar
@@ -29,7 +29,7 @@ HasImage files command = (image : ℕ → Option ℕ) × Gives files command.ima
 pub record Plays (files : Held) (command : PlayCommand) (taken : List ℕ → Type 0) : Type 0 where
   pub key : List ℕ
   pub image : ℕ → Option ℕ
-  pub script : List Timed
+  pub script : List TimedEvent
   pub key_read : Gives files command.key key_file_of (Ok key)
   pub image_read : Gives files command.image image_file_of (Ok image)
   pub script_read : Gives files command.script script_file_of (Ok script)

@@ -1,6 +1,6 @@
 ghost use Rattle.std.specs.Prelude.{◌≡◌, ◌≤◌, ◌<◌, ℕ, List, Some, Ok, Err, IfOk, IfSome, IsErrOf, length, vec_len};
-ghost use Rattle.outside_edge.specs.Counts.{Rose};
-ghost use Rattle.outside_edge.specs.Files.{file_of};
+ghost use Rattle.outside_edge.specs.Count.{Rose};
+ghost use Rattle.outside_edge.specs.File.{file_of};
 ghost use Rattle.device_cli.specs.Files.{within_limit, bytes_in, counts_of, ReadsFile, Parses};
 ghost use Rattle.device_cli.specs.Inputs.{key_file_of, image_of, image_file_of, quiet_script_of, script_file_of, as_unread, image_in};
 

@@ -1,6 +1,6 @@
 ghost use Rattle.std.specs.Prelude.{◌≡◌, ◌≤◌, ◌++◌, [], ℕ, List, IfOk, OnOk, OnErr};
-ghost use Rattle.outside_edge.specs.Counts.{Rose};
-ghost use Rattle.outside_edge.specs.Sinks.{Takes, TakesFront};
+ghost use Rattle.outside_edge.specs.Count.{Rose};
+ghost use Rattle.outside_edge.specs.Sink.{Takes, TakesPrefix};
 ghost use Rattle.part_definitions.specs.Memory.{PowerOn};
 ghost use Rattle.device_trace.specs.Text.{sent_lines, reset_lines, play_text};
 ghost use Rattle.device_trace.specs.Trace.{play_of};
@@ -23,7 +23,7 @@ fn print_step<W: Sink>(
 ) -> Result<(), Failed>
     ensures all { OnOk result (Takes W.stands sink.old sink.new
         (sent_lines step sent ++ reset_lines step reset)) }
-    ensures front { OnErr result (TakesFront W.stands sink.old sink.new
+    ensures prefix { OnErr result (TakesPrefix W.stands sink.old sink.new
         (sent_lines step sent ++ reset_lines step reset)) }
     ensures failed { OnErr result (Rose (W.faults sink.old) (W.faults sink.new)) }
     ensures counted { W.faults sink.old ≤ W.faults sink.new }
@@ -34,7 +34,7 @@ fn print_step<W: Sink>(
 
 fn print_sent_byte<W: Sink>(step: u64, sent: Option<u8>, sink: &mut W) -> Result<(), Failed>
     ensures all { OnOk result (Takes W.stands sink.old sink.new (sent_lines step sent)) }
-    ensures front { OnErr result (TakesFront W.stands sink.old sink.new (sent_lines step sent)) }
+    ensures prefix { OnErr result (TakesPrefix W.stands sink.old sink.new (sent_lines step sent)) }
     ensures failed { OnErr result (Rose (W.faults sink.old) (W.faults sink.new)) }
     ensures counted { W.faults sink.old ≤ W.faults sink.new }
 {
@@ -46,7 +46,7 @@ fn print_sent_byte<W: Sink>(step: u64, sent: Option<u8>, sink: &mut W) -> Result
 
 fn print_broken_rule<W: Sink>(step: u64, reset: Option<Rule>, sink: &mut W) -> Result<(), Failed>
     ensures all { OnOk result (Takes W.stands sink.old sink.new (reset_lines step reset)) }
-    ensures front { OnErr result (TakesFront W.stands sink.old sink.new (reset_lines step reset)) }
+    ensures prefix { OnErr result (TakesPrefix W.stands sink.old sink.new (reset_lines step reset)) }
     ensures failed { OnErr result (Rose (W.faults sink.old) (W.faults sink.new)) }
     ensures counted { W.faults sink.old ≤ W.faults sink.new }
 {
@@ -76,9 +76,9 @@ pub fn play_on<W: Sink>(
         → HeldStandsFor device start []
         → OnOk result (Takes W.stands sink.old sink.new
         (play_text start (play_of (events_of script.now) steps))) }
-    ensures front { (start : PowerOn)
+    ensures prefix { (start : PowerOn)
         → HeldStandsFor device start []
-        → OnErr result (TakesFront W.stands sink.old sink.new
+        → OnErr result (TakesPrefix W.stands sink.old sink.new
         (play_text start (play_of (events_of script.now) steps))) }
     ensures failed { OnErr result (Rose (W.faults sink.old) (W.faults sink.new)) }
     ensures counted { W.faults sink.old ≤ W.faults sink.new }

@@ -1,6 +1,6 @@
 ghost use Rattle.std.specs.Prelude.{◌≡◌, ◌≤◌, ◌↔◌, ◌⊎◌, ℕ, List, None, Some, Ok, IsNone, IfSome, OnErr};
-ghost use Rattle.outside_edge.specs.Counts.{Rose};
-ghost use Rattle.outside_edge.specs.Sinks.{Takes, TakesFront};
+ghost use Rattle.outside_edge.specs.Count.{Rose};
+ghost use Rattle.outside_edge.specs.Sink.{Takes, TakesPrefix};
 ghost use Rattle.mem_map.specs.Image.{byte_in};
 ghost use Rattle.device_cli.specs.Commands.{texts, said, command_of};
 ghost use Rattle.device_cli.specs.Files.{counts_of};
@@ -81,7 +81,7 @@ fn read_inputs<S: Shelf>(alloc: Global, command: &Play<'_>, shelf: &mut S) -> Re
 fn play_inputs<W: Sink>(alloc: Global, inputs: &Inputs, steps: u64, sink: &mut W) -> Status
     requires { steps ≤ MOST_STEPS }
     ensures ends { Ends
-        (Takes W.stands sink.old sink.new) (TakesFront W.stands sink.old sink.new)
+        (Takes W.stands sink.old sink.new) (TakesPrefix W.stands sink.old sink.new)
         (Rose (W.faults sink.old) (W.faults sink.new))
         (text_of inputs.now.key (byte_in inputs.now.image) inputs.now.script steps) result }
     ensures untouched { UnlessPlayed result (sink.new ≡ sink.old) }
@@ -100,7 +100,7 @@ fn play_inputs<W: Sink>(alloc: Global, inputs: &Inputs, steps: u64, sink: &mut W
 fn play<S: Shelf, W: Sink>(alloc: Global, command: &Play<'_>, shelf: &mut S, sink: &mut W) -> Status
     requires { command.now.steps ≤ MOST_STEPS }
     ensures means { Means (S.files shelf.old) (counts_of S.faults S.misses shelf.old shelf.new)
-        (Takes W.stands sink.old sink.new) (TakesFront W.stands sink.old sink.new)
+        (Takes W.stands sink.old sink.new) (TakesPrefix W.stands sink.old sink.new)
         (Rose (W.faults sink.old) (W.faults sink.new))
         (said command.now) result }
     ensures told { IfSome (S.files shelf.old) (λ held.
@@ -131,7 +131,7 @@ pub fn run<S: Shelf, W: Sink>(
     // What an answer to a command means, and its cause.
     ensures means { IfSome (command_of (texts words.now)) (λ command.
         Means (S.files shelf.old) (counts_of S.faults S.misses shelf.old shelf.new)
-        (Takes W.stands sink.old sink.new) (TakesFront W.stands sink.old sink.new)
+        (Takes W.stands sink.old sink.new) (TakesPrefix W.stands sink.old sink.new)
         (Rose (W.faults sink.old) (W.faults sink.new))
         command result) }
 

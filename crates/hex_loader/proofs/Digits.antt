@@ -9,10 +9,10 @@ use Rattle.std.proofs.lemmas.Bool.Decides.{eqb_tells}
 use Rattle.hex.specs.declared.error.FromHexError.{FromHexError}
 use Rattle.hex.specs.Hex.{decode_sized, IsBytes}
 use Rattle.hex.proofs.HexLemmas.{decode_sized-ok, decode_sized-twice, decode_of-ok}
-use Rattle.text_scan.specs.declared.faults.FaultKind.{FaultKind}
-use Rattle.text_scan.specs.declared.faults.FaultKind.TheVariants.{Digit, Count}
-use Rattle.text_scan.specs.Hexadecimals.{or_count, hex_bytes_of}
-use Rattle.hex_loader.specs.Records.{record_of, of_bytes}
+use Rattle.text_scan.specs.declared.fault_kind.FaultKind.{FaultKind}
+use Rattle.text_scan.specs.declared.fault_kind.FaultKind.TheVariants.{Digit, Count}
+use Rattle.text_scan.specs.Hexadecimal.{or_count, hex_bytes_of}
+use Rattle.hex_loader.specs.HexRecord.{record_of, of_bytes}
 
 -- bytes that are more than any record has
 too_many : (decoded : Result (List ℕ) FromHexError)

@@ -4,7 +4,7 @@ use Rattle.std.specs.Option.{option_or}
 use Rattle.std.proofs.lemmas.Bool.Decides.{eqb_tells}
 use Rattle.std.specs.Prelude.{◌&&◌}
 use Rattle.part_definitions.specs.Memory.{is_image_place}
-use Rattle.hex_loader.specs.Reading.{byte_among, are_image_places}
+use Rattle.hex_loader.specs.HexImage.{byte_among, are_image_places}
 
 and_true : (a b : Bool) → a ≡ true → (a && b) ≡ b
 and_true true b h = refl

@@ -3,19 +3,19 @@ use Rattle.std.proofs.Common.{◌≡◌, ◌∙◌, ◌+◌, ℕ, true, false, L
 use Rattle.std.specs.Str.Lines.{lines}
 use mathlib.Core.List.{reverse_aux}
 use Rattle.mem_map.specs.Image.{byte_in}
-use Rattle.text_scan.specs.declared.faults.FaultAt.{FaultAt}
-use Rattle.text_scan.specs.declared.faults.FaultKind.{FaultKind}
-use Rattle.text_scan.specs.declared.faults.FaultKind.TheVariants.{NoEnd}
-use Rattle.text_scan.specs.Items.{numbered}
+use Rattle.text_scan.specs.declared.fault_at.FaultAt.{FaultAt}
+use Rattle.text_scan.specs.declared.fault_kind.FaultKind.{FaultKind}
+use Rattle.text_scan.specs.declared.fault_kind.FaultKind.TheVariants.{NoEnd}
+use Rattle.text_scan.specs.Line.{numbered_lines}
 use Rattle.hex_loader.specs.declared.reader.Reader.{Reader}
-use Rattle.hex_loader.specs.Reading.{first_fault, line_fault, has_ended, hex_fault, hex_byte}
+use Rattle.hex_loader.specs.HexImage.{first_fault, line_fault, has_ended, hex_fault, hex_byte}
 use Rattle.hex_loader.specs.Reader.{ReaderStandsFor}
 
 -- the lines up to these were read, and have no fault
 pub record IsReadTo (text : List ℕ) (left : List (ℕ × List ℕ)) (count : ℕ) (reader : Reader) : Type 0 where
   pub earlier : List (List ℕ)
   pub rest : List (List ℕ)
-  pub numbers : left ≡ numbered (count + 1) rest
+  pub numbers : left ≡ numbered_lines (count + 1) rest
   pub all : reverse (lines text) ≡ reverse_aux rest earlier
   pub counted : count ≡ length earlier
   pub no_fault : first_fault earlier ≡ None
@@ -33,20 +33,20 @@ record Next (rest : List (List ℕ)) (count number : ℕ) (line : List ℕ) (lef
   after : List (List ℕ)
   is : rest ≡ line ∷ after
   number_is : number ≡ count + 1
-  left_is : left ≡ numbered (number + 1) after
+  left_is : left ≡ numbered_lines (number + 1) after
 
 next_of : (rest : List (List ℕ)) (count number : ℕ) (line : List ℕ) (left : List (ℕ × List ℕ))
-    → numbered (count + 1) rest ≡ (number, line) ∷ left → Next rest count number line left
+    → numbered_lines (count + 1) rest ≡ (number, line) ∷ left → Next rest count number line left
 next_of [] count number line left is = absurd cc
 next_of (first ∷ rest) count number line left is =
     let head : ◌≡◌ {A = ℕ × List ℕ} (count + 1, first) (number, line) = cc in
-    let tail : numbered (count + 1 + 1) rest ≡ left = cc in
+    let tail : numbered_lines (count + 1 + 1) rest ≡ left = cc in
     let same : count + 1 ≡ number = ap (λ (item : ℕ × List ℕ). item.0) head in
     record {
       after = rest;
       is = ap (λ (item : ℕ × List ℕ). item.1 ∷ rest) head;
       number_is = sym same;
-      left_is = sym tail ∙ ap (λ (n : ℕ). numbered (n + 1) rest) same;
+      left_is = sym tail ∙ ap (λ (n : ℕ). numbered_lines (n + 1) rest) same;
     }
 
 -- one line more
@@ -80,7 +80,7 @@ fault_read text left more count number line reader kind at is fault =
     let first = first_fault-stays next.after (line ∷ at.earlier) (record { line = number; kind = kind }) here in
     rw (lines_are, first) refl
 
-none_of : (rest : List (List ℕ)) (first : ℕ) → [] ≡ numbered first rest → rest ≡ []
+none_of : (rest : List (List ℕ)) (first : ℕ) → [] ≡ numbered_lines first rest → rest ≡ []
 none_of [] first is = refl
 none_of (line ∷ rest) first is = absurd cc
 

@@ -5,11 +5,11 @@ use Rattle.std.proofs.lemmas.List.Sums.{sum_by-append}
 use Rattle.std.proofs.Math.Seq.{take-append_seam}
 use Rattle.hex.specs.Hex.{encode_upper, upper_digits, decode_sized, IsBytes}
 use Rattle.hex.proofs.HexLemmas.{decode_sized-twice, decode_of-encode_upper, length-encode_with}
-use Rattle.text_scan.specs.declared.faults.FaultKind.{FaultKind}
-use Rattle.text_scan.specs.declared.faults.FaultKind.TheVariants.{Count, Check}
-use Rattle.text_scan.specs.Hexadecimals.{hex_bytes_of}
-use Rattle.hex_loader.specs.Records.{Meaning, Places, record_in, record_of, record_of_type, of_bytes, big_endian}
-use Rattle.hex_loader.specs.Writing.{check_of, data_record}
+use Rattle.text_scan.specs.declared.fault_kind.FaultKind.{FaultKind}
+use Rattle.text_scan.specs.declared.fault_kind.FaultKind.TheVariants.{Count, Check}
+use Rattle.text_scan.specs.Hexadecimal.{hex_bytes_of}
+use Rattle.hex_loader.specs.HexRecord.{Meaning, Places, record_in, record_of, record_of_type, of_bytes, big_endian}
+use Rattle.hex_loader.specs.HexText.{check_of, data_record}
 use Rattle.hex_loader.proofs.Encoded.{hexdigits-encoded}
 
 -- the line of a record, without its end

@@ -5,8 +5,8 @@ use Rattle.std.proofs.lemmas.Bool.{cases_lt}
 use Rattle.std.proofs.lemmas.Bool.Decides.{eqb_tells}
 use Rattle.hex.specs.Hex.{IsBytes}
 use Rattle.part_definitions.specs.Memory.{is_image_place}
-use Rattle.hex_loader.specs.Reading.{byte_among, are_image_places}
-use Rattle.hex_loader.specs.Writing.{begins, go_on, run, record_bytes}
+use Rattle.hex_loader.specs.HexImage.{byte_among, are_image_places}
+use Rattle.hex_loader.specs.HexText.{begins, go_on, run, record_bytes}
 use Rattle.mem_map.specs.Placed.{IsImage}
 use Rattle.hex_loader.proofs.Placing.{and_both}
 

@@ -2,7 +2,7 @@
 use Rattle.std.proofs.Common.{◌≡◌, ◌+◌, ◌-◌, ℕ, suc, zero, Bool, true, false, List, Some, None, cond, refl, arith}
 use Rattle.std.specs.Prelude.{◌&&◌, ◌||◌, nat_le, slice_get}
 use Rattle.part_definitions.specs.Memory.{PowerOn, MemoryWrite, byte_at, bytes_from, is_ram, is_program, is_image_place}
-use Rattle.hex_loader.specs.Shown.{image_of}
+use Rattle.hex_loader.specs.MemoryImage.{image_of}
 
 either : (a ram program : Bool) → (a && ((ram && ram) || (program && program))) ≡ true → (ram || program) ≡ true
 either true true program h = refl

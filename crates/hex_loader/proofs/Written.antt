@@ -3,10 +3,10 @@ use Rattle.std.proofs.Common.{◌≡◌, ◌∙◌, ◌≤◌, ◌<◌, ◌+◌,
 use Rattle.std.proofs.lemmas.List.{append-nil}
 use Rattle.std.proofs.Math.ListN.{drop_of_length-le}
 use Rattle.std.proofs.lemmas.Bool.{cases_lt}
-use Rattle.outside_edge.specs.Sinks.{Takes, TakesFront}
-use Rattle.outside_edge.proofs.SinkLemmas.{front_after, front_of_more}
+use Rattle.outside_edge.specs.Sink.{Takes, TakesPrefix}
+use Rattle.outside_edge.proofs.SinkLemmas.{prefix_after, prefix_of_more}
 use Rattle.hex.specs.Hex.{encode_with}
-use Rattle.hex_loader.specs.Writing.{run, lines_below, line_at, end_line, hex_text}
+use Rattle.hex_loader.specs.HexText.{run, lines_below, line_at, end_line, hex_text}
 
 -- the digits of one byte more
 pub encode_with-more : (digits line bytes whole : List ℕ) (i : ℕ) → i < length bytes
@@ -75,11 +75,11 @@ lines_below-front image first (suc last) order =
     ]
 
 -- a front of a line is a front of the text, where the lines before it were taken
-pub front_in_text : {S : Type 0} (stands : S → List ℕ → Type 0) (image : ℕ → Option ℕ) (old mid new : S) (place : ℕ) → place < 65536
-    → Takes stands old mid (lines_below image place) → TakesFront stands mid new (line_at image place)
-    → TakesFront stands old new (hex_text image)
-front_in_text stands image old mid new place within before front =
+pub prefix_in_text : {S : Type 0} (stands : S → List ℕ → Type 0) (image : ℕ → Option ℕ) (old mid new : S) (place : ℕ) → place < 65536
+    → Takes stands old mid (lines_below image place) → TakesPrefix stands mid new (line_at image place)
+    → TakesPrefix stands old new (hex_text image)
+prefix_in_text stands image old mid new place within before front =
     let rest = lines_below-front image (place + 1) 65536 (omega arith) in
-    let here = front_after stands old mid new (lines_below image place) (line_at image place) before front in
-    let all = front_of_more stands old new (lines_below image place ++ line_at image place) (rest.0 ++ end_line) here in
+    let here = prefix_after stands old mid new (lines_below image place) (line_at image place) before front in
+    let all = prefix_of_more stands old new (lines_below image place ++ line_at image place) (rest.0 ++ end_line) here in
     rw (rest.1, append_assoc, lines_below-next) all

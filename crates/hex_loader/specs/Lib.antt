@@ -1,6 +1,6 @@
-pub mod Records
-pub mod Reading
+pub mod HexRecord
+pub mod HexImage
 pub mod Reader
-pub mod Writing
-pub mod Shown
+pub mod HexText
+pub mod MemoryImage
 pub mod ReadBack

@@ -2,7 +2,7 @@
 use Rattle.std.specs.Prelude.{◌≡◌, ℕ, List}
 use Rattle.mem_map.specs.Image.{byte_in}
 use Rattle.hex_loader.specs.declared.reader.Reader.{Reader}
-use Rattle.hex_loader.specs.Reading.{base_after, has_ended, byte_after}
+use Rattle.hex_loader.specs.HexImage.{base_after, has_ended, byte_after}
 
 -- the reader has read these lines, newest first
 pub record ReaderStandsFor (reader : Reader) (lines : List (List ℕ)) : Type 0 where

@@ -6,16 +6,16 @@
 //! fault of its first faulty line; that of [`write_hex`] is the text of the image.
 #![tactic(auto)]
 
-mod laws;
-mod lines;
+mod hex_record;
+mod hex_text;
+mod law;
 mod places;
 mod reader;
-mod records;
-mod writer;
+mod record_line;
 
-pub use laws::reads_back;
+pub use hex_text::{write_hex, write_memory};
+pub use law::reads_back;
 pub use reader::read_hex;
-pub use writer::{write_hex, write_memory};
 
 #[cfg(test)]
 mod tests;

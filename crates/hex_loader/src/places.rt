@@ -1,7 +1,7 @@
 ghost use Rattle.std.specs.Prelude.{◌≡◌, ◌<◌, ◌≤◌, ℕ, Option};
-ghost use Rattle.hex_loader.specs.Writing.{begins, record_bytes};
+ghost use Rattle.hex_loader.specs.HexText.{begins, record_bytes};
 
-use crate::lines::MOST_DATA;
+use crate::record_line::MOST_DATA;
 use arrayvec::ArrayVec;
 use mem_map::{Image, Memory};
 
@@ -28,7 +28,7 @@ impl Places for Image {
 }
 
 impl Places for Memory {
-    ghost use Rattle.hex_loader.specs.Shown.{MemoryShows};
+    ghost use Rattle.hex_loader.specs.MemoryImage.{MemoryShows};
 
     ghost shows = { MemoryShows };
 

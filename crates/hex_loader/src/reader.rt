@@ -3,11 +3,11 @@ ghost use Rattle.std.specs.Option.{option_or};
 ghost use Rattle.std.specs.Result.{result_err};
 ghost use Rattle.part_definitions.specs.Memory.{is_image_place};
 ghost use Rattle.mem_map.specs.Image.{byte_in};
-ghost use Rattle.text_scan.specs.declared.faults.FaultAt.{FaultAt};
-ghost use Rattle.hex_loader.specs.Records.{meaning, record_in};
-ghost use Rattle.hex_loader.specs.Reading.{byte_among, are_image_places, base_after, has_ended, byte_after, line_fault, hex_fault, hex_byte};
+ghost use Rattle.text_scan.specs.declared.fault_at.FaultAt.{FaultAt};
+ghost use Rattle.hex_loader.specs.HexRecord.{meaning, record_in};
+ghost use Rattle.hex_loader.specs.HexImage.{byte_among, are_image_places, base_after, has_ended, byte_after, line_fault, hex_fault, hex_byte};
 
-use crate::records::{MOST_BYTES, Record, record_of_line};
+use crate::hex_record::{HexRecord, MOST_BYTES, record_of_line};
 use mem_map::Image;
 use std::alloc::Global;
 use text_scan::{FaultAt, FaultKind, Lines, TextFault};
@@ -97,12 +97,12 @@ pub struct Reader {
 impl Reader {
     ghost use Rattle.std.specs.Prelude.{◌≡◌, ◌∷◌, ℕ, List, Ok, OnOk};
     ghost use Rattle.std.specs.Result.{result_err};
-    ghost use Rattle.hex_loader.specs.Records.{meaning, record_in};
-    ghost use Rattle.hex_loader.specs.Reading.{base_after, record_fault, line_fault};
+    ghost use Rattle.hex_loader.specs.HexRecord.{meaning, record_in};
+    ghost use Rattle.hex_loader.specs.HexImage.{base_after, record_fault, line_fault};
     ghost use Rattle.hex_loader.specs.Reader.{ReaderStandsFor};
 
     /// Does what a record says.
-    fn take(&mut self, found: Record<'_>) -> Result<(), FaultKind>
+    fn take(&mut self, found: HexRecord<'_>) -> Result<(), FaultKind>
         ensures fault { (earlier : List (List ℕ))
             → ReaderStandsFor self.old earlier
             → result_err result ≡ record_fault (base_after earlier) (Ok (meaning found.entry)) }
@@ -112,19 +112,19 @@ impl Reader {
             → OnOk result (ReaderStandsFor self.new (line ∷ earlier)) }
     {
         match found {
-            Record::Data(address, bytes) => {
+            HexRecord::Data(address, bytes) => {
                 let first = u64::from(self.base) + u64::from(address);
                 set_bytes(&mut self.image, first, bytes)
             }
-            Record::End => {
+            HexRecord::End => {
                 self.ended = true;
                 Ok(())
             }
-            Record::Base(base) => {
+            HexRecord::Base(base) => {
                 self.base = base;
                 Ok(())
             }
-            Record::Start => Ok(()),
+            HexRecord::Start => Ok(()),
         }
     }
 

@@ -2,7 +2,7 @@
 use Rattle.std.proofs.Common.{◌+◌, ◌-◌, ℕ, List, ◌++◌, length, take, drop, append_assoc, arith, length-append}
 use Rattle.std.proofs.lemmas.List.{take_rest, take-append-le}
 use Rattle.std.proofs.Math.Seq.{take-add, take-append-add}
-use Rattle.outside_edge.specs.Sinks.{Takes, TakesFront}
+use Rattle.outside_edge.specs.Sink.{Takes, TakesPrefix}
 
 -- a front of the rest after a front is a longer front
 pub takes_more : {S : Type 0} (stands : S → List ℕ → Type 0) (old mid new : S) (bytes : List ℕ) (at n : ℕ)
@@ -19,18 +19,18 @@ takes_both stands old mid new one two first second = λ taken stood.
     rw (← append_assoc) (second (taken ++ one) (first taken stood))
 
 -- a front of a text after another text
-pub front_after : {S : Type 0} (stands : S → List ℕ → Type 0) (old mid new : S) (one two : List ℕ)
-    → Takes stands old mid one → TakesFront stands mid new two → TakesFront stands old new (one ++ two)
-front_after stands old mid new one two first second = (
+pub prefix_after : {S : Type 0} (stands : S → List ℕ → Type 0) (old mid new : S) (one two : List ℕ)
+    → Takes stands old mid one → TakesPrefix stands mid new two → TakesPrefix stands old new (one ++ two)
+prefix_after stands old mid new one two first second = (
   length one + second.0,
   omega (arith, length-append one two, second.1),
   λ taken stood. rw (take-append-add one two second.0, ← append_assoc) (second.2 (taken ++ one) (first taken stood)),
 )
 
 -- a front of a text is a front of a longer one
-pub front_of_more : {S : Type 0} (stands : S → List ℕ → Type 0) (old new : S) (one two : List ℕ)
-    → TakesFront stands old new one → TakesFront stands old new (one ++ two)
-front_of_more stands old new one two front =
+pub prefix_of_more : {S : Type 0} (stands : S → List ℕ → Type 0) (old new : S) (one two : List ℕ)
+    → TakesPrefix stands old new one → TakesPrefix stands old new (one ++ two)
+prefix_of_more stands old new one two front =
     let fits = front.1 in (
       front.0,
       omega (arith, length-append one two, front.1),

@@ -1,5 +1,5 @@
-pub mod Counts
-pub mod Files
-pub mod Shelves
-pub mod Sinks
-pub mod Whole
+pub mod Count
+pub mod File
+pub mod FileFault
+pub mod Shelf
+pub mod Sink

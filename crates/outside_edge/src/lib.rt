@@ -6,19 +6,28 @@
 //! counted fault, and [`put_all`] puts all bytes or a front of them and a counted fault.
 #![tactic(auto)]
 
-mod adapters;
-mod memory_shelves;
-mod memory_sinks;
-mod shelves;
-mod sinks;
-mod whole;
+mod file_copy;
+mod file_fault;
+mod file_shelf;
+mod mem_shelf;
+mod mem_sink;
+mod never_fail_shelf;
+mod never_fail_sink;
+mod shelf;
+mod sink;
+mod std_sink;
+mod whole_file;
 
-pub use adapters::{FileShelf, StdSink};
-pub use memory_shelves::{MemShelf, NeverFailShelf};
-pub use memory_sinks::{MemSink, NeverFailSink};
-pub use shelves::{Shelf, ShelfError};
-pub use sinks::{Failed, Sink, put_all};
-pub use whole::{FileFault, read_whole};
+pub use file_fault::FileFault;
+pub use file_shelf::FileShelf;
+pub use mem_shelf::MemShelf;
+pub use mem_sink::MemSink;
+pub use never_fail_shelf::NeverFailShelf;
+pub use never_fail_sink::NeverFailSink;
+pub use shelf::{Shelf, ShelfError};
+pub use sink::{Failed, Sink, put_all};
+pub use std_sink::StdSink;
+pub use whole_file::read_whole;
 
 #[cfg(test)]
 mod tests;

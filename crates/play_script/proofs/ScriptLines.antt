@@ -2,16 +2,17 @@
 use Rattle.std.proofs.Common.{◌≡◌, ◌∙◌, ap, All, ℕ, ◌≤◌, List, [], ◌∷◌, ◌++◌, true, false, Result, Ok, Err, refl, sym, append_assoc, append-nil, arith}
 use Rattle.std.proofs.lemmas.List.Elements.{All-append, All-map}
 use Rattle.bus_signals.specs.declared.event.Event.{Event}
-use Rattle.text_scan.specs.declared.faults.FaultAt.{FaultAt}
-use Rattle.text_scan.specs.declared.faults.TextFault.{TextFault}
-use Rattle.text_scan.specs.declared.faults.TextFault.TheVariants.{At, Memory}
-use Rattle.text_scan.specs.Reading.{◌>>=◌, is_passed_over, Reads}
+use Rattle.text_scan.specs.declared.fault_at.FaultAt.{FaultAt}
+use Rattle.text_scan.specs.declared.text_fault.TextFault.{TextFault}
+use Rattle.text_scan.specs.declared.text_fault.TextFault.TheVariants.{At, Memory}
+use Rattle.text_scan.specs.Reader.{◌>>=◌, Reads}
+use Rattle.text_scan.specs.Word.{is_passed_over}
 use Rattle.play_script.specs.Happening.{ReadsEntry}
-use Rattle.play_script.specs.Script.{Timed}
-use Rattle.play_script.specs.Grammar.{entry_of, timed, script_lines}
+use Rattle.play_script.specs.Script.{TimedEvent}
+use Rattle.play_script.specs.Grammar.{entry_of, timed_events, script_lines}
 
 -- what the lines that are left give, after what was read
-abbrev pub after : List Timed → Result (List Timed) FaultAt → Result (List Timed) FaultAt
+abbrev pub after : List TimedEvent → Result (List TimedEvent) FaultAt → Result (List TimedEvent) FaultAt
 after done (Ok later) = Ok (done ++ later)
 after done (Err fault) = Err fault
 
@@ -25,39 +26,39 @@ script_lines_fault : (greatest : ℕ) (line : ℕ × List ℕ) (lines : List (�
 unfolding script_lines
 script_lines_fault greatest line lines fault h read = rw h (rw read refl)
 
-after_entry : (done : List Timed) (entry : ℕ × List Event) (read : Result (List Timed) FaultAt)
-    → after done (read >>= (λ later. Ok (timed entry ++ later))) ≡ after (done ++ timed entry) read
-after_entry done entry (Ok later) = ap (λ l. Ok l) (sym (append_assoc done (timed entry) later))
+after_entry : (done : List TimedEvent) (entry : ℕ × List Event) (read : Result (List TimedEvent) FaultAt)
+    → after done (read >>= (λ later. Ok (timed_events entry ++ later))) ≡ after (done ++ timed_events entry) read
+after_entry done entry (Ok later) = ap (λ l. Ok l) (sym (append_assoc done (timed_events entry) later))
 after_entry done entry (Err fault) = refl
 
-script_lines_entry : (done : List Timed) (greatest : ℕ) (line : ℕ × List ℕ) (lines : List (ℕ × List ℕ)) (entry : ℕ × List Event)
+script_lines_entry : (done : List TimedEvent) (greatest : ℕ) (line : ℕ × List ℕ) (lines : List (ℕ × List ℕ)) (entry : ℕ × List Event)
     → is_passed_over line.1 ≡ false → entry_of greatest line ≡ Ok entry
-    → after done (script_lines greatest (line ∷ lines)) ≡ after (done ++ timed entry) (script_lines entry.0 lines)
+    → after done (script_lines greatest (line ∷ lines)) ≡ after (done ++ timed_events entry) (script_lines entry.0 lines)
 unfolding script_lines
 script_lines_entry done greatest line lines entry h read = rw h (rw read (after_entry done entry (script_lines entry.0 lines)))
 
 -- a fault of the first line that is left is the fault of all
-fault_is_first : (fault : TextFault) (all : Result (List Timed) FaultAt) (done : List Timed) (greatest : ℕ) (line : ℕ × List ℕ) (lines : List (ℕ × List ℕ))
+fault_is_first : (fault : TextFault) (all : Result (List TimedEvent) FaultAt) (done : List TimedEvent) (greatest : ℕ) (line : ℕ × List ℕ) (lines : List (ℕ × List ℕ))
     → all ≡ after done (script_lines greatest (line ∷ lines)) → is_passed_over line.1 ≡ false
-    → ReadsEntry (Err fault) (entry_of greatest line) → Reads {Value = List Timed} (Err fault) all
+    → ReadsEntry (Err fault) (entry_of greatest line) → Reads {Value = List TimedEvent} (Err fault) all
 fault_is_first (At fault) all done greatest line lines said h read =
     said ∙ ap (after done) (script_lines_fault greatest line lines fault h read)
 fault_is_first (Memory error) all done greatest line lines said h read = tt
 
 -- the steps of an entry are its step
-within_more : (done : List Timed) (greatest : ℕ) (entry : ℕ × List Event) → greatest ≤ entry.0
-    → All (λ earlier. earlier.0 ≤ greatest) done → All (λ earlier. earlier.0 ≤ entry.0) (done ++ timed entry)
+within_more : (done : List TimedEvent) (greatest : ℕ) (entry : ℕ × List Event) → greatest ≤ entry.0
+    → All (λ earlier. earlier.0 ≤ greatest) done → All (λ earlier. earlier.0 ≤ entry.0) (done ++ timed_events entry)
 within_more done greatest entry order within =
-    All-append (λ earlier. earlier.0 ≤ entry.0) done (timed entry)
+    All-append (λ earlier. earlier.0 ≤ entry.0) done (timed_events entry)
     (λ k d h. omega (arith, within k d h, order))
     (All-map (λ earlier. earlier.0 ≤ entry.0) (λ event. (entry.0, event)) entry.1 (λ k d h. omega arith))
 
 -- how far the lines were read: what is left gives what is missing, and no step is above the greatest
-pub record ReadSoFar (all : Result (List Timed) FaultAt) (done : List Timed) (greatest : ℕ) (lines : List (ℕ × List ℕ)) : Type 0 where
+pub record ReadSoFar (all : Result (List TimedEvent) FaultAt) (done : List TimedEvent) (greatest : ℕ) (lines : List (ℕ × List ℕ)) : Type 0 where
   pub said : all ≡ after done (script_lines greatest lines)
   pub within : All (λ earlier. earlier.0 ≤ greatest) done
 
-pub so_far_passed : {all : Result (List Timed) FaultAt} {done : List Timed} {greatest : ℕ} {left : List (ℕ × List ℕ)}
+pub so_far_passed : {all : Result (List TimedEvent) FaultAt} {done : List TimedEvent} {greatest : ℕ} {left : List (ℕ × List ℕ)}
     (line : ℕ × List ℕ) (lines : List (ℕ × List ℕ)) → ReadSoFar all done greatest left → left ≡ line ∷ lines
     → is_passed_over line.1 ≡ true → ReadSoFar all done greatest lines
 so_far_passed {done = done} {greatest = greatest} line lines far next passed = record {
@@ -65,9 +66,9 @@ so_far_passed {done = done} {greatest = greatest} line lines far next passed = r
   within = far.within;
 }
 
-pub so_far_entry : {all : Result (List Timed) FaultAt} {done : List Timed} {greatest : ℕ} {left : List (ℕ × List ℕ)}
-    (line : ℕ × List ℕ) (lines : List (ℕ × List ℕ)) (entry : ℕ × List Event) (more : List Timed) → ReadSoFar all done greatest left → left ≡ line ∷ lines
-    → is_passed_over line.1 ≡ false → entry_of greatest line ≡ Ok entry → greatest ≤ entry.0 → more ≡ done ++ timed entry
+pub so_far_entry : {all : Result (List TimedEvent) FaultAt} {done : List TimedEvent} {greatest : ℕ} {left : List (ℕ × List ℕ)}
+    (line : ℕ × List ℕ) (lines : List (ℕ × List ℕ)) (entry : ℕ × List Event) (more : List TimedEvent) → ReadSoFar all done greatest left → left ≡ line ∷ lines
+    → is_passed_over line.1 ≡ false → entry_of greatest line ≡ Ok entry → greatest ≤ entry.0 → more ≡ done ++ timed_events entry
     → ReadSoFar all more entry.0 lines
 so_far_entry {done = done} {greatest = greatest} line lines entry more far next kept read order added = rw added record {
   said = far.said ∙ ap (λ l. after done (script_lines greatest l)) next ∙ script_lines_entry done greatest line lines entry kept read;
@@ -75,14 +76,14 @@ so_far_entry {done = done} {greatest = greatest} line lines entry more far next 
 }
 
 -- a fault of the first line that is left is the fault of all
-pub so_far_fault : {all : Result (List Timed) FaultAt} {done : List Timed} {greatest : ℕ} {left : List (ℕ × List ℕ)}
+pub so_far_fault : {all : Result (List TimedEvent) FaultAt} {done : List TimedEvent} {greatest : ℕ} {left : List (ℕ × List ℕ)}
     (line : ℕ × List ℕ) (lines : List (ℕ × List ℕ)) (fault : TextFault) → ReadSoFar all done greatest left → left ≡ line ∷ lines
-    → is_passed_over line.1 ≡ false → ReadsEntry (Err fault) (entry_of greatest line) → Reads {Value = List Timed} (Err fault) all
+    → is_passed_over line.1 ≡ false → ReadsEntry (Err fault) (entry_of greatest line) → Reads {Value = List TimedEvent} (Err fault) all
 so_far_fault {done = done} {greatest = greatest} line lines fault far next kept read =
     fault_is_first fault _ done greatest line lines (far.said ∙ ap (λ l. after done (script_lines greatest l)) next) kept read
 
 -- no line is left
-pub so_far_end : {all : Result (List Timed) FaultAt} {done : List Timed} {greatest : ℕ} {left : List (ℕ × List ℕ)}
+pub so_far_end : {all : Result (List TimedEvent) FaultAt} {done : List TimedEvent} {greatest : ℕ} {left : List (ℕ × List ℕ)}
     → ReadSoFar all done greatest left → left ≡ [] → all ≡ Ok done
 unfolding script_lines
 so_far_end {done = done} {greatest = greatest} far none =

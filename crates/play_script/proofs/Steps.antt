@@ -6,7 +6,7 @@ use Rattle.std.proofs.lemmas.List.Sorted.{IsNonDecreasingBy-push}
 use Rattle.std.proofs.lemmas.Bool.{eq-eqb, ne_eqb, cases_lt}
 use Rattle.bus_signals.specs.declared.event.Event.{Event}
 use Rattle.bus_signals.specs.declared.event.Event.TheVariants.{Reset}
-use Rattle.play_script.specs.Script.{Timed, events_of}
+use Rattle.play_script.specs.Script.{TimedEvent, events_of}
 
 -- one more
 pub zip_push : (steps : List ℕ) (events : List Event) (step : ℕ) (event : Event) → length steps ≡ length events
@@ -35,10 +35,10 @@ pub sorted_push : (steps : List ℕ) (step : ℕ) → IsNonDecreasing steps → 
 sorted_push steps step sorted bound =
     IsNonDecreasingBy-push (λ s. s) steps step sorted (λ d some. bound (length steps - 1) d (omega arith))
 
-dropped : (s : ℕ) (e : Event) (rest : List Timed) (step : ℕ) → (s ≡ step → ⊥) → events_of ((s, e) ∷ rest) step ≡ events_of rest step
+dropped : (s : ℕ) (e : Event) (rest : List TimedEvent) (step : ℕ) → (s ≡ step → ⊥) → events_of ((s, e) ∷ rest) step ≡ events_of rest step
 dropped s e rest step other = rw (ne_eqb s step other) refl
 
-kept : (s : ℕ) (e : Event) (rest : List Timed) (step : ℕ) → s ≡ step → events_of ((s, e) ∷ rest) step ≡ e ∷ events_of rest step
+kept : (s : ℕ) (e : Event) (rest : List TimedEvent) (step : ℕ) → s ≡ step → events_of ((s, e) ∷ rest) step ≡ e ∷ events_of rest step
 kept s e rest step is = rw (eq-eqb s step is) refl
 
 -- the events of a step stand where the steps are this one

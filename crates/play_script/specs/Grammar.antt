@@ -3,14 +3,17 @@ use Rattle.std.specs.Prelude.{ℕ, List, [], ◌∷◌, ◌++◌, map, if◌then
 use Rattle.std.specs.Str.{bytes_eq}
 use Rattle.bus_signals.specs.declared.event.Event.{Event}
 use Rattle.bus_signals.specs.declared.event.Event.TheVariants.{Rx, Pins, Dma, Reset}
-use Rattle.play_script.specs.Script.{Timed}
-use Rattle.text_scan.specs.declared.faults.FaultAt.{FaultAt}
-use Rattle.text_scan.specs.declared.faults.FaultKind.{FaultKind}
-use Rattle.text_scan.specs.declared.faults.FaultKind.TheVariants.{Order, Word}
-use Rattle.text_scan.specs.Decimals.{decimal_of}
-use Rattle.text_scan.specs.Hexadecimals.{even_bytes_of, hex_word_of}
-use Rattle.text_scan.specs.Items.{lines_of, words_of}
-use Rattle.text_scan.specs.Reading.{◌>>=◌, in_line, word_of, keyword_of, end_of, is_passed_over, utf8_of}
+use Rattle.play_script.specs.Script.{TimedEvent}
+use Rattle.text_scan.specs.declared.fault_at.FaultAt.{FaultAt}
+use Rattle.text_scan.specs.declared.fault_kind.FaultKind.{FaultKind}
+use Rattle.text_scan.specs.declared.fault_kind.FaultKind.TheVariants.{Order, Word}
+use Rattle.text_scan.specs.Decimal.{decimal_of}
+use Rattle.text_scan.specs.Hexadecimal.{even_bytes_of, hex_word_of}
+use Rattle.text_scan.specs.Line.{lines_of}
+use Rattle.text_scan.specs.Word.{words_of}
+use Rattle.text_scan.specs.Reader.{◌>>=◌, in_line}
+use Rattle.text_scan.specs.Word.{word_of, keyword_of, end_of, is_passed_over}
+use Rattle.text_scan.specs.Utf8.{utf8_of}
 
 -- `rx HH..`: each byte of one word arrives
 unfoldable pub arrivals_of : List (List ℕ) → Result (List Event × List (List ℕ)) FaultKind
@@ -71,21 +74,21 @@ abbrev pub entry_of : ℕ → (ℕ × List ℕ) → Result (ℕ × List Event) F
 entry_of greatest line = in_line line.0 (line_of (words_of line.1) >>= ordered greatest)
 
 -- events with the step of their line
-abbrev pub timed : (ℕ × List Event) → List Timed
-timed entry = map (λ event. (entry.0, event)) entry.1
+abbrev pub timed_events : (ℕ × List Event) → List TimedEvent
+timed_events entry = map (λ event. (entry.0, event)) entry.1
 
 -- the events of lines, or the first fault
-unfoldable pub script_lines : ℕ → List (ℕ × List ℕ) → Result (List Timed) FaultAt
+unfoldable pub script_lines : ℕ → List (ℕ × List ℕ) → Result (List TimedEvent) FaultAt
 script_lines greatest [] = Ok []
 script_lines greatest (line ∷ lines) =
     if is_passed_over line.1 then script_lines greatest lines
     else (do
       entry ← entry_of greatest line
       later ← script_lines entry.0 lines
-      Ok (timed entry ++ later))
+      Ok (timed_events entry ++ later))
 
 -- a script's events with their steps, or its first fault; a line that is not UTF-8 comes before all else
-unfoldable pub script_of : List ℕ → Result (List Timed) FaultAt
+unfoldable pub script_of : List ℕ → Result (List TimedEvent) FaultAt
 script_of text = do
   sound ← utf8_of text
   script_lines 0 (lines_of text)

@@ -2,14 +2,14 @@
 use Rattle.std.specs.Prelude.{◌≡◌, ℕ, List, [], ◌∷◌, map, Result, Ok, Err}
 use Rattle.bus_signals.specs.declared.event.Event.{Event}
 use Rattle.bus_signals.specs.declared.event.Event.TheVariants.{Rx}
-use Rattle.text_scan.specs.declared.faults.FaultKind.{FaultKind}
-use Rattle.text_scan.specs.declared.faults.FaultAt.{FaultAt}
-use Rattle.text_scan.specs.declared.faults.TextFault.{TextFault}
-use Rattle.text_scan.specs.declared.faults.TextFault.TheVariants as texts
-use Rattle.text_scan.specs.declared.faults.WordFault.{WordFault}
-use Rattle.text_scan.specs.declared.faults.WordFault.TheVariants.{Kind, Memory}
-use Rattle.play_script.specs.declared.happenings.Happening.{Happening}
-use Rattle.play_script.specs.declared.happenings.Happening.TheVariants.{Arrivals, One}
+use Rattle.text_scan.specs.declared.fault_kind.FaultKind.{FaultKind}
+use Rattle.text_scan.specs.declared.fault_at.FaultAt.{FaultAt}
+use Rattle.text_scan.specs.declared.text_fault.TextFault.{TextFault}
+use Rattle.text_scan.specs.declared.text_fault.TextFault.TheVariants as texts
+use Rattle.text_scan.specs.declared.word_fault.WordFault.{WordFault}
+use Rattle.text_scan.specs.declared.word_fault.WordFault.TheVariants.{Kind, Memory}
+use Rattle.play_script.specs.declared.happening.Happening.{Happening}
+use Rattle.play_script.specs.declared.happening.Happening.TheVariants.{Arrivals, One}
 
 -- the events of what a line says
 abbrev pub events_in : Happening → List Event

@@ -4,9 +4,9 @@ use Rattle.std.specs.List.{filter}
 use Rattle.bus_signals.specs.declared.event.Event.{Event}
 
 -- an event with its step
-abbrev pub Timed : Type 0
-Timed = ℕ × Event
+abbrev pub TimedEvent : Type 0
+TimedEvent = ℕ × Event
 
 -- the events of a step, in the order of the file
-abbrev pub events_of : List Timed → ℕ → List Event
+abbrev pub events_of : List TimedEvent → ℕ → List Event
 events_of script step = map (λ entry. entry.1) (filter (λ entry. entry.0 == step) script)

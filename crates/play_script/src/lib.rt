@@ -5,11 +5,11 @@
 //! the first fault of the text; the events of a step are found by a binary search.
 #![tactic(auto)]
 
-mod happenings;
-mod reading;
-mod scripts;
+mod happening;
+mod script;
+mod script_reader;
 #[cfg(test)]
 mod tests;
 
-pub use reading::read_script;
-pub use scripts::Script;
+pub use script::Script;
+pub use script_reader::read_script;

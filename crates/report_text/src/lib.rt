@@ -4,10 +4,10 @@
 //! a failure the sink took a front of the line.
 #![tactic(auto)]
 
-mod buffer;
-mod lines;
+mod line;
+mod printed_line;
 
-pub use lines::{print_end, print_reset, print_sent};
+pub use printed_line::{print_end, print_reset, print_sent};
 
 #[cfg(test)]
 mod tests;

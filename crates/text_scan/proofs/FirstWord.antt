@@ -6,7 +6,7 @@ use Rattle.std.proofs.Math.Seq.{take-length, drop-length}
 use Rattle.std.proofs.Math.Nat.{eq-or-lt_of_le}
 use Rattle.std.proofs.lemmas.List.Sums.{fails_before_first, position_or_len_is}
 use Rattle.std.proofs.lemmas.List.Splits.{slice_split_first, slice_split_none, slice_split-cons_yes}
-use Rattle.text_scan.specs.Items.{is_blank, is_word, words_of}
+use Rattle.text_scan.specs.Word.{is_blank, is_word, words_of}
 
 -- a blank in front
 words_of-blank : (byte : ℕ) (rest : List ℕ) → is_blank byte ≡ true → words_of (byte ∷ rest) ≡ words_of rest

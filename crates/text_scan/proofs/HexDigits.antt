@@ -6,9 +6,9 @@ use Rattle.std.specs.Char.{is_ascii_hexdigit}
 use Rattle.std.proofs.lemmas.List.Sums.{AllPass-from_list_all}
 use Rattle.hex.specs.declared.error.FromHexError.{FromHexError}
 use Rattle.hex.specs.Hex.{is_hex_digit, decode_sized}
-use Rattle.text_scan.specs.declared.faults.FaultKind.{FaultKind}
-use Rattle.text_scan.specs.declared.faults.FaultKind.TheVariants.{Count}
-use Rattle.text_scan.specs.Hexadecimals.{or_count, hex_bytes_of}
+use Rattle.text_scan.specs.declared.fault_kind.FaultKind.{FaultKind}
+use Rattle.text_scan.specs.declared.fault_kind.FaultKind.TheVariants.{Count}
+use Rattle.text_scan.specs.Hexadecimal.{or_count, hex_bytes_of}
 use Rattle.hex.proofs.HexLemmas.{IsOk-decode_sized}
 
 some_of_three : (digit upper lower : Bool) (x y z : ℕ) → ((digit || upper) || lower) ≡ true

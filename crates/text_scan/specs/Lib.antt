@@ -1,5 +1,7 @@
-pub mod Decimals
-pub mod Hexadecimals
-pub mod Items
-pub mod Reading
-pub mod Keys
+pub mod Line
+pub mod Reader
+pub mod Word
+pub mod Utf8
+pub mod Decimal
+pub mod Hexadecimal
+pub mod Key

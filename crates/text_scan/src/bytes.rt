@@ -1,9 +1,10 @@
 ghost use Rattle.std.specs.Prelude.{◌≡◌, ◌++◌, ℕ, List, IfOk};
-ghost use Rattle.text_scan.specs.Hexadecimals.{even_bytes_of};
-ghost use Rattle.text_scan.specs.Reading.{ReadsWord};
+ghost use Rattle.text_scan.specs.Hexadecimal.{even_bytes_of};
+ghost use Rattle.text_scan.specs.Reader.{ReadsWord};
 
-use crate::faults::{FaultKind, WordFault};
-use crate::hexadecimals::are_digits;
+use crate::fault_kind::FaultKind;
+use crate::hexadecimal::are_digits;
+use crate::word_fault::WordFault;
 use hex::FromHexError;
 use std::alloc::{AllocError, Global};
 use std::marker::Model;

@@ -7,21 +7,27 @@
 #![tactic(auto)]
 
 mod bytes;
-mod decimals;
-mod faults;
-mod hexadecimals;
-mod keys;
+mod decimal_number;
+mod fault_at;
+mod fault_kind;
+mod hexadecimal;
+mod key;
 mod lines;
 #[cfg(test)]
 mod tests;
+mod text_fault;
 mod utf8;
+mod word_fault;
 mod words;
 
 pub use bytes::Bytes;
-pub use decimals::decimal;
-pub use faults::{FaultAt, FaultKind, TextFault, WordFault};
-pub use hexadecimals::{hex_bytes, hex_word};
-pub use keys::read_key;
+pub use decimal_number::decimal;
+pub use fault_at::FaultAt;
+pub use fault_kind::FaultKind;
+pub use hexadecimal::{hex_bytes, hex_word};
+pub use key::read_key;
 pub use lines::Lines;
+pub use text_fault::TextFault;
 pub use utf8::check_utf8;
+pub use word_fault::WordFault;
 pub use words::{Words, is_passed_over};

@@ -1,7 +1,7 @@
 ghost use Rattle.std.specs.Prelude.{◌≡◌, ◌∷◌, ◌+◌, ◌-◌, ◌<◌, ◌≤◌, ◌^◌, ◌≢◌, ℕ, List, length, slice_index};
 ghost use Rattle.std.specs.Iterator.{YieldsFirstBy, item_count};
 ghost use Rattle.std.specs.Str.Lines.{lines, strip_carriage_return};
-ghost use Rattle.text_scan.specs.Items.{numbered, lines_of};
+ghost use Rattle.text_scan.specs.Line.{numbered_lines, lines_of};
 
 use std::marker::Model;
 
@@ -17,7 +17,7 @@ pub struct Lines<'a> {
 impl<'a> Model for Lines<'a> {
     ghost Value = { List (ℕ × List ℕ) };
 
-    ghost view = { λ it. numbered (it.given + 1) (lines it.rest.now) };
+    ghost view = { λ it. numbered_lines (it.given + 1) (lines it.rest.now) };
 
     ghost invariant = { λ it. it.given + length it.rest.now < 2 ^ 64 };
 }

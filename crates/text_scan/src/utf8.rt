@@ -1,8 +1,9 @@
 ghost use Rattle.std.specs.Prelude.{◌≡◌};
 ghost use Rattle.std.specs.Str.{is_utf8};
-ghost use Rattle.text_scan.specs.Reading.{utf8_of};
+ghost use Rattle.text_scan.specs.Utf8.{utf8_of};
 
-use crate::faults::{FaultAt, FaultKind};
+use crate::fault_at::FaultAt;
+use crate::fault_kind::FaultKind;
 use crate::lines::Lines;
 use std::str;
 

@@ -1,9 +1,9 @@
 ghost use Rattle.std.specs.Prelude.{◌≡◌, ◌∷◌, ◌<◌, ◌≤◌, ℕ, List, length, slice_index, true, false, Ok, Err, IfOk, IfErr, OnOk};
 ghost use Rattle.std.specs.Iterator.{YieldsFirstRef, item_count};
-ghost use Rattle.text_scan.specs.Items.{is_blank, words_of};
-ghost use Rattle.text_scan.specs.Reading.{word_of, keyword_of, end_of, is_passed_over};
+ghost use Rattle.text_scan.specs.Word.{is_blank, words_of};
+ghost use Rattle.text_scan.specs.Word.{word_of, keyword_of, end_of, is_passed_over};
 
-use crate::faults::FaultKind;
+use crate::fault_kind::FaultKind;
 use std::marker::Model;
 
 /// The words of a line, which are separated by spaces and tabs.

@@ -31,8 +31,8 @@ loop-step-preserved g c =
       omega (arith, c.loop-step.invariant.3, c.print_step.ensures.counted),
     )
 
-pub returns-in_err-print_step-clause-front : goal.returns-in_err-print_step-clause-front
-returns-in_err-print_step-clause-front g c = λ start held.
+pub returns-in_err-print_step-clause-prefix : goal.returns-in_err-print_step-clause-prefix
+returns-in_err-print_step-clause-prefix g c = λ start held.
     let live =
     rw c.events_at.ensures
     at (c.step-live.ensures.stands start (play_of (events_of c.args.script.now) c.loop-step.step) (c.loop-step.invariant.1 start held)) in
@@ -42,10 +42,10 @@ returns-in_err-print_step-clause-front g c = λ start held.
     on_every_err c.from_residual.result
     (front-append g.W.Sink.stands c.args.sink.now c.loop-step.sink c.print_step.new.sink
     (lines_of (trace start (play_of (events_of c.args.script.now) c.loop-step.step))) _ begins.0 _ begins.1
-    (c.loop-step.invariant.2 start held) c.in_err-print_step.ensures.front)
+    (c.loop-step.invariant.2 start held) c.in_err-print_step.ensures.prefix)
 
-pub returns-in_err-print_end-clause-front : goal.returns-in_err-print_end-clause-front
-returns-in_err-print_end-clause-front g c = λ start held.
+pub returns-in_err-print_end-clause-prefix : goal.returns-in_err-print_end-clause-prefix
+returns-in_err-print_end-clause-prefix g c = λ start held.
     let made : c.loop-step.step ≡ c.args.steps = omega arith in
     let text = play_text-ended start (events_of c.args.script.now) c.loop-step.step c.args.steps c.next_pc.result made
     (c.next_pc.ensures start _ (c.loop-step.invariant.1 start held)) in
@@ -53,7 +53,7 @@ returns-in_err-print_end-clause-front g c = λ start held.
     (front-append g.W.Sink.stands c.args.sink.now c.loop-step.sink c.print_end.new.sink
     (lines_of (trace start (play_of (events_of c.args.script.now) c.loop-step.step))) (end_line c.args.steps c.next_pc.result false) [] _
     (rw append-nil text)
-    (c.loop-step.invariant.2 start held) c.in_err-print_end.ensures.front)
+    (c.loop-step.invariant.2 start held) c.in_err-print_end.ensures.prefix)
 
 pub returns-clause-all : goal.returns-clause-all
 returns-clause-all g c = λ start held.

@@ -1,6 +1,6 @@
 use Rattle.std.proofs.Common.{◌≡◌, ◌≤◌, []}
 use Rattle.part_definitions.specs.Memory.{PowerOn}
-use Rattle.outside_edge.specs.Sinks.{Takes}
+use Rattle.outside_edge.specs.Sink.{Takes}
 use Rattle.play_script.specs.Script.{events_of}
 use Rattle.device_trace.specs.Text.{lines_of}
 use Rattle.device_trace.specs.Trace.{trace, play_of}

@@ -1,5 +1,5 @@
 use Rattle.std.proofs.Common.{arith, sym, ◌∙◌, ◌-◌, ◌%◌}
-use Rattle.hex_loader.specs.Writing.{record_bytes}
+use Rattle.hex_loader.specs.HexText.{record_bytes}
 use Rattle.hex_loader.proofs.Written.{run-more, run-end}
 use Rattle.hex_loader.proofs.places.record_bytes.Goals as goal
 

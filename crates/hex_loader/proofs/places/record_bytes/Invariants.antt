@@ -1,5 +1,5 @@
 use Rattle.std.proofs.Common.{◌≡◌, ◌+◌, ◌-◌, ◌++◌, ℕ, Option, length}
-use Rattle.hex_loader.specs.Writing.{run, record_bytes}
+use Rattle.hex_loader.specs.HexText.{run, record_bytes}
 use Rattle.hex_loader.proofs.places.record_bytes.Given as goal
 
 abbrev pub invariant-loop-offset : goal.invariant-loop-offset

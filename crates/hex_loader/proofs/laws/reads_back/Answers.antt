@@ -1,5 +1,0 @@
-use Rattle.hex_loader.proofs.ReadBack.{read_back}
-use Rattle.hex_loader.proofs.laws.reads_back.Goals as goal
-
-pub returns : goal.returns
-returns c = read_back

@@ -1,0 +1,84 @@
+-- The image of an Intel HEX text, or its first fault. Lists of lines here have the newest line first.
+use Rattle.std.specs.Prelude.{◌+◌, ◌==◌, ◌&&◌, ◌||◌, ℕ, Bool, true, false, List, [], ◌∷◌, length, reverse, if◌then◌else◌, Option, Some, None, unwrap_or, Result, Ok, Err}
+use Rattle.std.specs.Option.{option_or}
+use Rattle.std.specs.Str.Lines.{lines}
+use Rattle.text_scan.specs.declared.fault_at.FaultAt.{FaultAt}
+use Rattle.text_scan.specs.declared.fault_kind.FaultKind.{FaultKind}
+use Rattle.text_scan.specs.declared.fault_kind.FaultKind.TheVariants.{AfterEnd, NoEnd, Place}
+use Rattle.part_definitions.specs.Memory.{is_image_place}
+use Rattle.hex_loader.specs.HexRecord.{Meaning, Places, Ends, SetsBase, record_in}
+
+-- the base that a record sets
+abbrev pub base_of : Result Meaning FaultKind → Option ℕ
+base_of (Ok (SetsBase base)) = Some base
+base_of _ = None
+
+-- it is the end record
+abbrev pub is_end : Result Meaning FaultKind → Bool
+is_end (Ok Ends) = true
+is_end _ = false
+
+-- the base is what the last record that sets one says, and 0 at first
+abbrev pub base_after : List (List ℕ) → ℕ
+base_after [] = 0
+base_after (line ∷ earlier) = unwrap_or (base_of (record_in line)) (base_after earlier)
+
+-- there was an end record
+abbrev pub has_ended : List (List ℕ) → Bool
+has_ended [] = false
+has_ended (line ∷ earlier) = is_end (record_in line) || has_ended earlier
+
+-- which of these bytes, from the first place upwards, is at a place
+abbrev pub byte_among : ℕ → List ℕ → ℕ → Option ℕ
+byte_among first [] place = None
+byte_among first (byte ∷ bytes) place = if place == first then Some byte else byte_among (first + 1) bytes place
+
+-- all of these bytes, from the first place upwards, are at places that an image may hold
+abbrev pub are_image_places : ℕ → List ℕ → Bool
+are_image_places first [] = true
+are_image_places first (byte ∷ bytes) = is_image_place first && are_image_places (first + 1) bytes
+
+-- the byte that a record places there, over this base
+abbrev pub byte_placed : ℕ → Result Meaning FaultKind → ℕ → Option ℕ
+byte_placed base (Ok (Places address bytes)) place = byte_among (base + address) bytes place
+byte_placed base _ place = None
+
+-- the byte at a place is the one that was last placed there
+abbrev pub byte_after : List (List ℕ) → ℕ → Option ℕ
+byte_after [] place = None
+byte_after (line ∷ earlier) place =
+    option_or (byte_placed (base_after earlier) (record_in line) place) (byte_after earlier place)
+
+-- the fault of a record, over this base
+abbrev pub record_fault : ℕ → Result Meaning FaultKind → Option FaultKind
+record_fault base (Ok (Places address bytes)) = if are_image_places (base + address) bytes then None else Some Place
+record_fault base (Ok _) = None
+record_fault base (Err kind) = Some kind
+
+-- the fault of a line after these; an empty line has none
+abbrev pub line_fault : List (List ℕ) → List ℕ → Option FaultKind
+line_fault earlier [] = None
+line_fault earlier (first ∷ rest) =
+    if has_ended earlier then Some AfterEnd else record_fault (base_after earlier) (record_in (first ∷ rest))
+
+-- a fault with its line
+abbrev pub in_line : ℕ → Option FaultKind → Option FaultAt
+in_line line (Some kind) = Some (record { line = line; kind = kind })
+in_line line None = None
+
+-- the fault of the first line that has one
+abbrev pub first_fault : List (List ℕ) → Option FaultAt
+first_fault [] = None
+first_fault (line ∷ earlier) = option_or (first_fault earlier) (in_line (length earlier + 1) (line_fault earlier line))
+
+-- where no line has a fault there has to be an end record
+abbrev pub end_fault : List (List ℕ) → Option FaultAt
+end_fault lines = if has_ended lines then None else Some (record { line = length lines; kind = NoEnd })
+
+-- the first fault of a text
+abbrev pub hex_fault : List ℕ → Option FaultAt
+hex_fault text = option_or (first_fault (reverse (lines text))) (end_fault (reverse (lines text)))
+
+-- the byte of its image at a place
+abbrev pub hex_byte : List ℕ → ℕ → Option ℕ
+hex_byte text = byte_after (reverse (lines text))

@@ -1,0 +1,64 @@
+-- A record of Intel HEX: a colon and pairs of digits for count, address, type, data and check.
+use Rattle.std.specs.Prelude.{◌≡◌, ◌+◌, ◌*◌, ◌/◌, ◌%◌, ◌==◌, ◌||◌, ℕ, List, [], ◌∷◌, length, take, drop, sum, slice_index, if◌then◌else◌, Result, Ok, Err}
+use Rattle.text_scan.specs.declared.fault_kind.FaultKind.{FaultKind}
+use Rattle.text_scan.specs.declared.fault_kind.FaultKind.TheVariants.{NoColon, Count, Check, RecordType}
+use Rattle.text_scan.specs.Hexadecimal.{hex_bytes_of}
+use Rattle.hex_loader.specs.declared.hex_record.HexRecord.{HexRecord}
+use Rattle.hex_loader.specs.declared.hex_record.HexRecord.TheVariants as parsed
+
+-- what a record says: bytes from an address on, the end, a base, or a start address, which is passed over
+pub data Meaning : Type 0 where
+  Places : ℕ → List ℕ → Meaning
+  Ends : Meaning
+  SetsBase : ℕ → Meaning
+  Starts : Meaning
+
+-- a number of two bytes, the high one first
+abbrev pub big_endian : List ℕ → ℕ
+big_endian bytes = slice_index bytes 0 * 256 + slice_index bytes 1
+
+-- the meaning, where the record has as many data bytes as its type wants
+abbrev pub with_count : ℕ → List ℕ → Meaning → Result Meaning FaultKind
+with_count wanted bytes meaning = if length bytes == wanted then Ok meaning else Err Count
+
+-- the record of a type
+abbrev pub record_of_type : ℕ → ℕ → List ℕ → Result Meaning FaultKind
+record_of_type kind address bytes =
+    if kind == 0 then Ok (Places address bytes)
+    else if kind == 1 then with_count 0 bytes Ends
+    else if kind == 2 then with_count 2 bytes (SetsBase (big_endian bytes * 16))
+    else if (kind == 3) || (kind == 5) then with_count 4 bytes Starts
+    else if kind == 4 then with_count 2 bytes (SetsBase (big_endian bytes * 65536))
+    else Err RecordType
+
+-- the record of these bytes: count, address, type, as many data bytes as the count says, and check
+abbrev pub record_of : List ℕ → Result Meaning FaultKind
+record_of bytes =
+    if length bytes == slice_index bytes 0 + 5
+    then (if sum bytes % 256 == 0
+    then record_of_type (slice_index bytes 3) (big_endian (drop 1 bytes)) (take (slice_index bytes 0) (drop 4 bytes))
+    else Err Check)
+    else Err Count
+
+-- what the bytes are, or why there are none
+abbrev pub of_bytes : Result (List ℕ) FaultKind → Result Meaning FaultKind
+of_bytes (Ok bytes) = record_of bytes
+of_bytes (Err kind) = Err kind
+
+-- the record of a line: a colon (58), and the digits of its bytes
+abbrev pub record_in : List ℕ → Result Meaning FaultKind
+record_in [] = Err NoColon
+record_in (first ∷ digits) =
+    if first == 58 then of_bytes (hex_bytes_of (length digits / 2) digits) else Err NoColon
+
+-- a record of the program, seen as what it says
+abbrev pub meaning : HexRecord → Meaning
+meaning (parsed.Data address bytes) = Places address bytes.now
+meaning parsed.End = Ends
+meaning (parsed.Base base) = SetsBase base
+meaning parsed.Start = Starts
+
+-- what was read is this record, or this fault
+abbrev pub GivesRecord : Result HexRecord FaultKind → Result Meaning FaultKind → Type 0
+GivesRecord (Ok found) read = read ≡ Ok (meaning found)
+GivesRecord (Err kind) read = read ≡ Err kind

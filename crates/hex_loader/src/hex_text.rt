@@ -1,0 +1,72 @@
+ghost use Rattle.std.specs.Prelude.{◌≡◌, ◌<◌, ◌≤◌, ℕ, Bool, List, Option, OnOk, OnErr};
+ghost use Rattle.part_definitions.specs.Memory.{PowerOn, MemoryWrite};
+ghost use Rattle.mem_map.specs.Image.{byte_in};
+ghost use Rattle.mem_map.specs.Memory.{MemoryStandsFor};
+ghost use Rattle.outside_edge.specs.Count.{Rose};
+ghost use Rattle.outside_edge.specs.Sink.{Takes, TakesPrefix};
+ghost use Rattle.hex_loader.specs.HexText.{line_at, hex_text};
+ghost use Rattle.hex_loader.specs.ReadBack.{ReadsBack};
+ghost use Rattle.hex_loader.specs.MemoryImage.{image_of};
+
+use crate::law::reads_back;
+use crate::places::{Places, begins, record_bytes};
+use crate::record_line::line_of;
+use mem_map::{Image, Memory};
+use outside_edge::{Failed, Sink, put_all};
+
+/// Puts the text of an image, which reads as that image. After `Failed` the sink took a front of it.
+pub fn write_hex<W: Sink>(image: &Image, sink: &mut W) -> Result<(), Failed>
+    ensures all { OnOk result (Takes W.stands sink.old sink.new (hex_text (byte_in image.now))) }
+    ensures prefix { OnErr result (TakesPrefix W.stands sink.old sink.new (hex_text (byte_in image.now))) }
+    ensures read_back { ReadsBack (byte_in image.now) }
+    ensures failed { OnErr result (Rose (W.faults sink.old) (W.faults sink.new)) }
+    ensures counted { W.faults sink.old ≤ W.faults sink.new }
+{
+    reads_back();
+    write_places(image, sink)
+}
+
+/// Puts the bytes of RAM, program and vectors as the text of an image. After `Failed` the sink took a
+/// front of it.
+pub fn write_memory<W: Sink>(memory: &Memory, sink: &mut W) -> Result<(), Failed>
+    ensures all { OnOk result ((start : PowerOn) (exec : Bool) (writes : List MemoryWrite)
+        → MemoryStandsFor memory.now start exec writes
+        → Takes W.stands sink.old sink.new (hex_text (image_of start exec writes))) }
+    ensures prefix { OnErr result ((start : PowerOn) (exec : Bool) (writes : List MemoryWrite)
+        → MemoryStandsFor memory.now start exec writes
+        → TakesPrefix W.stands sink.old sink.new (hex_text (image_of start exec writes))) }
+    ensures failed { OnErr result (Rose (W.faults sink.old) (W.faults sink.new)) }
+    ensures counted { W.faults sink.old ≤ W.faults sink.new }
+{
+    write_places(memory, sink)
+}
+
+/// Puts the text of these bytes.
+fn write_places<P: Places, W: Sink>(bytes: &P, sink: &mut W) -> Result<(), Failed>
+    ensures all { OnOk result ((image : ℕ → Option ℕ) → P.shows bytes.now image
+        → Takes W.stands sink.old sink.new (hex_text image)) }
+    ensures prefix { OnErr result ((image : ℕ → Option ℕ) → P.shows bytes.now image
+        → TakesPrefix W.stands sink.old sink.new (hex_text image)) }
+    ensures failed { OnErr result (Rose (W.faults sink.old) (W.faults sink.new)) }
+    ensures counted { W.faults sink.old ≤ W.faults sink.new }
+{
+    for place in 0..0x1_0000u32 {
+        write_line_at(bytes, place as u16, sink)?;
+    }
+    put_all(sink, b":00000001FF\n")
+}
+
+/// Puts the line of the record that begins at this place, where one does.
+fn write_line_at<P: Places, W: Sink>(bytes: &P, place: u16, sink: &mut W) -> Result<(), Failed>
+    ensures all { OnOk result ((image : ℕ → Option ℕ) → P.shows bytes.now image
+        → Takes W.stands sink.old sink.new (line_at image place)) }
+    ensures prefix { OnErr result ((image : ℕ → Option ℕ) → P.shows bytes.now image
+        → TakesPrefix W.stands sink.old sink.new (line_at image place)) }
+    ensures failed { OnErr result (Rose (W.faults sink.old) (W.faults sink.new)) }
+    ensures counted { W.faults sink.old ≤ W.faults sink.new }
+{
+    if !begins(bytes, place) {
+        return Ok(());
+    }
+    put_all(sink, &line_of(place, &record_bytes(bytes, place)))
+}

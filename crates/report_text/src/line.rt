@@ -1,0 +1,84 @@
+ghost use Rattle.std.specs.Prelude.{◌≡◌, ◌+◌, ◌≤◌, ◌/◌, ◌%◌, ◌++◌, ◌∷◌, [], ℕ, List, length, decimal};
+ghost use Rattle.printed_lines.specs.Lines.{byte_digits, word_digits};
+ghost use Rattle.report_text.specs.declared.line.TheConstants.{ROOM};
+
+use arrayvec::ArrayVec;
+use itoa::Buffer;
+use std::marker::Model;
+
+/// How many bytes a line has room for.
+pub const ROOM: usize = 96;
+
+/// A line that is being built, seen as its bytes.
+#[derive(Drop)]
+pub struct Line {
+    bytes: ArrayVec<u8, ROOM>,
+}
+
+impl Model for Line {
+    ghost Value = { List ℕ };
+
+    ghost view = { λ line. line.bytes.items };
+}
+
+impl Line {
+    pub fn new() -> Line
+        ensures { result ≡ [] }
+    {
+        Line {
+            bytes: ArrayVec::new(),
+        }
+    }
+
+    pub fn as_slice(&self) -> &[u8]
+        ensures { result.now ≡ self.now }
+    {
+        self.bytes.as_slice()
+    }
+
+    pub fn push(&mut self, text: &[u8])
+        requires { length self.old + length text.now ≤ ROOM }
+        ensures text { self.new ≡ self.old ++ text.now }
+        ensures len { length self.new ≡ length self.old + length text.now }
+    {
+        match self.bytes.try_extend_from_slice(text) {
+            Ok(()) => {}
+            Err(_) => unreachable!(),
+        }
+    }
+
+    pub fn push_decimal(&mut self, number: u64)
+        requires { length self.old + 20 ≤ ROOM }
+        ensures text { self.new ≡ self.old ++ decimal number }
+        ensures len { length self.new ≤ length self.old + 20 }
+    {
+        let mut digits = Buffer::new();
+        self.push(digits.format(number).as_bytes());
+    }
+
+    /// Two digits, lower case.
+    pub fn push_byte(&mut self, byte: u8)
+        requires { length self.old + 2 ≤ ROOM }
+        ensures text { self.new ≡ self.old ++ byte_digits byte }
+        ensures len { length self.new ≡ length self.old + 2 }
+    {
+        let mut digits = [0; 2];
+        match hex::encode_to_slice(&[byte], &mut digits) {
+            Ok(()) => self.push(&digits),
+            Err(_) => unreachable!(),
+        }
+    }
+
+    /// Four digits, lower case.
+    pub fn push_word(&mut self, word: u16)
+        requires { length self.old + 4 ≤ ROOM }
+        ensures text { self.new ≡ self.old ++ word_digits word }
+        ensures len { length self.new ≡ length self.old + 4 }
+    {
+        let mut digits = [0; 4];
+        match hex::encode_to_slice(&word.to_be_bytes(), &mut digits) {
+            Ok(()) => self.push(&digits),
+            Err(_) => unreachable!(),
+        }
+    }
+}

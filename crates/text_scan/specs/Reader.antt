@@ -1,0 +1,31 @@
+-- What the readers of texts have in common.
+use Rattle.std.specs.Prelude.{◌≡◌, ℕ, Result, Ok, Err}
+use Rattle.text_scan.specs.declared.fault_at.FaultAt.{FaultAt}
+use Rattle.text_scan.specs.declared.fault_kind.FaultKind.{FaultKind}
+use Rattle.text_scan.specs.declared.text_fault.TextFault.{TextFault}
+use Rattle.text_scan.specs.declared.text_fault.TextFault.TheVariants.{At, Memory}
+use Rattle.text_scan.specs.declared.word_fault.WordFault.{WordFault}
+use Rattle.text_scan.specs.declared.word_fault.WordFault.TheVariants as words
+
+-- a reader answered the value that a text has, or its first fault; out of memory says nothing of the text
+abbrev pub Reads : {Value : Type 0} → Result Value TextFault → Result Value FaultAt → Type 0
+Reads (Ok value) read = read ≡ Ok value
+Reads (Err (At fault)) read = read ≡ Err fault
+Reads (Err (Memory _)) read = Unit {0}
+
+-- the same of a reader of one word
+abbrev pub ReadsWord : {Value : Type 0} → Result Value WordFault → Result Value FaultKind → Type 0
+ReadsWord (Ok value) read = read ≡ Ok value
+ReadsWord (Err (words.Kind kind)) read = read ≡ Err kind
+ReadsWord (Err (words.Memory _)) read = Unit {0}
+
+-- a fault with its line
+abbrev pub in_line : {Value : Type 0} → ℕ → Result Value FaultKind → Result Value FaultAt
+in_line line (Ok value) = Ok value
+in_line line (Err kind) = Err (record { line = line; kind = kind })
+
+-- what was read, and then the next
+infixl 10 ◌>>=◌
+abbrev pub ◌>>=◌ : {A B Fault : Type 0} → Result A Fault → (A → Result B Fault) → Result B Fault
+(Ok value) >>= next = next value
+(Err fault) >>= next = Err fault
