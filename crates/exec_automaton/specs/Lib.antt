@@ -1,1 +1,2 @@
 pub mod ExecFlag
+pub mod UnclearedStart

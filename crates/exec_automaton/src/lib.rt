@@ -7,6 +7,8 @@
 
 mod clearing;
 mod exec_flag;
+mod law;
 mod start;
 
 pub use exec_flag::ExecFlag;
+pub use law::flag_is_set_by_an_uncleared_start;

@@ -1,0 +1,133 @@
+-- The flag is set exactly where there is an uncleared start: by induction on the records seen.
+use Rattle.std.proofs.Common.{◌≡◌, ◌≤◌, ◌+◌, ◌&&◌, ◌||◌, ◌++◌, ℕ, Bool, true, false, not, List, [], ◌∷◌, length, IsTrue, ◌↔◌, sym, ◌∙◌, ap, inl, inr, refl, arith}
+use Rattle.std.proofs.lemmas.Bool.{and_parts, or_cases, and_from, or_left, or_right, not-true, not_from_false, false_from_ne_true, both_ways}
+use Rattle.bus_signals.specs.Seen.{Seen}
+use Rattle.part_definitions.specs.Flag.{exec, clears, starts_run, last_pc}
+use Rattle.exec_automaton.specs.UnclearedStart.{Moment, UnclearedStart}
+use Rattle.exec_automaton.proofs.Exec.{exec_cons}
+
+-- the record at which the records seen end
+abbrev newest : (now : Seen) (before : List Seen) → Moment (now ∷ before)
+newest now before = record { after = []; now = now; before = before; whole = refl }
+
+-- a moment of the records before is one of all
+abbrev earlier : (now : Seen) (before : List Seen) → Moment before → Moment (now ∷ before)
+earlier now before moment =
+    record {
+      after = now ∷ moment.after;
+      now = moment.now;
+      before = moment.before;
+      whole = ap (λ rest. now ∷ rest) moment.whole;
+    }
+
+-- the newest record starts a run
+abbrev newest_starts : List Seen → Bool
+newest_starts [] = false
+newest_starts (now ∷ before) = starts_run now
+
+-- the newest record clears the flag
+abbrev newest_clears : List Seen → Bool
+newest_clears [] = false
+newest_clears (now ∷ before) = clears (last_pc before) now
+
+-- no moment of these clears the flag, of those with at most so many records after it
+abbrev NoneClears : List Seen → ℕ → Type 0
+NoneClears seen most =
+    (moment : Moment seen)
+    → length moment.after ≤ most
+    → clears (last_pc moment.before) moment.now ≡ true
+    → ⊥
+
+-- the newest record keeps the flag, and so do those before it
+none_clears-cons : (now : Seen) (before : List Seen) (most : ℕ)
+    → clears (last_pc before) now ≡ false
+    → ((moment : Moment before)
+    → length moment.after + 1 ≤ most
+    → clears (last_pc moment.before) moment.now ≡ true
+    → ⊥)
+    → (after : List Seen) (this : Seen) (rest : List Seen)
+    → now ∷ before ≡ after ++ this ∷ rest
+    → length after ≤ most
+    → clears (last_pc rest) this ≡ true
+    → ⊥
+none_clears-cons now before most kept others [] this rest whole near cleared =
+    both_ways (clears (last_pc rest) this) (sym (ap newest_clears whole) ∙ kept) cleared
+none_clears-cons now before most kept others (x ∷ after) this rest whole near cleared =
+    others (record { after = after; now = this; before = rest; whole = cc }) (omega arith) cleared
+
+-- a start since which nothing cleared, and one more record that keeps the flag
+start-cons : (now : Seen) (before : List Seen)
+    → clears (last_pc before) now ≡ false → UnclearedStart before → UnclearedStart (now ∷ before)
+start-cons now before kept run =
+    record {
+      start = earlier now before run.start;
+      starts = run.starts;
+      kept = λ moment near.
+          none_clears-cons now before (length run.start.after + 1) kept
+          (λ moment near. run.kept moment (omega (arith, near)))
+          moment.after moment.now moment.before moment.whole (omega (arith, near));
+    }
+
+-- the newest record is a start that keeps the flag
+start-newest : (now : Seen) (before : List Seen)
+    → starts_run now ≡ true → clears (last_pc before) now ≡ false → UnclearedStart (now ∷ before)
+start-newest now before starts kept =
+    record {
+      start = newest now before;
+      starts = starts;
+      kept = λ moment near.
+          none_clears-cons now before 0 kept
+          (λ moment near. absurd (omega (arith, near)))
+          moment.after moment.now moment.before moment.whole near;
+    }
+
+-- where the flag is set, there is such a start
+start_from_exec : (seen : List Seen) → exec seen ≡ true → UnclearedStart seen
+unfolding exec
+start_from_exec [] is_set = absurd (cc)
+start_from_exec (now ∷ before) is_set =
+    let parts : ((exec before || starts_run now) ≡ true) × (not (clears (last_pc before) now) ≡ true) =
+    and_parts (exec before || starts_run now) (not (clears (last_pc before) now))
+    (sym (exec_cons now before) ∙ is_set)
+    in
+    let kept : clears (last_pc before) now ≡ false = not-true (clears (last_pc before) now) parts.1 in
+    elim (or_cases (exec before) (starts_run now) parts.0) [
+      | inl was_set ↦ start-cons now before kept (start_from_exec before was_set)
+      | inr starts ↦ start-newest now before starts kept
+    ]
+
+-- the newest record keeps the flag
+newest_keeps : (now : Seen) (before : List Seen) (most : ℕ)
+    → NoneClears (now ∷ before) most → not (clears (last_pc before) now) ≡ true
+newest_keeps now before most none =
+    not_from_false (clears (last_pc before) now)
+    (false_from_ne_true (clears (last_pc before) now) (none (newest now before) (omega arith)))
+
+-- where there is such a start, the flag is set
+exec_from_start : (seen after : List Seen) (this : Seen) (rest : List Seen)
+    → seen ≡ after ++ this ∷ rest
+    → starts_run this ≡ true
+    → NoneClears seen (length after)
+    → exec seen ≡ true
+exec_from_start [] [] this rest whole starts none = absurd (cc)
+exec_from_start [] (x ∷ after) this rest whole starts none = absurd (cc)
+exec_from_start (now ∷ before) [] this rest whole starts none =
+    exec_cons now before
+    ∙ and_from (exec before || starts_run now) (not (clears (last_pc before) now))
+    (or_right (exec before) (starts_run now) (ap newest_starts whole ∙ starts))
+    (newest_keeps now before 0 none)
+exec_from_start (now ∷ before) (x ∷ after) this rest whole starts none =
+    exec_cons now before
+    ∙ and_from (exec before || starts_run now) (not (clears (last_pc before) now))
+    (or_left (exec before) (starts_run now)
+    (exec_from_start before after this rest (cc) starts
+    (λ moment near. none (earlier now before moment) (omega (arith, near)))))
+    (newest_keeps now before (length (x ∷ after)) none)
+
+-- the flag is set exactly where there is such a start
+pub exec_iff : (seen : List Seen) → IsTrue (exec seen) ↔ UnclearedStart seen
+exec_iff seen = (
+  start_from_exec seen,
+  λ run.
+      exec_from_start seen run.start.after run.start.now run.start.before run.start.whole run.starts run.kept,
+)
