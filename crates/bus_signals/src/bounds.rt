@@ -3,7 +3,7 @@ ghost use Rattle.bus_signals.specs.Bounds.{words_region, executable_region, outp
 
 use crate::region::{META, MR, Region};
 
-/// The bounds of the executable region and the output region (APEX's ERmin, ERmax, ORmin and ORmax):
+/// The bounds of the executable region and the output region (APEX's ERmin, ERmax, ORmin, ORmax):
 /// addresses of their first and last words.
 #[derive(Clone, Copy, Debug, PartialEq, Eq)]
 pub struct Bounds {

@@ -81,17 +81,23 @@ start-newest now before starts kept =
           moment.after moment.now moment.before moment.whole near;
     }
 
+-- the flag is set after a record: it could be set, and the record keeps it
+set_parts : (now : Seen) (before : List Seen)
+    → exec (now ∷ before) ≡ true
+    → ((exec before || starts_run now) ≡ true) × (not (clears (last_pc before) now) ≡ true)
+set_parts now before is_set =
+    and_parts (exec before || starts_run now) (not (clears (last_pc before) now))
+    (sym (exec_cons now before) ∙ is_set)
+
 -- where the flag is set, there is such a start
 start_from_exec : (seen : List Seen) → exec seen ≡ true → UnclearedStart seen
 unfolding exec
 start_from_exec [] is_set = absurd (cc)
 start_from_exec (now ∷ before) is_set =
-    let parts : ((exec before || starts_run now) ≡ true) × (not (clears (last_pc before) now) ≡ true) =
-    and_parts (exec before || starts_run now) (not (clears (last_pc before) now))
-    (sym (exec_cons now before) ∙ is_set)
+    let kept : clears (last_pc before) now ≡ false =
+    not-true (clears (last_pc before) now) (set_parts now before is_set).1
     in
-    let kept : clears (last_pc before) now ≡ false = not-true (clears (last_pc before) now) parts.1 in
-    elim (or_cases (exec before) (starts_run now) parts.0) [
+    elim (or_cases (exec before) (starts_run now) (set_parts now before is_set).0) [
       | inl was_set ↦ start-cons now before kept (start_from_exec before was_set)
       | inr starts ↦ start-newest now before starts kept
     ]
@@ -128,6 +134,7 @@ exec_from_start (now ∷ before) (x ∷ after) this rest whole starts none =
 pub exec_iff : (seen : List Seen) → IsTrue (exec seen) ↔ UnclearedStart seen
 exec_iff seen = (
   start_from_exec seen,
-  λ run.
-      exec_from_start seen run.start.after run.start.now run.start.before run.start.whole run.starts run.kept,
+  λ (run : UnclearedStart seen).
+      exec_from_start seen run.start.after run.start.now run.start.before run.start.whole
+      run.starts run.kept,
 )

@@ -3,8 +3,8 @@ ghost use Rattle.bus_signals.specs.Seen.{Seen};
 ghost use Rattle.part_definitions.specs.Flag.{exec};
 ghost use Rattle.exec_automaton.specs.UnclearedStart.{UnclearedStart};
 
-/// The flag is set exactly where one of the records seen starts a run, and neither it nor a later one
-/// clears the flag.
+/// The flag is set exactly where one of the records seen starts a run, and neither it nor a later
+/// one clears the flag.
 pub fn flag_is_set_by_an_uncleared_start()
     ensures { (seen : List Seen) → IsTrue (exec seen) ↔ UnclearedStart seen }
 {}

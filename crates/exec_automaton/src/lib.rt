@@ -1,8 +1,8 @@
 //! The EXEC flag: a proof that the executable region ran from its first instruction on, whole and
 //! undisturbed, and that its output is what it left (APEX, USENIX Security 2020).
 //!
-//! The flag sees each record with the bounds as they stood before it. After every list of records it
-//! is set exactly where one of them starts a run and neither it nor a later one clears the flag.
+//! The flag sees each record with the bounds as they stood before it. After every list of records
+//! it is set exactly where one of them starts a run and neither it nor a later one clears the flag.
 #![tactic(auto)]
 
 mod clearing;

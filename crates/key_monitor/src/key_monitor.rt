@@ -4,7 +4,6 @@ ghost use Rattle.part_definitions.specs.Monitors.{in_rom, is_written_by_rom, lea
 ghost use Rattle.part_definitions.specs.Monitors.{breaks_k1, breaks_k2, breaks_k3, breaks_k4, breaks_k5, breaks_k6};
 
 use bus_signals::{Access, CR, KR, MR, Rule, Signals, XS, some_touches, some_writes};
-use word_arith::Size;
 
 /// The rules K1 to K6. They look at one step alone, so the monitor keeps nothing.
 #[derive(Clone, Copy, Debug)]
@@ -92,18 +91,16 @@ fn breaks_k6(now: &Signals, inside: bool) -> bool
     inside && now.dma.is_some()
 }
 
-// A byte of the access lies outside the exclusive stack and the MAC.
+// A byte of the access lies outside the exclusive stack and the MAC. Both are made of whole words,
+// so the first byte tells.
 fn leaves_stack_and_mac(access: Option<Access>) -> bool
     requires { IfSome access IsFormed }
     ensures { result ≡ leaves_stack_and_mac access }
 {
     match access {
         None => false,
-        Some(Access::Read(place, Size::Byte) | Access::Write(place, Size::Byte, _)) => {
-            !is_written_by_rom(place)
-        }
         Some(Access::Fetch(place) | Access::Read(place, _) | Access::Write(place, _, _)) => {
-            !is_written_by_rom(place) || !is_written_by_rom(place + 1)
+            !is_written_by_rom(place)
         }
     }
 }
