@@ -4,7 +4,7 @@ use Rattle.bus_signals.specs.declared.access.Access.{Access}
 use Rattle.part_definitions.specs.NextAccess.{Next, Asks, Ends, next_access, entry_access}
 use Rattle.part_definitions.specs.CpuState.{CpuState, Boundary, Executing, Entering, registers_of, is_at_boundary, is_entering, cpu_next, asked_access, cpu_access, with_value, completed_or, cpu_after, cpu_takes}
 use Rattle.msp_exec.specs.declared.phase.Phase.{Phase}
-use Rattle.msp_exec.specs.declared.phase.Phase.TheVariants.{Boundary as AtBoundary, Executing as InInstruction, Writing, Entering as InEntry}
+use Rattle.msp_exec.specs.declared.phase.Phase.TheVariants.{Boundary as AtBoundary, Executing as InInstruction, Entering as InEntry}
 use Rattle.msp_exec.specs.declared.cpu.Cpu.{Cpu}
 use Rattle.msp_exec.specs.Course.{is_boundary, is_entry, takes_value, cpu_course, state_course, CpuStandsFor, GoesOnAs, Follows}
 
@@ -51,12 +51,9 @@ takes_value-boundary : (phase : Phase) (state : CpuState) (value : ℕ) →
 takes_value-boundary AtBoundary (Boundary regs) value same = refl
 takes_value-boundary AtBoundary (Executing regs before) value same = cc
 takes_value-boundary AtBoundary (Entering regs vector before) value same = cc
-takes_value-boundary (InInstruction head access) (Boundary regs) value same = cc
-takes_value-boundary (InInstruction head access) (Executing regs before) value same = refl
-takes_value-boundary (InInstruction head access) (Entering regs vector before) value same = refl
-takes_value-boundary (Writing size number) (Boundary regs) value same = cc
-takes_value-boundary (Writing size number) (Executing regs before) value same = refl
-takes_value-boundary (Writing size number) (Entering regs vector before) value same = refl
+takes_value-boundary (InInstruction access) (Boundary regs) value same = cc
+takes_value-boundary (InInstruction access) (Executing regs before) value same = refl
+takes_value-boundary (InInstruction access) (Entering regs vector before) value same = refl
 takes_value-boundary (InEntry access vector) (Boundary regs) value same = cc
 takes_value-boundary (InEntry access vector) (Executing regs before) value same = refl
 takes_value-boundary (InEntry access vector) (Entering regs from before) value same = refl
@@ -76,15 +73,17 @@ goes_on before after state value (Asks access) stands (regs, boundary, entry, co
       same_regs = regs ∙ (stands.same_regs ∙ sym (registers_of-with_value state value));
       same_boundary = boundary ∙ sym (is_at_boundary-with_value state value);
       same_entry = entry ∙ (stands.same_entry ∙ sym (is_entering-with_value state value));
+      settled = λ at_boundary. cc (boundary, at_boundary);
       same_course = λ values.
           state_course-with_value state value values ∙ (stands.same_course (value ∷ values) ∙ course values);
     }
-goes_on before after state value (Ends left) stands (regs, phase) =
+goes_on before after state value (Ends left) stands (regs, working, phase) =
     record {
       same_regs = regs;
       same_boundary = rw phase refl;
       same_entry = rw phase refl;
-      same_course = λ values. rw (phase, regs) refl;
+      settled = λ at_boundary. working ∙ sym regs;
+      same_course = λ values. rw (phase, working) refl;
     }
 
 cpu_next-with_value : (cpu : Cpu) (state : CpuState) (value : ℕ) →

@@ -1,14 +1,19 @@
 -- Which states a processor stands for: those with the same course from here on.
 use Rattle.std.specs.Prelude.{◌≡◌, ◌++◌, ℕ, Bool, true, false, not, List, [], ◌∷◌}
-use Rattle.word_arith.specs.declared.size.Size.{Size}
+use Rattle.bus_signals.specs.declared.access.Access.{Access}
+use Rattle.msp_decode.specs.declared.head.Head.{Head}
+use Rattle.part_definitions.specs.declared.cpu_access.CpuAccess.{CpuAccess}
+use Rattle.part_definitions.specs.declared.cpu_access.CpuAccess.TheVariants.{WriteResult}
 use Rattle.part_definitions.specs.declared.working.Working.{Working}
 use Rattle.part_definitions.specs.Accesses.{write_at}
+use Rattle.part_definitions.specs.Operands.{size_of}
+use Rattle.part_definitions.specs.Instruction.{bus_access}
 use Rattle.part_definitions.specs.NextAccess.{Next, Asks, Ends, walk, is_illegal, next_access, entry_access}
 use Rattle.part_definitions.specs.CpuState.{CpuState, Boundary, Executing, Entering, registers_of, is_at_boundary, is_entering}
 use Rattle.msp_exec.specs.declared.phase.EntryAccess.{EntryAccess}
 use Rattle.msp_exec.specs.declared.phase.EntryAccess.TheVariants.{PushPc, PushSr, ReadVector}
 use Rattle.msp_exec.specs.declared.phase.Phase.{Phase}
-use Rattle.msp_exec.specs.declared.phase.Phase.TheVariants.{Boundary as AtBoundary, Executing as InInstruction, Writing, Entering as InEntry}
+use Rattle.msp_exec.specs.declared.phase.Phase.TheVariants.{Boundary as AtBoundary, Executing as InInstruction, Entering as InEntry}
 use Rattle.msp_exec.specs.declared.cpu.Cpu.{Cpu}
 use Rattle.msp_exec.specs.Order.{accesses_after}
 
@@ -27,10 +32,21 @@ abbrev pub takes_value : Phase → ℕ → Bool
 takes_value AtBoundary word = not (is_illegal word)
 takes_value phase value = true
 
--- the result is written, and the instruction is complete
-abbrev pub write_course : Size → Working → ℕ → List ℕ → Next
-write_course size working number [] = Asks (write_at size working.place number)
-write_course size working number (value ∷ values) = Ends working.regs
+-- the access of an instruction whose result, once it is written, is this number
+abbrev pub latched_access : Head → CpuAccess → Working → ℕ → Access
+latched_access head WriteResult working number = write_at (size_of head) working.place number
+latched_access head access working number = bus_access head access working
+
+-- the result is written, and leaves these registers
+abbrev pub write_course : Head → Working → ℕ → List ℕ → Next
+write_course head working number [] = Asks (latched_access head WriteResult working number)
+write_course head working number (value ∷ values) = Ends working.regs
+
+-- the rest of an instruction; the registers are as it leaves them once its result is written
+abbrev pub instruction_course : Head → CpuAccess → Working → ℕ → List ℕ → Next
+instruction_course head WriteResult working number values = write_course head working number values
+instruction_course head access working number values =
+    walk head (access ∷ accesses_after head access) working values
 
 -- the rest of an interrupt entry; the values of its writes tell nothing
 abbrev pub entry_course : List ℕ → EntryAccess → ℕ → List ℕ → Next
@@ -38,16 +54,16 @@ entry_course regs PushPc vector values = entry_access regs vector values
 entry_course regs PushSr vector values = entry_access regs vector (0 ∷ values)
 entry_course regs ReadVector vector values = entry_access regs vector (0 ∷ 0 ∷ values)
 
--- what comes next from a phase on, after further values
-abbrev pub phase_course : List ℕ → Working → Phase → List ℕ → Next
-phase_course regs working AtBoundary values = next_access regs values
-phase_course regs working (InInstruction head access) values =
-    walk head (access ∷ accesses_after head access) working values
-phase_course regs working (Writing size number) values = write_course size working number values
-phase_course regs working (InEntry access vector) values = entry_course regs access vector values
+-- what comes next from a processor on, after further values
+abbrev pub phase_course : Cpu → Phase → List ℕ → Next
+phase_course cpu AtBoundary values = next_access cpu.working.regs values
+phase_course cpu (InInstruction access) values =
+    instruction_course cpu.head access cpu.working cpu.number values
+phase_course cpu (InEntry access vector) values =
+    entry_course cpu.working.regs access vector values
 
 abbrev pub cpu_course : Cpu → List ℕ → Next
-cpu_course cpu values = phase_course cpu.regs cpu.working cpu.phase values
+cpu_course cpu values = phase_course cpu cpu.phase values
 
 -- what comes next from a state on, after further values
 abbrev pub state_course : CpuState → List ℕ → Next
@@ -60,6 +76,7 @@ pub record CpuStandsFor (cpu : Cpu) (state : CpuState) : Type 0 where
   pub same_regs : cpu.regs ≡ registers_of state
   pub same_boundary : is_boundary cpu.phase ≡ is_at_boundary state
   pub same_entry : is_entry cpu.phase ≡ is_entering state
+  pub settled : is_boundary cpu.phase ≡ true → cpu.working.regs ≡ cpu.regs
   pub same_course : (values : List ℕ) → state_course state values ≡ cpu_course cpu values
 
 -- the processor goes on with this course and these registers, or is complete
@@ -67,7 +84,8 @@ abbrev pub GoesOnAs : Cpu → List ℕ → Bool → (List ℕ → Next) → Next
 GoesOnAs cpu regs entry course (Asks access) =
     (cpu.regs ≡ regs) × (is_boundary cpu.phase ≡ false) × (is_entry cpu.phase ≡ entry) ×
     ((values : List ℕ) → course values ≡ cpu_course cpu values)
-GoesOnAs cpu regs entry course (Ends after) = (cpu.regs ≡ after) × (cpu.phase ≡ AtBoundary)
+GoesOnAs cpu regs entry course (Ends after) =
+    (cpu.regs ≡ after) × (cpu.working.regs ≡ after) × (cpu.phase ≡ AtBoundary)
 
 -- the processor follows this course, which began with these registers
 abbrev pub Follows : Cpu → List ℕ → Bool → (List ℕ → Next) → Type 0

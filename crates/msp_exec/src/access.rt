@@ -1,10 +1,9 @@
 ghost use Rattle.std.specs.Prelude.{◌≡◌};
 ghost use Rattle.bus_signals.specs.Access.{IsFormed};
 ghost use Rattle.part_definitions.specs.Accesses.{fetch_at, read_at, write_at};
-ghost use Rattle.part_definitions.specs.Operands.{size_of};
-ghost use Rattle.part_definitions.specs.Instruction.{bus_access};
+ghost use Rattle.msp_exec.specs.Course.{latched_access};
 
-use crate::outcome::outcome_of;
+use crate::instruction::size_of;
 use crate::register::{lowered_sp, pc_in, sp_in};
 use bus_signals::Access;
 use msp_decode::Head;
@@ -41,19 +40,9 @@ pub fn write_at(size: Size, place: u16, number: u16) -> Access
     }
 }
 
-/// B/W of an instruction; RETI and jumps are of words.
-pub fn size_of(head: Head) -> Size
-    ensures { result ≡ size_of head }
-{
-    match head {
-        Head::Two(_, size, _, _) | Head::One(_, size, _) => size,
-        Head::Reti | Head::Jump(..) => Size::Word,
-    }
-}
-
-/// What an instruction asks of the bus.
-pub fn bus_access(head: Head, access: CpuAccess, working: &Working) -> Access
-    ensures value { result ≡ bus_access head access working.now }
+/// What an instruction asks of the bus; `number` is its result, once it is written.
+pub fn bus_access(head: Head, access: CpuAccess, working: &Working, number: u16) -> Access
+    ensures value { result ≡ latched_access head access working.now number }
     ensures formed { IsFormed result }
 {
     match access {
@@ -63,9 +52,7 @@ pub fn bus_access(head: Head, access: CpuAccess, working: &Working) -> Access
         CpuAccess::ReadSource | CpuAccess::ReadIncrementing(_) | CpuAccess::ReadDestination => {
             read_at(size_of(head), working.place)
         }
-        CpuAccess::WriteResult => {
-            write_at(size_of(head), working.place, outcome_of(head, working).0)
-        }
+        CpuAccess::WriteResult => write_at(size_of(head), working.place, number),
         CpuAccess::PushSource => write_at(size_of(head), lowered_sp(&working.regs), working.source),
         CpuAccess::PushPc => write_at(Size::Word, lowered_sp(&working.regs), pc_in(&working.regs)),
         CpuAccess::PopSr | CpuAccess::PopPc => read_at(Size::Word, sp_in(&working.regs)),

@@ -5,12 +5,10 @@ ghost use Rattle.part_definitions.specs.NextAccess.{Asks, is_illegal, next_acces
 ghost use Rattle.part_definitions.specs.CpuState.{CpuState, Boundary, clear_cpu, registers_of, cpu_pc, is_at_boundary, is_entering, cpu_access, cpu_after, cpu_takes, entry_begun};
 ghost use Rattle.msp_exec.specs.declared.phase.Phase.TheVariants.{Boundary as AtBoundary};
 ghost use Rattle.msp_exec.specs.Order.{accesses_from};
-ghost use Rattle.msp_exec.specs.Course.{is_entry, takes_value, cpu_course, entry_course, CpuStandsFor, Follows};
+ghost use Rattle.msp_exec.specs.Course.{is_entry, takes_value, instruction_course, entry_course, cpu_course, CpuStandsFor, Follows};
 
-use crate::access::{bus_access, fetch_at, read_at, size_of, write_at};
-use crate::operand::{learn, working_at_start};
-use crate::order::{first_access, following_access};
-use crate::outcome::end;
+use crate::access::{bus_access, fetch_at, read_at, write_at};
+use crate::instruction::{end, learn, start};
 use crate::phase::{EntryAccess, Phase};
 use crate::register::{enter_handler, lowered_sp, pc_in, set_pc, set_sp, sp_in, sr_in};
 use bus_signals::{Access, BusMaster};
@@ -23,8 +21,12 @@ use word_arith::Size;
 pub struct Cpu {
     /// The registers at the last boundary.
     regs: [u16; 16],
-    /// What is known in the middle of an instruction.
+    /// The current instruction.
+    head: Head,
+    /// What is known of it, and the registers as they are by now.
     working: Working,
+    /// Its result, once that is written.
+    number: u16,
     phase: Phase,
 }
 
@@ -35,12 +37,14 @@ impl Cpu {
     {
         Cpu {
             regs: [0; 16],
+            head: Head::Reti,
             working: Working {
                 regs: [0; 16],
                 source: 0,
                 place: 0,
                 destination: 0,
             },
+            number: 0,
             phase: Phase::Boundary,
         }
     }
@@ -102,19 +106,24 @@ impl Cpu {
 
     /// Sets the program counter and the stack pointer.
     pub fn start(&mut self, pc: u16, sp: u16)
-        requires { (state : CpuState) × CpuStandsFor self.old state × IsTrue (is_at_boundary state) }
+        requires { (state : CpuState)
+            × CpuStandsFor self.old state
+            × IsTrue (is_at_boundary state) }
         ensures { (state : CpuState)
             → CpuStandsFor self.old state
             → CpuStandsFor self.new (Boundary (with_sp (with_pc (registers_of state) pc) sp)) }
     {
-        set_pc(&mut self.regs, pc);
-        set_sp(&mut self.regs, sp);
+        set_pc(&mut self.working.regs, pc);
+        set_sp(&mut self.working.regs, sp);
+        self.complete();
     }
 
-    /// Accepts an interrupt: the next three accesses enter the handler that the word at this address
-    /// names.
+    /// Accepts an interrupt: the next three accesses enter the handler whose address is the word at
+    /// `vector`.
     pub fn begin_irq(&mut self, vector: u16)
-        requires { (state : CpuState) × CpuStandsFor self.old state × IsTrue (is_at_boundary state) }
+        requires { (state : CpuState)
+            × CpuStandsFor self.old state
+            × IsTrue (is_at_boundary state) }
         ensures { (state : CpuState)
             → CpuStandsFor self.old state
             → CpuStandsFor self.new (entry_begun (registers_of state) vector) }
@@ -124,10 +133,10 @@ impl Cpu {
 
     #[tactic(auto, unfolding(part_definitions::specs::NextAccess::entry_access))]
     fn entry_access(&self, access: EntryAccess, vector: u16) -> Access
-        ensures value { entry_course self.now.regs access vector [] ≡ Asks result }
+        ensures value { entry_course self.now.working.regs access vector [] ≡ Asks result }
         ensures formed { IsFormed result }
     {
-        let regs = &self.regs;
+        let regs = &self.working.regs;
         match access {
             EntryAccess::PushPc => write_at(Size::Word, lowered_sp(regs), pc_in(regs)),
             EntryAccess::PushSr => write_at(Size::Word, sp_in(regs).wrapping_sub(4), sr_in(regs)),
@@ -141,9 +150,10 @@ impl Cpu {
         ensures formed { IsFormed result }
     {
         match self.phase {
-            Phase::Boundary => fetch_at(pc_in(&self.regs)),
-            Phase::Executing(head, access) => bus_access(head, access, &self.working),
-            Phase::Writing(size, number) => write_at(size, self.working.place, number),
+            Phase::Boundary => fetch_at(pc_in(&self.working.regs)),
+            Phase::Executing(access) => {
+                bus_access(self.head, access, &self.working, self.number)
+            }
             Phase::Entering(access, vector) => self.entry_access(access, vector),
         }
     }
@@ -161,42 +171,29 @@ impl Cpu {
 
     fn complete(&mut self)
         ensures regs { self.new.regs ≡ self.old.working.regs }
+        ensures working { self.new.working ≡ self.old.working }
         ensures phase { self.new.phase ≡ AtBoundary }
     {
         self.regs = self.working.regs;
         self.phase = Phase::Boundary;
     }
 
-    /// Goes on to an access of the instruction, or completes it.
-    fn advance(&mut self, head: Head, next: Option<CpuAccess>)
+    /// Goes on to an access of the instruction, or completes it. The result is computed once all
+    /// operands are known.
+    fn advance(&mut self, next: Option<CpuAccess>)
         ensures { Follows self.new self.old.regs false
-            (walk head (accesses_from head next) self.old.working) }
+            (walk self.old.head (accesses_from self.old.head next) self.old.working) }
     {
         match next {
             None => {
-                end(&mut self.working, head);
+                end(&mut self.working, self.head);
                 self.complete();
             }
             Some(CpuAccess::WriteResult) => {
-                let number = end(&mut self.working, head);
-                self.phase = Phase::Writing(size_of(head), number);
+                self.number = end(&mut self.working, self.head);
+                self.phase = Phase::Executing(CpuAccess::WriteResult);
             }
-            Some(access) => self.phase = Phase::Executing(head, access),
-        }
-    }
-
-    #[tactic(auto, unfolding(part_definitions::specs::NextAccess::entry_access))]
-    fn advance_entry(&mut self, access: EntryAccess, vector: u16, value: u16)
-        ensures { Follows self.new self.old.regs true
-            (λ values. entry_course self.old.regs access vector (value ∷ values)) }
-    {
-        match access {
-            EntryAccess::PushPc => self.phase = Phase::Entering(EntryAccess::PushSr, vector),
-            EntryAccess::PushSr => self.phase = Phase::Entering(EntryAccess::ReadVector, vector),
-            EntryAccess::ReadVector => {
-                enter_handler(&mut self.regs, value);
-                self.phase = Phase::Boundary;
-            }
+            Some(access) => self.phase = Phase::Executing(access),
         }
     }
 
@@ -206,16 +203,48 @@ impl Cpu {
         ensures taken { result ≡ not (is_illegal word) }
         ensures follows { result ≡ true
             → Follows self.new self.old.regs false
-            (λ values. next_access self.old.regs (word ∷ values)) }
+            (λ values. next_access self.old.working.regs (word ∷ values)) }
         ensures refused { result ≡ false → self.new ≡ self.old }
     {
         match decode(word) {
             Some(head) => {
-                self.working = working_at_start(head, self.regs);
-                self.advance(head, first_access(head));
+                self.head = head;
+                let next = start(&mut self.working, head);
+                self.advance(next);
                 true
             }
             None => false,
+        }
+    }
+
+    /// An access of the instruction was made and gave this value.
+    fn execute(&mut self, access: CpuAccess, value: u16)
+        ensures { Follows self.new self.old.regs false
+            (λ values. instruction_course self.old.head access self.old.working self.old.number
+            (value ∷ values)) }
+    {
+        match access {
+            CpuAccess::WriteResult => self.complete(),
+            _ => {
+                let next = learn(&mut self.working, self.head, access, value);
+                self.advance(next);
+            }
+        }
+    }
+
+    /// An access of the interrupt entry was made and gave this value.
+    #[tactic(auto, unfolding(part_definitions::specs::NextAccess::entry_access))]
+    fn enter(&mut self, access: EntryAccess, vector: u16, value: u16)
+        ensures { Follows self.new self.old.regs true
+            (λ values. entry_course self.old.working.regs access vector (value ∷ values)) }
+    {
+        match access {
+            EntryAccess::PushPc => self.phase = Phase::Entering(EntryAccess::PushSr, vector),
+            EntryAccess::PushSr => self.phase = Phase::Entering(EntryAccess::ReadVector, vector),
+            EntryAccess::ReadVector => {
+                enter_handler(&mut self.working.regs, value);
+                self.complete();
+            }
         }
     }
 
@@ -228,18 +257,14 @@ impl Cpu {
     {
         match self.phase {
             Phase::Boundary => return self.begin(value),
-            Phase::Executing(head, access) => {
-                learn(&mut self.working, head, access, value);
-                self.advance(head, following_access(head, access));
-            }
-            Phase::Writing(..) => self.complete(),
-            Phase::Entering(access, vector) => self.advance_entry(access, vector, value),
+            Phase::Executing(access) => self.execute(access, value),
+            Phase::Entering(access, vector) => self.enter(access, vector, value),
         }
         true
     }
 
-    /// Takes what the access read, 0 for a write. An illegal word at an opcode fetch is not taken: then
-    /// the answer is false, and nothing changes.
+    /// Takes what the access read, 0 for a write. An illegal word at an opcode fetch is not taken:
+    /// then the answer is false, and nothing changes.
     #[tactic(auto, using(crate::proofs::Courses::takes_value_same))]
     pub fn try_take(&mut self, value: u16) -> bool
         ensures taken { (state : CpuState)

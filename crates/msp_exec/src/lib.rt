@@ -9,8 +9,8 @@
 
 mod access;
 mod cpu;
+mod instruction;
 mod operand;
-mod order;
 mod outcome;
 mod phase;
 mod register;

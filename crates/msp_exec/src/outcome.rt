@@ -1,14 +1,12 @@
 ghost use Rattle.std.specs.Prelude.{◌≡◌};
-ghost use Rattle.part_definitions.specs.Instruction.{operand_result, result_of, has_result, after_two, after_one, is_taken, jump_target, after_jump, registers_after};
+ghost use Rattle.part_definitions.specs.Instruction.{operand_result, after_two, after_one, is_taken, jump_target, after_jump};
 
-use crate::operand::destination_in;
 use crate::register::{flags_in, pc_in, set_flags, set_pc, set_register};
-use msp_decode::{Cond, DestForm, Head, One, SourceForm};
-use part_definitions::Working;
-use word_arith::{Flags, Op1, Op2, Size, alu, shift};
+use msp_decode::{Cond, DestForm, One, SourceForm};
+use word_arith::{Flags, Op1, Op2, Size, shift};
 
 /// Result and flags of one operand; PUSH and CALL have the operand as it is.
-fn operand_outcome(op: One, size: Size, operand: u16, flags: Flags) -> (u16, Flags)
+pub fn operand_outcome(op: One, size: Size, operand: u16, flags: Flags) -> (u16, Flags)
     ensures { result ≡ operand_result op size operand flags }
 {
     match op {
@@ -20,26 +18,10 @@ fn operand_outcome(op: One, size: Size, operand: u16, flags: Flags) -> (u16, Fla
     }
 }
 
-/// Result and flags once the operands are known; 0 of RETI and of jumps, which leave the flags.
-pub fn outcome_of(head: Head, working: &Working) -> (u16, Flags)
-    ensures { result ≡ result_of head working.now }
-{
-    let flags = flags_in(&working.regs);
-    match head {
-        Head::Two(op, size, _, form) => {
-            let destination = destination_in(size, form, working);
-            alu(op, size, working.source, destination, flags)
-        }
-        Head::One(op, size, _) => operand_outcome(op, size, working.source, flags),
-        Head::Reti | Head::Jump(..) => (0, flags),
-    }
-}
-
 /// Leaves flags and result of two operands; CMP and BIT have no result.
-fn end_two(regs: &mut [u16; 16], op: Op2, form: DestForm, outcome: (u16, Flags))
-    ensures { regs.new ≡ after_two op form outcome regs.old }
+pub fn leave_two(regs: &mut [u16; 16], op: Op2, form: DestForm, number: u16, flags: Flags)
+    ensures { regs.new ≡ after_two op form (number, flags) regs.old }
 {
-    let (number, flags) = outcome;
     set_flags(regs, flags);
     match (op, form) {
         (Op2::Cmp | Op2::Bit, _) | (_, DestForm::Indexed(_)) => {}
@@ -48,10 +30,9 @@ fn end_two(regs: &mut [u16; 16], op: Op2, form: DestForm, outcome: (u16, Flags))
 }
 
 /// Leaves flags and result of one operand; PUSH leaves nothing, and CALL the program counter.
-fn end_one(regs: &mut [u16; 16], op: One, form: SourceForm, outcome: (u16, Flags))
-    ensures { regs.new ≡ after_one op form outcome regs.old }
+pub fn leave_one(regs: &mut [u16; 16], op: One, form: SourceForm, number: u16, flags: Flags)
+    ensures { regs.new ≡ after_one op form (number, flags) regs.old }
 {
-    let (number, flags) = outcome;
     match op {
         One::Push => {}
         One::Call => set_pc(regs, number),
@@ -88,25 +69,10 @@ fn jump_target(pc: u16, offset: i16) -> u16
     pc.wrapping_add(words).wrapping_add(words)
 }
 
-fn jump(regs: &mut [u16; 16], condition: Cond, offset: i16)
+pub fn jump(regs: &mut [u16; 16], condition: Cond, offset: i16)
     ensures { regs.new ≡ after_jump condition offset regs.old }
 {
     if is_taken(condition, flags_in(regs)) {
         set_pc(regs, jump_target(pc_in(regs), offset));
     }
-}
-
-/// Leaves the registers as they are after the instruction; the answer is its result.
-pub fn end(working: &mut Working, head: Head) -> u16
-    ensures number { result ≡ (result_of head working.old).0 }
-    ensures after { working.new ≡ record working.old { regs = registers_after head working.old } }
-{
-    let outcome = outcome_of(head, working);
-    match head {
-        Head::Two(op, _, _, form) => end_two(&mut working.regs, op, form, outcome),
-        Head::One(op, _, form) => end_one(&mut working.regs, op, form, outcome),
-        Head::Reti => {}
-        Head::Jump(condition, offset) => jump(&mut working.regs, condition, offset),
-    }
-    outcome.0
 }

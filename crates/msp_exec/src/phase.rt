@@ -1,6 +1,4 @@
-use msp_decode::Head;
 use part_definitions::CpuAccess;
-use word_arith::Size;
 
 /// One of the three accesses of an interrupt entry.
 #[derive(Clone, Copy, Debug, PartialEq, Eq)]
@@ -16,9 +14,7 @@ pub enum Phase {
     /// Between two instructions.
     Boundary,
     /// In an instruction, before this access.
-    Executing(Head, CpuAccess),
-    /// In an instruction whose registers are complete, before its result is written.
-    Writing(Size, u16),
+    Executing(CpuAccess),
     /// In an interrupt entry with this vector.
     Entering(EntryAccess, u16),
 }

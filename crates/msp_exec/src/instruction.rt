@@ -1,0 +1,185 @@
+ghost use Rattle.std.specs.Prelude.{◌≡◌};
+ghost use Rattle.part_definitions.specs.CpuAccesses.{result_accesses, accesses_of};
+ghost use Rattle.part_definitions.specs.Operands.{size_of, working_at_start};
+ghost use Rattle.part_definitions.specs.Instruction.{result_of, after_value, registers_after};
+ghost use Rattle.msp_exec.specs.Order.{after_source, after_index, after_read, accesses_after, accesses_from};
+
+use crate::operand::{add_increment, add_index, constant_word, destination_in};
+use crate::outcome::{jump, leave_one, leave_two, operand_outcome};
+use crate::register::{flags_in, operand_in, pass_word, pop, push, set_pc, set_sr, word_in};
+use msp_decode::{DestForm, Head, One, SourceForm};
+use part_definitions::{CpuAccess, Working};
+use word_arith::{Op2, Size, alu};
+
+/// B/W of an instruction; RETI and jumps are of words.
+pub fn size_of(head: Head) -> Size
+    ensures { result ≡ size_of head }
+{
+    match head {
+        Head::Two(_, size, _, _) | Head::One(_, size, _) => size,
+        Head::Reti | Head::Jump(..) => Size::Word,
+    }
+}
+
+/// The next access once the source is known.
+fn access_after_source(head: Head) -> Option<CpuAccess>
+    ensures { accesses_from head result ≡ after_source head }
+{
+    match head {
+        Head::Two(_, _, _, DestForm::Indexed(register)) => {
+            Some(CpuAccess::FetchDestinationIndex(register))
+        }
+        Head::One(One::Push, _, _) => Some(CpuAccess::PushSource),
+        Head::One(One::Call, _, _) => Some(CpuAccess::PushPc),
+        Head::One(
+            _,
+            _,
+            SourceForm::Indexed(_) | SourceForm::Indirect(_) | SourceForm::IndirectInc(_),
+        ) => Some(CpuAccess::WriteResult),
+        Head::Two(..) | Head::One(..) | Head::Reti | Head::Jump(..) => None,
+    }
+}
+
+/// The next access once the place of the destination is known.
+fn access_after_index(head: Head) -> Option<CpuAccess>
+    ensures { accesses_from head result ≡ after_index head }
+{
+    match head {
+        Head::Two(Op2::Mov, ..) => Some(CpuAccess::WriteResult),
+        Head::Two(..) => Some(CpuAccess::ReadDestination),
+        Head::One(..) | Head::Reti | Head::Jump(..) => None,
+    }
+}
+
+/// The next access once the destination was read.
+fn access_after_read(head: Head) -> Option<CpuAccess>
+    ensures { accesses_from head result ≡ after_read head }
+{
+    match head {
+        Head::Two(Op2::Cmp | Op2::Bit, ..) => None,
+        Head::Two(..) => Some(CpuAccess::WriteResult),
+        Head::One(..) | Head::Reti | Head::Jump(..) => None,
+    }
+}
+
+/// The opcode was fetched; the answer is the first access after it.
+pub fn start(working: &mut Working, head: Head) -> Option<CpuAccess>
+    ensures working { working.new ≡ working_at_start head working.old.regs }
+    ensures next { accesses_from head result ≡ accesses_of head }
+{
+    pass_word(&mut working.regs);
+    working.source = 0;
+    working.place = 0;
+    working.destination = 0;
+    match head {
+        Head::Two(_, size, source, _) | Head::One(_, size, source) => match source {
+            SourceForm::Register(register) => {
+                working.source = operand_in(size, &working.regs, register);
+                access_after_source(head)
+            }
+            SourceForm::Constant(constant) => {
+                working.source = size.low_part(constant_word(constant));
+                access_after_source(head)
+            }
+            SourceForm::Indexed(register) => Some(CpuAccess::FetchSourceIndex(register)),
+            SourceForm::Indirect(register) => {
+                working.place = word_in(&working.regs, register);
+                Some(CpuAccess::ReadSource)
+            }
+            SourceForm::IndirectInc(register) => {
+                working.place = word_in(&working.regs, register);
+                Some(CpuAccess::ReadIncrementing(register))
+            }
+            SourceForm::Immediate => Some(CpuAccess::FetchImmediate),
+        },
+        Head::Reti => Some(CpuAccess::PopSr),
+        Head::Jump(..) => None,
+    }
+}
+
+/// An access was made and gave this value, 0 for a write; the answer is the access after it.
+pub fn learn(working: &mut Working, head: Head, access: CpuAccess, value: u16) -> Option<CpuAccess>
+    ensures working { working.new ≡ after_value head access value working.old }
+    ensures next { accesses_from head result ≡ accesses_after head access }
+{
+    match access {
+        CpuAccess::FetchImmediate => {
+            pass_word(&mut working.regs);
+            working.source = size_of(head).low_part(value);
+            access_after_source(head)
+        }
+        CpuAccess::FetchSourceIndex(register) => {
+            add_index(working, register, value);
+            Some(CpuAccess::ReadSource)
+        }
+        CpuAccess::ReadSource => {
+            working.source = value;
+            access_after_source(head)
+        }
+        CpuAccess::ReadIncrementing(register) => {
+            add_increment(&mut working.regs, size_of(head), register);
+            working.source = value;
+            access_after_source(head)
+        }
+        CpuAccess::FetchDestinationIndex(register) => {
+            add_index(working, register, value);
+            access_after_index(head)
+        }
+        CpuAccess::ReadDestination => {
+            working.destination = value;
+            access_after_read(head)
+        }
+        CpuAccess::PushSource | CpuAccess::PushPc => {
+            push(&mut working.regs);
+            None
+        }
+        CpuAccess::PopSr => {
+            pop(&mut working.regs);
+            set_sr(&mut working.regs, value);
+            Some(CpuAccess::PopPc)
+        }
+        CpuAccess::PopPc => {
+            pop(&mut working.regs);
+            set_pc(&mut working.regs, value);
+            None
+        }
+        CpuAccess::WriteResult => None,
+    }
+}
+
+/// All operands are known: leaves the registers as they are after the instruction. The answer is the
+/// result, 0 of RETI and of jumps.
+pub fn end(working: &mut Working, head: Head) -> u16
+    ensures number { result ≡ (result_of head working.old).0 }
+    ensures after { working.new ≡ record working.old { regs = registers_after head working.old } }
+{
+    match head {
+        Head::Two(op, size, _, form) => {
+            let destination = destination_in(size, form, working);
+            let (number, flags) = alu(
+                op,
+                size,
+                working.source,
+                destination,
+                flags_in(&working.regs),
+            );
+            leave_two(&mut working.regs, op, form, number, flags);
+            number
+        }
+        Head::One(op, size, form) => {
+            let (number, flags) = operand_outcome(
+                op,
+                size,
+                working.source,
+                flags_in(&working.regs),
+            );
+            leave_one(&mut working.regs, op, form, number, flags);
+            number
+        }
+        Head::Reti => 0,
+        Head::Jump(condition, offset) => {
+            jump(&mut working.regs, condition, offset);
+            0
+        }
+    }
+}
