@@ -1,6 +1,5 @@
-ghost use Rattle.std.specs.Prelude.{◌≡◌, ◌≤◌, ◌-◌, ◌↔◌, [], length, min, Some, option_map, Contains, IfOk, OnOk, OnErr, IfNone, IfSome, IsSomeAnd, IsErrOf};
-ghost use Rattle.outside_edge.specs.Count.{Rose, one_more};
-ghost use Rattle.outside_edge.specs.File.{file_of, named_files, Copies};
+ghost use Rattle.std.specs.Prelude.{◌≡◌, ◌≤◌, option_map, IfNone, IfSome, IsSomeAnd};
+ghost use Rattle.outside_edge.specs.File.{file_of, named_files, CopiesMost};
 
 // The bytes of the first file of that name.
 fn file_named<'a>(files: &'a [(String, Vec<u8>)], name: &str) -> Option<&'a [u8]>
@@ -14,7 +13,8 @@ fn file_named<'a>(files: &'a [(String, Vec<u8>)], name: &str) -> Option<&'a [u8]
     None
 }
 
-// Copies the bytes at a place of the file of that name, at most `most` of them, to the piece's front.
+// Copies the bytes at a place of the file of that name, at most `most` of them, to the beginning of the
+// piece.
 pub fn copy_of_file(
     files: &[(String, Vec<u8>)],
     most: usize,
@@ -24,8 +24,7 @@ pub fn copy_of_file(
 ) -> Option<usize>
     requires { 1 ≤ most }
     ensures copied { IfSome result (λ n. IsSomeAnd (file_of (named_files files.now) name.now) (λ file.
-        Copies file at n piece.old piece.new
-        × (n ≡ min (length piece.old) (min most (length file - at))))) }
+        CopiesMost most file at n piece.old piece.new)) }
     ensures absent { IfNone result (file_of (named_files files.now) name.now ≡ None) }
     ensures untouched { IfNone result (piece.new ≡ piece.old) }
 {

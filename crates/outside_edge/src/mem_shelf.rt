@@ -1,6 +1,6 @@
-ghost use Rattle.std.specs.Prelude.{◌≡◌, ◌≤◌, ◌-◌, ◌↔◌, [], length, min, Some, option_map, Contains, IfOk, OnOk, OnErr, IfNone, IfSome, IsSomeAnd, IsErrOf};
-ghost use Rattle.outside_edge.specs.Count.{Rose, one_more};
-ghost use Rattle.outside_edge.specs.File.{file_of, named_files, Copies};
+ghost use Rattle.std.specs.Prelude.{◌≡◌, ◌≤◌, ◌↔◌, [], length, Some, Contains, IfOk, OnErr, IsErrOf};
+ghost use Rattle.outside_edge.specs.File.{named_files, Finds, HasFile, CopiesMost};
+ghost use Rattle.outside_edge.specs.Shelf.{KeepsFiles, shelf_after};
 
 use crate::file_copy::copy_of_file;
 use crate::shelf::{Shelf, ShelfError};
@@ -70,25 +70,16 @@ impl Shelf for MemShelf {
 
     fn read(&mut self, name: &str, at: u64, piece: &mut [u8]) -> Result<usize, ShelfError>
         ensures within { IfOk result (λ n. n ≤ length piece.new) }
-        ensures bytes { IfOk result (λ n. IsSomeAnd (file_of self.old.files name.now) (λ file.
-            Copies file at n piece.old piece.new
-            × (n ≡ min (length piece.old) (min self.old.most (length file - at))))) }
+        ensures bytes { IfOk result (λ n. HasFile (Some self.old.files) name.now (λ file.
+            CopiesMost self.old.most file at n piece.old piece.new)) }
 
-        // It fails exactly in the calls that it is to fail in, and else misses exactly what it doesn't hold.
+        // It fails exactly in the calls that it is to fail in, and else misses exactly what it lacks.
         ensures failed { IsErrOf result ShelfError.Failed ↔ Contains self.old.failing self.new.calls }
-        ensures absent { IsErrOf result ShelfError.Absent → file_of self.old.files name.now ≡ None }
+        ensures absent { IsErrOf result ShelfError.Absent → Finds (Some self.old.files) name.now None }
 
-        ensures ok { OnOk result (self.new ≡ record self.old { calls = one_more self.old.calls }) }
-        ensures missed { IsErrOf result ShelfError.Absent → self.new ≡ record self.old {
-          calls = one_more self.old.calls;
-          misses = one_more self.old.misses;
-        } }
-        ensures counted { IsErrOf result ShelfError.Failed → self.new ≡ record self.old {
-          calls = one_more self.old.calls;
-          faults = one_more self.old.faults;
-        } }
-        ensures faults_counted { self.old.faults ≤ self.new.faults }
-        ensures misses_counted { self.old.misses ≤ self.new.misses }
+        ensures kept { KeepsFiles (λ shelf. Some shelf.files) (λ shelf. shelf.faults)
+            (λ shelf. shelf.misses) self.old self.new }
+        ensures after { self.new ≡ shelf_after self.old result }
         ensures untouched { OnErr result (piece.new ≡ piece.old) }
     {
         self.calls = self.calls.saturating_add(1);

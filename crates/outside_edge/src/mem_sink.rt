@@ -1,6 +1,6 @@
 ghost use Rattle.std.specs.Prelude.{◌≡◌, ◌<◌, ◌≤◌, ◌+◌, ◌-◌, ◌%◌, ◌^◌, ◌↔◌, ◌⊎◌, ◌++◌, ℕ, List, length, take, min, vec_len, vec_capacity, Contains, IsTrue, IsErr, IsOk, IfOk, OnErr};
 ghost use Rattle.outside_edge.specs.Count.{Rose, one_more};
-ghost use Rattle.outside_edge.specs.Sink.{Takes};
+ghost use Rattle.outside_edge.specs.Sink.{CountsFaults};
 
 use crate::sink::{Failed, Sink};
 use std::alloc::AllocError;
@@ -95,7 +95,7 @@ impl Sink for MemSink {
           calls = one_more self.old.calls;
           faults = one_more self.old.faults;
         }) }
-        ensures counted { self.old.faults ≤ self.new.faults }
+        ensures counts { CountsFaults (λ sink. sink.faults) self.old self.new result }
     {
         self.calls = self.calls.saturating_add(1);
         if is_refused(&self.failing, self.calls, piece, self.room) {

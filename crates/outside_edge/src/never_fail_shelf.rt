@@ -1,6 +1,7 @@
-ghost use Rattle.std.specs.Prelude.{◌≡◌, ◌≤◌, ◌-◌, ◌↔◌, [], length, min, Some, option_map, Contains, IfOk, OnOk, OnErr, IfNone, IfSome, IsSomeAnd, IsErrOf};
-ghost use Rattle.outside_edge.specs.Count.{Rose, one_more};
-ghost use Rattle.outside_edge.specs.File.{file_of, named_files, Copies};
+ghost use Rattle.std.specs.Prelude.{◌≡◌, ◌≤◌, length, Some, IfOk, OnOk, OnErr, IsErrOf};
+ghost use Rattle.outside_edge.specs.Count.{one_more};
+ghost use Rattle.outside_edge.specs.File.{named_files, Finds, HasFile, CopiesMost};
+ghost use Rattle.outside_edge.specs.Shelf.{KeepsFiles};
 
 use crate::file_copy::copy_of_file;
 use crate::shelf::{Shelf, ShelfError};
@@ -53,14 +54,15 @@ impl Shelf for NeverFailShelf {
 
     fn read(&mut self, name: &str, at: u64, piece: &mut [u8]) -> Result<usize, ShelfError>
         ensures within { IfOk result (λ n. n ≤ length piece.new) }
-        ensures bytes { IfOk result (λ n. IsSomeAnd (file_of self.old.files name.now) (λ file.
-            Copies file at n piece.old piece.new
-            × (n ≡ min (length piece.old) (min self.old.most (length file - at))))) }
-        ensures absent { OnErr result (file_of self.old.files name.now ≡ None) }
+        ensures bytes { IfOk result (λ n. HasFile (Some self.old.files) name.now (λ file.
+            CopiesMost self.old.most file at n piece.old piece.new)) }
+        ensures absent { OnErr result (Finds (Some self.old.files) name.now None) }
         ensures never_failed { IsErrOf result ShelfError.Failed → ⊥ }
+
+        ensures kept { KeepsFiles (λ shelf. Some shelf.files) (λ _. 0) (λ shelf. shelf.misses)
+            self.old self.new }
         ensures ok { OnOk result (self.new ≡ self.old) }
         ensures missed { OnErr result (self.new ≡ record self.old { misses = one_more self.old.misses }) }
-        ensures misses_counted { self.old.misses ≤ self.new.misses }
         ensures untouched { OnErr result (piece.new ≡ piece.old) }
     {
         match copy_of_file(&self.files, self.most, name, at, piece) {

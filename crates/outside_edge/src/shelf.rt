@@ -1,6 +1,6 @@
-ghost use Rattle.std.specs.Prelude.{◌≡◌, ◌≤◌, ℕ, List, Option, length, IfOk, IfSome, IsSomeAnd, IsErrOf};
+ghost use Rattle.std.specs.Prelude.{◌≡◌, ◌≤◌, ℕ, List, Option, None, length, IfOk, OnOk, IsErrOf};
 ghost use Rattle.outside_edge.specs.Count.{Rose};
-ghost use Rattle.outside_edge.specs.File.{file_of, Copies};
+ghost use Rattle.outside_edge.specs.File.{Finds, HasFile, Copies};
 
 use thiserror::Error;
 
@@ -26,21 +26,20 @@ pub trait Shelf {
     /// How often a file was not there.
     ghost misses: { Self → ℕ };
 
-    /// Reads from the place `at` of a file into the front of `piece`, and gives how many bytes.
+    ghost use Rattle.outside_edge.specs.Shelf.{KeepsFiles, CountsNothing};
+
+    /// Reads from the place `at` of a file into the beginning of `piece`, and gives how many bytes.
     /// `Ok(0)` for a piece that isn't empty is the end of the file.
     fn read(&mut self, name: &str, at: u64, piece: &mut [u8]) -> Result<usize, ShelfError>
         ensures within { IfOk result (λ n. n ≤ length piece.new) }
-        ensures bytes { IfOk result (λ n. IfSome (files self.old) (λ held.
-            IsSomeAnd (file_of held name.now) (λ file. Copies file at n piece.old piece.new))) }
+        ensures bytes { IfOk result (λ n. HasFile (files self.old) name.now (λ file.
+            Copies file at n piece.old piece.new)) }
 
         // An error has its cause.
-        ensures absent { IsErrOf result ShelfError.Absent → IfSome (files self.old) (λ held.
-            file_of held name.now ≡ None) }
+        ensures absent { IsErrOf result ShelfError.Absent → Finds (files self.old) name.now None }
         ensures missed { IsErrOf result ShelfError.Absent → Rose (misses self.old) (misses self.new) }
         ensures failed { IsErrOf result ShelfError.Failed → Rose (faults self.old) (faults self.new) }
 
-        // The files stay, and no count falls.
-        ensures same { files self.new ≡ files self.old }
-        ensures faults_counted { faults self.old ≤ faults self.new }
-        ensures misses_counted { misses self.old ≤ misses self.new };
+        ensures kept { KeepsFiles files faults misses self.old self.new }
+        ensures quiet { OnOk result (CountsNothing faults misses self.old self.new) };
 }

@@ -1,6 +1,7 @@
-ghost use Rattle.std.specs.Prelude.{◌≡◌, ◌<◌, ◌≤◌, length, vec_len, IfOk, IfSome, IsSomeAnd, IsErrOf};
+ghost use Rattle.std.specs.Prelude.{◌<◌, ◌≤◌, length, vec_len, None, Some, IfOk, OnOk, IsErrOf};
 ghost use Rattle.outside_edge.specs.Count.{Rose};
-ghost use Rattle.outside_edge.specs.File.{file_of};
+ghost use Rattle.outside_edge.specs.File.{Finds, HasFile};
+ghost use Rattle.outside_edge.specs.Shelf.{KeepsFiles, CountsNothing};
 
 use crate::file_fault::FileFault;
 use crate::shelf::Shelf;
@@ -16,22 +17,18 @@ pub fn read_whole<S: Shelf>(
     name: &str,
     limit: usize,
 ) -> Result<Vec<u8>, FileFault>
-    ensures whole { IfOk result (λ bytes. IfSome (S.files shelf.old) (λ held.
-        file_of held name.now ≡ Some bytes.items)) }
+    ensures whole { IfOk result (λ bytes. Finds (S.files shelf.old) name.now (Some bytes.items)) }
     ensures within { IfOk result (λ bytes. vec_len bytes ≤ limit) }
 
     // An error has its cause.
-    ensures absent { IsErrOf result FileFault.Absent → IfSome (S.files shelf.old) (λ held.
-        file_of held name.now ≡ None) }
+    ensures absent { IsErrOf result FileFault.Absent → Finds (S.files shelf.old) name.now None }
     ensures missed { IsErrOf result FileFault.Absent → Rose (S.misses shelf.old) (S.misses shelf.new) }
     ensures failed { IsErrOf result FileFault.Failed → Rose (S.faults shelf.old) (S.faults shelf.new) }
-    ensures too_long { IsErrOf result FileFault.TooLong → IfSome (S.files shelf.old) (λ held.
-        IsSomeAnd (file_of held name.now) (λ file. limit < length file)) }
+    ensures too_long { IsErrOf result FileFault.TooLong
+        → HasFile (S.files shelf.old) name.now (λ file. limit < length file) }
 
-    // The files stay, and no count falls.
-    ensures same { S.files shelf.new ≡ S.files shelf.old }
-    ensures faults_counted { S.faults shelf.old ≤ S.faults shelf.new }
-    ensures misses_counted { S.misses shelf.old ≤ S.misses shelf.new }
+    ensures kept { KeepsFiles S.files S.faults S.misses shelf.old shelf.new }
+    ensures quiet { OnOk result (CountsNothing S.faults S.misses shelf.old shelf.new) }
 {
     let mut bytes = Vec::new(alloc);
     let mut piece = [0; PIECE];

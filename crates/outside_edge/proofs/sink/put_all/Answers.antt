@@ -1,11 +1,13 @@
-use Rattle.std.proofs.Common.{arith, ℕ, length-take, length-drop}
+use Rattle.std.proofs.Common.{arith, ℕ, length-take, length-drop, ◌∙◌}
 use Rattle.outside_edge.proofs.SinkLemmas.{takes_more}
 use Rattle.outside_edge.proofs.sink.put_all.Goals as goal
 
 pub loop-at-preserved : goal.loop-at-preserved
-loop-at-preserved g c = (
-  omega (arith, length-take {A = ℕ}, length-drop {A = ℕ}, c.in_ok-at.ensures.within),
-  takes_more g.W.Sink.stands c.args.sink.now c.loop-at.sink c.put.new.self c.args.bytes.now c.loop-at.at c.in_ok-at.field-0
-      c.loop-at.invariant.1 c.in_ok-at.ensures.taken,
-  omega (arith, c.put.ensures.counted, c.loop-at.invariant.2),
-)
+loop-at-preserved g c = record {
+  within = omega (arith, length-take {A = ℕ}, length-drop {A = ℕ}, c.in_ok-at.ensures.within);
+  taken = takes_more g.W.Sink.stands c.args.sink.now c.loop-at.sink c.put.new.self c.args.bytes.now c.loop-at.at c.in_ok-at.field-0
+      c.loop-at.invariant.taken c.in_ok-at.ensures.taken;
+  quiet = c.in_ok-at.ensures.counts.quiet ∙ c.loop-at.invariant.quiet;
+  untouched = λ none.
+      absurd (omega (arith, none, c.in_ok-at.ensures.some (omega (arith, length-take {A = ℕ}, length-drop {A = ℕ}))));
+}
