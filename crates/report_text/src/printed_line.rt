@@ -1,6 +1,5 @@
-ghost use Rattle.std.specs.Prelude.{◌≡◌, ◌≤◌, OnOk, OnErr, length};
-ghost use Rattle.outside_edge.specs.Count.{Rose};
-ghost use Rattle.outside_edge.specs.Sink.{Takes, TakesPrefix};
+ghost use Rattle.std.specs.Prelude.{◌≡◌, length};
+ghost use Rattle.outside_edge.specs.Sink.{Puts, CountsFaults};
 ghost use Rattle.printed_lines.specs.Lines.{sent_line, reset_line, end_line, rule_name, flag_digit};
 
 use crate::line::Line;
@@ -9,10 +8,8 @@ use outside_edge::{Failed, Sink, put_all};
 
 /// Puts `tx S HH`: in step S this byte was sent.
 pub fn print_sent<W: Sink>(step: u64, byte: u8, sink: &mut W) -> Result<(), Failed>
-    ensures all { OnOk result (Takes W.stands sink.old sink.new (sent_line step byte)) }
-    ensures prefix { OnErr result (TakesPrefix W.stands sink.old sink.new (sent_line step byte)) }
-    ensures failed { OnErr result (Rose (W.faults sink.old) (W.faults sink.new)) }
-    ensures counted { W.faults sink.old ≤ W.faults sink.new }
+    ensures puts { Puts W.stands sink.old sink.new (sent_line step byte) result }
+    ensures counts { CountsFaults W.faults sink.old sink.new result }
 {
     let mut line = Line::new();
     line.push(b"tx ");
@@ -25,10 +22,8 @@ pub fn print_sent<W: Sink>(step: u64, byte: u8, sink: &mut W) -> Result<(), Fail
 
 /// Puts `reset S R`: step S broke this rule.
 pub fn print_reset<W: Sink>(step: u64, rule: Rule, sink: &mut W) -> Result<(), Failed>
-    ensures all { OnOk result (Takes W.stands sink.old sink.new (reset_line step rule)) }
-    ensures prefix { OnErr result (TakesPrefix W.stands sink.old sink.new (reset_line step rule)) }
-    ensures failed { OnErr result (Rose (W.faults sink.old) (W.faults sink.new)) }
-    ensures counted { W.faults sink.old ≤ W.faults sink.new }
+    ensures puts { Puts W.stands sink.old sink.new (reset_line step rule) result }
+    ensures counts { CountsFaults W.faults sink.old sink.new result }
 {
     let mut line = Line::new();
     line.push(b"reset ");
@@ -41,10 +36,8 @@ pub fn print_reset<W: Sink>(step: u64, rule: Rule, sink: &mut W) -> Result<(), F
 
 /// Puts `end N pc H exec E`: after N steps, the `pc` that the next step would have and the EXEC flag.
 pub fn print_end<W: Sink>(steps: u64, pc: u16, exec: bool, sink: &mut W) -> Result<(), Failed>
-    ensures all { OnOk result (Takes W.stands sink.old sink.new (end_line steps pc exec)) }
-    ensures prefix { OnErr result (TakesPrefix W.stands sink.old sink.new (end_line steps pc exec)) }
-    ensures failed { OnErr result (Rose (W.faults sink.old) (W.faults sink.new)) }
-    ensures counted { W.faults sink.old ≤ W.faults sink.new }
+    ensures puts { Puts W.stands sink.old sink.new (end_line steps pc exec) result }
+    ensures counts { CountsFaults W.faults sink.old sink.new result }
 {
     let mut line = Line::new();
     line.push(b"end ");

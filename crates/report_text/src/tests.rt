@@ -28,7 +28,7 @@ fn each_line_has_its_form(rt: HostRuntime) -> Result<(), Fail> {
 }
 
 #[test]
-fn a_sink_that_fails_took_a_front(rt: HostRuntime) -> Result<(), Fail> {
+fn a_sink_that_fails_took_a_prefix(rt: HostRuntime) -> Result<(), Fail> {
     let alloc = rt.alloc();
     let mut sink = MemSink::new(Vec::new(alloc), 200, 1, [10].to_vec(alloc)?)?;
     assert_eq!(rt; print_sent(4, 0x41, &mut sink), Ok(()));

@@ -1,6 +1,8 @@
 -- The first line of a text.
-use Rattle.std.proofs.Common.{◌≡◌, ℕ, ◌+◌, ◌<◌, List, [], ◌∷◌, subst, length, take, drop, get_or, ◌≤◌, ◌≢◌, refl, ◌∙◌, ap, arith}
+use Rattle.std.proofs.Common.{◌≡◌, ℕ, suc, ◌+◌, ◌-◌, ◌<◌, List, [], ◌∷◌, ◌++◌, length-append, subst, length, take, drop, get_or, ◌≤◌, ◌≢◌, refl, ◌∙◌, ap, arith}
 use Rattle.std.specs.Prelude.{◌==◌, Bool}
+use Rattle.std.proofs.Math.ListN.{get_or-append}
+use Rattle.std.proofs.Math.Seq.{get_or-append_seam, take-append_seam, drop-append-add}
 use Rattle.std.specs.List.{slice_split, position_or_len, before_first, after_first}
 use Rattle.std.specs.Str.Lines.{lines, lines_of_parts, strip_carriage_return}
 use Rattle.std.proofs.lemmas.Bool.{ne_eqb, eq-eqb}
@@ -39,3 +41,21 @@ pub lines_uncut : (text : List ℕ) → position_or_len is_end text ≡ length t
 lines_uncut text is some =
     ap lines_of_parts (slice_split_none is_end text (λ k d below. fails_before_first is_end text k d (omega (arith, is, below))))
     ∙ lines_of_parts-one text some
+
+-- a line of characters behind CR and LF, ended by LF, is the first line of a text
+pub lines-line : (line rest : List ℕ) → 0 < length line → ((k : ℕ) → k < length line → 14 ≤ get_or line k 0)
+    → lines (line ++ (10 ∷ rest)) ≡ line ∷ lines rest
+lines-line line rest some behind =
+    let text : List ℕ = line ++ (10 ∷ rest) in
+    let count : length text ≡ length line + suc (length rest) = length-append line (10 ∷ rest) in
+    let within : length line < length text = omega (arith, count) in
+    let at_end : get_or text (length line) 0 ≡ 10 = get_or-append_seam line 10 rest 0 in
+    let before : (k : ℕ) → k < length line → get_or text k 0 ≢ 10 =
+    λ k below same. omega (arith, behind k below, get_or-append line (10 ∷ rest) 0 k below, same) in
+    let end = is_first_end text (length line) (omega arith) before (λ _. at_end) in
+    let cut = lines_cut text (length line) within end in
+    let first : take (length line) text ≡ line = take-append_seam line (10 ∷ rest) in
+    let back : drop (length line + 1) text ≡ rest = drop-append-add line (10 ∷ rest) 1 in
+    let last : get_or line (length line - 1) 0 ≢ 13 = λ same. omega (arith, behind (length line - 1) (omega arith), same) in
+    let kept : strip_carriage_return line ≡ line = rw (ne_eqb (get_or line (length line - 1) 0) 13 last) refl in
+    cut ∙ rw (first, back, kept) refl

@@ -8,11 +8,11 @@ use Rattle.std.proofs.lemmas.List.Sums.{fails_before_first, position_or_len_is}
 use Rattle.std.proofs.lemmas.List.Splits.{slice_split_first, slice_split_none, slice_split-cons_yes}
 use Rattle.text_scan.specs.Word.{is_blank, is_word, words_of}
 
--- a blank in front
-words_of-blank : (byte : ℕ) (rest : List ℕ) → is_blank byte ≡ true → words_of (byte ∷ rest) ≡ words_of rest
+-- a blank before a line
+pub words_of-blank : (byte : ℕ) (rest : List ℕ) → is_blank byte ≡ true → words_of (byte ∷ rest) ≡ words_of rest
 words_of-blank byte rest h = ap (filter is_word) (slice_split-cons_yes is_blank byte rest h)
 
--- blanks in front
+-- blanks before a line
 pub words_after : (line : List ℕ) (n : ℕ) → ((k : ℕ) → k < n → is_blank (get_or line k 0) ≡ true) → words_of (drop n line) ≡ words_of line
 words_after line zero h = refl
 words_after [] (suc n) h = refl

@@ -2,3 +2,4 @@ pub mod FewDigits
 pub mod HexDigits
 pub mod FirstLine
 pub mod FirstWord
+pub mod TextUtf8

@@ -2,7 +2,7 @@
 use Rattle.std.specs.Prelude.{ℕ, ◌+◌, List, [], ◌∷◌}
 use Rattle.std.specs.Str.Lines.{lines}
 
--- lines with their numbers, of which the first is given
+-- lines with their numbers, from this one on
 abbrev pub numbered_lines : ℕ → List (List ℕ) → List (ℕ × List ℕ)
 numbered_lines number [] = []
 numbered_lines number (line ∷ rest) = (number, line) ∷ numbered_lines (number + 1) rest

@@ -10,16 +10,16 @@ use std::marker::Model;
 #[derive(Debug, Drop)]
 pub struct Lines<'a> {
     rest: &'a [u8],
-    given: u64,
+    last: u64,
 }
 
 /// Seen as the lines that are left, with their numbers.
 impl<'a> Model for Lines<'a> {
     ghost Value = { List (ℕ × List ℕ) };
 
-    ghost view = { λ it. numbered_lines (it.given + 1) (lines it.rest.now) };
+    ghost view = { λ it. numbered_lines (it.last + 1) (lines it.rest.now) };
 
-    ghost invariant = { λ it. it.given + length it.rest.now < 2 ^ 64 };
+    ghost invariant = { λ it. it.last + length it.rest.now < 2 ^ 64 };
 }
 
 impl<'a> Lines<'a> {
@@ -28,7 +28,7 @@ impl<'a> Lines<'a> {
     {
         Lines {
             rest: text,
-            given: 0,
+            last: 0,
         }
     }
 }
@@ -46,8 +46,8 @@ impl<'a> Iterator for Lines<'a> {
         }
         let (line, rest) = first_line(self.rest);
         self.rest = rest;
-        self.given += 1;
-        Some((self.given, line))
+        self.last += 1;
+        Some((self.last, line))
     }
 }
 
@@ -80,7 +80,7 @@ pub(crate) fn without_return(line: &[u8]) -> &[u8]
     ensures { result.now ≡ strip_carriage_return line.now }
 {
     match line {
-        [front @ .., b'\r'] => front,
+        [line @ .., b'\r'] => line,
         _ => line,
     }
 }

@@ -62,6 +62,28 @@ fn makes_bytes(rt: HostRuntime) -> Result<(), Fail> {
 }
 
 #[test]
+fn long_words_and_empty_halves_have_their_bytes(rt: HostRuntime) -> Result<(), Fail> {
+    let alloc = rt.alloc();
+    let mut bytes = Vec::new(alloc);
+    let mut digits = Vec::new(alloc);
+    for number in 0..30_000u16 {
+        let [byte, _] = (number / 256).wrapping_add(number).to_le_bytes();
+        bytes.push(byte)?;
+        digits.push(b"0123456789abcdef"[usize::from(byte / 16)])?;
+        digits.push(b"0123456789ABCDEF"[usize::from(byte % 16)])?;
+    }
+    for (first, second) in [(bytes.as_slice(), b"".as_slice()), (b"", bytes.as_slice())] {
+        assert!(rt; Bytes::join(alloc, first, second)?.as_slice() == bytes.as_slice());
+    }
+    assert!(rt; Words::new(digits.as_slice()).next() == Some(digits.as_slice()));
+    match Bytes::from_hex(alloc, digits.as_slice()) {
+        Ok(read) => assert!(rt; read.as_slice() == bytes.as_slice()),
+        Err(_) => panic!(rt; "the word has bytes"),
+    }
+    Ok(())
+}
+
+#[test]
 fn lines_end_at_lf_or_crlf(rt: HostRuntime) {
     let lines: [(u64, &[u8]); 5] = [(1, b"a"), (2, b"b"), (3, b""), (4, b"c\rd"), (5, b"e\r")];
     let mut read = Lines::new(b"a\r\nb\n\nc\rd\ne\r");

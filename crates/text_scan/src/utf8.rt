@@ -1,4 +1,4 @@
-ghost use Rattle.std.specs.Prelude.{◌≡◌};
+ghost use Rattle.std.specs.Prelude.{◌≡◌, ◌↔◌, Ok, IsUtf8};
 ghost use Rattle.std.specs.Str.{is_utf8};
 ghost use Rattle.text_scan.specs.Utf8.{utf8_of};
 
@@ -7,8 +7,15 @@ use crate::fault_kind::FaultKind;
 use crate::lines::Lines;
 use std::str;
 
-/// The fault of the first line that is not UTF-8.
+/// The fault of the first line that is not UTF-8, which there is exactly where the whole text isn't.
 pub fn check_utf8(text: &[u8]) -> Result<(), FaultAt>
+    ensures first { result ≡ utf8_of text.now }
+    ensures whole { (result ≡ Ok tt) ↔ IsUtf8 text.now }
+{
+    fault_of_lines(text)
+}
+
+fn fault_of_lines(text: &[u8]) -> Result<(), FaultAt>
     ensures { result ≡ utf8_of text.now }
 {
     for (line, bytes) in Lines::new(text) {

@@ -1,4 +1,4 @@
-ghost use Rattle.std.specs.Prelude.{◌≡◌, ◌∷◌, ◌<◌, ◌≤◌, ℕ, List, length, slice_index, true, false, Ok, Err, IfOk, IfErr, OnOk};
+ghost use Rattle.std.specs.Prelude.{◌≡◌, ◌∷◌, ◌<◌, ◌≤◌, ℕ, List, length, drop, slice_index, true, false, Ok, Err, IfOk, IfErr, OnOk};
 ghost use Rattle.std.specs.Iterator.{YieldsFirstRef, item_count};
 ghost use Rattle.text_scan.specs.Word.{is_blank, words_of};
 ghost use Rattle.text_scan.specs.Word.{word_of, keyword_of, end_of, is_passed_over};
@@ -30,14 +30,16 @@ impl<'a> Words<'a> {
     pub fn word(&mut self) -> Result<&'a [u8], FaultKind>
         ensures word { IfOk result (λ word. word_of self.old ≡ Ok (word.now, self.new)) }
         ensures missing { IfErr result (λ kind. word_of self.old ≡ Err kind) }
+        ensures left { self.new ≡ drop 1 self.old }
     {
         self.next().ok_or(FaultKind::Missing)
     }
 
-    /// Passes the next word, which must be the keyword, else `Missing` or `Word`.
+    /// Passes the next word, whatever it is. One that is not the keyword is `Word`, none is `Missing`.
     pub fn keyword(&mut self, keyword: &[u8]) -> Result<(), FaultKind>
         ensures word { OnOk result (keyword_of keyword.now self.old ≡ Ok self.new) }
         ensures fault { IfErr result (λ kind. keyword_of keyword.now self.old ≡ Err kind) }
+        ensures left { self.new ≡ drop 1 self.old }
     {
         if self.word()? == keyword {
             Ok(())
@@ -46,9 +48,10 @@ impl<'a> Words<'a> {
         }
     }
 
-    /// `Extra` where there is a further word.
+    /// `Extra` where there is a further word, which is passed.
     pub fn end(&mut self) -> Result<(), FaultKind>
-        ensures { result ≡ end_of self.old }
+        ensures end { result ≡ end_of self.old }
+        ensures left { self.new ≡ drop 1 self.old }
     {
         match self.next() {
             None => Ok(()),
