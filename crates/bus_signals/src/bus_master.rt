@@ -32,10 +32,17 @@ pub trait BusMaster: Drop {
 
     /// Gives what the access read; 0 for a write.
     fn take(&mut self, value: u16)
-        requires { (meaning : Meaning) × stands self.old meaning × IsSome (asks meaning) × takes meaning value }
-        ensures { (meaning : Meaning) → stands self.old meaning → stands self.new (moved meaning value) };
+        requires { (meaning : Meaning)
+            × stands self.old meaning
+            × IsSome (asks meaning)
+            × takes meaning value }
+        ensures { (meaning : Meaning)
+            → stands self.old meaning
+            → stands self.new (moved meaning value) };
 
     /// Forgets what was begun, as a reset does.
     fn clear(&mut self)
-        ensures { (meaning : Meaning) → stands self.old meaning → stands self.new (cleared meaning) };
+        ensures { (meaning : Meaning)
+            → stands self.old meaning
+            → stands self.new (cleared meaning) };
 }
