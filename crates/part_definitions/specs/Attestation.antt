@@ -1,10 +1,11 @@
 -- A call of the attestation ROM: its accesses, by the words that passed in it so far, those that it
 -- read and those that it wrote to the MAC. (VRASED.)
-use Rattle.std.specs.Prelude.{◌==◌, ◌++◌, ◌+◌, ◌-◌, ◌*◌, ◌/◌, ◌%◌, ℕ, Bool, true, false, List, [], ◌∷◌, length, take, drop, slice_index, nat_lt, if◌then◌else◌}
+use Rattle.std.specs.Prelude.{◌==◌, ◌++◌, ◌+◌, ◌-◌, ◌*◌, ◌/◌, ◌%◌, ℕ, Bool, true, false, List, [], ◌∷◌, length, take, drop, slice_index, nat_lt, if◌then◌else◌, Option, Some}
 use Rattle.word_arith.specs.declared.size.Size.TheVariants.{Word}
 use Rattle.bus_signals.specs.declared.access.Access.{Access}
+use Rattle.bus_signals.specs.declared.access.Access.TheVariants.{Write}
 use Rattle.bus_signals.specs.declared.bounds.Bounds.{Bounds}
-use Rattle.bus_signals.specs.Map.{key_region, metadata_region, mac_region, DERIVED_KEY, INNER_DIGEST, ROM_ENTRY, ROM_BODY, ROM_EXIT}
+use Rattle.bus_signals.specs.Map.{lies_in, key_region, metadata_region, mac_region, DERIVED_KEY, INNER_DIGEST, ROM_ENTRY, ROM_BODY, ROM_EXIT}
 use Rattle.part_definitions.specs.Accesses.{read_at, write_at}
 use Rattle.bus_signals.specs.Bounds.{are_valid}
 use Rattle.part_definitions.specs.Hmac.{hmac, inner_digest}
@@ -129,3 +130,10 @@ written_word digest words (DerivedKeyWrite i) = word_of_bytes (derived_in digest
 written_word digest words (InnerDigestWrite i) = word_of_bytes (inner_in digest words) i
 written_word digest words (MacWrite i) = word_of_bytes (tag_in digest words) i
 written_word digest words item = 0
+
+-- the word that passes in a step of a call, whose access read this value: what it reads, or the word
+-- that it releases; not what it writes to the stack, which it does not read again
+abbrev pub word_passed : Option Access → ℕ → ℕ
+word_passed (Some (Write place size number)) value =
+    if lies_in mac_region place then number else 0
+word_passed access value = value

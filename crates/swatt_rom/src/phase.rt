@@ -1,0 +1,273 @@
+ghost use Rattle.std.specs.Prelude.{◌≡◌, ◌≤◌, ◌++◌, ◌∷◌, [], ℕ, List, length, Some};
+ghost use Rattle.bus_signals.specs.Access.{IsFormed};
+ghost use Rattle.part_definitions.specs.Attestation.{call_item, item_pc, word_passed, bounds_read, bytes_of_words, derived_key, tag_in};
+ghost use Rattle.hmac_core.specs.Standing.{HmacStandsFor};
+ghost use Rattle.swatt_rom.specs.Call.{call_access};
+
+use crate::digest_words::DigestWords;
+use crate::region_words::RegionWords;
+use crate::word_buffer::WordBuffer;
+use crate::word_bytes::bytes_of;
+use arrayvec::ArrayVec;
+use bus_signals::{Access, Bounds, CR, KR, META, MR, XS};
+use hmac_core::{Digest32, Hmac, hmac};
+
+/// The words of the key.
+const KEY_WORDS: usize = 32;
+
+/// The words of the metadata: sixteen of the challenge, four bounds and the EXEC word.
+const METADATA_WORDS: usize = 21;
+
+/// What a call does next, and what it still knows: all of it but the return read.
+#[derive(Drop)]
+pub enum Phase<D> {
+    ReadsKey {
+        key: WordBuffer<KEY_WORDS>,
+    },
+    ReadsMetadata {
+        key: [u16; KEY_WORDS],
+        metadata: WordBuffer<METADATA_WORDS>,
+    },
+    WritesDerivedKey {
+        writes: DigestWords,
+        bounds: Bounds,
+        hash: Hmac<D>,
+    },
+    ReadsRegion {
+        region: RegionWords,
+        hash: Hmac<D>,
+    },
+    WritesInnerDigest {
+        writes: DigestWords,
+        mac: [u8; 32],
+    },
+    WritesMac {
+        writes: DigestWords,
+    },
+}
+
+// The bounds are words 16 to 19 of the metadata.
+fn bounds_of(metadata: &[u16; METADATA_WORDS]) -> Bounds
+    ensures { (key : List ℕ) → length key ≡ 32 → result ≡ bounds_read (key ++ metadata.now) }
+{
+    Bounds {
+        er_min: metadata[16],
+        er_max: metadata[17],
+        or_min: metadata[18],
+        or_max: metadata[19],
+    }
+}
+
+// The key of a challenge, which is the first 32 bytes of the metadata.
+fn derived_key<D: Digest32>(key: &[u8], metadata: &[u8]) -> [u8; 32]
+    requires { 32 ≤ length metadata.now }
+    ensures { result ≡ derived_key D.digest_of key.now metadata.now }
+{
+    hmac::<D>(key, &metadata[..32])
+}
+
+// The hash takes a word, its two bytes in memory order.
+fn hash_word<D: Digest32>(hash: &mut Hmac<D>, word: u16)
+    ensures { (key message : List ℕ) →
+        HmacStandsFor D.has_taken D.digest_of hash.old key message →
+        HmacStandsFor D.has_taken D.digest_of hash.new key (message ++ bytes_of_words (word ∷ [])) }
+{
+    hash.update(&word.to_le_bytes());
+}
+
+// The hash of a message that begins so.
+fn hash_of<D: Digest32>(key: &[u8], message: &[u8]) -> Hmac<D>
+    ensures { HmacStandsFor D.has_taken D.digest_of result key.now message.now }
+{
+    let mut hash = Hmac::new(key);
+    hash.update(message);
+    hash
+}
+
+impl<D: Digest32> Phase<D> {
+    ghost use Rattle.swatt_rom.specs.Standing.{PhaseStandsFor, OptionStandsFor, HashesRegion, StandsAtDerivedKey, StandsAtRegion, StandsAtInnerDigest, WritesDigest, BEFORE_REGION, before_inner_digest, before_mac};
+
+    /// The beginning of a call.
+    pub fn new() -> Phase<D>
+        ensures { PhaseStandsFor D.has_taken D.digest_of result [] }
+    {
+        Phase::ReadsKey {
+            key: WordBuffer::new(),
+        }
+    }
+
+    /// The access of the next step.
+    pub fn access(&self) -> Access
+        ensures access { (sp : ℕ) (words : List ℕ) →
+            PhaseStandsFor D.has_taken D.digest_of self.now words →
+            result ≡ call_access D.digest_of sp words }
+        ensures formed { IsFormed result }
+    {
+        match self {
+            Phase::ReadsKey { key } => key.access(KR.first),
+            Phase::ReadsMetadata { metadata, .. } => metadata.access(META.first),
+            Phase::WritesDerivedKey { writes, .. } => writes.access(XS.first),
+            Phase::ReadsRegion { region, .. } => region.access(),
+            Phase::WritesInnerDigest { writes, .. } => writes.access(XS.first + 32),
+            Phase::WritesMac { writes } => writes.access(MR.first),
+        }
+    }
+
+    /// The `pc` of the next step: the first is the entry of the ROM.
+    pub fn pc(&self) -> u16
+        ensures { (words : List ℕ) →
+            PhaseStandsFor D.has_taken D.digest_of self.now words →
+            result ≡ item_pc (call_item words) }
+    {
+        match self {
+            Phase::ReadsKey { key } if key.is_empty() => CR.first,
+            _ => CR.first + 2,
+        }
+    }
+
+    /// What it does after a step whose access read this value, `None` before the return read.
+    pub fn after(self, value: u16) -> Option<Phase<D>>
+        ensures { (sp : ℕ) (words : List ℕ) →
+            PhaseStandsFor D.has_taken D.digest_of self words →
+            OptionStandsFor D.has_taken D.digest_of result
+            (words ++ word_passed (Some (call_access D.digest_of sp words)) value ∷ []) }
+    {
+        match self {
+            Phase::ReadsKey { key } => Some(Phase::after_key_word(key, value)),
+            Phase::ReadsMetadata { key, metadata } => {
+                Some(Phase::after_metadata_word(key, metadata, value))
+            }
+            Phase::WritesDerivedKey {
+                writes,
+                bounds,
+                hash,
+            } => Some(Phase::after_derived_key_word(writes, bounds, hash)),
+            Phase::ReadsRegion { region, hash } => {
+                Some(Phase::after_region_word(region, hash, value))
+            }
+            Phase::WritesInnerDigest { writes, mac } => {
+                Some(Phase::after_inner_digest_word(writes, mac))
+            }
+            Phase::WritesMac { writes } => Phase::after_mac_word(writes),
+        }
+    }
+
+    fn after_key_word(key: WordBuffer<KEY_WORDS>, word: u16) -> Phase<D>
+        ensures { PhaseStandsFor D.has_taken D.digest_of result (key.words.items ++ word ∷ []) }
+    {
+        match key.with(word) {
+            Ok(key) => Phase::ReadsMetadata {
+                key,
+                metadata: WordBuffer::new(),
+            },
+            Err(key) => Phase::ReadsKey { key },
+        }
+    }
+
+    fn after_metadata_word(
+        key: [u16; KEY_WORDS],
+        metadata: WordBuffer<METADATA_WORDS>,
+        word: u16,
+    ) -> Phase<D>
+        ensures { PhaseStandsFor D.has_taken D.digest_of result (key ++ metadata.words.items ++ word ∷ []) }
+    {
+        match metadata.with(word) {
+            Ok(metadata) => Phase::after_metadata(&key, &metadata),
+            Err(metadata) => Phase::ReadsMetadata { key, metadata },
+        }
+    }
+
+    // The key of the challenge is derived, and the hash of the region begins under it.
+    fn after_metadata(key: &[u16; KEY_WORDS], metadata: &[u16; METADATA_WORDS]) -> Phase<D>
+        ensures { PhaseStandsFor D.has_taken D.digest_of result (key.now ++ metadata.now) }
+    {
+        let bounds = bounds_of(metadata);
+        let key: ArrayVec<u8, 64> = bytes_of(key);
+        let metadata: ArrayVec<u8, 42> = bytes_of(metadata);
+        let derived = derived_key::<D>(&key, &metadata);
+        Phase::WritesDerivedKey {
+            writes: DigestWords::new(derived),
+            bounds,
+            hash: hash_of(&derived, &metadata),
+        }
+    }
+
+    fn after_derived_key_word(writes: DigestWords, bounds: Bounds, hash: Hmac<D>) -> Phase<D>
+        ensures { (words : List ℕ) (word : ℕ) →
+            StandsAtDerivedKey D.has_taken D.digest_of writes bounds hash words →
+            PhaseStandsFor D.has_taken D.digest_of result (words ++ word ∷ []) }
+    {
+        match writes.rest() {
+            Some(writes) => Phase::WritesDerivedKey {
+                writes,
+                bounds,
+                hash,
+            },
+            None => Phase::after_derived_key(bounds, hash),
+        }
+    }
+
+    // Where the bounds are not valid there is no region.
+    fn after_derived_key(bounds: Bounds, hash: Hmac<D>) -> Phase<D>
+        ensures { (words : List ℕ) →
+            bounds ≡ bounds_read words →
+            length words ≡ BEFORE_REGION →
+            HashesRegion D.has_taken D.digest_of hash words →
+            PhaseStandsFor D.has_taken D.digest_of result words }
+    {
+        match RegionWords::new(bounds) {
+            Some(region) => Phase::ReadsRegion { region, hash },
+            None => Phase::after_region(hash),
+        }
+    }
+
+    fn after_region_word(region: RegionWords, mut hash: Hmac<D>, word: u16) -> Phase<D>
+        ensures { (words : List ℕ) →
+            StandsAtRegion D.has_taken D.digest_of region hash words →
+            PhaseStandsFor D.has_taken D.digest_of result (words ++ word ∷ []) }
+    {
+        hash_word(&mut hash, word);
+        match region.rest() {
+            Some(region) => Phase::ReadsRegion { region, hash },
+            None => Phase::after_region(hash),
+        }
+    }
+
+    // The hash ends: its inner digest is written first, and then the MAC made of it.
+    fn after_region(hash: Hmac<D>) -> Phase<D>
+        ensures { (words : List ℕ) →
+            length words ≡ before_inner_digest words →
+            HashesRegion D.has_taken D.digest_of hash words →
+            PhaseStandsFor D.has_taken D.digest_of result words }
+    {
+        let (inner, outer) = hash.inner();
+        Phase::WritesInnerDigest {
+            writes: DigestWords::new(inner),
+            mac: outer.finish(&inner),
+        }
+    }
+
+    fn after_inner_digest_word(writes: DigestWords, mac: [u8; 32]) -> Phase<D>
+        ensures { (words : List ℕ) (word : ℕ) →
+            StandsAtInnerDigest D.digest_of writes mac words →
+            PhaseStandsFor D.has_taken D.digest_of result (words ++ word ∷ []) }
+    {
+        match writes.rest() {
+            Some(writes) => Phase::WritesInnerDigest { writes, mac },
+            None => Phase::WritesMac {
+                writes: DigestWords::new(mac),
+            },
+        }
+    }
+
+    fn after_mac_word(writes: DigestWords) -> Option<Phase<D>>
+        ensures { (words : List ℕ) (word : ℕ) →
+            WritesDigest writes (tag_in D.digest_of words) (before_mac words) words →
+            OptionStandsFor D.has_taken D.digest_of result (words ++ word ∷ []) }
+    {
+        match writes.rest() {
+            Some(writes) => Some(Phase::WritesMac { writes }),
+            None => None,
+        }
+    }
+}

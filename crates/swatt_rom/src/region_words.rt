@@ -1,0 +1,81 @@
+ghost use Rattle.std.specs.Prelude.{◌≡◌, ◌<◌, ◌≤◌, ◌+◌, ◌%◌, ◌↔◌, true, IsNone, IsSome, IfSome};
+ghost use Rattle.word_arith.specs.declared.size.Size.TheVariants.{Word};
+ghost use Rattle.bus_signals.specs.Access.{IsFormed};
+ghost use Rattle.bus_signals.specs.Bounds.{are_valid};
+ghost use Rattle.part_definitions.specs.Accesses.{read_at};
+ghost use Rattle.part_definitions.specs.Attestation.{words_between, executable_words, region_words, region_place};
+
+use bus_signals::{Access, Bounds, valid};
+use word_arith::Size;
+
+/// The words of ER and then of OR that are read one by one; some are left.
+#[derive(Clone, Copy, Debug)]
+pub struct RegionWords {
+    pub bounds: Bounds,
+    pub read: usize,
+    pub ghost valid: { are_valid bounds ≡ true },
+    pub ghost some_left: { read < region_words bounds },
+}
+
+// How many words there are from one place to another.
+fn words_between(first: u16, last: u16) -> usize
+    requires { first ≤ last }
+    ensures { result ≡ words_between first last }
+{
+    usize::from(last - first) / 2 + 1
+}
+
+impl RegionWords {
+    /// All words of the region, `None` where the bounds are not valid.
+    pub fn new(bounds: Bounds) -> Option<RegionWords>
+        ensures valid { IsNone result ↔ (region_words bounds ≡ 0) }
+        ensures bounds { IfSome result (λ words. words.bounds ≡ bounds) }
+        ensures read { IfSome result (λ words. words.read ≡ 0) }
+    {
+        if valid(&bounds) {
+            Some(RegionWords { bounds, read: 0 })
+        } else {
+            None
+        }
+    }
+
+    /// The read of the next word.
+    pub fn access(self) -> Access
+        ensures access { result ≡ read_at Word (region_place self.bounds self.read) }
+        ensures formed { IsFormed result }
+    {
+        Access::Read(self.place(), Size::Word)
+    }
+
+    #[tactic(auto, using(crate::proofs::ValidBounds::executable_ordered, crate::proofs::ValidBounds::output_even))]
+    fn place(self) -> u16
+        ensures place { result ≡ region_place self.bounds self.read }
+        ensures even { result % 2 ≡ 0 }
+    {
+        let bounds = self.bounds;
+        let executable = words_between(bounds.er_min, bounds.er_max);
+        if self.read < executable {
+            bounds.er_min + 2 * self.read as u16
+        } else {
+            bounds.or_min + 2 * (self.read - executable) as u16
+        }
+    }
+
+    /// What is left after the next word, `None` where it was the last.
+    #[tactic(auto, using(crate::proofs::ValidBounds::executable_ordered, crate::proofs::ValidBounds::output_ordered))]
+    pub fn rest(self) -> Option<RegionWords>
+        ensures last { IsNone result ↔ (self.read + 1 ≡ region_words self.bounds) }
+        ensures bounds { IfSome result (λ rest. rest.bounds ≡ self.bounds) }
+        ensures read { IfSome result (λ rest. rest.read ≡ self.read + 1) }
+    {
+        let bounds = self.bounds;
+        let executable = words_between(bounds.er_min, bounds.er_max);
+        let output = words_between(bounds.or_min, bounds.or_max);
+        let read = self.read + 1;
+        if read < executable + output {
+            Some(RegionWords { bounds, read })
+        } else {
+            None
+        }
+    }
+}

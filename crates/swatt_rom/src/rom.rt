@@ -1,0 +1,94 @@
+ghost use Rattle.std.specs.Prelude.{◌≡◌, [], ℕ, IfSome};
+ghost use Rattle.bus_signals.specs.Access.{IsFormed};
+ghost use Rattle.swatt_rom.specs.Call.{RomCall, NoCall, InCall, IsBetweenCalls, rom_access, rom_pc, rom_return, after_value};
+
+use crate::phase::Phase;
+use crate::state::State;
+use bus_signals::{Access, BusMaster};
+use hmac_core::{Digest32, Sha256Digest};
+use std::mem;
+
+/// The engine that makes the steps of a call. It gives each word of the region to a running hash as
+/// it reads it, and keeps no list of them.
+#[derive(Drop)]
+pub struct Rom<D> {
+    state: State<D>,
+}
+
+const _: () = prove!(size_of::<Rom<Sha256Digest>>() <= 2048);
+
+impl<D: Digest32> Rom<D> {
+    ghost use Rattle.swatt_rom.specs.Standing.{RomStandsFor, idle_rom};
+
+    /// An engine in no call.
+    pub fn new() -> Rom<D>
+        ensures stands { RomStandsFor D.has_taken D.digest_of result NoCall }
+        ensures idle { result ≡ idle_rom }
+    {
+        Rom { state: State::Idle }
+    }
+
+    /// Begins a call, with the processor's stack pointer; no call may be in progress.
+    pub fn begin(&mut self, sp: u16)
+        requires { (call : RomCall) × RomStandsFor D.has_taken D.digest_of self.old call × IsBetweenCalls call }
+        ensures { RomStandsFor D.has_taken D.digest_of self.new (InCall sp []) }
+    {
+        self.state = State::Calling {
+            sp,
+            phase: Phase::new(),
+        };
+    }
+
+    /// The `pc` of the next step of a call: A000 in the first, BFFE in the last and A002 in the others;
+    /// 0 where no call is in progress.
+    pub fn pc(&self) -> u16
+        ensures { (call : RomCall) →
+            RomStandsFor D.has_taken D.digest_of self.now call → result ≡ rom_pc call }
+    {
+        self.state.pc()
+    }
+
+    /// PC and SP after a call: there from its last step until the next call begins.
+    pub fn done(&self) -> Option<(u16, u16)>
+        ensures { (call : RomCall) →
+            RomStandsFor D.has_taken D.digest_of self.now call → result ≡ rom_return call }
+    {
+        self.state.registers()
+    }
+}
+
+impl<D: Digest32> BusMaster for Rom<D> {
+    ghost use Rattle.swatt_rom.specs.Standing.{RomStandsFor, idle_rom};
+
+    ghost Meaning = { RomCall };
+
+    ghost stands = { RomStandsFor D.has_taken D.digest_of };
+
+    ghost asks = { rom_access D.digest_of };
+
+    ghost takes = { λ call value. Unit {0} };
+
+    ghost moved = { after_value D.digest_of };
+
+    ghost cleared = { λ call. NoCall };
+
+    fn ask(&self) -> Option<Access>
+        ensures access { (call : RomCall) →
+            RomStandsFor D.has_taken D.digest_of self.now call → result ≡ rom_access D.digest_of call }
+        ensures formed { IfSome result IsFormed }
+    {
+        self.state.access()
+    }
+
+    fn take(&mut self, value: u16) {
+        let state = mem::replace(&mut self.state, State::Idle);
+        self.state = state.after(value);
+    }
+
+    fn clear(&mut self)
+        ensures stands { RomStandsFor D.has_taken D.digest_of self.new NoCall }
+        ensures wiped { self.new ≡ idle_rom }
+    {
+        *self = Rom::new();
+    }
+}
