@@ -1,15 +1,13 @@
 -- Upper-case digits, and a line of them.
-use Rattle.std.proofs.Common.{◌≡◌, ◌∙◌, ◌≢◌, ◌≤◌, ◌<◌, ◌+◌, ◌-◌, ◌/◌, ◌%◌, ℕ, zero, suc, Bool, true, List, [], ◌∷◌, ◌++◌, length, get_or, take, drop, length-append, refl, arith}
+use Rattle.std.proofs.Common.{◌≡◌, ◌≤◌, ◌<◌, ◌/◌, ◌%◌, ℕ, zero, suc, Bool, true, List, [], ◌∷◌, ◌++◌, length, get_or, refl, arith}
 use Rattle.std.specs.Prelude.{nat_le, ◌&&◌}
 use Rattle.std.specs.List.{list_all}
 use Rattle.std.specs.Char.{is_ascii_hexdigit}
-use Rattle.std.specs.Str.Lines.{lines, strip_carriage_return}
-use Rattle.std.proofs.Math.ListN.{get_or-append}
-use Rattle.std.proofs.Math.Seq.{get_or-append_seam, take-append_seam, drop-append-add}
-use Rattle.std.proofs.lemmas.Bool.{leb-true, ne_eqb}
+use Rattle.std.specs.Str.Lines.{lines}
+use Rattle.std.proofs.lemmas.Bool.{leb-true}
 use Rattle.std.proofs.lemmas.List.Sums.{AllPass-from_list_all}
 use Rattle.hex.specs.Hex.{encode_with, upper_digits, IsBytes}
-use Rattle.text_scan.proofs.FirstLine.{is_first_end, lines_cut}
+use Rattle.text_scan.proofs.FirstLine.{lines-line}
 
 -- digits and the colon lie behind CR and LF
 abbrev pub Behind : List ℕ → Type 0
@@ -53,18 +51,5 @@ hexdigits-encoded (byte ∷ bytes) fits =
     (both_true (is_ascii_hexdigit (get_or upper_digits (byte % 16) 0)) (list_all is_ascii_hexdigit (encode_with upper_digits bytes)) (hexdigit-digit (byte % 16) low) rest)
 
 -- such a line, ended by LF, is the first line of a text
-pub lines-line : (line rest : List ℕ) → 0 < length line → Behind line → lines (line ++ (10 ∷ rest)) ≡ line ∷ lines rest
-lines-line line rest some behind =
-    let text : List ℕ = line ++ (10 ∷ rest) in
-    let count : length text ≡ length line + suc (length rest) = length-append line (10 ∷ rest) in
-    let within : length line < length text = omega (arith, count) in
-    let at_end : get_or text (length line) 0 ≡ 10 = get_or-append_seam line 10 rest 0 in
-    let before : (k : ℕ) → k < length line → get_or text k 0 ≢ 10 =
-    λ k below same. omega (arith, behind k below, get_or-append line (10 ∷ rest) 0 k below, same) in
-    let end = is_first_end text (length line) (omega arith) before (λ _. at_end) in
-    let cut = lines_cut text (length line) within end in
-    let front : take (length line) text ≡ line = take-append_seam line (10 ∷ rest) in
-    let back : drop (length line + 1) text ≡ rest = drop-append-add line (10 ∷ rest) 1 in
-    let last : get_or line (length line - 1) 0 ≢ 13 = λ same. omega (arith, behind (length line - 1) (omega arith), same) in
-    let kept : strip_carriage_return line ≡ line = rw (ne_eqb (get_or line (length line - 1) 0) 13 last) refl in
-    cut ∙ rw (front, back, kept) refl
+pub lines-behind : (line rest : List ℕ) → 0 < length line → Behind line → lines (line ++ (10 ∷ rest)) ≡ line ∷ lines rest
+lines-behind line rest some behind = lines-line line rest some (λ k within. omega (arith, behind k within))

@@ -13,7 +13,7 @@ use Rattle.hex_loader.specs.HexImage.{base_after, has_ended, byte_after, byte_am
 use Rattle.hex_loader.specs.HexText.{begins, record_bytes, line_of, line_at, lines_below, end_line, hex_text}
 use Rattle.mem_map.specs.Placed.{IsImage}
 use Rattle.hex_loader.specs.ReadBack.{IsReadBack}
-use Rattle.hex_loader.proofs.Encoded.{behind-encoded, behind-line, lines-line}
+use Rattle.hex_loader.proofs.Encoded.{behind-encoded, behind-line, lines-behind}
 use Rattle.hex_loader.proofs.RecordRead.{record_line, written_bytes, record_in-line, record_of-written, IsBytes-written}
 use Rattle.hex_loader.proofs.Runs.{run-sound, run-short, run-bytes, run-places, byte_among-some, is_covered}
 
@@ -49,7 +49,7 @@ lines-line_at image is place below true rest before =
     let grouped : line_of place (record_bytes image place) ++ rest ≡ line_text image place ++ (10 ∷ rest) =
     append_assoc (line_text image place) (10 ∷ []) rest in
     ap (λ (text : List ℕ). reverse_aux before (lines text)) grouped
-    ∙ ap (reverse_aux before) (lines-line (line_text image place) rest (omega arith) behind)
+    ∙ ap (reverse_aux before) (lines-behind (line_text image place) rest (omega arith) behind)
 
 lines-lines_below : (image : ℕ → Option ℕ) → IsImage image → (place : ℕ) → place ≤ 65536 → (rest : List ℕ)
     → lines (lines_below image place ++ rest) ≡ reverse_aux (written image place) (lines rest)

@@ -58,28 +58,28 @@ unfolding lines_below
 lines_below-next image place = rw add-one refl
 
 -- the lines below a place begin those below a later one
-pub lines_below-front : (image : ℕ → Option ℕ) (first last : ℕ) → first ≤ last
+pub lines_below-prefix : (image : ℕ → Option ℕ) (first last : ℕ) → first ≤ last
     → (rest : List ℕ) × (lines_below image last ≡ lines_below image first ++ rest)
 unfolding lines_below
-lines_below-front image first zero order =
+lines_below-prefix image first zero order =
     let none : first ≡ 0 = omega arith in
     ([], rw none refl)
-lines_below-front image first (suc last) order =
+lines_below-prefix image first (suc last) order =
     elim (cases_lt last first) [
       | inl same ↦
           let is : first ≡ suc last = omega arith in
           ([], rw is (sym (append-nil (lines_below image (suc last)))))
       | inr below ↦
-          let before = lines_below-front image first last below in
+          let before = lines_below-prefix image first last below in
           (before.0 ++ line_at image last, rw before.1 (append_assoc (lines_below image first) before.0 (line_at image last)))
     ]
 
--- a front of a line is a front of the text, where the lines before it were taken
+-- a prefix of a line is a prefix of the text, where the lines before it were taken
 pub prefix_in_text : {S : Type 0} (stands : S → List ℕ → Type 0) (image : ℕ → Option ℕ) (old mid new : S) (place : ℕ) → place < 65536
     → Takes stands old mid (lines_below image place) → TakesPrefix stands mid new (line_at image place)
     → TakesPrefix stands old new (hex_text image)
-prefix_in_text stands image old mid new place within before front =
-    let rest = lines_below-front image (place + 1) 65536 (omega arith) in
-    let here = prefix_after stands old mid new (lines_below image place) (line_at image place) before front in
+prefix_in_text stands image old mid new place within before prefix =
+    let rest = lines_below-prefix image (place + 1) 65536 (omega arith) in
+    let here = prefix_after stands old mid new (lines_below image place) (line_at image place) before prefix in
     let all = prefix_of_more stands old new (lines_below image place ++ line_at image place) (rest.0 ++ end_line) here in
     rw (rest.1, append_assoc, lines_below-next) all

@@ -6,6 +6,8 @@ use Rattle.text_scan.specs.declared.fault_at.FaultAt.{FaultAt}
 use Rattle.text_scan.specs.declared.fault_kind.FaultKind.{FaultKind}
 use Rattle.text_scan.specs.declared.fault_kind.FaultKind.TheVariants.{AfterEnd, NoEnd, Place}
 use Rattle.part_definitions.specs.Memory.{is_image_place}
+use Rattle.mem_map.specs.declared.image.Image.{Image}
+use Rattle.mem_map.specs.Image.{byte_in}
 use Rattle.hex_loader.specs.HexRecord.{Meaning, Places, Ends, SetsBase, record_in}
 
 -- the base that a record sets
@@ -82,3 +84,16 @@ hex_fault text = option_or (first_fault (reverse (lines text))) (end_fault (reve
 -- the byte of its image at a place
 abbrev pub hex_byte : List ℕ → ℕ → Option ℕ
 hex_byte text = byte_after (reverse (lines text))
+
+-- its bytes by their places, or its first fault
+abbrev pub image_or_fault : Option FaultAt → (ℕ → Option ℕ) → Result (ℕ → Option ℕ) FaultAt
+image_or_fault None bytes = Ok bytes
+image_or_fault (Some fault) bytes = Err fault
+
+abbrev pub image_of : List ℕ → Result (ℕ → Option ℕ) FaultAt
+image_of text = image_or_fault (hex_fault text) (hex_byte text)
+
+-- an image that was read, as its bytes by their places
+abbrev pub image_in : {E : Type 0} → Result Image E → Result (ℕ → Option ℕ) E
+image_in (Ok image) = Ok (byte_in image)
+image_in (Err error) = Err error

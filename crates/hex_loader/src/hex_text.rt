@@ -1,9 +1,8 @@
-ghost use Rattle.std.specs.Prelude.{◌≡◌, ◌<◌, ◌≤◌, ℕ, Bool, List, Option, OnOk, OnErr};
+ghost use Rattle.std.specs.Prelude.{ℕ, Bool, List, Option};
 ghost use Rattle.part_definitions.specs.Memory.{PowerOn, MemoryWrite};
 ghost use Rattle.mem_map.specs.Image.{byte_in};
 ghost use Rattle.mem_map.specs.Memory.{MemoryStandsFor};
-ghost use Rattle.outside_edge.specs.Count.{Rose};
-ghost use Rattle.outside_edge.specs.Sink.{Takes, TakesPrefix};
+ghost use Rattle.outside_edge.specs.Sink.{Puts, CountsFaults};
 ghost use Rattle.hex_loader.specs.HexText.{line_at, hex_text};
 ghost use Rattle.hex_loader.specs.ReadBack.{ReadsBack};
 ghost use Rattle.hex_loader.specs.MemoryImage.{image_of};
@@ -14,41 +13,33 @@ use crate::record_line::line_of;
 use mem_map::{Image, Memory};
 use outside_edge::{Failed, Sink, put_all};
 
-/// Puts the text of an image, which reads as that image. After `Failed` the sink took a front of it.
+/// Puts the text of an image, which reads as that image. After `Failed` the sink took a prefix of it.
 pub fn write_hex<W: Sink>(image: &Image, sink: &mut W) -> Result<(), Failed>
-    ensures all { OnOk result (Takes W.stands sink.old sink.new (hex_text (byte_in image.now))) }
-    ensures prefix { OnErr result (TakesPrefix W.stands sink.old sink.new (hex_text (byte_in image.now))) }
+    ensures puts { Puts W.stands sink.old sink.new (hex_text (byte_in image.now)) result }
     ensures read_back { ReadsBack (byte_in image.now) }
-    ensures failed { OnErr result (Rose (W.faults sink.old) (W.faults sink.new)) }
-    ensures counted { W.faults sink.old ≤ W.faults sink.new }
+    ensures counts { CountsFaults W.faults sink.old sink.new result }
 {
     reads_back();
     write_places(image, sink)
 }
 
 /// Puts the bytes of RAM, program and vectors as the text of an image. After `Failed` the sink took a
-/// front of it.
+/// prefix of it.
 pub fn write_memory<W: Sink>(memory: &Memory, sink: &mut W) -> Result<(), Failed>
-    ensures all { OnOk result ((start : PowerOn) (exec : Bool) (writes : List MemoryWrite)
+    ensures puts { (start : PowerOn) (exec : Bool) (writes : List MemoryWrite)
         → MemoryStandsFor memory.now start exec writes
-        → Takes W.stands sink.old sink.new (hex_text (image_of start exec writes))) }
-    ensures prefix { OnErr result ((start : PowerOn) (exec : Bool) (writes : List MemoryWrite)
-        → MemoryStandsFor memory.now start exec writes
-        → TakesPrefix W.stands sink.old sink.new (hex_text (image_of start exec writes))) }
-    ensures failed { OnErr result (Rose (W.faults sink.old) (W.faults sink.new)) }
-    ensures counted { W.faults sink.old ≤ W.faults sink.new }
+        → Puts W.stands sink.old sink.new (hex_text (image_of start exec writes)) result }
+    ensures counts { CountsFaults W.faults sink.old sink.new result }
 {
     write_places(memory, sink)
 }
 
 /// Puts the text of these bytes.
 fn write_places<P: Places, W: Sink>(bytes: &P, sink: &mut W) -> Result<(), Failed>
-    ensures all { OnOk result ((image : ℕ → Option ℕ) → P.shows bytes.now image
-        → Takes W.stands sink.old sink.new (hex_text image)) }
-    ensures prefix { OnErr result ((image : ℕ → Option ℕ) → P.shows bytes.now image
-        → TakesPrefix W.stands sink.old sink.new (hex_text image)) }
-    ensures failed { OnErr result (Rose (W.faults sink.old) (W.faults sink.new)) }
-    ensures counted { W.faults sink.old ≤ W.faults sink.new }
+    ensures puts { (image : ℕ → Option ℕ)
+        → P.shows bytes.now image
+        → Puts W.stands sink.old sink.new (hex_text image) result }
+    ensures counts { CountsFaults W.faults sink.old sink.new result }
 {
     for place in 0..0x1_0000u32 {
         write_line_at(bytes, place as u16, sink)?;
@@ -58,12 +49,10 @@ fn write_places<P: Places, W: Sink>(bytes: &P, sink: &mut W) -> Result<(), Faile
 
 /// Puts the line of the record that begins at this place, where one does.
 fn write_line_at<P: Places, W: Sink>(bytes: &P, place: u16, sink: &mut W) -> Result<(), Failed>
-    ensures all { OnOk result ((image : ℕ → Option ℕ) → P.shows bytes.now image
-        → Takes W.stands sink.old sink.new (line_at image place)) }
-    ensures prefix { OnErr result ((image : ℕ → Option ℕ) → P.shows bytes.now image
-        → TakesPrefix W.stands sink.old sink.new (line_at image place)) }
-    ensures failed { OnErr result (Rose (W.faults sink.old) (W.faults sink.new)) }
-    ensures counted { W.faults sink.old ≤ W.faults sink.new }
+    ensures puts { (image : ℕ → Option ℕ)
+        → P.shows bytes.now image
+        → Puts W.stands sink.old sink.new (line_at image place) result }
+    ensures counts { CountsFaults W.faults sink.old sink.new result }
 {
     if !begins(bytes, place) {
         return Ok(());

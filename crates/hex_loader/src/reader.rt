@@ -5,7 +5,8 @@ ghost use Rattle.part_definitions.specs.Memory.{is_image_place};
 ghost use Rattle.mem_map.specs.Image.{byte_in};
 ghost use Rattle.text_scan.specs.declared.fault_at.FaultAt.{FaultAt};
 ghost use Rattle.hex_loader.specs.HexRecord.{meaning, record_in};
-ghost use Rattle.hex_loader.specs.HexImage.{byte_among, are_image_places, base_after, has_ended, byte_after, line_fault, hex_fault, hex_byte};
+ghost use Rattle.text_scan.specs.Reader.{Reads};
+ghost use Rattle.hex_loader.specs.HexImage.{image_in, image_of, byte_among, are_image_places, base_after, has_ended, byte_after, line_fault, hex_fault, hex_byte};
 
 use crate::hex_record::{HexRecord, MOST_BYTES, record_of_line};
 use mem_map::Image;
@@ -15,15 +16,12 @@ use text_scan::{FaultAt, FaultKind, Lines, TextFault};
 /// The image of an Intel HEX text, or the first fault of its first faulty line. Where no line has a
 /// fault and there is no end record, the fault `NoEnd` has the number of lines.
 pub fn read_hex(alloc: Global, text: &[u8]) -> Result<Image, TextFault>
-    ensures bytes { IfOk result (λ image.
-        (place : ℕ) → byte_in image place ≡ hex_byte text.now place) }
-    ensures whole { OnOk result (hex_fault text.now ≡ None) }
-    ensures fault { (fault : FaultAt)
-        → result ≡ Err (TextFault.At fault)
-        → hex_fault text.now ≡ Some fault }
+    ensures { Reads (image_in result) (image_of text.now) }
 {
-    let image = Image::new(alloc).map_err(TextFault::Memory)?;
-    read_into(image, text).map_err(TextFault::At)
+    match Image::new(alloc) {
+        Ok(image) => read_into(image, text).map_err(TextFault::At),
+        Err(error) => Err(TextFault::Memory(error)),
+    }
 }
 
 /// Reads a text into an empty image.

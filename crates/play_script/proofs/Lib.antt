@@ -1,2 +1,5 @@
 pub mod Steps
 pub mod ScriptLines
+pub mod EventLines
+pub mod FaultKinds
+pub mod ReadBack

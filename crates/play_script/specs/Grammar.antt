@@ -66,12 +66,12 @@ line_of words = do
   Ok (step, events.0)
 
 -- a line whose step is less than that of an earlier line is out of order
-abbrev pub ordered : ℕ → (ℕ × List Event) → Result (ℕ × List Event) FaultKind
-ordered greatest line = if nat_lt line.0 greatest then Err Order else Ok line
+abbrev pub in_order : ℕ → (ℕ × List Event) → Result (ℕ × List Event) FaultKind
+in_order greatest line = if nat_lt line.0 greatest then Err Order else Ok line
 
 -- what a line with its number says, where `greatest` is the greatest step of the lines before
 abbrev pub entry_of : ℕ → (ℕ × List ℕ) → Result (ℕ × List Event) FaultAt
-entry_of greatest line = in_line line.0 (line_of (words_of line.1) >>= ordered greatest)
+entry_of greatest line = in_line line.0 (line_of (words_of line.1) >>= in_order greatest)
 
 -- events with the step of their line
 abbrev pub timed_events : (ℕ × List Event) → List TimedEvent

@@ -1,3 +1,5 @@
 pub mod Script
 pub mod Grammar
 pub mod Happening
+pub mod Meaning
+pub mod ScriptText

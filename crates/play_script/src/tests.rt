@@ -71,6 +71,32 @@ fn the_first_fault_counts(rt: HostRuntime) {
 }
 
 #[test]
+fn a_long_word_and_many_lines_have_their_events(rt: HostRuntime) -> Result<(), Fail> {
+    let alloc = rt.alloc();
+    let mut text = b"at 7 rx ".to_vec(alloc)?;
+    for number in 0..20_000u16 {
+        let [byte, _] = (number / 256).wrapping_add(number).to_le_bytes();
+        text.push(b"0123456789abcdef"[usize::from(byte / 16)])?;
+        text.push(b"0123456789abcdef"[usize::from(byte % 16)])?;
+    }
+    for step in 10..5_000 {
+        text.extend_from_slice(format!(in alloc; "\nat {step} p1 0012")?.as_bytes())?;
+    }
+    let Ok(script) = read_script(alloc, text.as_slice()) else {
+        panic!(rt; "the script is in its form");
+    };
+    assert_eq!(rt; script.events_at(7).len(), 20_000);
+    for (number, event) in script.events_at(7).iter().enumerate() {
+        let [byte, ..] = (number / 256).wrapping_add(number).to_le_bytes();
+        assert!(rt; *event == Event::Rx(byte), "at {number}");
+    }
+    for step in 10..5_000 {
+        assert!(rt; script.events_at(step) == [Event::Pins(0x12)].as_slice());
+    }
+    Ok(())
+}
+
+#[test]
 fn utf8_comes_before_all_else(rt: HostRuntime) {
     let rows: [(&[u8], u64); 3] = [
         (b"at x\n# \xFF", 2),
