@@ -1,3 +1,3 @@
+pub mod Activity
+pub mod Dma
 pub mod Distance
-pub mod Progress
-pub mod Standing

@@ -26,7 +26,7 @@ pub enum Activity {
 }
 
 impl Activity {
-    ghost use Rattle.dma_engine.specs.Progress.{ActivityStandsFor};
+    ghost use Rattle.dma_engine.specs.Activity.{ActivityStandsFor};
 
     /// The beginning of a transfer; of no words there is none.
     pub fn begin(source: u16, destination: u16, words: u16) -> Activity
@@ -45,9 +45,10 @@ impl Activity {
 
     /// What it does after a start, which is ignored while a transfer is active.
     pub fn started(self, source: u16, destination: u16, words: u16) -> Activity
-        ensures { (progress : Transfer) →
-            ActivityStandsFor self progress →
-            ActivityStandsFor result (after_start progress (new_transfer source destination words)) }
+        ensures { (transfer : Transfer)
+            → ActivityStandsFor self transfer
+            → ActivityStandsFor result
+            (after_start transfer (new_transfer source destination words)) }
     {
         if self.is_active() {
             self
@@ -57,15 +58,15 @@ impl Activity {
     }
 
     pub fn is_active(self) -> bool
-        ensures { (progress : Transfer) →
-            ActivityStandsFor self progress → result ≡ is_active progress }
+        ensures { (transfer : Transfer)
+            → ActivityStandsFor self transfer → result ≡ is_active transfer }
     {
         !matches!(self, Activity::Idle)
     }
 
     pub fn access(self) -> Option<Access>
-        ensures access { (progress : Transfer) →
-            ActivityStandsFor self progress → result ≡ transfer_access progress }
+        ensures access { (transfer : Transfer)
+            → ActivityStandsFor self transfer → result ≡ transfer_access transfer }
         ensures formed { IfSome result IsFormed }
     {
         match self {
@@ -77,8 +78,9 @@ impl Activity {
 
     /// What it does after the access was made and gave this value.
     pub fn after(self, value: u16) -> Activity
-        ensures { (progress : Transfer) →
-            ActivityStandsFor self progress → ActivityStandsFor result (with_value progress value) }
+        ensures { (transfer : Transfer)
+            → ActivityStandsFor self transfer
+            → ActivityStandsFor result (with_value transfer value) }
     {
         match self {
             Activity::Idle => Activity::Idle,

@@ -1,6 +1,7 @@
-ghost use Rattle.std.specs.Prelude.{◌≡◌, false, not, [], ◌∷◌, List, IfSome};
+ghost use Rattle.std.specs.Prelude.{◌≡◌, false, [], ◌∷◌, List, IfSome};
 ghost use Rattle.bus_signals.specs.Access.{IsFormed};
-ghost use Rattle.part_definitions.specs.Dma.{DmaEvent, Started, Written, Took, Cleared, dma_read, dma_word, dma_access, transfer_of, is_active};
+ghost use Rattle.part_definitions.specs.Part.{Takes, Answers};
+ghost use Rattle.part_definitions.specs.Dma.{DmaEvent, Started, Written, Took, Cleared, dma_read, dma_word, dma_access, is_free};
 
 use crate::activity::Activity;
 use bus_signals::{Access, BusMaster};
@@ -15,8 +16,8 @@ const DDST: u16 = 0x01E4;
 
 const DLEN: u16 = 0x01E6;
 
-/// The DMA engine. DCTL reads 1 while a transfer is active; a write of bit 0 starts one, from DSRC to
-/// DDST, of DLEN words. Bit 0 of both addresses is ignored, and both grow modulo 65,536.
+/// The DMA engine. DCTL reads 1 while a transfer is active; a write of bit 0 starts one, from DSRC
+/// to DDST, of DLEN words. Bit 0 of both addresses is ignored, and both grow modulo 65,536.
 #[derive(Clone, Copy, Debug)]
 pub struct Dma {
     source: Register,
@@ -26,7 +27,7 @@ pub struct Dma {
 }
 
 impl Dma {
-    ghost use Rattle.dma_engine.specs.Standing.{DmaStandsFor};
+    ghost use Rattle.dma_engine.specs.Dma.{DmaStandsFor};
 
     /// An engine that is not active, with all registers 0.
     pub fn new() -> Dma
@@ -42,16 +43,14 @@ impl Dma {
 
     /// What a read gives; 0 where there is no register of the engine.
     pub fn read(&self, place: u16, size: Size) -> u16
-        ensures { (events : List DmaEvent) →
-            DmaStandsFor self.now events → result ≡ dma_read events place size }
+        ensures { Answers DmaStandsFor self.now (λ events. dma_read events place size) result }
     {
         part_of_word(self.word(register_place(place)), place, size)
     }
 
     // The word of the register at this even address.
     fn word(&self, register: u16) -> u16
-        ensures { (events : List DmaEvent) →
-            DmaStandsFor self.now events → result ≡ dma_word events register }
+        ensures { Answers DmaStandsFor self.now (λ events. dma_word events register) result }
     {
         match register {
             DCTL => u16::from(self.activity.is_active()),
@@ -65,9 +64,7 @@ impl Dma {
     /// A write of the processor. One that covers the low byte of DCTL and has bit 0 set starts a
     /// transfer where none is active: its first access is for the next step.
     pub fn write(&mut self, place: u16, size: Size, value: u16)
-        ensures { (events : List DmaEvent) →
-            DmaStandsFor self.old events →
-            DmaStandsFor self.new (Written place size value ∷ events) }
+        ensures { Takes DmaStandsFor self.old (Written place size value) self.new }
     {
         if covers_byte(place, size, DCTL) && value % 2 == 1 {
             self.activity = self.activity.started(
@@ -81,14 +78,12 @@ impl Dma {
         self.length.write(place, size, value);
     }
 
-    /// A start from outside, which leaves the registers as they are: its first access is for this step.
-    /// The answer is false while a transfer is active, and nothing changes.
+    /// A start from outside, which leaves the registers as they are: its first access is for this
+    /// step. The answer is false while a transfer is active, and nothing changes.
     pub fn start(&mut self, src: u16, dst: u16, len: u16) -> bool
-        ensures starts { (events : List DmaEvent) →
-            DmaStandsFor self.old events → result ≡ not (is_active (transfer_of events)) }
+        ensures starts { Answers DmaStandsFor self.old is_free result }
         ensures refused { result ≡ false → self.new ≡ self.old }
-        ensures stands { (events : List DmaEvent) →
-            DmaStandsFor self.old events → DmaStandsFor self.new (Started src dst len ∷ events) }
+        ensures stands { Takes DmaStandsFor self.old (Started src dst len) self.new }
     {
         if self.activity.is_active() {
             return false;
@@ -99,7 +94,7 @@ impl Dma {
 }
 
 impl BusMaster for Dma {
-    ghost use Rattle.dma_engine.specs.Standing.{DmaStandsFor};
+    ghost use Rattle.dma_engine.specs.Dma.{DmaStandsFor};
 
     ghost Meaning = { List DmaEvent };
 
@@ -111,11 +106,10 @@ impl BusMaster for Dma {
 
     ghost moved = { λ events value. Took value ∷ events };
 
-    ghost cleared = { λ events. [] };
+    ghost cleared = { λ events. Cleared ∷ events };
 
     fn ask(&self) -> Option<Access>
-        ensures access { (events : List DmaEvent) →
-            DmaStandsFor self.now events → result ≡ dma_access events }
+        ensures access { Answers DmaStandsFor self.now dma_access result }
         ensures formed { IfSome result IsFormed }
     {
         self.activity.access()
@@ -125,42 +119,7 @@ impl BusMaster for Dma {
         self.activity = self.activity.after(value);
     }
 
-    fn clear(&mut self)
-        ensures cleared { DmaStandsFor self.new [] }
-        ensures stands { (events : List DmaEvent) → DmaStandsFor self.new (Cleared ∷ events) }
-    {
+    fn clear(&mut self) {
         *self = Dma::new();
-    }
-}
-
-#[cfg(test)]
-mod tests {
-    use super::*;
-
-    // What the master asks for in this step, in which its access gives the value.
-    fn step<M: BusMaster>(master: &mut M, value: u16) -> Option<Access>
-        requires { (meaning : M.Meaning) → M.takes meaning value }
-    {
-        let asked = master.ask();
-        if asked.is_some() {
-            master.take(value);
-        }
-        asked
-    }
-
-    #[test]
-    fn wraps_at_the_top(rt: HostRuntime) {
-        let mut dma = Dma::new();
-        assert!(rt; dma.start(0xFFFE, 0x0301, 2));
-        let steps = [
-            (0x1234, Some(Access::Read(0xFFFE, Size::Word))),
-            (0, Some(Access::Write(0x0300, Size::Word, 0x1234))),
-            (0x5678, Some(Access::Read(0x0000, Size::Word))),
-            (0, Some(Access::Write(0x0302, Size::Word, 0x5678))),
-            (0, None),
-        ];
-        for (value, asked) in steps {
-            assert_eq!(rt; step(&mut dma, value), asked);
-        }
     }
 }

@@ -1,2 +1,2 @@
-pub mod Counting
-pub mod Ticks
+pub mod Remainder
+pub mod Tick

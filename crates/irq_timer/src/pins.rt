@@ -1,4 +1,5 @@
-ghost use Rattle.std.specs.Prelude.{◌≡◌, ℕ, List, [], ◌∷◌};
+ghost use Rattle.std.specs.Prelude.{[]};
+ghost use Rattle.part_definitions.specs.Part.{Takes, Answers};
 ghost use Rattle.part_definitions.specs.Pins.{pins_word};
 
 /// The 16 pins of port 1, which P1IN reads. They are 0 until they are set, and a reset leaves them.
@@ -8,7 +9,7 @@ pub struct Pins {
 }
 
 impl Pins {
-    ghost use Rattle.irq_timer.specs.Standing.{PinsStandFor};
+    ghost use Rattle.irq_timer.specs.Pins.{PinsStandFor};
 
     pub fn new() -> Pins
         ensures { PinsStandFor result [] }
@@ -17,14 +18,13 @@ impl Pins {
     }
 
     pub fn set(&mut self, word: u16)
-        ensures { (words : List ℕ) →
-            PinsStandFor self.old words → PinsStandFor self.new (word ∷ words) }
+        ensures { Takes PinsStandFor self.old word self.new }
     {
         self.word = word;
     }
 
     pub fn get(&self) -> u16
-        ensures { (words : List ℕ) → PinsStandFor self.now words → result ≡ pins_word words }
+        ensures { Answers PinsStandFor self.now pins_word result }
     {
         self.word
     }

@@ -1,4 +1,5 @@
 ghost use Rattle.std.specs.Prelude.{◌≡◌, true, false, [], ◌∷◌, List};
+ghost use Rattle.part_definitions.specs.Part.{Takes, Answers};
 ghost use Rattle.part_definitions.specs.Timer.{TimerEvent, Ticked, Written, Accepted, Cleared, timer_runs, timer_read, timer_word, timer_requests};
 
 use peripheral_register::{Register, part_of_word, register_place};
@@ -10,8 +11,8 @@ const TCNT: u16 = 0x0162;
 
 const TCMP: u16 = 0x0164;
 
-/// The timer. While bit 0 of TCTL is set, TCNT counts steps from 0 to TCMP and again from 0, and raises
-/// the flag where it comes to 0. Bit 1 of TCTL enables the interrupt.
+/// The timer. While bit 0 of TCTL is set, TCNT counts steps from 0 to TCMP and again from 0, and
+/// raises the flag where it comes to 0. Bit 1 of TCTL enables the interrupt.
 #[derive(Clone, Copy, Debug)]
 pub struct Timer {
     control: Register,
@@ -23,7 +24,7 @@ pub struct Timer {
 }
 
 impl Timer {
-    ghost use Rattle.irq_timer.specs.Standing.{TimerStandsFor};
+    ghost use Rattle.irq_timer.specs.Timer.{TimerStandsFor};
 
     /// A timer that is stopped, with all registers 0.
     pub fn new() -> Timer
@@ -40,16 +41,14 @@ impl Timer {
 
     /// What a read gives; 0 where there is no register of the timer.
     pub fn read(&self, place: u16, size: Size) -> u16
-        ensures { (events : List TimerEvent) →
-            TimerStandsFor self.now events → result ≡ timer_read events place size }
+        ensures { Answers TimerStandsFor self.now (λ events. timer_read events place size) result }
     {
         part_of_word(self.word(register_place(place)), place, size)
     }
 
     // The word of the register at this even address.
     fn word(&self, register: u16) -> u16
-        ensures { (events : List TimerEvent) →
-            TimerStandsFor self.now events → result ≡ timer_word events register }
+        ensures { Answers TimerStandsFor self.now (λ events. timer_word events register) result }
     {
         match register {
             TCTL => self.control.word() % 4,
@@ -59,12 +58,10 @@ impl Timer {
         }
     }
 
-    /// A write of the processor. One that covers a byte of TCTL or TCMP sets TCNT to 0 and lowers the
-    /// flag.
+    /// A write of the processor. One that covers a byte of TCTL or TCMP sets TCNT to 0 and lowers
+    /// the flag.
     pub fn write(&mut self, place: u16, size: Size, value: u16)
-        ensures { (events : List TimerEvent) →
-            TimerStandsFor self.old events →
-            TimerStandsFor self.new (Written place size value ∷ events) }
+        ensures { Takes TimerStandsFor self.old (Written place size value) self.new }
     {
         self.control.write(place, size, value);
         self.compare.write(place, size, value);
@@ -80,8 +77,7 @@ impl Timer {
 
     /// The end of a step. It counts, but not in the step of a write that set TCNT to 0.
     pub fn tick(&mut self)
-        ensures { (events : List TimerEvent) →
-            TimerStandsFor self.old events → TimerStandsFor self.new (Ticked ∷ events) }
+        ensures { Takes TimerStandsFor self.old Ticked self.new }
     {
         if self.fresh {
             self.fresh = false;
@@ -92,10 +88,10 @@ impl Timer {
 
     // Counts one step.
     fn advance(&mut self)
-        ensures { (events : List TimerEvent) →
-            TimerStandsFor self.old events →
-            self.old.fresh ≡ false → timer_runs events ≡ true →
-            TimerStandsFor self.new (Ticked ∷ events) }
+        ensures { (events : List TimerEvent)
+            → TimerStandsFor self.old events
+            → self.old.fresh ≡ false → timer_runs events ≡ true
+            → TimerStandsFor self.new (Ticked ∷ events) }
     {
         if self.count < self.compare.word() {
             self.count += 1;
@@ -106,61 +102,29 @@ impl Timer {
     }
 
     fn runs(&self) -> bool
-        ensures { (events : List TimerEvent) →
-            TimerStandsFor self.now events → result ≡ timer_runs events }
+        ensures { Answers TimerStandsFor self.now timer_runs result }
     {
         self.control.word() % 2 == 1
     }
 
     /// Whether the timer asks for an interrupt.
     pub fn request(&self) -> bool
-        ensures { (events : List TimerEvent) →
-            TimerStandsFor self.now events → result ≡ timer_requests events }
+        ensures { Answers TimerStandsFor self.now timer_requests result }
     {
         self.flag && self.control.word() / 2 % 2 == 1
     }
 
     /// The first step of the timer's interrupt entry: the flag falls.
     pub fn accept(&mut self)
-        ensures { (events : List TimerEvent) →
-            TimerStandsFor self.old events → TimerStandsFor self.new (Accepted ∷ events) }
+        ensures { Takes TimerStandsFor self.old Accepted self.new }
     {
         self.flag = false;
     }
 
     /// A reset.
     pub fn clear(&mut self)
-        ensures { (events : List TimerEvent) → TimerStandsFor self.new (Cleared ∷ events) }
+        ensures { Takes TimerStandsFor self.old Cleared self.new }
     {
         *self = Timer::new();
-    }
-}
-
-#[cfg(test)]
-mod tests {
-    use super::*;
-
-    // The first of these steps at whose end the timer asks for an interrupt.
-    fn rises(timer: &mut Timer, first: u32, last: u32) -> Option<u32> {
-        for step in first..=last {
-            timer.tick();
-            if timer.request() {
-                return Some(step);
-            }
-        }
-        None
-    }
-
-    #[test]
-    fn counts_ten_steps(rt: HostRuntime) {
-        let mut timer = Timer::new();
-        timer.write(0x0164, Size::Word, 9);
-        timer.tick();
-        timer.write(0x0160, Size::Word, 3);
-        timer.tick();
-        assert_eq!(rt; rises(&mut timer, 11, 40), Some(20));
-        timer.accept();
-        assert_eq!(rt; rises(&mut timer, 21, 40), Some(30));
-        assert_eq!(rt; timer.read(0x0162, Size::Word), 0);
     }
 }

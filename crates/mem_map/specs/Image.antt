@@ -9,7 +9,8 @@ byte_in image place = slice_index_or image.bytes.items place None
 
 -- powered on with a key and an image
 abbrev pub powered_with : List ℕ → (ℕ → Option ℕ) → PowerOn
-powered_with key image = record { key = λ i. slice_index key i; image = λ place. unwrap_or (image place) 0 }
+powered_with key image =
+    record { key = λ i. slice_index key i; image = λ place. unwrap_or (image place) 0 }
 
 abbrev pub powered_on : List ℕ → Image → PowerOn
 powered_on key image = powered_with key (byte_in image)

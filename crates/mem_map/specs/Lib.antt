@@ -1,3 +1,4 @@
 pub mod Image
 pub mod Memory
 pub mod Placed
+pub mod Span

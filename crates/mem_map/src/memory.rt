@@ -3,9 +3,13 @@ ghost use Rattle.word_arith.specs.declared.size.Size.{Size};
 ghost use Rattle.part_definitions.specs.Memory.{PowerOn, MemoryWrite, byte_at, number_at, with_number, bytes_from, is_ram, is_program};
 ghost use Rattle.part_definitions.specs.Metadata.{bounds_in};
 ghost use Rattle.mem_map.specs.Image.{powered_on};
+ghost use Rattle.mem_map.specs.Span.{is_span};
 
 use crate::image::Image;
-use crate::place::{PLACES, is_image_place, lies_in, rom_byte, takes_write};
+use crate::place::{
+    ER_MAX, ER_MIN, EXEC_WORD, OR_MAX, OR_MIN, PLACES, is_image_place, is_span, lies_in, rom_byte,
+    takes_write,
+};
 use bus_signals::{Bounds, CR, KR};
 use std::alloc::{AllocError, Global};
 use word_arith::Size;
@@ -33,7 +37,7 @@ pub struct Memory {
 }
 
 impl Memory {
-    ghost use Rattle.mem_map.specs.Memory.{MemoryStandsFor};
+    ghost use Rattle.mem_map.specs.Memory.{MemoryStandsFor, Tells, Writes};
 
     /// The memory at power-on.
     pub fn new(alloc: Global, key: &[u8; 64], image: &Image) -> Result<Memory, AllocError>
@@ -48,17 +52,14 @@ impl Memory {
     }
 
     fn byte(&self, place: u16) -> u8
-        ensures { (start : PowerOn) (exec : Bool) (writes : List MemoryWrite)
-            → MemoryStandsFor self.now start exec writes
-            → result ≡ byte_at start exec writes place }
+        ensures { Tells self.now (λ bytes. bytes place) result }
     {
         self.bytes[usize::from(place)]
     }
 
     fn set_byte(&mut self, place: u16, byte: u8)
-        ensures { (start : PowerOn) (exec : Bool) (writes : List MemoryWrite)
-            → MemoryStandsFor self.old start exec writes
-            → MemoryStandsFor self.new start exec (record { place = place; byte = byte } ∷ writes) }
+        ensures { Writes self.old
+            (λ writes. record { place = place; byte = byte } ∷ writes) self.new }
     {
         if takes_write(place) {
             self.bytes[usize::from(place)] = byte;
@@ -67,9 +68,7 @@ impl Memory {
 
     /// The byte or the little-endian word at a place. The address of a word has bit 0 cleared.
     pub fn read(&self, place: u16, size: Size) -> u16
-        ensures { (start : PowerOn) (exec : Bool) (writes : List MemoryWrite)
-            → MemoryStandsFor self.now start exec writes
-            → result ≡ number_at (byte_at start exec writes) place size }
+        ensures { Tells self.now (λ bytes. number_at bytes place size) result }
     {
         match size {
             Size::Byte => u16::from(self.byte(place)),
@@ -83,9 +82,7 @@ impl Memory {
     /// Writes a byte or a little-endian word. The address of a word has bit 0 cleared. Where the
     /// memory map takes no write nothing changes.
     pub fn write(&mut self, place: u16, size: Size, value: u16)
-        ensures { (start : PowerOn) (exec : Bool) (writes : List MemoryWrite)
-            → MemoryStandsFor self.old start exec writes
-            → MemoryStandsFor self.new start exec (with_number place size value writes) }
+        ensures { Writes self.old (with_number place size value) self.new }
     {
         let [low, high] = value.to_le_bytes();
         match size {
@@ -98,42 +95,35 @@ impl Memory {
         }
     }
 
-    /// Shows the EXEC flag at byte 0268.
+    /// Shows the EXEC flag in the EXEC word of the metadata.
     pub fn set_exec(&mut self, on: bool)
         ensures { (start : PowerOn) (exec : Bool) (writes : List MemoryWrite)
             → MemoryStandsFor self.old start exec writes
             → MemoryStandsFor self.new start on writes }
     {
-        self.bytes[0x0268] = u8::from(on);
+        self.bytes[usize::from(EXEC_WORD)] = u8::from(on);
     }
 
     /// The bounds of the executable and the output region, as the metadata has them.
     pub fn bounds(&self) -> Bounds
-        ensures { (start : PowerOn) (exec : Bool) (writes : List MemoryWrite)
-            → MemoryStandsFor self.now start exec writes
-            → result ≡ bounds_in (byte_at start exec writes) }
+        ensures { Tells self.now bounds_in result }
     {
         Bounds {
-            er_min: self.read(0x0260, Size::Word),
-            er_max: self.read(0x0262, Size::Word),
-            or_min: self.read(0x0264, Size::Word),
-            or_max: self.read(0x0266, Size::Word),
+            er_min: self.read(ER_MIN, Size::Word),
+            er_max: self.read(ER_MAX, Size::Word),
+            or_min: self.read(OR_MIN, Size::Word),
+            or_max: self.read(OR_MAX, Size::Word),
         }
     }
 
-    /// The bytes of a range that lies wholly in RAM, or wholly in program and vectors; `last` is the
-    /// address of its last byte.
+    /// The bytes of a range that lies wholly in RAM, or wholly in program and vectors; `last` is
+    /// the address of its last byte.
     pub fn span(&self, first: u16, last: u16) -> Option<&[u8]>
-        ensures within { IsSome result ↔ IsTrue (nat_le first last
-            && ((is_ram first && is_ram last) || (is_program first && is_program last))) }
-        ensures bytes { (start : PowerOn) (exec : Bool) (writes : List MemoryWrite)
-            → MemoryStandsFor self.now start exec writes
-            → IfSome result (λ bytes.
-            bytes.now ≡ bytes_from (byte_at start exec writes) first (last + 1 - first)) }
+        ensures within { IsSome result ↔ IsTrue (is_span first last) }
+        ensures bytes { IfSome result (λ piece.
+            Tells self.now (λ bytes. bytes_from bytes first (last + 1 - first)) piece.now) }
     {
-        let is_ram = 0x0200 <= first && last <= 0x21FF;
-        let is_program = 0xC000 <= first;
-        if first <= last && (is_ram || is_program) {
+        if is_span(first, last) {
             Some(&self.bytes[usize::from(first)..usize::from(last) + 1])
         } else {
             None

@@ -1,11 +1,40 @@
 ghost use Rattle.std.specs.Prelude.{◌≡◌};
-ghost use Rattle.part_definitions.specs.Memory.{is_image_place, is_exec_word, takes_write, rom_byte};
 ghost use Rattle.bus_signals.specs.Map.{lies_in};
+ghost use Rattle.part_definitions.specs.Memory.{is_image_place, takes_write, rom_byte};
+ghost use Rattle.mem_map.specs.Span.{is_span};
 
 use bus_signals::{Region, XS};
 
 /// How many places the address space has.
 pub const PLACES: usize = 0x1_0000;
+
+/// RAM; MAC and metadata are parts of it.
+const RAM: Region = Region {
+    first: 0x0200,
+    last: 0x21FF,
+};
+
+/// The program, and the vectors above it.
+const PROGRAM: Region = Region {
+    first: 0xC000,
+    last: 0xFFFF,
+};
+
+/// The metadata's bounds and its EXEC word (APEX).
+pub const ER_MIN: u16 = 0x0260;
+
+pub const ER_MAX: u16 = 0x0262;
+
+pub const OR_MIN: u16 = 0x0264;
+
+pub const OR_MAX: u16 = 0x0266;
+
+pub const EXEC_WORD: u16 = 0x0268;
+
+/// The two bytes of the attestation ROM's last word.
+const ROM_EXIT: u16 = 0xBFFE;
+
+const ROM_LAST: u16 = 0xBFFF;
 
 /// Whether a place lies in a region.
 pub fn lies_in(region: Region, place: u16) -> bool
@@ -18,14 +47,24 @@ pub fn lies_in(region: Region, place: u16) -> bool
 pub fn is_image_place(place: u16) -> bool
     ensures { result ≡ is_image_place place }
 {
-    matches!(place, 0x0200..=0x21FF | 0xC000..)
+    lies_in(RAM, place) || lies_in(PROGRAM, place)
+}
+
+/// Whether the bytes from one place to another lie wholly in RAM, or wholly in program and vectors.
+pub fn is_span(first: u16, last: u16) -> bool
+    ensures { result ≡ is_span first last }
+{
+    first <= last
+        && ((lies_in(RAM, first) && lies_in(RAM, last))
+            || (lies_in(PROGRAM, first) && lies_in(PROGRAM, last)))
 }
 
 /// Whether a write to this place leaves its byte there.
 pub fn takes_write(place: u16) -> bool
     ensures { result ≡ takes_write place }
 {
-    (is_image_place(place) && !matches!(place, 0x0268 | 0x0269)) || lies_in(XS, place)
+    let is_exec_word = EXEC_WORD <= place && place <= EXEC_WORD + 1;
+    (is_image_place(place) && !is_exec_word) || lies_in(XS, place)
 }
 
 /// What the attestation ROM reads as at this place.
@@ -33,8 +72,8 @@ pub fn rom_byte(place: u16) -> u8
     ensures { result ≡ rom_byte place }
 {
     match place {
-        0xBFFE => 0x30,
-        0xBFFF => 0x41,
+        ROM_EXIT => 0x30,
+        ROM_LAST => 0x41,
         _ if place % 2 == 0 => 0x03,
         _ => 0x43,
     }

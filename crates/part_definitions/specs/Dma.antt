@@ -1,10 +1,10 @@
 -- The DMA engine: its registers and its accesses, by what happened to it.
-use Rattle.std.specs.Prelude.{◌==◌, ◌&&◌, ◌+◌, ◌*◌, ◌/◌, ◌%◌, ℕ, Bool, List, [], ◌∷◌, length, if◌then◌else◌, nat_lt, Option, Some, None}
+use Rattle.std.specs.Prelude.{◌==◌, ◌&&◌, ◌+◌, ◌*◌, ◌/◌, ◌%◌, ℕ, Bool, List, [], ◌∷◌, length, if◌then◌else◌, not, nat_lt, Option, Some, None}
 use Rattle.word_arith.specs.declared.size.Size.{Size}
 use Rattle.word_arith.specs.declared.size.Size.TheVariants.{Word}
 use Rattle.bus_signals.specs.declared.access.Access.{Access}
 use Rattle.bus_signals.specs.declared.access.Access.TheVariants.{Read, Write}
-use Rattle.part_definitions.specs.PeripheralRegister.{RegisterWrite, register_of, register_word, covers, part_of}
+use Rattle.part_definitions.specs.PeripheralRegister.{RegisterWrite, register_write, register_of, register_word, covers, part_of}
 
 -- DCTL starts a transfer, from DSRC to DDST, of DLEN words
 abbrev pub DMA_CONTROL : ℕ
@@ -19,8 +19,9 @@ DMA_DESTINATION = 0x01E4
 abbrev pub DMA_LENGTH : ℕ
 DMA_LENGTH = 0x01E6
 
--- what happened to the engine, in lists the newest first: a start from outside (source, destination,
--- number of words), a write of the processor, a value for the access that it asked for, a reset
+-- what happened to the engine, in lists the newest first: a start from outside (source,
+-- destination, number of words), a write of the processor, a value for the access that it asked
+-- for, a reset
 pub data DmaEvent : Type 0 where
   Started : ℕ → ℕ → ℕ → DmaEvent
   Written : ℕ → Size → ℕ → DmaEvent
@@ -32,7 +33,7 @@ abbrev pub dma_writes : List DmaEvent → List RegisterWrite
 dma_writes [] = []
 dma_writes (Started source destination words ∷ events) = dma_writes events
 dma_writes (Written place size number ∷ events) =
-    record { place = place; size = size; number = number } ∷ dma_writes events
+    register_write place size number ∷ dma_writes events
 dma_writes (Took value ∷ events) = dma_writes events
 dma_writes (Cleared ∷ events) = []
 
@@ -85,6 +86,14 @@ transfer_of (Written place size number ∷ events) =
 transfer_of (Took value ∷ events) = with_value (transfer_of events) value
 transfer_of (Cleared ∷ events) = new_transfer 0 0 0
 
+-- a transfer is active
+abbrev pub dma_is_active : List DmaEvent → Bool
+dma_is_active events = is_active (transfer_of events)
+
+-- the engine would take a start
+abbrev pub is_free : List DmaEvent → Bool
+is_free events = not (dma_is_active events)
+
 -- the place of word i from this address on; bit 0 of the address is ignored
 abbrev pub place_of_word : ℕ → ℕ → ℕ
 place_of_word address i = (address / 2 * 2 + 2 * i) % 65536
@@ -111,7 +120,7 @@ dma_access events = transfer_access (transfer_of events)
 -- what the registers hold; no other place is a register of the engine
 abbrev pub dma_word : List DmaEvent → ℕ → ℕ
 dma_word events register =
-    if register == DMA_CONTROL then (if is_active (transfer_of events) then 1 else 0)
+    if register == DMA_CONTROL then (if dma_is_active events then 1 else 0)
     else if register == DMA_SOURCE then register_word (dma_writes events) DMA_SOURCE
     else if register == DMA_DESTINATION then register_word (dma_writes events) DMA_DESTINATION
     else if register == DMA_LENGTH then register_word (dma_writes events) DMA_LENGTH

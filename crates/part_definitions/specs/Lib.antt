@@ -13,6 +13,7 @@ pub mod Hmac
 pub mod Attestation
 pub mod Monitors
 pub mod Flag
+pub mod Part
 pub mod PeripheralRegister
 pub mod Pins
 pub mod Serial

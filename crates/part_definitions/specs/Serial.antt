@@ -1,7 +1,7 @@
 -- The serial port: its receive queue and its registers, by what happened to it.
 use Rattle.std.specs.Prelude.{◌==◌, ◌&&◌, ◌||◌, ◌+◌, ◌%◌, ◌++◌, ℕ, Bool, false, List, [], ◌∷◌, length, drop, if◌then◌else◌, not, nat_lt, Option, Some, None}
 use Rattle.word_arith.specs.declared.size.Size.{Size}
-use Rattle.part_definitions.specs.PeripheralRegister.{RegisterWrite, register_of, register_word, covers, part_of}
+use Rattle.part_definitions.specs.PeripheralRegister.{RegisterWrite, register_write, register_of, register_word, covers, part_of}
 
 -- SCTL enables the interrupt, SSTAT tells of the queue, SRXD gives a byte, STXD sends one
 abbrev pub SERIAL_CONTROL : ℕ
@@ -20,8 +20,8 @@ SERIAL_SEND = 0x0076
 abbrev pub QUEUE_LENGTH : ℕ
 QUEUE_LENGTH = 64
 
--- what happened to the port, in lists the newest first: a byte arrived, the processor read or fetched,
--- it wrote a number, a reset
+-- what happened to the port, in lists the newest first: a byte arrived, the processor read or
+-- fetched, it wrote a number, a reset
 pub data SerialEvent : Type 0 where
   Arrived : ℕ → SerialEvent
   Taken : ℕ → Size → SerialEvent
@@ -34,29 +34,35 @@ serial_writes [] = []
 serial_writes (Arrived byte ∷ events) = serial_writes events
 serial_writes (Taken place size ∷ events) = serial_writes events
 serial_writes (Written place size number ∷ events) =
-    record { place = place; size = size; number = number } ∷ serial_writes events
+    register_write place size number ∷ serial_writes events
 serial_writes (Cleared ∷ events) = []
 
 -- a read that covers the low byte of SRXD takes a byte
 abbrev pub takes_byte : ℕ → Size → Bool
 takes_byte place size = covers place size SERIAL_RECEIVE
 
--- the bytes that wait, oldest first: an arrival adds its byte at the end where there is room, a read
--- that takes a byte takes the first
+-- the bytes that wait, oldest first: an arrival adds its byte at the end where fewer than 64 wait,
+-- a read that takes a byte takes the first
 abbrev pub waiting : List SerialEvent → List ℕ
 waiting [] = []
 waiting (Arrived byte ∷ events) =
-    if nat_lt (length (waiting events)) QUEUE_LENGTH then waiting events ++ byte ∷ [] else waiting events
+    if nat_lt (length (waiting events)) QUEUE_LENGTH
+    then waiting events ++ byte ∷ []
+    else waiting events
 waiting (Taken place size ∷ events) =
     if takes_byte place size then drop 1 (waiting events) else waiting events
 waiting (Written place size number ∷ events) = waiting events
 waiting (Cleared ∷ events) = []
 
+-- one more byte can wait
+abbrev pub has_room : List SerialEvent → Bool
+has_room events = nat_lt (length (waiting events)) QUEUE_LENGTH
+
 -- a byte was dropped: one arrived where there was no room, since the last write that covers the low
 -- byte of SSTAT and since the last reset
 abbrev pub dropped : List SerialEvent → Bool
 dropped [] = false
-dropped (Arrived byte ∷ events) = not (nat_lt (length (waiting events)) QUEUE_LENGTH) || dropped events
+dropped (Arrived byte ∷ events) = not (has_room events) || dropped events
 dropped (Taken place size ∷ events) = dropped events
 dropped (Written place size number ∷ events) =
     if covers place size SERIAL_STATUS then false else dropped events

@@ -2,7 +2,7 @@
 use Rattle.std.specs.Prelude.{◌==◌, ◌&&◌, ◌||◌, ◌+◌, ◌-◌, ◌/◌, ◌%◌, ℕ, Bool, List, [], ◌∷◌, if◌then◌else◌, nat_lt}
 use Rattle.std.specs.List.{list_any}
 use Rattle.word_arith.specs.declared.size.Size.{Size}
-use Rattle.part_definitions.specs.PeripheralRegister.{RegisterWrite, register_of, register_word, part_of}
+use Rattle.part_definitions.specs.PeripheralRegister.{RegisterWrite, register_write, register_of, register_word, part_of}
 
 -- TCTL starts and stops the timer, TCNT counts, TCMP is the last number that it counts to
 abbrev pub TIMER_CONTROL : ℕ
@@ -14,8 +14,8 @@ TIMER_COUNT = 0x0162
 abbrev pub TIMER_COMPARE : ℕ
 TIMER_COMPARE = 0x0164
 
--- what happened to the timer, in lists the newest first: a step ended, the processor wrote a number,
--- an interrupt entry accepted the request, a reset
+-- what happened to the timer, in lists the newest first: a step ended, the processor wrote a
+-- number, an interrupt entry accepted the request, a reset
 pub data TimerEvent : Type 0 where
   Ticked : TimerEvent
   Written : ℕ → Size → ℕ → TimerEvent
@@ -27,7 +27,7 @@ abbrev pub timer_writes : List TimerEvent → List RegisterWrite
 timer_writes [] = []
 timer_writes (Ticked ∷ events) = timer_writes events
 timer_writes (Written place size number ∷ events) =
-    record { place = place; size = size; number = number } ∷ timer_writes events
+    register_write place size number ∷ timer_writes events
 timer_writes (Accepted ∷ events) = timer_writes events
 timer_writes (Cleared ∷ events) = []
 
@@ -85,7 +85,8 @@ ends_period period distance = nat_lt 0 distance && (distance % period == 0)
 
 -- the flag stands where the timer runs and a period ended at one of those distances
 abbrev pub timer_flag : List TimerEvent → Bool
-timer_flag events = timer_runs events && list_any (ends_period (timer_period events)) (distances events)
+timer_flag events =
+    timer_runs events && list_any (ends_period (timer_period events)) (distances events)
 
 abbrev pub timer_requests : List TimerEvent → Bool
 timer_requests events = timer_flag events && timer_enabled events

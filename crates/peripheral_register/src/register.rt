@@ -1,5 +1,6 @@
 ghost use Rattle.std.specs.Prelude.{◌≡◌, ◌%◌, [], ◌∷◌, List, ℕ};
-ghost use Rattle.part_definitions.specs.PeripheralRegister.{RegisterWrite, register_of, register_word};
+ghost use Rattle.part_definitions.specs.Part.{Takes, Answers};
+ghost use Rattle.part_definitions.specs.PeripheralRegister.{RegisterWrite, register_write, register_of, register_word};
 
 use crate::part::register_place;
 use word_arith::Size;
@@ -13,29 +14,28 @@ pub struct Register {
 }
 
 impl Register {
-    ghost use Rattle.peripheral_register.specs.Holding.{HoldsWrites};
+    ghost use Rattle.peripheral_register.specs.Register.{HoldsWrites};
 
     /// A register at an address, with all bits 0.
     pub fn new(place: u16) -> Register
         requires { place % 2 ≡ 0 }
-        ensures { HoldsWrites result place [] }
+        ensures { HoldsWrites place result [] }
     {
         Register { place, word: 0 }
     }
 
     /// What it holds.
     pub fn word(&self) -> u16
-        ensures { (place : ℕ) (writes : List RegisterWrite) →
-            HoldsWrites self.now place writes → result ≡ register_word writes place }
+        ensures { (at : ℕ)
+            → Answers (HoldsWrites at) self.now (λ writes. register_word writes at) result }
     {
         self.word
     }
 
     /// Writes the bytes that belong to this register, and no others.
     pub fn write(&mut self, place: u16, size: Size, value: u16)
-        ensures { (register : ℕ) (writes : List RegisterWrite) →
-            HoldsWrites self.old register writes →
-            HoldsWrites self.new register (record { place = place; size = size; number = value } ∷ writes) }
+        ensures { (at : ℕ)
+            → Takes (HoldsWrites at) self.old (register_write place size value) self.new }
     {
         if register_place(place) == self.place {
             self.word = word_after(self.word, place, size, value);
@@ -44,11 +44,12 @@ impl Register {
 }
 
 // The word of the register at this place after a write to it.
-#[tactic(auto, using(crate::proofs::Bytes::register_bytes))]
+#[tactic(auto, using(crate::proofs::Byte::register_bytes))]
 fn word_after(word: u16, place: u16, size: Size, value: u16) -> u16
-    ensures { (writes : List RegisterWrite) →
-        word ≡ register_word writes (register_of place) →
-        result ≡ register_word (record { place = place; size = size; number = value } ∷ writes) (register_of place) }
+    ensures { (writes : List RegisterWrite)
+        → word ≡ register_word writes (register_of place)
+        → result
+        ≡ register_word (register_write place size value ∷ writes) (register_of place) }
 {
     match size {
         Size::Byte if place % 2 == 0 => word / 0x100 * 0x100 + value % 0x100,

@@ -6,7 +6,8 @@ use Rattle.part_definitions.specs.Serial.{SerialEvent, Arrived, Taken, Written, 
 abbrev pub let_in : List SerialEvent → List ℕ
 let_in [] = []
 let_in (Arrived byte ∷ events) =
-    if nat_lt (length (waiting events)) QUEUE_LENGTH then let_in events ++ byte ∷ [] else let_in events
+    if nat_lt (length (waiting events)) QUEUE_LENGTH then let_in events ++ byte ∷
+    [] else let_in events
 let_in (Taken place size ∷ events) = let_in events
 let_in (Written place size number ∷ events) = let_in events
 let_in (Cleared ∷ events) = []

@@ -1,5 +1,6 @@
-ghost use Rattle.std.specs.Prelude.{◌≡◌, ◌<◌, ◌↔◌, [], ◌∷◌, List, length, IsTrue, IfOk};
-ghost use Rattle.part_definitions.specs.Serial.{SerialEvent, Arrived, Taken, Written, Cleared, waiting, oldest, QUEUE_LENGTH, serial_read, serial_word, serial_status, serial_requests, byte_sent};
+ghost use Rattle.std.specs.Prelude.{◌≡◌, [], ◌∷◌, List, IfOk};
+ghost use Rattle.part_definitions.specs.Part.{Takes, Answers};
+ghost use Rattle.part_definitions.specs.Serial.{SerialEvent, Arrived, Taken, Written, Cleared, waiting, oldest, QUEUE_LENGTH, has_room, serial_read, serial_word, serial_status, serial_requests, byte_sent};
 
 use circular_buffer::HeapCircularBuffer;
 use peripheral_register::{Register, covers_byte, part_of_word, register_place};
@@ -17,18 +18,17 @@ const STXD: u16 = 0x0076;
 /// How many received bytes can wait.
 const ROOM: usize = 64;
 
-/// The serial port. Bit 0 of SCTL enables the receive interrupt, bits 0 and 1 of SSTAT say that a byte
-/// waits and that one was dropped, SRXD gives the oldest byte that waits, STXD sends one.
+/// The serial port. Bit 0 of SCTL enables the receive interrupt, bits 0 and 1 of SSTAT say that a
+/// byte waits and that one was dropped, SRXD gives the oldest byte that waits, STXD sends one.
 #[derive(Debug, Drop)]
 pub struct Serial {
     control: Register,
     queue: HeapCircularBuffer<u8>,
     dropped: bool,
-    ghost room: { queue.capacity ≡ 64 },
 }
 
 impl Serial {
-    ghost use Rattle.serial_port.specs.Standing.{SerialStandsFor};
+    ghost use Rattle.serial_port.specs.Serial.{SerialStandsFor};
 
     /// A port at which nothing arrived. It takes the memory of its queue, and the only memory.
     pub fn new(alloc: Global) -> Result<Serial, AllocError>
@@ -43,24 +43,20 @@ impl Serial {
 
     /// A byte arrives. The answer is false where there is no room: the byte is dropped.
     pub fn arrive(&mut self, byte: u8) -> bool
-        ensures room { (events : List SerialEvent) →
-            SerialStandsFor self.old events →
-            IsTrue result ↔ (length (waiting events) < QUEUE_LENGTH) }
-        ensures stands { (events : List SerialEvent) →
-            SerialStandsFor self.old events → SerialStandsFor self.new (Arrived byte ∷ events) }
+        ensures room { Answers SerialStandsFor self.old has_room result }
+        ensures stands { Takes SerialStandsFor self.old (Arrived byte) self.new }
     {
         let room = self.queue.try_push_back(byte).is_ok();
         self.dropped = self.dropped || !room;
         room
     }
 
-    /// A read or fetch of the processor; 0 where there is no register of the port. One that covers the
-    /// low byte of SRXD takes the byte that it gives.
+    /// A read or fetch of the processor; 0 where there is no register of the port. One that covers
+    /// the low byte of SRXD takes the byte that it gives.
     pub fn read(&mut self, place: u16, size: Size) -> u16
-        ensures number { (events : List SerialEvent) →
-            SerialStandsFor self.old events → result ≡ serial_read events place size }
-        ensures stands { (events : List SerialEvent) →
-            SerialStandsFor self.old events → SerialStandsFor self.new (Taken place size ∷ events) }
+        ensures number { Answers SerialStandsFor self.old
+            (λ events. serial_read events place size) result }
+        ensures stands { Takes SerialStandsFor self.old (Taken place size) self.new }
     {
         let number = self.peek(place, size);
         if covers_byte(place, size, SRXD) {
@@ -71,16 +67,15 @@ impl Serial {
 
     /// What [`Serial::read`] would give.
     pub fn peek(&self, place: u16, size: Size) -> u16
-        ensures { (events : List SerialEvent) →
-            SerialStandsFor self.now events → result ≡ serial_read events place size }
+        ensures { Answers SerialStandsFor self.now
+            (λ events. serial_read events place size) result }
     {
         part_of_word(self.word(register_place(place)), place, size)
     }
 
     // The word of the register at this even address.
     fn word(&self, register: u16) -> u16
-        ensures { (events : List SerialEvent) →
-            SerialStandsFor self.now events → result ≡ serial_word events register }
+        ensures { Answers SerialStandsFor self.now (λ events. serial_word events register) result }
     {
         match register {
             SCTL => self.control.word() % 2,
@@ -91,16 +86,14 @@ impl Serial {
     }
 
     fn status(&self) -> u16
-        ensures { (events : List SerialEvent) →
-            SerialStandsFor self.now events → result ≡ serial_status events }
+        ensures { Answers SerialStandsFor self.now serial_status result }
     {
         u16::from(!self.queue.is_empty()) + 2 * u16::from(self.dropped)
     }
 
     // The oldest byte that waits, 0 where none does.
     fn oldest(&self) -> u16
-        ensures { (events : List SerialEvent) →
-            SerialStandsFor self.now events → result ≡ oldest (waiting events) }
+        ensures { Answers SerialStandsFor self.now (λ events. oldest (waiting events)) result }
     {
         self.queue.front().copied().map_or(0, u16::from)
     }
@@ -109,9 +102,7 @@ impl Serial {
     /// forgets that a byte was dropped; one that covers the low byte of STXD sends that byte.
     pub fn write(&mut self, place: u16, size: Size, value: u16) -> Option<u8>
         ensures sent { result ≡ byte_sent place size value }
-        ensures stands { (events : List SerialEvent) →
-            SerialStandsFor self.old events →
-            SerialStandsFor self.new (Written place size value ∷ events) }
+        ensures stands { Takes SerialStandsFor self.old (Written place size value) self.new }
     {
         self.control.write(place, size, value);
         if covers_byte(place, size, SSTAT) {
@@ -126,37 +117,17 @@ impl Serial {
 
     /// Whether the port asks for an interrupt.
     pub fn request(&self) -> bool
-        ensures { (events : List SerialEvent) →
-            SerialStandsFor self.now events → result ≡ serial_requests events }
+        ensures { Answers SerialStandsFor self.now serial_requests result }
     {
         !self.queue.is_empty() && self.control.word() % 2 == 1
     }
 
     /// A reset.
     pub fn clear(&mut self)
-        ensures { (events : List SerialEvent) → SerialStandsFor self.new (Cleared ∷ events) }
+        ensures { Takes SerialStandsFor self.old Cleared self.new }
     {
         self.control = Register::new(SCTL);
         self.queue.clear();
         self.dropped = false;
-    }
-}
-
-#[cfg(test)]
-mod tests {
-    use super::*;
-    use std::test::Fail;
-
-    #[test]
-    fn drops_the_65th_byte(rt: HostRuntime) -> Result<(), Fail> {
-        let mut port = Serial::new(rt.alloc())?;
-        for byte in 1..=64 {
-            assert!(rt; port.arrive(byte));
-        }
-        assert!(rt; !port.arrive(65));
-        assert_eq!(rt; port.read(0x0072, Size::Word), 3);
-        assert_eq!(rt; port.read(0x0074, Size::Word), 1);
-        assert_eq!(rt; port.read(0x0074, Size::Byte), 2);
-        Ok(())
     }
 }

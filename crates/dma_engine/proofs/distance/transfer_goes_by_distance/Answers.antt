@@ -1,4 +1,4 @@
-use Rattle.dma_engine.proofs.Transfers.{goes_by_distance}
+use Rattle.dma_engine.proofs.Transfer.{goes_by_distance}
 use Rattle.dma_engine.proofs.distance.transfer_goes_by_distance.Goals as goal
 
 pub returns : goal.returns

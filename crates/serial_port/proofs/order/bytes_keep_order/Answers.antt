@@ -1,4 +1,4 @@
-use Rattle.serial_port.proofs.Ordering.{keeps_order}
+use Rattle.serial_port.proofs.OrderLemmas.{keeps_order}
 use Rattle.serial_port.proofs.order.bytes_keep_order.Goals as goal
 
 pub returns : goal.returns

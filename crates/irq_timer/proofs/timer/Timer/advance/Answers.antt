@@ -1,7 +1,7 @@
 -- A step more: the count goes on, or a period ends and the flag rises.
 use Rattle.std.proofs.Common.{◌≡◌, ◌<◌, ◌≤◌, ◌+◌, arith, sym, ◌∙◌, ap}
 use Rattle.part_definitions.specs.Timer.{steps_of_count, timer_count, timer_compare, TIMER_COMPARE, timer_writes}
-use Rattle.irq_timer.proofs.Ticks.{timer_count_within, timer_count_over, timer_flag_within, timer_flag_over}
+use Rattle.irq_timer.proofs.Tick.{timer_count_within, timer_count_over, timer_flag_within, timer_flag_over}
 use Rattle.irq_timer.proofs.timer.Timer.advance.Goals as goal
 
 pub returns-then-self-word : goal.returns-then-self-word
@@ -13,7 +13,8 @@ returns-then-self-word c events stands fresh runs =
     record {
       same_control = stands.same_control;
       same_compare = stands.same_compare;
-      same_count = ap (λ n. n + 1) stands.same_count ∙ sym (timer_count_within events runs some below);
+      same_count =
+          ap (λ n. n + 1) stands.same_count ∙ sym (timer_count_within events runs some below);
       same_fresh = grind arith;
       same_flag = stands.same_flag ∙ sym (timer_flag_within events runs some below);
     }

@@ -2,13 +2,15 @@ use Rattle.std.proofs.Common.{rules, arith}
 use Rattle.std.proofs.Common.{false, []}
 use Rattle.part_definitions.specs.Memory.{byte_at}
 use Rattle.mem_map.specs.Image.{powered_on}
-use Rattle.mem_map.proofs.Bytes.{append-bytes}
+use Rattle.mem_map.proofs.Byte.{append-bytes}
 use Rattle.mem_map.proofs.memory.Memory.new.Goals as goal
 
 pub loop-place-preserved : goal.loop-place-preserved
 loop-place-preserved c = (
   omega (arith, c.in_ok-push.ensures.len),
   rw c.in_ok-push.ensures.items
-      (append-bytes (byte_at (powered_on c.args.key.now c.args.image.now) false []) c.loop-place.bytes.items
-      c.power_on_byte.result c.loop-place.place (search rules) c.loop-place.invariant.1 c.power_on_byte.ensures),
+      (append-bytes
+      (byte_at (powered_on c.args.key.now c.args.image.now) false []) c.loop-place.bytes.items
+      c.power_on_byte.result c.loop-place.place
+      (search rules) c.loop-place.invariant.1 c.power_on_byte.ensures),
 )

@@ -7,4 +7,5 @@ use Rattle.mem_map.proofs.memory.Memory.new.Given as goal
 abbrev pub invariant-loop-place : goal.invariant-loop-place
 invariant-loop-place l =
     (vec_len l.bytes ≡ l.place)
-    × ((place : ℕ) → place < l.place → get_or l.bytes.items place 0 ≡ byte_at (powered_on l.key l.image) false [] place)
+    × ((place : ℕ) → place < l.place → get_or l.bytes.items place 0 ≡ byte_at
+    (powered_on l.key l.image) false [] place)

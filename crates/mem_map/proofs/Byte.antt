@@ -1,0 +1,44 @@
+-- Lists of bytes against functions of the place.
+use Rattle.std.proofs.Common.{◌≡◌, ◌<◌, ◌≤◌, ◌+◌, ◌∷◌, ◌++◌, ◌∙◌, [], ℕ, zero, suc, Bool, List, length, get_or, set, take, drop, refl, ap, arith, add-one, below_more, get_or-set_same, get_or-set_other, inl, inr}
+use Rattle.std.proofs.lemmas.Bool.Decides.{eqb_tells}
+use Rattle.std.proofs.Math.ListN.{get_or-append}
+use Rattle.std.proofs.Math.Seq.{drop-cons, get_or-append_seam}
+use Rattle.part_definitions.specs.Memory.{PowerOn, MemoryWrite, byte_at, bytes_from}
+
+-- a piece of a list is the bytes of its places
+pub take-drop-bytes :
+    (bytes : ℕ → ℕ) (xs : List ℕ) (first count : ℕ)
+    → ((place : ℕ) → place < length xs → get_or xs place 0 ≡ bytes place)
+    → first + count ≤ length xs
+    → take count (drop first xs) ≡ bytes_from bytes first count
+take-drop-bytes bytes xs first zero same within = refl
+take-drop-bytes bytes xs first (suc count) same within =
+    let here : first < length xs = omega arith in
+    rw (drop-cons xs first 0 here, add-one, ← same first here)
+    (ap (λ rest. get_or xs first 0 ∷ rest)
+    (take-drop-bytes bytes xs (suc first) count same (omega arith)))
+
+-- one byte more
+pub append-bytes :
+    (bytes : ℕ → ℕ) (xs : List ℕ) (byte count : ℕ)
+    → length xs ≡ count
+    → ((place : ℕ) → place < count → get_or xs place 0 ≡ bytes place)
+    → byte ≡ bytes count
+    → (place : ℕ) → place < count + 1 → get_or (xs ++ byte ∷ []) place 0 ≡ bytes place
+append-bytes bytes xs byte count size before here =
+    below_more (λ place. get_or (xs ++ byte ∷ []) place 0 ≡ bytes place) count
+    (λ place within. get_or-append xs (byte ∷ []) 0 place (omega arith) ∙ before place within)
+    (rw size at (get_or-append_seam xs byte [] 0) ∙ here)
+
+-- the flag shows at its own byte alone
+pub set-exec_byte :
+    (start : PowerOn) (exec on : Bool) (writes : List MemoryWrite) (xs : List ℕ) (byte place : ℕ)
+    → 0x0268 < length xs
+    → get_or xs place 0 ≡ byte_at start exec writes place
+    → byte ≡ byte_at start on writes 0x0268
+    → get_or (set xs 0x0268 byte) place 0 ≡ byte_at start on writes place
+set-exec_byte start exec on writes xs byte place within before shown =
+    elim (eqb_tells place 0x0268) [
+      | inl same ↦ rw same.1 (get_or-set_same xs 0x0268 byte 0 within ∙ shown)
+      | inr other ↦ get_or-set_other xs 0x0268 place byte 0 other.1 ∙ before ∙ rw other.0 refl
+    ]
