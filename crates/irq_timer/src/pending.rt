@@ -1,5 +1,5 @@
 ghost use Rattle.std.specs.Prelude.{◌≡◌, IsNone, ◌↔◌, ◌⊎◌, false};
-ghost use Rattle.part_definitions.specs.Interrupts.{accepted_vector};
+ghost use Rattle.part_definitions.specs.Interrupt.{accepted_vector};
 
 /// The address of the serial port's interrupt vector.
 const SERIAL_VECTOR: u16 = 0xFFF4;

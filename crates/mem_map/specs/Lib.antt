@@ -1,4 +1,4 @@
 pub mod Image
+pub mod ImagePlace
 pub mod Memory
-pub mod Placed
 pub mod Span

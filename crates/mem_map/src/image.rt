@@ -1,6 +1,6 @@
 ghost use Rattle.std.specs.Prelude.{◌≡◌, ◌==◌, ◌&&◌, ◌<◌, ◌^◌, ℕ, IfOk, Some, None, if◌then◌else◌, vec_len, slice_index_or};
 ghost use Rattle.part_definitions.specs.Memory.{is_image_place};
-ghost use Rattle.mem_map.specs.Placed.{IsImage};
+ghost use Rattle.mem_map.specs.ImagePlace.{IsImage};
 
 use crate::place::{PLACES, is_image_place};
 use std::alloc::{AllocError, Global};

@@ -20,15 +20,17 @@ const PROGRAM: Region = Region {
     last: 0xFFFF,
 };
 
-/// The metadata's bounds and its EXEC word (APEX).
+/// The metadata's words for the bounds of the executable region (APEX's ER).
 pub const ER_MIN: u16 = 0x0260;
 
 pub const ER_MAX: u16 = 0x0262;
 
+/// The metadata's words for the bounds of the output region (APEX's OR).
 pub const OR_MIN: u16 = 0x0264;
 
 pub const OR_MAX: u16 = 0x0266;
 
+/// The metadata's word that shows the EXEC flag.
 pub const EXEC_WORD: u16 = 0x0268;
 
 /// The two bytes of the attestation ROM's last word.

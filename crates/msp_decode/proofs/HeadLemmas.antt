@@ -1,53 +1,69 @@
 -- The head that is computed from a word is the one that the word spells.
-use Rattle.std.proofs.Common.{◌≡◌, ℕ, ◌<◌, ◌≤◌, ◌/◌, ◌%◌, ◌^◌, ◌==◌, ◌&&◌, ◌||◌, ◌↔◌, inl, inr, ℤ, Bool, true, false, not, nat_lt, refl, ap, sym, ◌∙◌, subst, arith, Option, Some, None, if◌then◌else◌}
+use Rattle.std.proofs.Common.{◌≡◌, ℕ, ◌<◌, ◌≤◌, ◌/◌, ◌%◌, ◌^◌, ◌==◌, ◌&&◌, ◌||◌, ◌↔◌, ℤ, Bool, true, false, not, nat_lt, refl, ap, sym, ◌∙◌, subst, arith, Option, Some, None, if◌then◌else◌}
 use Rattle.std.specs.Prelude.{IsTrue}
-use Rattle.std.proofs.lemmas.Bool.Decides.{nat_tests, leb_tells}
+use Rattle.std.proofs.lemmas.Bool.Decides.{nat_tests}
 use Rattle.word_arith.specs.declared.size.Size.{Size}
 use Rattle.word_arith.specs.declared.op2.Op2.{Op2}
-use Rattle.msp_decode.specs.declared.instr.One.{One}
+use Rattle.msp_decode.specs.declared.one.One.{One}
 use Rattle.msp_decode.specs.declared.cond.Cond.{Cond}
-use Rattle.msp_decode.specs.declared.head.SourceForm.{SourceForm}
-use Rattle.msp_decode.specs.declared.head.DestForm.{DestForm}
+use Rattle.msp_decode.specs.declared.source_form.SourceForm.{SourceForm}
+use Rattle.msp_decode.specs.declared.dest_form.DestForm.{DestForm}
 use Rattle.msp_decode.specs.declared.head.Head.{Head}
 use Rattle.msp_decode.specs.declared.head.Head.TheVariants.{Two, One as OneOperand, Reti, Jump}
-use Rattle.msp_decode.specs.Tables.{op2_number, one_number, cond_number, size_number, source_mode, source_register, dest_mode, dest_register, offset_number}
-use Rattle.msp_decode.specs.Fields.{op2_of, one_of, cond_of, size_of, source_of, dest_of, offset_of}
+use Rattle.msp_decode.specs.Table.{op2_number, one_number, cond_number, size_number, source_mode, source_register, dest_mode, dest_register, offset_number}
+use Rattle.msp_decode.specs.Field.{op2_of, one_of, cond_of, size_of, source_of, dest_of, offset_of}
 use Rattle.msp_decode.specs.Spelling.{has_form, has_range, has_size, takes_write, writes_operand, is_legal, word_of, Spells}
-use Rattle.msp_decode.specs.Heads.{if_legal, one_head, two_head, jump_head, head_of}
-use Rattle.msp_decode.specs.Laws.{HeadsAreSpelled}
+use Rattle.msp_decode.specs.Head.{if_legal, one_head, two_head, jump_head, head_of}
+use Rattle.msp_decode.specs.Law.{HeadsAreSpelled}
+use Rattle.msp_decode.proofs.WordRange.{by_range}
 use Rattle.msp_decode.proofs.TableLemmas.{op2_number-op2_of, op2_of-op2_number, op2_number-lt, op2_number-le, one_number-one_of, one_of-one_number, one_number-lt, cond_number-cond_of, cond_of-cond_number, cond_number-lt, size_number-size_of, size_of-size_number, size_number-lt, source_mode-lt, source_register-lt, source_of-fields, source_mode-source_of, source_register-source_of, has_form-source_of, dest_mode-lt, dest_register-lt, dest_of-fields, dest_mode-dest_of, dest_register-dest_of, offset_number-lt, offset_of-offset_number, offset_number-offset_of, has_range-offset_of}
 
 -- the word of the head that is read from a word is that word
 two_spelled : (word : ℕ) → 0x4000 ≤ word → word < 0x10000 → Spells word (two_head word)
 two_spelled word least fits = (
   has_form-source_of (word / 0x10 % 4) (word / 0x100 % 16) (omega arith),
-  (let op : op2_number (op2_of (word / 0x1000)) ≡ word / 0x1000 = op2_number-op2_of (word / 0x1000) (omega arith) (omega arith) in
-      let size : size_number (size_of (word / 0x40 % 2)) ≡ word / 0x40 % 2 = size_number-size_of (word / 0x40 % 2) (omega arith) in
-      let mode : source_mode (source_of (word / 0x10 % 4) (word / 0x100 % 16)) ≡ word / 0x10 % 4 = source_mode-source_of (word / 0x10 % 4) (word / 0x100 % 16) (omega arith) in
-      let register : source_register (source_of (word / 0x10 % 4) (word / 0x100 % 16)) ≡ word / 0x100 % 16 = source_register-source_of (word / 0x10 % 4) (word / 0x100 % 16) (omega arith) in
-      let dest : dest_mode (dest_of (word / 0x80 % 2) (word % 16)) ≡ word / 0x80 % 2 = dest_mode-dest_of (word / 0x80 % 2) (word % 16) (omega arith) in
-      let last : dest_register (dest_of (word / 0x80 % 2) (word % 16)) ≡ word % 16 = dest_register-dest_of (word / 0x80 % 2) (word % 16) (omega arith) in
+  (let op : op2_number (op2_of (word / 0x1000)) ≡ word / 0x1000 = op2_number-op2_of (word / 0x1000)
+      (omega arith) (omega arith) in
+      let size : size_number (size_of (word / 0x40 % 2)) ≡ word / 0x40 % 2 =
+      size_number-size_of (word / 0x40 % 2) (omega arith) in
+      let mode : source_mode (source_of (word / 0x10 % 4) (word / 0x100 % 16)) ≡ word / 0x10 % 4 =
+      source_mode-source_of (word / 0x10 % 4) (word / 0x100 % 16) (omega arith) in
+      let register : source_register (source_of (word / 0x10 % 4) (word / 0x100 % 16))
+      ≡ word / 0x100 % 16 =
+      source_register-source_of (word / 0x10 % 4) (word / 0x100 % 16) (omega arith) in
+      let dest : dest_mode (dest_of (word / 0x80 % 2) (word % 16)) ≡ word / 0x80 % 2 =
+      dest_mode-dest_of (word / 0x80 % 2) (word % 16) (omega arith) in
+      let last : dest_register (dest_of (word / 0x80 % 2) (word % 16)) ≡ word % 16 =
+      dest_register-dest_of (word / 0x80 % 2) (word % 16) (omega arith) in
       rw (op, size, mode, register, dest, last) (omega arith)),
 )
 
 one_is : (word : ℕ) → 0x1000 ≤ word → word < 0x1300 → word ≡ word_of (one_head word)
 one_is word least fits =
-    let op : one_number (one_of (word / 0x80 % 8)) ≡ word / 0x80 % 8 = one_number-one_of (word / 0x80 % 8) (omega arith) in
-    let size : size_number (size_of (word / 0x40 % 2)) ≡ word / 0x40 % 2 = size_number-size_of (word / 0x40 % 2) (omega arith) in
-    let mode : source_mode (source_of (word / 0x10 % 4) (word % 16)) ≡ word / 0x10 % 4 = source_mode-source_of (word / 0x10 % 4) (word % 16) (omega arith) in
-    let register : source_register (source_of (word / 0x10 % 4) (word % 16)) ≡ word % 16 = source_register-source_of (word / 0x10 % 4) (word % 16) (omega arith) in
+    let op : one_number (one_of (word / 0x80 % 8)) ≡ word / 0x80 % 8 =
+    one_number-one_of (word / 0x80 % 8) (omega arith) in
+    let size : size_number (size_of (word / 0x40 % 2)) ≡ word / 0x40 % 2 =
+    size_number-size_of (word / 0x40 % 2) (omega arith) in
+    let mode : source_mode (source_of (word / 0x10 % 4) (word % 16)) ≡ word / 0x10 % 4 =
+    source_mode-source_of (word / 0x10 % 4) (word % 16) (omega arith) in
+    let register : source_register (source_of (word / 0x10 % 4) (word % 16)) ≡ word % 16 =
+    source_register-source_of (word / 0x10 % 4) (word % 16) (omega arith) in
     rw (op, size, mode, register) (omega arith)
 
 jump_spelled : (word : ℕ) → 0x2000 ≤ word → word < 0x4000 → Spells word (jump_head word)
 jump_spelled word least fits = (
   has_range-offset_of (word % 0x400) (omega arith),
-  (let condition : cond_number (cond_of (word / 0x400 % 8)) ≡ word / 0x400 % 8 = cond_number-cond_of (word / 0x400 % 8) (omega arith) in
-      let offset : offset_number (offset_of (word % 0x400)) ≡ word % 0x400 = offset_number-offset_of (word % 0x400) (omega arith) in
+  (let condition : cond_number (cond_of (word / 0x400 % 8))
+      ≡ word / 0x400 % 8 = cond_number-cond_of (word / 0x400 % 8) (omega arith) in
+      let offset : offset_number (offset_of (word % 0x400)) ≡ word % 0x400 =
+      offset_number-offset_of (word % 0x400) (omega arith) in
       rw (condition, offset) (omega arith)),
 )
 
 -- the head that is read from the word of a head is that head
-two_read : (op : Op2) (size : Size) (source : SourceForm) (dest : DestForm) (word : ℕ) → IsTrue (has_form source) → word ≡ word_of (Two op size source dest) → two_head word ≡ Two op size source dest
+two_read : (op : Op2) (size : Size) (source : SourceForm) (dest : DestForm) (word : ℕ)
+    → IsTrue (has_form source) → word ≡ word_of (Two op size source dest)
+    → two_head word ≡ Two op size source dest
 two_read op size source dest word formed is =
     let op_fits = op2_number-lt op in
     let size_fits = size_number-lt size in
@@ -61,9 +77,21 @@ two_read op size source dest word formed is =
     let register_is : word / 0x100 % 16 ≡ source_register source = omega arith in
     let dest_is : word / 0x80 % 2 ≡ dest_mode dest = omega arith in
     let last_is : word % 16 ≡ dest_register dest = omega arith in
-    rw (op_is, size_is, mode_is, register_is, dest_is, last_is, op2_of-op2_number op, size_of-size_number size, source_of-fields source formed, dest_of-fields dest) refl
+    rw (
+      op_is,
+      size_is,
+      mode_is,
+      register_is,
+      dest_is,
+      last_is,
+      op2_of-op2_number op,
+      size_of-size_number size,
+      source_of-fields source formed,
+      dest_of-fields dest,
+    ) refl
 
-one_read : (op : One) (size : Size) (source : SourceForm) (word : ℕ) → IsTrue (has_form source) → word ≡ word_of (OneOperand op size source) → one_head word ≡ OneOperand op size source
+one_read : (op : One) (size : Size) (source : SourceForm) (word : ℕ) → IsTrue (has_form source)
+    → word ≡ word_of (OneOperand op size source) → one_head word ≡ OneOperand op size source
 one_read op size source word formed is =
     let op_fits = one_number-lt op in
     let size_fits = size_number-lt size in
@@ -73,72 +101,91 @@ one_read op size source word formed is =
     let size_is : word / 0x40 % 2 ≡ size_number size = omega arith in
     let mode_is : word / 0x10 % 4 ≡ source_mode source = omega arith in
     let register_is : word % 16 ≡ source_register source = omega arith in
-    rw (op_is, size_is, mode_is, register_is, one_of-one_number op, size_of-size_number size, source_of-fields source formed) refl
+    rw (
+      op_is,
+      size_is,
+      mode_is,
+      register_is,
+      one_of-one_number op,
+      size_of-size_number size,
+      source_of-fields source formed,
+    ) refl
 
-jump_read : (condition : Cond) (offset : ℤ) (word : ℕ) → IsTrue (has_range offset) → word ≡ word_of (Jump condition offset) → jump_head word ≡ Jump condition offset
+jump_read : (condition : Cond) (offset : ℤ) (word : ℕ) → IsTrue (has_range offset)
+    → word ≡ word_of (Jump condition offset) → jump_head word ≡ Jump condition offset
 jump_read condition offset word fits is =
     let condition_fits = cond_number-lt condition in
     let offset_fits = offset_number-lt offset fits in
     let condition_is : word / 0x400 % 8 ≡ cond_number condition = omega arith in
     let offset_is : word % 0x400 ≡ offset_number offset = omega arith in
-    rw (condition_is, offset_is, cond_of-cond_number condition, offset_of-offset_number offset fits) refl
+    rw (
+      condition_is,
+      offset_is,
+      cond_of-cond_number condition,
+      offset_of-offset_number offset fits,
+    ) refl
 
 -- which kind of head is read, by the ranges of words
 pub head_of-reti : head_of 0x1300 ≡ Some Reti
 unfolding head_of
 head_of-reti = refl
 
+below : (word bound : ℕ) → word < bound → nat_lt word bound ≡ true
+below word bound fits = grind (arith, nat_tests)
+
+not_below : (word bound : ℕ) → bound ≤ word → nat_lt word bound ≡ false
+not_below word bound fits = grind (arith, nat_tests)
+
+differs : (word other : ℕ) → other < word → (word == other) ≡ false
+differs word other above = grind (arith, nat_tests)
+
 pub head_of-low : (word : ℕ) → word < 0x1000 → head_of word ≡ None
 unfolding head_of
-head_of-low word fits = grind (arith, nat_tests)
+head_of-low word fits = rw (below word 0x1000 fits) refl
 
-pub head_of-one : (word : ℕ) → 0x1000 ≤ word → word < 0x1300 → head_of word ≡ if_legal (one_head word)
+pub head_of-one : (word : ℕ) → 0x1000 ≤ word → word < 0x1300
+    → head_of word ≡ if_legal (one_head word)
 unfolding head_of
-head_of-one word least fits =
-    let low : nat_lt word 0x1000 ≡ false = grind (arith, nat_tests) in
-    let one : nat_lt word 0x1300 ≡ true = grind (arith, nat_tests) in
-    rw (low, one) refl
+head_of-one word least fits = rw (not_below word 0x1000 least, below word 0x1300 fits) refl
+
+-- a word above 1300 is read by the rest of the table
+head_of-above : (word : ℕ) → 0x1300 < word
+    → head_of word
+    ≡ (if nat_lt word 0x2000 then None
+    else if nat_lt word 0x4000 then Some (jump_head word)
+    else Some (two_head word))
+unfolding head_of
+head_of-above word above =
+    let low : nat_lt word 0x1000 ≡ false = not_below word 0x1000 (omega arith) in
+    let one : nat_lt word 0x1300 ≡ false = not_below word 0x1300 (omega arith) in
+    rw (low, one, differs word 0x1300 above) refl
 
 pub head_of-gap : (word : ℕ) → 0x1300 < word → word < 0x2000 → head_of word ≡ None
-unfolding head_of
-head_of-gap word least fits =
-    let low : nat_lt word 0x1000 ≡ false = grind (arith, nat_tests) in
-    let one : nat_lt word 0x1300 ≡ false = grind (arith, nat_tests) in
-    let reti : (word == 0x1300) ≡ false = grind (arith, nat_tests) in
-    let gap : nat_lt word 0x2000 ≡ true = grind (arith, nat_tests) in
-    rw (low, one, reti, gap) refl
+head_of-gap word above fits = rw (head_of-above word above, below word 0x2000 fits) refl
 
 pub head_of-jump : (word : ℕ) → 0x2000 ≤ word → word < 0x4000 → head_of word ≡ Some (jump_head word)
-unfolding head_of
 head_of-jump word least fits =
-    let low : nat_lt word 0x1000 ≡ false = grind (arith, nat_tests) in
-    let one : nat_lt word 0x1300 ≡ false = grind (arith, nat_tests) in
-    let reti : (word == 0x1300) ≡ false = grind (arith, nat_tests) in
-    let gap : nat_lt word 0x2000 ≡ false = grind (arith, nat_tests) in
-    let jump : nat_lt word 0x4000 ≡ true = grind (arith, nat_tests) in
-    rw (low, one, reti, gap, jump) refl
+    rw (head_of-above word (omega arith), not_below word 0x2000 least, below word 0x4000 fits) refl
 
 pub head_of-two : (word : ℕ) → 0x4000 ≤ word → head_of word ≡ Some (two_head word)
-unfolding head_of
 head_of-two word least =
-    let low : nat_lt word 0x1000 ≡ false = grind (arith, nat_tests) in
-    let one : nat_lt word 0x1300 ≡ false = grind (arith, nat_tests) in
-    let reti : (word == 0x1300) ≡ false = grind (arith, nat_tests) in
-    let gap : nat_lt word 0x2000 ≡ false = grind (arith, nat_tests) in
-    let jump : nat_lt word 0x4000 ≡ false = grind (arith, nat_tests) in
-    rw (low, one, reti, gap, jump) refl
+    let gap : nat_lt word 0x2000 ≡ false = not_below word 0x2000 (omega arith) in
+    rw (head_of-above word (omega arith), gap, not_below word 0x4000 least) refl
 
 -- a head is given exactly where it is legal
-some_if : (test : Bool) (candidate head : Head) → (if test then Some candidate else None) ≡ Some head → IsTrue test × (candidate ≡ head)
+some_if : (test : Bool) (candidate head : Head)
+    → (if test then Some candidate else None) ≡ Some head → IsTrue test × (candidate ≡ head)
 some_if true candidate head is = (refl, cc)
 some_if false candidate head is = cc
 
 if_legal-legal : (head : Head) → IsTrue (is_legal head) → if_legal head ≡ Some head
 if_legal-legal head legal = rw legal refl
 
-one_spelled : (word : ℕ) (head : Head) → 0x1000 ≤ word → word < 0x1300 → if_legal (one_head word) ≡ Some head → Spells word head
+one_spelled : (word : ℕ) (head : Head) → 0x1000 ≤ word → word < 0x1300
+    → if_legal (one_head word) ≡ Some head → Spells word head
 one_spelled word head least fits is =
-    let found : IsTrue (is_legal (one_head word)) × (one_head word ≡ head) = some_if (is_legal (one_head word)) (one_head word) head is in
+    let found : IsTrue (is_legal (one_head word)) × (one_head word ≡ head) =
+    some_if (is_legal (one_head word)) (one_head word) head is in
     subst (λ (h : Head). Spells word h) (found.1) (found.0, one_is word least fits)
 
 -- a word that gives no head gives no other
@@ -146,63 +193,65 @@ unread : (word : ℕ) (head : Head) → head_of word ≡ None → head_of word �
 unread word head none some = cc
 
 -- a word that gives one head gives no other
-read_as : (word : ℕ) (found head : Head) → head_of word ≡ Some found → head_of word ≡ Some head → Spells word found → Spells word head
+read_as : (word : ℕ) (found head : Head) → head_of word ≡ Some found → head_of word ≡ Some head
+    → Spells word found → Spells word head
 read_as word found head first second spelled =
     let same : found ≡ head = cc in
     subst (λ (h : Head). Spells word h) same spelled
 
-reti_spelled : (word : ℕ) (head : Head) → 0x1300 ≤ word → word < 0x1301 → head_of word ≡ Some head → Spells word head
-reti_spelled word head least fits is =
-    let exact : word ≡ 0x1300 = omega arith in
-    let read : head_of word ≡ Some Reti = ap head_of exact ∙ head_of-reti in
-    read_as word Reti head read is (refl, exact)
+reti_spelled : (word : ℕ) (head : Head) → word ≡ 0x1300 → head_of word ≡ Some head
+    → Spells word head
+reti_spelled word head exact is =
+    read_as word Reti head (ap head_of exact ∙ head_of-reti) is (refl, exact)
 
 head_sound : (word : ℕ) (head : Head) → word < 2 ^ 16 → head_of word ≡ Some head → Spells word head
 head_sound word head fits is =
-    elim (leb_tells 0x1000 word) [
-      | inr low ↦ absurd (unread word head (head_of-low word (low.1)) is)
-      | inl above_low ↦ elim (leb_tells 0x1300 word) [
-        | inr one ↦ one_spelled word head (above_low.1) (one.1) (sym (head_of-one word (above_low.1) (one.1)) ∙ is)
-        | inl above_one ↦ elim (leb_tells 0x1301 word) [
-          | inr reti ↦ reti_spelled word head (above_one.1) (reti.1) is
-          | inl above_reti ↦ elim (leb_tells 0x2000 word) [
-            | inr gap ↦ absurd (unread word head (head_of-gap word (omega (arith, above_reti.1)) (gap.1)) is)
-            | inl above_gap ↦ elim (leb_tells 0x4000 word) [
-              | inr jump ↦ read_as word (jump_head word) head (head_of-jump word (above_gap.1) (jump.1)) is (jump_spelled word (above_gap.1) (jump.1))
-              | inl above_jump ↦ read_as word (two_head word) head (head_of-two word (above_jump.1)) is (two_spelled word (above_jump.1) (omega (arith, fits)))
-            ]
-          ]
-        ]
-      ]
-    ]
+    by_range (λ _. Spells word head) word
+    (λ low. absurd (unread word head (head_of-low word low) is))
+    (λ least most. one_spelled word head least most (sym (head_of-one word least most) ∙ is))
+    (λ exact. reti_spelled word head exact is)
+    (λ above most. absurd (unread word head (head_of-gap word above most) is))
+    (λ least most. read_as word (jump_head word) head (head_of-jump word least most) is
+    (jump_spelled word least most))
+    (λ least. read_as word (two_head word) head (head_of-two word least) is
+    (two_spelled word least (omega arith)))
 
 and-left : (a b c : Bool) → IsTrue (a && b && c) → IsTrue a
 and-left true b c all = refl
 and-left false b c all = grind arith
 
-pub head_complete : (word : ℕ) (head : Head) → word < 2 ^ 16 → Spells word head → head_of word ≡ Some head
+pub head_complete : (word : ℕ) (head : Head) → word < 2 ^ 16 → Spells word head
+    → head_of word ≡ Some head
 head_complete word (Two op size source dest) fits spelled =
     let least : 4 ≤ op2_number op = op2_number-le op in
-    rw (head_of-two word (omega (arith, spelled.1))) (ap Some (two_read op size source dest word (spelled.0) (spelled.1)))
+    rw (head_of-two word (omega (arith, spelled.1)))
+    (ap Some (two_read op size source dest word (spelled.0) (spelled.1)))
 head_complete word (OneOperand op size source) fits spelled =
     let op_fits = one_number-lt op in
     let size_fits = size_number-lt size in
     let mode_fits = source_mode-lt source in
     let register_fits = source_register-lt source in
     let is : word ≡ word_of (OneOperand op size source) = spelled.1 in
-    let formed : IsTrue (has_form source) = and-left (has_form source) (has_size op size) (takes_write source || not (writes_operand op)) (spelled.0) in
-    head_of-one word (omega (arith, is)) (omega (arith, is)) ∙ ap if_legal (one_read op size source word formed is) ∙ if_legal-legal (OneOperand op size source) (spelled.0)
+    let formed : IsTrue (has_form source) =
+    and-left (has_form source) (has_size op size)
+    (takes_write source || not (writes_operand op)) (spelled.0) in
+    head_of-one word (omega (arith, is)) (omega (arith, is))
+    ∙ ap if_legal (one_read op size source word formed is)
+    ∙ if_legal-legal (OneOperand op size source) (spelled.0)
 head_complete word Reti fits spelled = ap head_of (spelled.1) ∙ head_of-reti
 head_complete word (Jump condition offset) fits spelled =
     let condition_fits = cond_number-lt condition in
     let offset_fits = offset_number-lt offset (spelled.0) in
     let is : word ≡ word_of (Jump condition offset) = spelled.1 in
-    rw (head_of-jump word (omega (arith, is)) (omega (arith, is))) (ap Some (jump_read condition offset word (spelled.0) is))
+    rw (head_of-jump word (omega (arith, is)) (omega (arith, is)))
+    (ap Some (jump_read condition offset word (spelled.0) is))
 
 pub heads_are_spelled : HeadsAreSpelled
 heads_are_spelled word head fits = (head_sound word head fits, head_complete word head fits)
 
 -- the law for a head that is known to be the one of the word
-pub spelled_where_found : (word : ℕ) (found : Option Head) → word < 2 ^ 16 → found ≡ head_of word → (head : Head) → (found ≡ Some head) ↔ Spells word head
+pub spelled_where_found : (word : ℕ) (found : Option Head) → word < 2 ^ 16 → found ≡ head_of word
+    → (head : Head) → (found ≡ Some head) ↔ Spells word head
 spelled_where_found word found fits is head =
-    subst (λ (h : Option Head). (h ≡ Some head) ↔ Spells word head) (sym is) (heads_are_spelled word head fits)
+    subst (λ (h : Option Head). (h ≡ Some head) ↔ Spells word head) (sym is)
+    (heads_are_spelled word head fits)

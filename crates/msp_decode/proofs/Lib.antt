@@ -1,3 +1,4 @@
+mod WordRange
 mod TableLemmas
 mod HeadLemmas
 mod IllegalLemmas

@@ -9,17 +9,17 @@ use Rattle.word_arith.specs.declared.op2.Op2.{Op2}
 use Rattle.word_arith.specs.declared.op2.Op2.TheVariants.{Mov, Add, Addc, Subc, Sub, Cmp, Dadd, Bit, Bic, Bis, Xor, And}
 use Rattle.msp_decode.specs.declared.reg.Reg.{Reg}
 use Rattle.msp_decode.specs.declared.reg.Reg.TheVariants.{R0, R1, R2, R3, R4, R5, R6, R7, R8, R9, R10, R11, R12, R13, R14, R15}
-use Rattle.msp_decode.specs.declared.operand.Gen.TheVariants.{Zero, One as PlusOne, Two, Four, Eight, MinusOne}
-use Rattle.msp_decode.specs.declared.instr.One.{One}
-use Rattle.msp_decode.specs.declared.instr.One.TheVariants.{Rrc, Swpb, Rra, Sxt, Push, Call}
+use Rattle.msp_decode.specs.declared.constant.Gen.TheVariants.{Zero, One as PlusOne, Two, Four, Eight, MinusOne}
+use Rattle.msp_decode.specs.declared.one.One.{One}
+use Rattle.msp_decode.specs.declared.one.One.TheVariants.{Rrc, Swpb, Rra, Sxt, Push, Call}
 use Rattle.msp_decode.specs.declared.cond.Cond.{Cond}
 use Rattle.msp_decode.specs.declared.cond.Cond.TheVariants.{Ne, Eq, Nc, C, N, Ge, L, Always}
-use Rattle.msp_decode.specs.declared.head.SourceForm.{SourceForm}
-use Rattle.msp_decode.specs.declared.head.SourceForm.TheVariants.{Register, Indexed, Indirect, IndirectInc, Immediate, Constant}
-use Rattle.msp_decode.specs.declared.head.DestForm.{DestForm}
-use Rattle.msp_decode.specs.declared.head.DestForm.TheVariants.{Register as DestRegister, Indexed as DestIndexed}
-use Rattle.msp_decode.specs.Tables.{reg_number, op2_number, one_number, cond_number, size_number, source_mode, source_register, dest_mode, dest_register, offset_number}
-use Rattle.msp_decode.specs.Fields.{reg_of, op2_of, one_of, cond_of, size_of, source_of, dest_of, offset_of}
+use Rattle.msp_decode.specs.declared.source_form.SourceForm.{SourceForm}
+use Rattle.msp_decode.specs.declared.source_form.SourceForm.TheVariants.{Register, Indexed, Indirect, IndirectInc, Immediate, Constant}
+use Rattle.msp_decode.specs.declared.dest_form.DestForm.{DestForm}
+use Rattle.msp_decode.specs.declared.dest_form.DestForm.TheVariants.{Register as DestRegister, Indexed as DestIndexed}
+use Rattle.msp_decode.specs.Table.{reg_number, op2_number, one_number, cond_number, size_number, source_mode, source_register, dest_mode, dest_register, offset_number}
+use Rattle.msp_decode.specs.Field.{reg_of, op2_of, one_of, cond_of, size_of, source_of, dest_of, offset_of}
 use Rattle.msp_decode.specs.Spelling.{has_form, has_range}
 
 pub reg_of-reg_number : (x : Reg) → reg_of (reg_number x) ≡ x
@@ -186,7 +186,8 @@ source_register-lt (Constant Eight) = omega arith
 source_register-lt (Constant MinusOne) = omega arith
 
 -- a source that has a form is read back from its fields
-pub source_of-fields : (s : SourceForm) → IsTrue (has_form s) → source_of (source_mode s) (source_register s) ≡ s
+pub source_of-fields : (s : SourceForm) → IsTrue (has_form s)
+    → source_of (source_mode s) (source_register s) ≡ s
 source_of-fields (Register r) formed = grind (arith, nat_tests, reg_of-reg_number)
 source_of-fields (Indexed r) formed = grind (arith, nat_tests, reg_of-reg_number)
 source_of-fields (Indirect r) formed = grind (arith, nat_tests, reg_of-reg_number)

@@ -1,13 +1,13 @@
 -- Instructions, their heads and their extension words.
 use Rattle.std.specs.Prelude.{◌+◌, ◌++◌, ◌==◌, ℕ, List, [], ◌∷◌, if◌then◌else◌}
-use Rattle.msp_decode.specs.declared.operand.Source.{Source}
-use Rattle.msp_decode.specs.declared.operand.Source.TheVariants.{Reg, Indexed, Indirect, IndirectInc, Immediate, Constant}
-use Rattle.msp_decode.specs.declared.operand.Dest.{Dest}
-use Rattle.msp_decode.specs.declared.operand.Dest.TheVariants.{Reg as DestReg, Indexed as DestIndexed}
-use Rattle.msp_decode.specs.declared.head.SourceForm.{SourceForm}
-use Rattle.msp_decode.specs.declared.head.SourceForm.TheVariants.{Register as RegisterForm, Indexed as IndexedForm, Indirect as IndirectForm, IndirectInc as IndirectIncForm, Immediate as ImmediateForm, Constant as ConstantForm}
-use Rattle.msp_decode.specs.declared.head.DestForm.{DestForm}
-use Rattle.msp_decode.specs.declared.head.DestForm.TheVariants.{Register as DestRegisterForm, Indexed as DestIndexedForm}
+use Rattle.msp_decode.specs.declared.source.Source.{Source}
+use Rattle.msp_decode.specs.declared.source.Source.TheVariants.{Reg, Indexed, Indirect, IndirectInc, Immediate, Constant}
+use Rattle.msp_decode.specs.declared.dest.Dest.{Dest}
+use Rattle.msp_decode.specs.declared.dest.Dest.TheVariants.{Reg as DestReg, Indexed as DestIndexed}
+use Rattle.msp_decode.specs.declared.source_form.SourceForm.{SourceForm}
+use Rattle.msp_decode.specs.declared.source_form.SourceForm.TheVariants.{Register as RegisterForm, Indexed as IndexedForm, Indirect as IndirectForm, IndirectInc as IndirectIncForm, Immediate as ImmediateForm, Constant as ConstantForm}
+use Rattle.msp_decode.specs.declared.dest_form.DestForm.{DestForm}
+use Rattle.msp_decode.specs.declared.dest_form.DestForm.TheVariants.{Register as DestRegisterForm, Indexed as DestIndexedForm}
 use Rattle.msp_decode.specs.declared.instr.Instr.{Instr}
 use Rattle.msp_decode.specs.declared.instr.Instr.TheVariants.{Two, One, Reti, Jump}
 use Rattle.msp_decode.specs.declared.head.Head.{Head}
@@ -52,7 +52,8 @@ completed_dest (DestIndexedForm r) word = DestIndexed r word
 -- the instruction with its extension words, the source's before the destination's
 abbrev pub completed : Head → ℕ → ℕ → Instr
 completed (TwoHead op size source dest) first second =
-    Two op size (completed_source source first) (completed_dest dest (if source_extensions source == 0 then first else second))
+    Two op size (completed_source source first)
+    (completed_dest dest (if source_extensions source == 0 then first else second))
 completed (OneHead op size source) first second = One op size (completed_source source first)
 completed RetiHead first second = Reti
 completed (JumpHead cond offset) first second = Jump cond offset

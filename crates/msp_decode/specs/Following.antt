@@ -16,7 +16,8 @@ following_of (first ∷ []) = One first
 following_of (first ∷ second ∷ rest) = Two first second
 
 -- the list gives them back
-pub following_of-following_words : (following : Following) → following_of (following_words following) ≡ following
+pub following_of-following_words : (following : Following)
+    → following_of (following_words following) ≡ following
 following_of-following_words Nothing = refl
 following_of-following_words (One first) = refl
 following_of-following_words (Two first second) = refl

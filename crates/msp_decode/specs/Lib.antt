@@ -1,8 +1,8 @@
-pub mod Tables
+pub mod Table
 pub mod Spelling
-pub mod Fields
-pub mod Heads
+pub mod Field
+pub mod Head
 pub mod Completion
 pub mod Following
-pub mod Faults
-pub mod Laws
+pub mod EncodeFault
+pub mod Law

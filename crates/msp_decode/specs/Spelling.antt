@@ -2,13 +2,13 @@
 use Rattle.std.specs.Prelude.{◌≡◌, ◌<◌, ◌≤◌, ◌⊎◌, ◌+◌, ◌*◌, ◌/◌, ◌%◌, ◌==◌, ◌&&◌, ◌||◌, ℕ, ℤ, pos, negsuc, Bool, true, false, not, nat_lt, IsTrue}
 use Rattle.word_arith.specs.declared.size.Size.{Size}
 use Rattle.word_arith.specs.declared.size.Size.TheVariants.{Byte, Word}
-use Rattle.msp_decode.specs.declared.instr.One.{One}
-use Rattle.msp_decode.specs.declared.instr.One.TheVariants.{Rrc, Swpb, Rra, Sxt, Push, Call}
+use Rattle.msp_decode.specs.declared.one.One.{One}
+use Rattle.msp_decode.specs.declared.one.One.TheVariants.{Rrc, Swpb, Rra, Sxt, Push, Call}
 use Rattle.msp_decode.specs.declared.head.Head.{Head}
 use Rattle.msp_decode.specs.declared.head.Head.TheVariants.{Two, One as OneOperand, Reti, Jump}
-use Rattle.msp_decode.specs.declared.head.SourceForm.{SourceForm}
-use Rattle.msp_decode.specs.declared.head.SourceForm.TheVariants.{Register, Indexed, Indirect, IndirectInc, Immediate, Constant}
-use Rattle.msp_decode.specs.Tables.{reg_number, op2_number, one_number, cond_number, size_number, source_mode, source_register, dest_mode, dest_register, offset_number}
+use Rattle.msp_decode.specs.declared.source_form.SourceForm.{SourceForm}
+use Rattle.msp_decode.specs.declared.source_form.SourceForm.TheVariants.{Register, Indexed, Indirect, IndirectInc, Immediate, Constant}
+use Rattle.msp_decode.specs.Table.{reg_number, op2_number, one_number, cond_number, size_number, source_mode, source_register, dest_mode, dest_register, offset_number}
 
 -- SWPB, SXT and CALL are of words alone
 abbrev pub has_byte_form : One → Bool
@@ -47,7 +47,8 @@ abbrev pub has_form : SourceForm → Bool
 has_form (Register r) = not (reg_number r == 3)
 has_form (Indexed r) = not (reg_number r == 3)
 has_form (Indirect r) = not (reg_number r == 2) && not (reg_number r == 3)
-has_form (IndirectInc r) = not (reg_number r == 0) && not (reg_number r == 2) && not (reg_number r == 3)
+has_form (IndirectInc r) =
+    not (reg_number r == 0) && not (reg_number r == 2) && not (reg_number r == 3)
 has_form Immediate = true
 has_form (Constant g) = true
 

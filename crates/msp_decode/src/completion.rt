@@ -1,9 +1,12 @@
 ghost use Rattle.std.specs.Prelude.{◌≡◌, ◌≤◌, ◌+◌, ℕ, [], ◌∷◌, take};
 ghost use Rattle.msp_decode.specs.Completion.{head_part, extension_words, source_extensions, dest_extensions, extension_count, completed_source, completed_dest, completed};
 
-use crate::head::{DestForm, Head, SourceForm};
+use crate::dest::Dest;
+use crate::dest_form::DestForm;
+use crate::head::Head;
 use crate::instr::Instr;
-use crate::operand::{Dest, Source};
+use crate::source::Source;
+use crate::source_form::SourceForm;
 
 fn source_extensions(source: SourceForm) -> u8
     ensures value { result ≡ source_extensions source }
@@ -59,8 +62,8 @@ fn complete_dest(dest: DestForm, word: u16) -> Dest
     }
 }
 
-/// The instruction with its extension words, those of the source first. Words that are not needed are
-/// ignored.
+/// The instruction with its extension words, those of the source first. Words that are not needed
+/// are ignored.
 pub fn complete(head: &Head, first: u16, second: u16) -> Instr
     ensures value { result ≡ completed head.now first second }
     ensures head { head_part result ≡ head.now }

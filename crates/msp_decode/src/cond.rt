@@ -21,8 +21,8 @@ pub enum Cond {
 }
 
 impl Cond {
-    ghost use Rattle.msp_decode.specs.Tables.{cond_number};
-    ghost use Rattle.msp_decode.specs.Fields.{cond_of};
+    ghost use Rattle.msp_decode.specs.Table.{cond_number};
+    ghost use Rattle.msp_decode.specs.Field.{cond_of};
 
     /// The condition's number in a jump's word.
     pub(crate) fn number(self) -> u16

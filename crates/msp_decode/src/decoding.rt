@@ -1,12 +1,14 @@
 ghost use Rattle.std.specs.Prelude.{◌≡◌, ◌↔◌, ◌<◌, ◌≤◌, IsNone};
 ghost use Rattle.msp_decode.specs.declared.head.Head.{Head};
 ghost use Rattle.msp_decode.specs.Spelling.{Spells, IsIllegalWord};
-ghost use Rattle.msp_decode.specs.Heads.{head_of, one_head, two_head, jump_head, if_legal};
+ghost use Rattle.msp_decode.specs.Head.{head_of, one_head, two_head, jump_head, if_legal};
 
 use crate::cond::Cond;
-use crate::fields::{offset_from_number, op2_from_number, size_from_number};
-use crate::head::{DestForm, Head, SourceForm};
-use crate::instr::One;
+use crate::dest_form::DestForm;
+use crate::field::{offset_from_number, op2_from_number, size_from_number};
+use crate::head::Head;
+use crate::one::One;
+use crate::source_form::SourceForm;
 
 fn one_operand(word: u16) -> Option<Head>
     requires least { 0x1000 ≤ word }
@@ -45,7 +47,7 @@ fn two_operands(word: u16) -> Head
 }
 
 /// The head that a word spells (SLAU049); `None` exactly on the illegal words.
-#[tactic(auto, unfolding(crate::specs::Heads::head_of))]
+#[tactic(auto, unfolding(crate::specs::Head::head_of))]
 pub fn decode(word: u16) -> Option<Head>
     ensures value { result ≡ head_of word }
     ensures spelled { (head : Head) → (result ≡ Some head) ↔ Spells word head }

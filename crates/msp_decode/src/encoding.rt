@@ -1,33 +1,24 @@
 ghost use Rattle.std.specs.Prelude.{◌≡◌, ◌↔◌, ◌<◌, ◌^◌, IsTrue, IsNone, IfOk, option_to_list};
-ghost use Rattle.msp_decode.specs.declared.encoding.EncodeFault.{EncodeFault};
+ghost use Rattle.msp_decode.specs.declared.encode_fault.EncodeFault.{EncodeFault};
 ghost use Rattle.msp_decode.specs.declared.head.Head.TheVariants.{One as OneHead};
 ghost use Rattle.msp_decode.specs.Spelling.{is_legal, word_of};
 ghost use Rattle.msp_decode.specs.Completion.{source_form, dest_form, head_part, source_words, dest_words, extension_words, words_of};
 ghost use Rattle.msp_decode.specs.Following.{following_words};
-ghost use Rattle.msp_decode.specs.Faults.{first_fault};
-ghost use Rattle.msp_decode.specs.Laws.{AreReadAs};
+ghost use Rattle.msp_decode.specs.EncodeFault.{first_fault};
+ghost use Rattle.msp_decode.specs.Law.{AreReadAs};
 
-use crate::fields::{has_range, offset_number, op2_number, size_number};
+use crate::dest::Dest;
+use crate::dest_form::DestForm;
+use crate::encode_fault::EncodeFault;
+use crate::field::{has_range, offset_number, op2_number, size_number};
 use crate::following::Following;
-use crate::head::{DestForm, Head, SourceForm};
-use crate::instr::{Instr, One};
-use crate::operand::{Dest, Source};
+use crate::head::Head;
+use crate::instr::Instr;
+use crate::one::One;
+use crate::source::Source;
+use crate::source_form::SourceForm;
 use crate::words::Words;
-use thiserror::Error;
 use word_arith::Size;
-
-/// Why an instruction has no words. The variants stand in the order in which they are tried.
-#[derive(Clone, Copy, Debug, PartialEq, Eq, Error)]
-pub enum EncodeFault {
-    #[error("SWPB, SXT and CALL have no byte form")]
-    NoByteForm,
-    #[error("an immediate or a constant takes no result")]
-    NotWritable,
-    #[error("the source's mode and register mean another operand")]
-    NoSuchForm,
-    #[error("the jump is not by -512 to 511 words")]
-    OffsetRange,
-}
 
 fn source_form(source: Source) -> SourceForm
     ensures { result ≡ source_form source }
@@ -144,12 +135,13 @@ fn first_word(head: &Head) -> u16
     }
 }
 
-/// The words of an instruction, which are read as that instruction. The faults are tried in the order
-/// of [`EncodeFault`].
+/// The words of an instruction, which are read as that instruction. The faults are tried in the
+/// order of [`EncodeFault`].
 pub fn encode(instr: &Instr) -> Result<Words, EncodeFault>
     ensures ok { IfOk result (λ words. words ≡ words_of instr.now) }
     ensures read { IfOk result (λ words. AreReadAs words instr.now) }
-    ensures fault { (fault : EncodeFault) → (result ≡ Err fault) ↔ (first_fault (head_part instr.now) ≡ Some fault) }
+    ensures fault { (fault : EncodeFault)
+        → (result ≡ Err fault) ↔ (first_fault (head_part instr.now) ≡ Some fault) }
 {
     let head = head_part(instr);
     match first_fault(&head) {

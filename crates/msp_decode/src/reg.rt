@@ -23,8 +23,8 @@ pub enum Reg {
 }
 
 impl Reg {
-    ghost use Rattle.msp_decode.specs.Tables.{reg_number};
-    ghost use Rattle.msp_decode.specs.Fields.{reg_of};
+    ghost use Rattle.msp_decode.specs.Table.{reg_number};
+    ghost use Rattle.msp_decode.specs.Field.{reg_of};
 
     /// The register's number, 0 to 15.
     pub fn number(self) -> u16

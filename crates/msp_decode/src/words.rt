@@ -20,9 +20,12 @@ impl Model for Words {
 
     ghost view = { λ words. words.first ∷ following_words words.following };
 
-    ghost inverse = { λ words. record { first = slice_index words 0; following = following_of (drop 1 words) } };
+    ghost inverse = { λ words.
+        record { first = slice_index words 0; following = following_of (drop 1 words) } };
 
-    ghost inverse_ok = { λ words _. ap (λ f. record { first = words.first; following = f }) (following_of-following_words words.following) };
+    ghost inverse_ok = { λ words _.
+        ap (λ f. record { first = words.first; following = f })
+        (following_of-following_words words.following) };
 }
 
 impl Words {

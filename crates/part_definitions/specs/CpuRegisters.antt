@@ -3,10 +3,10 @@
 use Rattle.std.specs.Prelude.{◌==◌, ◌+◌, ◌*◌, ◌/◌, ◌%◌, ℕ, Bool, List, if◌then◌else◌, replicate, slice_index, slice_set}
 use Rattle.word_arith.specs.declared.size.Size.{Size}
 use Rattle.word_arith.specs.declared.flags.Flags.{Flags}
-use Rattle.word_arith.specs.Numbers.{low_part, number_of}
+use Rattle.word_arith.specs.Number.{low_part, number_of}
 use Rattle.msp_decode.specs.declared.reg.Reg.{Reg}
 use Rattle.msp_decode.specs.declared.reg.Reg.TheVariants.{R0, R1, R2, R3}
-use Rattle.msp_decode.specs.Tables.{reg_number}
+use Rattle.msp_decode.specs.Table.{reg_number}
 use Rattle.part_definitions.specs.Words.{plus, minus, even}
 
 -- after power-on and after a reset

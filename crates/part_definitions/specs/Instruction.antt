@@ -7,18 +7,18 @@ use Rattle.word_arith.specs.declared.flags.Flags.{Flags}
 use Rattle.word_arith.specs.declared.op1.Op1.TheVariants.{Rrc as OpRrc, Swpb as OpSwpb, Rra as OpRra, Sxt as OpSxt}
 use Rattle.word_arith.specs.declared.op2.Op2.{Op2}
 use Rattle.word_arith.specs.declared.op2.Op2.TheVariants.{Cmp, Bit}
-use Rattle.word_arith.specs.Numbers.{low_part, alike}
-use Rattle.word_arith.specs.OneOperand.{shift_result}
-use Rattle.word_arith.specs.TwoOperands.{alu_result}
+use Rattle.word_arith.specs.Number.{low_part, alike}
+use Rattle.word_arith.specs.Op1.{shift_result}
+use Rattle.word_arith.specs.Op2.{alu_result}
 use Rattle.bus_signals.specs.declared.access.Access.{Access}
 use Rattle.msp_decode.specs.declared.cond.Cond.{Cond}
 use Rattle.msp_decode.specs.declared.cond.Cond.TheVariants.{Ne, Eq, Nc, C, N, Ge, L, Always}
-use Rattle.msp_decode.specs.declared.instr.One.{One}
-use Rattle.msp_decode.specs.declared.instr.One.TheVariants.{Rrc, Swpb, Rra, Sxt, Push, Call}
-use Rattle.msp_decode.specs.declared.head.SourceForm.{SourceForm}
-use Rattle.msp_decode.specs.declared.head.SourceForm.TheVariants.{Register}
-use Rattle.msp_decode.specs.declared.head.DestForm.{DestForm}
-use Rattle.msp_decode.specs.declared.head.DestForm.TheVariants.{Register as DestRegister, Indexed as DestIndexed}
+use Rattle.msp_decode.specs.declared.one.One.{One}
+use Rattle.msp_decode.specs.declared.one.One.TheVariants.{Rrc, Swpb, Rra, Sxt, Push, Call}
+use Rattle.msp_decode.specs.declared.source_form.SourceForm.{SourceForm}
+use Rattle.msp_decode.specs.declared.source_form.SourceForm.TheVariants.{Register}
+use Rattle.msp_decode.specs.declared.dest_form.DestForm.{DestForm}
+use Rattle.msp_decode.specs.declared.dest_form.DestForm.TheVariants.{Register as DestRegister, Indexed as DestIndexed}
 use Rattle.msp_decode.specs.declared.head.Head.{Head}
 use Rattle.msp_decode.specs.declared.head.Head.TheVariants.{Two, One as OneOperand, Reti, Jump}
 use Rattle.part_definitions.specs.Words.{plus, minus}

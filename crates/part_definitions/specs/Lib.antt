@@ -19,6 +19,6 @@ pub mod Pins
 pub mod Serial
 pub mod Timer
 pub mod Dma
-pub mod Interrupts
+pub mod Interrupt
 pub mod NarrowInstruction
 pub mod NarrowNextAccess

@@ -4,7 +4,7 @@ use Rattle.std.specs.Prelude.{ℕ, Bool, List, [], ◌∷◌, Option, Some, None
 use Rattle.word_arith.specs.declared.size.Size.TheVariants.{Word}
 use Rattle.bus_signals.specs.declared.access.Access.{Access}
 use Rattle.msp_decode.specs.declared.head.Head.{Head}
-use Rattle.msp_decode.specs.Heads.{head_of}
+use Rattle.msp_decode.specs.Head.{head_of}
 use Rattle.part_definitions.specs.Words.{minus}
 use Rattle.part_definitions.specs.Accesses.{fetch_at, read_at, write_at}
 use Rattle.part_definitions.specs.CpuRegisters.{pc_of, sp_of, sr_of, with_pc, with_sp, with_sr, handler_status}

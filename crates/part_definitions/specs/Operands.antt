@@ -2,17 +2,17 @@
 use Rattle.std.specs.Prelude.{◌==◌, ℕ, List, if◌then◌else◌}
 use Rattle.word_arith.specs.declared.size.Size.{Size}
 use Rattle.word_arith.specs.declared.size.Size.TheVariants.{Byte, Word}
-use Rattle.word_arith.specs.Numbers.{low_part}
+use Rattle.word_arith.specs.Number.{low_part}
 use Rattle.msp_decode.specs.declared.reg.Reg.{Reg}
-use Rattle.msp_decode.specs.declared.operand.Gen.{Gen}
-use Rattle.msp_decode.specs.declared.operand.Gen.TheVariants.{Zero, One as PlusOne, Two as PlusTwo, Four, Eight, MinusOne}
-use Rattle.msp_decode.specs.declared.head.SourceForm.{SourceForm}
-use Rattle.msp_decode.specs.declared.head.SourceForm.TheVariants.{Register, Indirect, IndirectInc, Constant}
-use Rattle.msp_decode.specs.declared.head.DestForm.{DestForm}
-use Rattle.msp_decode.specs.declared.head.DestForm.TheVariants.{Register as DestRegister, Indexed as DestIndexed}
+use Rattle.msp_decode.specs.declared.constant.Gen.{Gen}
+use Rattle.msp_decode.specs.declared.constant.Gen.TheVariants.{Zero, One as PlusOne, Two as PlusTwo, Four, Eight, MinusOne}
+use Rattle.msp_decode.specs.declared.source_form.SourceForm.{SourceForm}
+use Rattle.msp_decode.specs.declared.source_form.SourceForm.TheVariants.{Register, Indirect, IndirectInc, Constant}
+use Rattle.msp_decode.specs.declared.dest_form.DestForm.{DestForm}
+use Rattle.msp_decode.specs.declared.dest_form.DestForm.TheVariants.{Register as DestRegister, Indexed as DestIndexed}
 use Rattle.msp_decode.specs.declared.head.Head.{Head}
 use Rattle.msp_decode.specs.declared.head.Head.TheVariants.{Two, One as OneOperand, Reti, Jump}
-use Rattle.msp_decode.specs.Tables.{reg_number}
+use Rattle.msp_decode.specs.Table.{reg_number}
 use Rattle.part_definitions.specs.declared.working.Working.{Working}
 use Rattle.part_definitions.specs.Words.{plus}
 use Rattle.part_definitions.specs.CpuRegisters.{word_in, operand_in, with_register, after_word}

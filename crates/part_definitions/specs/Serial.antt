@@ -43,39 +43,39 @@ takes_byte place size = covers place size SERIAL_RECEIVE
 
 -- the bytes that wait, oldest first: an arrival adds its byte at the end where fewer than 64 wait,
 -- a read that takes a byte takes the first
-abbrev pub waiting : List SerialEvent → List ℕ
-waiting [] = []
-waiting (Arrived byte ∷ events) =
-    if nat_lt (length (waiting events)) QUEUE_LENGTH
-    then waiting events ++ byte ∷ []
-    else waiting events
-waiting (Taken place size ∷ events) =
-    if takes_byte place size then drop 1 (waiting events) else waiting events
-waiting (Written place size number ∷ events) = waiting events
-waiting (Cleared ∷ events) = []
+abbrev pub waiting_bytes : List SerialEvent → List ℕ
+waiting_bytes [] = []
+waiting_bytes (Arrived byte ∷ events) =
+    if nat_lt (length (waiting_bytes events)) QUEUE_LENGTH
+    then waiting_bytes events ++ byte ∷ []
+    else waiting_bytes events
+waiting_bytes (Taken place size ∷ events) =
+    if takes_byte place size then drop 1 (waiting_bytes events) else waiting_bytes events
+waiting_bytes (Written place size number ∷ events) = waiting_bytes events
+waiting_bytes (Cleared ∷ events) = []
 
 -- one more byte can wait
 abbrev pub has_room : List SerialEvent → Bool
-has_room events = nat_lt (length (waiting events)) QUEUE_LENGTH
+has_room events = nat_lt (length (waiting_bytes events)) QUEUE_LENGTH
 
 -- a byte was dropped: one arrived where there was no room, since the last write that covers the low
 -- byte of SSTAT and since the last reset
-abbrev pub dropped : List SerialEvent → Bool
-dropped [] = false
-dropped (Arrived byte ∷ events) = not (has_room events) || dropped events
-dropped (Taken place size ∷ events) = dropped events
-dropped (Written place size number ∷ events) =
-    if covers place size SERIAL_STATUS then false else dropped events
-dropped (Cleared ∷ events) = false
+abbrev pub has_dropped : List SerialEvent → Bool
+has_dropped [] = false
+has_dropped (Arrived byte ∷ events) = not (has_room events) || has_dropped events
+has_dropped (Taken place size ∷ events) = has_dropped events
+has_dropped (Written place size number ∷ events) =
+    if covers place size SERIAL_STATUS then false else has_dropped events
+has_dropped (Cleared ∷ events) = false
 
 -- bit 0 of SCTL is named: the receive interrupt is enabled
 abbrev pub serial_control : List SerialEvent → ℕ
 serial_control events = register_word (serial_writes events) SERIAL_CONTROL % 2
 
 -- the oldest byte, 0 where none waits
-abbrev pub oldest : List ℕ → ℕ
-oldest [] = 0
-oldest (byte ∷ bytes) = byte
+abbrev pub oldest_byte : List ℕ → ℕ
+oldest_byte [] = 0
+oldest_byte (byte ∷ bytes) = byte
 
 abbrev pub is_waiting : List ℕ → Bool
 is_waiting bytes = nat_lt 0 (length bytes)
@@ -83,14 +83,14 @@ is_waiting bytes = nat_lt 0 (length bytes)
 -- bit 0: a byte waits; bit 1: a byte was dropped
 abbrev pub serial_status : List SerialEvent → ℕ
 serial_status events =
-    (if is_waiting (waiting events) then 1 else 0) + (if dropped events then 2 else 0)
+    (if is_waiting (waiting_bytes events) then 1 else 0) + (if has_dropped events then 2 else 0)
 
 -- what the registers hold; no other place is a register of the port, and STXD reads 0
 abbrev pub serial_word : List SerialEvent → ℕ → ℕ
 serial_word events register =
     if register == SERIAL_CONTROL then serial_control events
     else if register == SERIAL_STATUS then serial_status events
-    else if register == SERIAL_RECEIVE then oldest (waiting events)
+    else if register == SERIAL_RECEIVE then oldest_byte (waiting_bytes events)
     else 0
 
 abbrev pub serial_read : List SerialEvent → ℕ → Size → ℕ
@@ -101,4 +101,4 @@ abbrev pub byte_sent : ℕ → Size → ℕ → Option ℕ
 byte_sent place size number = if covers place size SERIAL_SEND then Some (number % 256) else None
 
 abbrev pub serial_requests : List SerialEvent → Bool
-serial_requests events = is_waiting (waiting events) && (serial_control events == 1)
+serial_requests events = is_waiting (waiting_bytes events) && (serial_control events == 1)

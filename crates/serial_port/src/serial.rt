@@ -1,6 +1,6 @@
 ghost use Rattle.std.specs.Prelude.{◌≡◌, [], ◌∷◌, List, IfOk};
 ghost use Rattle.part_definitions.specs.Part.{Takes, Answers};
-ghost use Rattle.part_definitions.specs.Serial.{SerialEvent, Arrived, Taken, Written, Cleared, waiting, oldest, QUEUE_LENGTH, has_room, serial_read, serial_word, serial_status, serial_requests, byte_sent};
+ghost use Rattle.part_definitions.specs.Serial.{SerialEvent, Arrived, Taken, Written, Cleared, waiting_bytes, oldest_byte, QUEUE_LENGTH, has_room, serial_read, serial_word, serial_status, serial_requests, byte_sent};
 
 use circular_buffer::HeapCircularBuffer;
 use peripheral_register::{Register, covers_byte, part_of_word, register_place};
@@ -93,7 +93,8 @@ impl Serial {
 
     // The oldest byte that waits, 0 where none does.
     fn oldest(&self) -> u16
-        ensures { Answers SerialStandsFor self.now (λ events. oldest (waiting events)) result }
+        ensures { Answers SerialStandsFor self.now
+            (λ events. oldest_byte (waiting_bytes events)) result }
     {
         self.queue.front().copied().map_or(0, u16::from)
     }

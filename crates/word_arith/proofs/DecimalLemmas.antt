@@ -2,16 +2,19 @@
 use Rattle.std.proofs.Common.{◌≡◌, ℕ, zero, suc, ◌<◌, ◌+◌, ◌*◌, ◌/◌, ◌%◌, ◌^◌, Bool, true, false, nat_le, refl, ap, arith}
 use Rattle.std.proofs.lemmas.Bool.Decides.{nat_tests}
 use Rattle.std.proofs.Math.Nat.{pow-suc}
-use Rattle.word_arith.specs.Numbers.{number_of}
+use Rattle.word_arith.specs.Number.{number_of}
 use Rattle.word_arith.specs.Decimal.{digit_of}
-use Rattle.word_arith.specs.DecimalNumbers.{coded_decimal, DecimalSumIsOfNumbers}
+use Rattle.word_arith.specs.DecimalNumber.{coded_decimal, DecimalSumIsOfNumbers}
 
 -- what the places above the lowest add up to
-higher_sum : (left right carry : ℕ) → carry < 2 → left / 10 + right / 10 + number_of (nat_le 10 (left % 10 + right % 10 + carry)) ≡ (left + right + carry) / 10
+higher_sum : (left right carry : ℕ) → carry < 2
+    → left / 10 + right / 10 + number_of (nat_le 10 (left % 10 + right % 10 + carry))
+    ≡ (left + right + carry) / 10
 higher_sum left right carry fits = grind (arith, nat_tests)
 
 -- the lowest digit of the sum
-lowest_digit : (left right carry : ℕ) → carry < 2 → digit_of (left % 10 + right % 10 + carry) ≡ (left + right + carry) % 10
+lowest_digit : (left right carry : ℕ) → carry < 2
+    → digit_of (left % 10 + right % 10 + carry) ≡ (left + right + carry) % 10
 lowest_digit left right carry fits = grind (arith, nat_tests)
 
 -- one place more or less
@@ -22,7 +25,8 @@ number_of-lt : (carry : Bool) → number_of carry < 2
 number_of-lt true = omega arith
 number_of-lt false = omega arith
 
-first_carry : (left right : ℕ) (carry : Bool) → left < 1 → right < 1 → carry ≡ nat_le 1 (left + right + number_of carry)
+first_carry : (left right : ℕ) (carry : Bool) → left < 1 → right < 1
+    → carry ≡ nat_le 1 (left + right + number_of carry)
 first_carry left right true left_fits right_fits = grind (arith, nat_tests)
 first_carry left right false left_fits right_fits = grind (arith, nat_tests)
 
@@ -33,9 +37,27 @@ decimal_sum_is_of_numbers (suc places) left right carry left_fits right_fits =
     let power : 10 ^ suc places ≡ 10 ^ places * 10 = pow-suc 10 places in
     let left_rest : left / 10 < 10 ^ places = omega arith in
     let right_rest : right / 10 < 10 ^ places = omega arith in
-    let left_low : (coded_decimal places (left / 10) * 16 + left % 10) % 16 ≡ left % 10 = omega arith in
-    let right_low : (coded_decimal places (right / 10) * 16 + right % 10) % 16 ≡ right % 10 = omega arith in
-    let left_high : (coded_decimal places (left / 10) * 16 + left % 10) / 16 ≡ coded_decimal places (left / 10) = omega arith in
-    let right_high : (coded_decimal places (right / 10) * 16 + right % 10) / 16 ≡ coded_decimal places (right / 10) = omega arith in
-    let higher = decimal_sum_is_of_numbers places (left / 10) (right / 10) (nat_le 10 (left % 10 + right % 10 + number_of carry)) left_rest right_rest in
-    rw (left_low, right_low, left_high, right_high, higher, higher_sum left right (number_of carry) (number_of-lt carry), lowest_digit left right (number_of carry) (number_of-lt carry), reaches (10 ^ places) (left + right + number_of carry), power) refl
+    let left_low : (coded_decimal places (left / 10) * 16 + left % 10) % 16 ≡ left % 10 =
+    omega arith in
+    let right_low : (coded_decimal places (right / 10) * 16 + right % 10) % 16 ≡ right % 10 =
+    omega arith in
+    let left_high : (coded_decimal places (left / 10) * 16 + left % 10) / 16
+    ≡ coded_decimal places (left / 10) = omega arith in
+    let right_high : (coded_decimal places (right / 10) * 16 + right % 10) / 16
+    ≡ coded_decimal places (right / 10) = omega arith in
+    let higher =
+    decimal_sum_is_of_numbers places (left / 10) (right / 10)
+    (nat_le 10 (left % 10 + right % 10 + number_of carry)) left_rest right_rest in
+    rw (
+      left_low,
+      right_low,
+      left_high,
+      right_high,
+      higher,
+      higher_sum left right (number_of carry)
+          (number_of-lt carry),
+      lowest_digit left right (number_of carry)
+          (number_of-lt carry),
+      reaches (10 ^ places) (left + right + number_of carry),
+      power,
+    ) refl

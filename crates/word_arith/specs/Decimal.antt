@@ -2,7 +2,7 @@
 use Rattle.std.specs.Prelude.{◌+◌, ◌*◌, ◌/◌, ◌%◌, ℕ, zero, suc, Bool, nat_lt, nat_le, if◌then◌else◌}
 use Rattle.word_arith.specs.declared.size.Size.{Size}
 use Rattle.word_arith.specs.declared.size.Size.TheVariants.{Byte, Word}
-use Rattle.word_arith.specs.Numbers.{number_of}
+use Rattle.word_arith.specs.Number.{number_of}
 
 -- the sum of the lowest decimal place, with the carry in
 abbrev pub lowest_sum : ℕ → ℕ → Bool → ℕ

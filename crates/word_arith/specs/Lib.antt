@@ -1,8 +1,8 @@
-pub mod Numbers
+pub mod Number
 pub mod Flags
-pub mod Sums
+pub mod Sum
 pub mod Decimal
-pub mod TwoOperands
-pub mod OneOperand
+pub mod Op2
+pub mod Op1
 pub mod Signed
-pub mod DecimalNumbers
+pub mod DecimalNumber

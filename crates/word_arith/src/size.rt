@@ -8,7 +8,7 @@ pub enum Size {
 }
 
 impl Size {
-    ghost use Rattle.word_arith.specs.Numbers.{span, low_part, inverse, is_negative};
+    ghost use Rattle.word_arith.specs.Number.{span, low_part, inverse, is_negative};
 
     /// The operand of this size in a word.
     pub(crate) fn low_part(self, word: u16) -> u16

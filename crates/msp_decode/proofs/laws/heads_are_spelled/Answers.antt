@@ -1,5 +1,0 @@
-use Rattle.msp_decode.proofs.HeadLemmas.{heads_are_spelled}
-use Rattle.msp_decode.proofs.laws.heads_are_spelled.Goals as goal
-
-pub returns : goal.returns
-returns c = heads_are_spelled

@@ -1,0 +1,101 @@
+-- The meaning of each field of an instruction word, as functions that compute.
+use Rattle.std.specs.Prelude.{◌-ℤ◌, ◌==◌, ℕ, ℤ, pos, nat_lt, if◌then◌else◌}
+use Rattle.word_arith.specs.declared.size.Size.{Size}
+use Rattle.word_arith.specs.declared.size.Size.TheVariants.{Byte, Word}
+use Rattle.word_arith.specs.declared.op2.Op2.{Op2}
+use Rattle.word_arith.specs.declared.op2.Op2.TheVariants.{Mov, Add, Addc, Subc, Sub, Cmp, Dadd, Bit, Bic, Bis, Xor, And}
+use Rattle.msp_decode.specs.declared.reg.Reg.{Reg}
+use Rattle.msp_decode.specs.declared.reg.Reg.TheVariants.{R0, R1, R2, R3, R4, R5, R6, R7, R8, R9, R10, R11, R12, R13, R14, R15}
+use Rattle.msp_decode.specs.declared.constant.Gen.TheVariants.{Zero, One as PlusOne, Two, Four, Eight, MinusOne}
+use Rattle.msp_decode.specs.declared.one.One.{One}
+use Rattle.msp_decode.specs.declared.one.One.TheVariants.{Rrc, Swpb, Rra, Sxt, Push, Call}
+use Rattle.msp_decode.specs.declared.cond.Cond.{Cond}
+use Rattle.msp_decode.specs.declared.cond.Cond.TheVariants.{Ne, Eq, Nc, C, N, Ge, L, Always}
+use Rattle.msp_decode.specs.declared.source_form.SourceForm.{SourceForm}
+use Rattle.msp_decode.specs.declared.source_form.SourceForm.TheVariants.{Register, Indexed, Indirect, IndirectInc, Immediate, Constant}
+use Rattle.msp_decode.specs.declared.dest_form.DestForm.{DestForm}
+use Rattle.msp_decode.specs.declared.dest_form.DestForm.TheVariants.{Register as DestRegister, Indexed as DestIndexed}
+
+-- the register of a number below 16
+abbrev pub reg_of : ℕ → Reg
+reg_of n =
+    if n == 0 then R0
+    else if n == 1 then R1
+    else if n == 2 then R2
+    else if n == 3 then R3
+    else if n == 4 then R4
+    else if n == 5 then R5
+    else if n == 6 then R6
+    else if n == 7 then R7
+    else if n == 8 then R8
+    else if n == 9 then R9
+    else if n == 10 then R10
+    else if n == 11 then R11
+    else if n == 12 then R12
+    else if n == 13 then R13
+    else if n == 14 then R14
+    else R15
+
+-- the operation of two operands of an opcode from 4 to 15
+abbrev pub op2_of : ℕ → Op2
+op2_of n =
+    if n == 4 then Mov
+    else if n == 5 then Add
+    else if n == 6 then Addc
+    else if n == 7 then Subc
+    else if n == 8 then Sub
+    else if n == 9 then Cmp
+    else if n == 10 then Dadd
+    else if n == 11 then Bit
+    else if n == 12 then Bic
+    else if n == 13 then Bis
+    else if n == 14 then Xor
+    else And
+
+-- the operation of one operand of an opcode below 6
+abbrev pub one_of : ℕ → One
+one_of n =
+    if n == 0 then Rrc
+    else if n == 1 then Swpb
+    else if n == 2 then Rra
+    else if n == 3 then Sxt
+    else if n == 4 then Push
+    else Call
+
+-- the condition of a number below 8
+abbrev pub cond_of : ℕ → Cond
+cond_of n =
+    if n == 0 then Ne
+    else if n == 1 then Eq
+    else if n == 2 then Nc
+    else if n == 3 then C
+    else if n == 4 then N
+    else if n == 5 then Ge
+    else if n == 6 then L
+    else Always
+
+-- the size of the B/W bit
+abbrev pub size_of : ℕ → Size
+size_of bit = if bit == 0 then Word else Byte
+
+-- the source of a mode and a register
+abbrev pub source_of : ℕ → ℕ → SourceForm
+source_of mode n =
+    if mode == 0 then (if n == 3 then Constant Zero else Register (reg_of n))
+    else if mode == 1 then (if n == 3 then Constant PlusOne else Indexed (reg_of n))
+    else if mode == 2 then
+    (if n == 2 then Constant Four
+    else if n == 3 then Constant Two
+    else Indirect (reg_of n))
+    else if n == 0 then Immediate
+    else if n == 2 then Constant Eight
+    else if n == 3 then Constant MinusOne
+    else IndirectInc (reg_of n)
+
+-- the destination of a mode and a register
+abbrev pub dest_of : ℕ → ℕ → DestForm
+dest_of mode n = if mode == 0 then DestRegister (reg_of n) else DestIndexed (reg_of n)
+
+-- the offset of ten bits in two's complement
+abbrev pub offset_of : ℕ → ℤ
+offset_of field = if nat_lt field 512 then pos field else pos field -ℤ pos 1024

@@ -1,0 +1,119 @@
+-- The numbers of the fields of an instruction word (SLAU049).
+use Rattle.std.specs.Prelude.{◌-◌, ℕ, ℤ, pos, negsuc}
+use Rattle.word_arith.specs.declared.size.Size.{Size}
+use Rattle.word_arith.specs.declared.size.Size.TheVariants.{Byte, Word}
+use Rattle.word_arith.specs.declared.op2.Op2.{Op2}
+use Rattle.word_arith.specs.declared.op2.Op2.TheVariants.{Mov, Add, Addc, Subc, Sub, Cmp, Dadd, Bit, Bic, Bis, Xor, And}
+use Rattle.msp_decode.specs.declared.reg.Reg.{Reg}
+use Rattle.msp_decode.specs.declared.reg.Reg.TheVariants.{R0, R1, R2, R3, R4, R5, R6, R7, R8, R9, R10, R11, R12, R13, R14, R15}
+use Rattle.msp_decode.specs.declared.constant.Gen.TheVariants.{Zero, One as PlusOne, Two, Four, Eight, MinusOne}
+use Rattle.msp_decode.specs.declared.one.One.{One}
+use Rattle.msp_decode.specs.declared.one.One.TheVariants.{Rrc, Swpb, Rra, Sxt, Push, Call}
+use Rattle.msp_decode.specs.declared.cond.Cond.{Cond}
+use Rattle.msp_decode.specs.declared.cond.Cond.TheVariants.{Ne, Eq, Nc, C, N, Ge, L, Always}
+use Rattle.msp_decode.specs.declared.source_form.SourceForm.{SourceForm}
+use Rattle.msp_decode.specs.declared.source_form.SourceForm.TheVariants.{Register, Indexed, Indirect, IndirectInc, Immediate, Constant}
+use Rattle.msp_decode.specs.declared.dest_form.DestForm.{DestForm}
+use Rattle.msp_decode.specs.declared.dest_form.DestForm.TheVariants.{Register as DestRegister, Indexed as DestIndexed}
+
+-- register fields
+abbrev pub reg_number : Reg → ℕ
+reg_number R0 = 0
+reg_number R1 = 1
+reg_number R2 = 2
+reg_number R3 = 3
+reg_number R4 = 4
+reg_number R5 = 5
+reg_number R6 = 6
+reg_number R7 = 7
+reg_number R8 = 8
+reg_number R9 = 9
+reg_number R10 = 10
+reg_number R11 = 11
+reg_number R12 = 12
+reg_number R13 = 13
+reg_number R14 = 14
+reg_number R15 = 15
+
+-- opcodes of two operands
+abbrev pub op2_number : Op2 → ℕ
+op2_number Mov = 0x4
+op2_number Add = 0x5
+op2_number Addc = 0x6
+op2_number Subc = 0x7
+op2_number Sub = 0x8
+op2_number Cmp = 0x9
+op2_number Dadd = 0xA
+op2_number Bit = 0xB
+op2_number Bic = 0xC
+op2_number Bis = 0xD
+op2_number Xor = 0xE
+op2_number And = 0xF
+
+-- opcodes of one operand
+abbrev pub one_number : One → ℕ
+one_number Rrc = 0
+one_number Swpb = 1
+one_number Rra = 2
+one_number Sxt = 3
+one_number Push = 4
+one_number Call = 5
+
+-- conditions of jumps
+abbrev pub cond_number : Cond → ℕ
+cond_number Ne = 0
+cond_number Eq = 1
+cond_number Nc = 2
+cond_number C = 3
+cond_number N = 4
+cond_number Ge = 5
+cond_number L = 6
+cond_number Always = 7
+
+-- B/W
+abbrev pub size_number : Size → ℕ
+size_number Word = 0
+size_number Byte = 1
+
+-- As, the mode of a source
+abbrev pub source_mode : SourceForm → ℕ
+source_mode (Register r) = 0
+source_mode (Indexed r) = 1
+source_mode (Indirect r) = 2
+source_mode (IndirectInc r) = 3
+source_mode Immediate = 3
+source_mode (Constant Zero) = 0
+source_mode (Constant PlusOne) = 1
+source_mode (Constant Two) = 2
+source_mode (Constant Four) = 2
+source_mode (Constant Eight) = 3
+source_mode (Constant MinusOne) = 3
+
+-- the register field of a source: an immediate is at R0, and R2 and R3 generate the constants
+abbrev pub source_register : SourceForm → ℕ
+source_register (Register r) = reg_number r
+source_register (Indexed r) = reg_number r
+source_register (Indirect r) = reg_number r
+source_register (IndirectInc r) = reg_number r
+source_register Immediate = 0
+source_register (Constant Zero) = 3
+source_register (Constant PlusOne) = 3
+source_register (Constant Two) = 3
+source_register (Constant Four) = 2
+source_register (Constant Eight) = 2
+source_register (Constant MinusOne) = 3
+
+-- Ad, the mode of a destination
+abbrev pub dest_mode : DestForm → ℕ
+dest_mode (DestRegister r) = 0
+dest_mode (DestIndexed r) = 1
+
+-- the register field of a destination
+abbrev pub dest_register : DestForm → ℕ
+dest_register (DestRegister r) = reg_number r
+dest_register (DestIndexed r) = reg_number r
+
+-- a jump's offset in ten bits, two's complement; negsuc n is -(n + 1)
+abbrev pub offset_number : ℤ → ℕ
+offset_number (pos n) = n
+offset_number (negsuc n) = 1023 - n

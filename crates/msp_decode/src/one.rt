@@ -1,0 +1,67 @@
+ghost use Rattle.std.specs.Prelude.{◌≡◌, ◌<◌};
+
+use word_arith::Size;
+
+/// An operation of one operand, by its mnemonic.
+#[derive(Clone, Copy, Debug, PartialEq, Eq)]
+pub enum One {
+    Rrc,
+    Swpb,
+    Rra,
+    Sxt,
+    Push,
+    Call,
+}
+
+impl One {
+    ghost use Rattle.msp_decode.specs.Table.{one_number};
+    ghost use Rattle.msp_decode.specs.Field.{one_of};
+    ghost use Rattle.msp_decode.specs.Spelling.{has_size, writes_operand};
+
+    /// The opcode.
+    pub(crate) fn number(self) -> u16
+        ensures value { result ≡ one_number self }
+        ensures fits { result < 6 }
+    {
+        match self {
+            One::Rrc => 0,
+            One::Swpb => 1,
+            One::Rra => 2,
+            One::Sxt => 3,
+            One::Push => 4,
+            One::Call => 5,
+        }
+    }
+
+    /// The operation of an opcode.
+    pub(crate) fn from_number(number: u16) -> One
+        requires { number < 6 }
+        ensures { result ≡ one_of number }
+    {
+        match number {
+            0 => One::Rrc,
+            1 => One::Swpb,
+            2 => One::Rra,
+            3 => One::Sxt,
+            4 => One::Push,
+            _ => One::Call,
+        }
+    }
+
+    /// Whether there is an instruction of this size.
+    pub(crate) fn has_size(self, size: Size) -> bool
+        ensures { result ≡ has_size self size }
+    {
+        match size {
+            Size::Word => true,
+            Size::Byte => matches!(self, One::Rrc | One::Rra | One::Push),
+        }
+    }
+
+    /// Whether the result is written to the operand.
+    pub(crate) fn writes_operand(self) -> bool
+        ensures { result ≡ writes_operand self }
+    {
+        matches!(self, One::Rrc | One::Swpb | One::Rra | One::Sxt)
+    }
+}

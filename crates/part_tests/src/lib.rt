@@ -1,0 +1,25 @@
+//! Tables for the parts: vectors of the MSP430x1xx Family User's Guide (SLAU049) and of the tables
+//! in `docs/`, each with a right answer that a misreading of its rule would miss.
+//!
+//! The contracts say that code and definitions agree. What stands here says that both are read as
+//! they are meant: a row fails also where code and definition are changed together.
+#![tactic(auto)]
+
+#[cfg(test)]
+mod alu;
+#[cfg(test)]
+mod dma;
+#[cfg(test)]
+mod instruction;
+#[cfg(test)]
+mod interrupt;
+#[cfg(test)]
+mod memory;
+#[cfg(test)]
+mod pins;
+#[cfg(test)]
+mod register;
+#[cfg(test)]
+mod serial;
+#[cfg(test)]
+mod timer;

@@ -1,0 +1,19 @@
+-- Binary sums with carry and overflow.
+use Rattle.std.specs.Prelude.{◌+◌, ◌%◌, ◌&&◌, ℕ, Bool, not, nat_le}
+use Rattle.word_arith.specs.declared.size.Size.{Size}
+use Rattle.word_arith.specs.declared.flags.Flags.{Flags}
+use Rattle.word_arith.specs.Number.{span, is_negative, number_of, alike}
+use Rattle.word_arith.specs.Flags.{flags_of}
+
+-- two operands of one sign have a sum of the other
+abbrev pub overflows : Size → ℕ → ℕ → ℕ → Bool
+overflows size left right sum =
+    alike (is_negative size left) (is_negative size right)
+    && not (alike (is_negative size left) (is_negative size sum))
+
+-- the remainder of the whole sum by 256 or 65,536; C is set where the whole sum reaches that
+abbrev pub sum_of : Size → ℕ → ℕ → Bool → ℕ × Flags
+sum_of size left right carry =
+    let whole : ℕ = left + right + number_of carry in
+    let sum : ℕ = whole % span size in
+    (sum, flags_of size sum (nat_le (span size) whole) (overflows size left right sum))
