@@ -3,7 +3,7 @@ use Rattle.std.proofs.Common.{◌≡◌, ℕ, ◌<◌, ◌≤◌, ◌/◌, ◌%�
 use Rattle.std.specs.Prelude.{IsNone}
 use Rattle.std.proofs.lemmas.Bool.Decides.{nat_tests}
 use Rattle.msp_decode.specs.declared.head.Head.{Head}
-use Rattle.msp_decode.specs.declared.head.Head.TheVariants.{Reti}
+use Rattle.msp_decode.specs.declared.head.Head.TheVariants.{One, Reti}
 use Rattle.msp_decode.specs.Field.{one_of, size_of, source_of}
 use Rattle.msp_decode.specs.Spelling.{has_form, has_size, takes_write, writes_operand, is_legal, IsIllegalWord}
 use Rattle.msp_decode.specs.Head.{if_legal, one_head, two_head, jump_head, head_of}
@@ -29,12 +29,15 @@ writes_below : (op : ℕ) → op < 4 → writes_operand (one_of op) ≡ true
 writes_below op below = grind (arith, nat_tests)
 
 -- an immediate or a constant, by its fields
+abbrev IsFixed : ℕ → ℕ → Type 0
+IsFixed mode register =
+    ((register ≡ 0) × (mode ≡ 3)) ⊎ ((register ≡ 2) × (2 ≤ mode)) ⊎ (register ≡ 3)
+
 fixed : (mode register : ℕ) → mode < 4 → takes_write (source_of mode register) ≡ false
-    → ((register ≡ 0) × (mode ≡ 3)) ⊎ ((register ≡ 2) × (2 ≤ mode)) ⊎ (register ≡ 3)
+    → IsFixed mode register
 fixed mode register fits takes_none = grind (arith, nat_tests)
 
-takes_none : (mode register : ℕ) → mode < 4
-    → ((register ≡ 0) × (mode ≡ 3)) ⊎ ((register ≡ 2) × (2 ≤ mode)) ⊎ (register ≡ 3)
+takes_none : (mode register : ℕ) → mode < 4 → IsFixed mode register
     → takes_write (source_of mode register) ≡ false
 takes_none mode register fits operand = grind (arith, nat_tests)
 
@@ -64,59 +67,77 @@ if_none : (test : Bool) (candidate : Head) → test ≡ false
 if_none true candidate fails = cc
 if_none false candidate fails = refl
 
+-- the fields of an illegal word of one operand: bytes of an operation that has none, or a result
+-- that goes to a value
+abbrev AreIllegal : ℕ → ℕ → ℕ → ℕ → Type 0
+AreIllegal op bit mode register =
+    ((bit ≡ 1) × ((op ≡ 1) ⊎ (op ≡ 3) ⊎ (op ≡ 5))) ⊎ ((op < 4) × IsFixed mode register)
+
+illegal_fields :
+    (op bit mode register : ℕ) → op < 6 → bit < 2 → mode < 4 → register < 16
+    → is_legal (One (one_of op) (size_of bit) (source_of mode register)) ≡ false
+    → AreIllegal op bit mode register
+illegal_fields op bit mode register op_fits bit_fits mode_fits register_fits fails =
+    let sized : Bool = has_size (one_of op) (size_of bit) in
+    let taken : Bool = takes_write (source_of mode register) in
+    let writing : Bool = writes_operand (one_of op) in
+    let formed = has_form-source_of mode register register_fits in
+    elim (first_false (has_form (source_of mode register)) sized taken writing formed fails) [
+      | inl lacks ↦ inl (byte_only op bit op_fits bit_fits lacks)
+      | inr kept ↦ inr (writes op (kept.1), fixed mode register mode_fits (kept.0))
+    ]
+
+fields_illegal :
+    (op bit mode register : ℕ) → mode < 4 → AreIllegal op bit mode register
+    → is_legal (One (one_of op) (size_of bit) (source_of mode register)) ≡ false
+fields_illegal op bit mode register mode_fits illegal =
+    let formed : Bool = has_form (source_of mode register) in
+    let sized : Bool = has_size (one_of op) (size_of bit) in
+    let taken : Bool = takes_write (source_of mode register) in
+    let writing : Bool = writes_operand (one_of op) in
+    elim illegal [
+      | inl byte ↦ unsized formed sized (taken || not writing) (no_size op bit (byte.0) (byte.1))
+      | inr operand ↦
+          let none : taken ≡ false = takes_none mode register mode_fits (operand.1) in
+          unwritable formed sized taken writing none (writes_below op (operand.0))
+    ]
+
+-- what is illegal below 1300 has such fields
+word_fields : (word : ℕ) → 0x1000 ≤ word → word < 0x1300 → IsIllegalWord word
+    → AreIllegal (word / 0x80 % 8) (word / 0x40 % 2) (word / 0x10 % 4) (word % 16)
+word_fields word least fits illegal = elim illegal [
+  | inl low ↦ absurd (omega (arith, low))
+  | inr others ↦ elim others [
+    | inl gap ↦ absurd (omega (arith, gap.0))
+    | inr fields ↦ elim fields [
+      | inl byte ↦ inl (byte.2)
+      | inr operand ↦ inr (omega (arith, operand.1), operand.2)
+    ]
+  ]
+]
+
 -- below 1300 a word gives no head exactly where it is illegal
 pub one_illegal : (word : ℕ) → 0x1000 ≤ word → word < 0x1300
     → IsNone (head_of word) ↔ IsIllegalWord word
 one_illegal word least fits =
-    let formed : has_form (source_of (word / 0x10 % 4) (word % 16)) ≡ true =
-    has_form-source_of (word / 0x10 % 4) (word % 16) (omega arith) in
-    let is : head_of word ≡ if_legal (one_head word) = head_of-one word least fits in (
-      (λ none. elim
-          (first_false (has_form (source_of (word / 0x10 % 4) (word % 16)))
-          (has_size (one_of (word / 0x80 % 8)) (size_of (word / 0x40 % 2)))
-          (takes_write (source_of (word / 0x10 % 4) (word % 16)))
-          (writes_operand (one_of (word / 0x80 % 8))) formed
-          (none_if (is_legal (one_head word)) (one_head word)
-          (subst (λ (h : Option Head). IsNone h) is none))) [
-            | inl sized
-                ↦ inr (inr
-                (inl (
-                  least,
-                  fits,
-                  byte_only (word / 0x80 % 8) (word / 0x40 % 2) (omega arith)
-                      (omega arith) sized,
-                )))
-            | inr written
-                ↦ inr (inr
-                (inr (
-                  least,
-                  (let below : word / 0x80 % 8 < 4 = writes (word / 0x80 % 8) (written.1) in
-                      omega arith),
-                  fixed (word / 0x10 % 4) (word % 16) (omega arith) (written.0),
-                )))
+    let op : ℕ = word / 0x80 % 8 in
+    let bit : ℕ = word / 0x40 % 2 in
+    let mode : ℕ = word / 0x10 % 4 in
+    let register : ℕ = word % 16 in
+    let is : head_of word ≡ if_legal (one_head word) = head_of-one word least fits in
+    let legal : Bool = is_legal (one_head word) in (
+      (λ none.
+          let fails : legal ≡ false =
+          none_if legal (one_head word) (subst (λ (h : Option Head). IsNone h) is none) in
+          elim (illegal_fields op bit mode register (omega arith) (omega arith) (omega arith)
+          (omega arith) fails) [
+            | inl byte ↦ inr (inr (inl (least, fits, byte)))
+            | inr operand ↦ inr (inr (inr (least, omega (arith, operand.0), operand.1)))
           ]),
-      (λ illegal. subst (λ (h : Option Head). IsNone h) (sym is)
-          (if_none (is_legal (one_head word)) (one_head word) (elim illegal [
-            | inl low ↦ absurd (omega (arith, low))
-            | inr others ↦ elim others [
-              | inl gap ↦ absurd (omega (arith, gap.0))
-              | inr fields ↦ elim fields [
-                | inl byte
-                    ↦ unsized (has_form (source_of (word / 0x10 % 4) (word % 16)))
-                    (has_size (one_of (word / 0x80 % 8)) (size_of (word / 0x40 % 2)))
-                    (takes_write (source_of (word / 0x10 % 4) (word % 16)) || not
-                    (writes_operand (one_of (word / 0x80 % 8)))) (no_size (word / 0x80 % 8)
-                    (word / 0x40 % 2) (byte.2.0) (byte.2.1))
-                | inr operand
-                    ↦ unwritable (has_form (source_of (word / 0x10 % 4) (word % 16)))
-                    (has_size (one_of (word / 0x80 % 8)) (size_of (word / 0x40 % 2)))
-                    (takes_write (source_of (word / 0x10 % 4) (word % 16)))
-                    (writes_operand (one_of (word / 0x80 % 8)))
-                    (takes_none (word / 0x10 % 4) (word % 16) (omega arith) (operand.2))
-                    (writes_below (word / 0x80 % 8) (omega (arith, operand.1)))
-              ]
-            ]
-          ]))),
+      (λ illegal.
+          let fails : legal ≡ false =
+          fields_illegal op bit mode register (omega arith) (word_fields word least fits illegal) in
+          subst (λ (h : Option Head). IsNone h) (sym is) (if_none legal (one_head word) fails)),
     )
 
 not_none : (word : ℕ) (head : Head) → head_of word ≡ Some head → IsNone (head_of word) → ⊥

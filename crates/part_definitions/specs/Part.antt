@@ -10,6 +10,6 @@ Takes {Event = Event} stands old event new =
 -- the answer is what this function says of the events
 abbrev pub Answers :
     {Part Event Answer : Type 0} → (Part → List Event → Type 0) → Part → (List Event → Answer)
-        → Answer → Type 0
+    → Answer → Type 0
 Answers {Event = Event} stands part meaning answer =
     (events : List Event) → stands part events → answer ≡ meaning events

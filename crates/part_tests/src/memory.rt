@@ -76,7 +76,7 @@ fn writes_stay_where_the_map_takes_them(rt: HostRuntime) -> Result<(), Fail> {
         (0x01FE, Size::Word, 0x1234, 0),
         (0x0260, Size::Word, 0x1234, 0x1234),
         (0x0263, Size::Byte, 0x34, 0x0034),
-        (0x0265, Size::Word, 0x1234, 0x1234),
+        (0x0265, Size::Word, 0x5678, 0x5678),
         (0x0268, Size::Word, 0x1234, 1),
         (0x2200, Size::Word, 0x1234, 0),
         (0x43FE, Size::Word, 0x1234, 0x1234),
@@ -91,7 +91,7 @@ fn writes_stay_where_the_map_takes_them(rt: HostRuntime) -> Result<(), Fail> {
     let bounds = Bounds {
         er_min: 0x1234,
         er_max: 0x3400,
-        or_min: 0x1234,
+        or_min: 0x5678,
         or_max: 0,
     };
     assert_eq!(rt; memory.bounds(), bounds);
