@@ -12,12 +12,12 @@ use Rattle.hex.proofs.HexLemmas.{decode_sized-ok, decode_sized-twice, decode_of-
 use Rattle.text_scan.specs.declared.fault_kind.FaultKind.{FaultKind}
 use Rattle.text_scan.specs.declared.fault_kind.FaultKind.TheVariants.{Digit, Count}
 use Rattle.text_scan.specs.Hexadecimal.{or_count, hex_bytes_of}
-use Rattle.hex_loader.specs.HexRecord.{record_of, of_bytes}
+use Rattle.hex_loader.specs.HexRecord.{record_of, record_or_fault}
 
 -- bytes that are more than any record has
 too_many : (decoded : Result (List ℕ) FromHexError)
     → ((bytes : List ℕ) → decoded ≡ Ok bytes → (260 < length bytes) × IsBytes bytes)
-    → of_bytes (or_count decoded) ≡ Err Count
+    → record_or_fault (or_count decoded) ≡ Err Count
 too_many (Ok bytes) known =
     let long = known bytes refl in
     elim (eqb_tells (length bytes) (get_or bytes 0 0 + 5)) [
@@ -27,7 +27,8 @@ too_many (Ok bytes) known =
 too_many (Err error) known = refl
 
 -- too little room
-no_room : (digits : List ℕ) (count : ℕ) → length digits ≢ 2 * count → or_count (decode_sized digits count) ≡ Err Count
+no_room : (digits : List ℕ) (count : ℕ) → length digits ≢ 2 * count
+    → or_count (decode_sized digits count) ≡ Err Count
 no_room digits count other =
     elim (eqb_tells (length digits % 2) 1) [
       | inl odd ↦ rw odd.0 refl
@@ -39,38 +40,47 @@ no_room digits count other =
     ]
 
 -- a wrong digit comes first
-same_fault : (are_digits : Bool) (x y : Result (List ℕ) FaultKind) → of_bytes x ≡ of_bytes y
-    → of_bytes (cond are_digits x (Err Digit)) ≡ of_bytes (cond are_digits y (Err Digit))
+same_fault : (are_digits : Bool) (x y : Result (List ℕ) FaultKind)
+    → record_or_fault x ≡ record_or_fault y
+    → record_or_fault (cond are_digits x (Err Digit))
+    ≡ record_or_fault (cond are_digits y (Err Digit))
 same_fault true x y same = same
 same_fault false x y same = refl
 
 -- room for 260 bytes is enough
-pub of_bytes-room : (digits : List ℕ)
-    → of_bytes (hex_bytes_of (min (length digits / 2) 260) digits) ≡ of_bytes (hex_bytes_of (length digits / 2) digits)
-of_bytes-room digits =
+pub record_or_fault-room : (digits : List ℕ)
+    → record_or_fault (hex_bytes_of (min (length digits / 2) 260) digits)
+    ≡ record_or_fault (hex_bytes_of (length digits / 2) digits)
+record_or_fault-room digits =
     elim (cases_lt 260 (length digits / 2)) [
       | inl over ↦
           let small : min (length digits / 2) 260 ≡ 260 = omega arith in
           let count : ℕ = length digits / 2 in
           let long = too_many (decode_sized digits count) (λ bytes decoded.
           let twice = decode_sized-ok digits count bytes decoded in
-          let ok = decode_of-ok digits bytes (sym (decode_sized-twice digits count twice) ∙ decoded) in
+          let ok = decode_of-ok digits bytes (sym (decode_sized-twice digits count twice)
+          ∙ decoded) in
           (omega (arith, ok.2, over), ok.3)) in
-          rw small (same_fault (list_all is_ascii_hexdigit digits) (or_count (decode_sized digits 260)) (or_count (decode_sized digits count))
+          rw small (same_fault (list_all is_ascii_hexdigit digits)
+          (or_count (decode_sized digits 260)) (or_count (decode_sized digits count))
           (rw (no_room digits 260 (λ same. omega arith)) (sym long)))
       | inr fits ↦ rw (min-eq_left fits) refl
     ]
 
 -- where no bytes were read
-pub err_read : (read : Result (List ℕ) FaultKind) (kind : FaultKind) (old new : List ℕ) (answer : Result Unit FaultKind) → answer ≡ Err kind
-    → MatchResult read (λ bytes. (answer ≡ Ok tt) × (new ≡ bytes)) (λ fault. (answer ≡ Err fault) × (new ≡ old))
-    → of_bytes read ≡ Err kind
+pub err_read : (read : Result (List ℕ) FaultKind) (kind : FaultKind) (old new : List ℕ)
+    (answer : Result Unit FaultKind) → answer ≡ Err kind
+    → MatchResult read (λ bytes. (answer ≡ Ok tt) × (new ≡ bytes))
+    (λ fault. (answer ≡ Err fault) × (new ≡ old))
+    → record_or_fault read ≡ Err kind
 err_read (Ok bytes) kind old new answer is given = absurd cc
 err_read (Err fault) kind old new answer is given = cc
 
 -- where they were
-pub ok_read : (read : Result (List ℕ) FaultKind) (old new : List ℕ) (answer : Result Unit FaultKind) → answer ≡ Ok tt
-    → MatchResult read (λ bytes. (answer ≡ Ok tt) × (new ≡ bytes)) (λ fault. (answer ≡ Err fault) × (new ≡ old))
-    → of_bytes read ≡ record_of new
+pub ok_read : (read : Result (List ℕ) FaultKind) (old new : List ℕ)
+    (answer : Result Unit FaultKind) → answer ≡ Ok tt
+    → MatchResult read (λ bytes. (answer ≡ Ok tt) × (new ≡ bytes))
+    (λ fault. (answer ≡ Err fault) × (new ≡ old))
+    → record_or_fault read ≡ record_of new
 ok_read (Ok bytes) old new answer is given = rw given.1 refl
 ok_read (Err fault) old new answer is given = absurd cc

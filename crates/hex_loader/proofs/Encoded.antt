@@ -15,7 +15,8 @@ Behind line = (k : ℕ) → k < length line → 48 ≤ get_or line k 0
 
 behind-digit : (value : ℕ) → value < 16 → 48 ≤ get_or upper_digits value 0
 behind-digit value small =
-    leb-true 48 (get_or upper_digits value 0) (AllPass-from_list_all (nat_le 48) upper_digits refl value 0 small)
+    leb-true 48 (get_or upper_digits value 0) (AllPass-from_list_all (nat_le 48) upper_digits refl
+    value 0 small)
 
 hexdigit-digit : (value : ℕ) → value < 16 → is_ascii_hexdigit (get_or upper_digits value 0) ≡ true
 hexdigit-digit value small = AllPass-from_list_all is_ascii_hexdigit upper_digits refl value 0 small
@@ -31,8 +32,10 @@ behind-encoded (byte ∷ bytes) fits =
     let high : byte / 16 < 16 = omega (arith, fits 0) in
     let low : byte % 16 < 16 = omega arith in
     let rest = behind-encoded bytes (λ i. fits (suc i)) in
-    behind-cons (get_or upper_digits (byte / 16) 0) (get_or upper_digits (byte % 16) 0 ∷ encode_with upper_digits bytes) (behind-digit (byte / 16) high)
-    (behind-cons (get_or upper_digits (byte % 16) 0) (encode_with upper_digits bytes) (behind-digit (byte % 16) low) rest)
+    behind-cons (get_or upper_digits (byte / 16) 0) (get_or upper_digits (byte % 16)
+    0 ∷ encode_with upper_digits bytes) (behind-digit (byte / 16) high)
+    (behind-cons (get_or upper_digits (byte % 16) 0) (encode_with upper_digits bytes)
+    (behind-digit (byte % 16) low) rest)
 
 pub behind-line : (digits : List ℕ) → Behind digits → Behind (58 ∷ digits)
 behind-line digits rest = behind-cons 58 digits (omega arith) rest
@@ -40,16 +43,23 @@ behind-line digits rest = behind-cons 58 digits (omega arith) rest
 both_true : (a b : Bool) → a ≡ true → b ≡ true → (a && b) ≡ true
 both_true a b x y = rw (x, y) refl
 
-pub hexdigits-encoded : (bytes : List ℕ) → IsBytes bytes → list_all is_ascii_hexdigit (encode_with upper_digits bytes) ≡ true
+pub hexdigits-encoded : (bytes : List ℕ) → IsBytes bytes
+    → list_all is_ascii_hexdigit (encode_with upper_digits bytes) ≡ true
 unfolding encode_with
 hexdigits-encoded [] fits = refl
 hexdigits-encoded (byte ∷ bytes) fits =
     let high : byte / 16 < 16 = omega (arith, fits 0) in
     let low : byte % 16 < 16 = omega arith in
     let rest = hexdigits-encoded bytes (λ i. fits (suc i)) in
-    both_true (is_ascii_hexdigit (get_or upper_digits (byte / 16) 0)) (list_all is_ascii_hexdigit (get_or upper_digits (byte % 16) 0 ∷ encode_with upper_digits bytes)) (hexdigit-digit (byte / 16) high)
-    (both_true (is_ascii_hexdigit (get_or upper_digits (byte % 16) 0)) (list_all is_ascii_hexdigit (encode_with upper_digits bytes)) (hexdigit-digit (byte % 16) low) rest)
+    both_true (is_ascii_hexdigit (get_or upper_digits (byte / 16) 0))
+    (list_all is_ascii_hexdigit (get_or upper_digits (byte % 16) 0 ∷ encode_with upper_digits
+    bytes)) (hexdigit-digit (byte / 16) high)
+    (both_true (is_ascii_hexdigit (get_or upper_digits (byte % 16) 0))
+    (list_all is_ascii_hexdigit (encode_with upper_digits bytes))
+    (hexdigit-digit (byte % 16) low) rest)
 
 -- such a line, ended by LF, is the first line of a text
-pub lines-behind : (line rest : List ℕ) → 0 < length line → Behind line → lines (line ++ (10 ∷ rest)) ≡ line ∷ lines rest
-lines-behind line rest some behind = lines-line line rest some (λ k within. omega (arith, behind k within))
+pub lines-behind : (line rest : List ℕ) → 0 < length line → Behind line
+    → lines (line ++ (10 ∷ rest)) ≡ line ∷ lines rest
+lines-behind line rest some behind = lines-line line rest some
+    (λ k within. omega (arith, behind k within))

@@ -14,7 +14,8 @@ pub and_both : (a b : Bool) → a ≡ true → b ≡ true → (a && b) ≡ true
 and_both a b x y = rw (x, y) refl
 
 -- there is none below the first
-pub byte_among-below : (first : ℕ) (bytes : List ℕ) (place : ℕ) → place < first → byte_among first bytes place ≡ None
+pub byte_among-below : (first : ℕ) (bytes : List ℕ) (place : ℕ) → place < first
+    → byte_among first bytes place ≡ None
 byte_among-below first [] place below = refl
 byte_among-below first (byte ∷ bytes) place below =
     elim (eqb_tells place first) [
@@ -23,12 +24,15 @@ byte_among-below first (byte ∷ bytes) place below =
     ]
 
 -- one place that an image may hold, and then those after it
-pub are_image_places-more : (bytes : List ℕ) (i place : ℕ) → i < length bytes → is_image_place place ≡ true
+pub are_image_places-more : (bytes : List ℕ) (i place : ℕ) → i < length bytes
+    → is_image_place place ≡ true
     → are_image_places place (drop i bytes) ≡ are_image_places (place + 1) (drop (i + 1) bytes)
 are_image_places-more bytes i place within taken =
     let at_hand = ap (are_image_places place) (drop-cons bytes i 0 within) in
-    let next : drop (suc i) bytes ≡ drop (i + 1) bytes = ap (λ (k : ℕ). drop k bytes) (sym (add-one i)) in
-    at_hand ∙ and_true (is_image_place place) (are_image_places (place + 1) (drop (suc i) bytes)) taken
+    let next : drop (suc i) bytes ≡ drop (i + 1) bytes = ap (λ (k : ℕ). drop k bytes)
+    (sym (add-one i)) in
+    at_hand ∙ and_true (is_image_place place) (are_image_places (place + 1) (drop (suc i) bytes))
+    taken
     ∙ ap (are_image_places (place + 1)) next
 
 one_byte : (first byte : ℕ) (bytes : List ℕ) (place : ℕ) (before : Option ℕ)
@@ -44,8 +48,10 @@ one_byte first byte bytes place before =
 
 -- one byte, and then those after it
 pub byte_among-more : (bytes : List ℕ) (i first place : ℕ) (before : Option ℕ) → i < length bytes
-    → option_or (byte_among (first + 1) (drop (i + 1) bytes) place) (cond (eqb place first) (Some (get_or bytes i 0)) before)
+    → option_or (byte_among (first + 1) (drop (i + 1) bytes) place)
+    (cond (eqb place first) (Some (get_or bytes i 0)) before)
     ≡ option_or (byte_among first (drop i bytes) place) before
 byte_among-more bytes i first place before within =
     let next : drop (i + 1) bytes ≡ drop (suc i) bytes = ap (λ (k : ℕ). drop k bytes) (add-one i) in
-    rw (next, drop-cons bytes i 0 within) (one_byte first (get_or bytes i 0) (drop (suc i) bytes) place before)
+    rw (next, drop-cons bytes i 0 within) (one_byte first (get_or bytes i 0) (drop (suc i) bytes)
+    place before)

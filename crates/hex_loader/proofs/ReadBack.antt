@@ -10,7 +10,7 @@ use Rattle.hex.specs.Hex.{decode_pairs, encode_upper, IsBytes}
 use Rattle.part_definitions.specs.Memory.{is_image_place}
 use Rattle.hex_loader.specs.HexRecord.{Places, Ends, record_in}
 use Rattle.hex_loader.specs.HexImage.{base_after, has_ended, byte_after, byte_among, are_image_places, first_fault}
-use Rattle.hex_loader.specs.HexText.{begins, record_bytes, line_of, line_at, lines_below, end_line, hex_text}
+use Rattle.hex_loader.specs.HexText.{is_record_start, record_bytes, line_of, line_at, lines_below, end_line, hex_text}
 use Rattle.mem_map.specs.Placed.{IsImage}
 use Rattle.hex_loader.specs.ReadBack.{IsReadBack}
 use Rattle.hex_loader.proofs.Encoded.{behind-encoded, behind-line, lines-behind}
@@ -22,45 +22,55 @@ abbrev line_text : (ℕ → Option ℕ) → ℕ → List ℕ
 line_text image place = record_line (written_bytes place (record_bytes image place))
 
 -- the lines of the records that begin below a place, newest first
-written : (ℕ → Option ℕ) → ℕ → List (List ℕ)
-written image zero = []
-written image (suc place) = cond (begins image place) (line_text image place ∷ written image place) (written image place)
+record_lines : (ℕ → Option ℕ) → ℕ → List (List ℕ)
+record_lines image zero = []
+record_lines image (suc place) = cond (is_record_start image place)
+    (line_text image place ∷ record_lines image place) (record_lines image place)
 
-fits_bytes : (image : ℕ → Option ℕ) → IsImage image → (place : ℕ) → place < 65536 → IsBytes (written_bytes place (record_bytes image place))
+fits_bytes : (image : ℕ → Option ℕ) → IsImage image → (place : ℕ) → place < 65536
+    → IsBytes (written_bytes place (record_bytes image place))
 fits_bytes image is place below =
     let short = run-short image place (16 - place % 16) in
-    IsBytes-written place (record_bytes image place) below (omega (arith, short)) (run-bytes image is place (16 - place % 16))
+    IsBytes-written place (record_bytes image place) below (omega (arith, short))
+    (run-bytes image is place (16 - place % 16))
 
 -- what the line says
 line_says : (image : ℕ → Option ℕ) → IsImage image → (place : ℕ) → place < 65536
     → record_in (line_text image place) ≡ Ok (Places place (record_bytes image place))
 line_says image is place below =
-    record_in-line (written_bytes place (record_bytes image place)) (fits_bytes image is place below)
+    record_in-line (written_bytes place (record_bytes image place))
+    (fits_bytes image is place below)
     ∙ record_of-written place (record_bytes image place)
 
 -- the lines of the text
-lines-line_at : (image : ℕ → Option ℕ) → IsImage image → (place : ℕ) → place < 65536 → (begun : Bool) (rest : List ℕ) (before : List (List ℕ))
+lines-line_at : (image : ℕ → Option ℕ) → IsImage image → (place : ℕ) → place < 65536
+    → (begun : Bool) (rest : List ℕ) (before : List (List ℕ))
     → reverse_aux before (lines (cond begun (line_of place (record_bytes image place)) [] ++ rest))
     ≡ reverse_aux (cond begun (line_text image place ∷ before) before) (lines rest)
 lines-line_at image is place below false rest before = refl
 lines-line_at image is place below true rest before =
     let digits : List ℕ = encode_upper (written_bytes place (record_bytes image place)) in
-    let behind = behind-line digits (behind-encoded (written_bytes place (record_bytes image place)) (fits_bytes image is place below)) in
-    let grouped : line_of place (record_bytes image place) ++ rest ≡ line_text image place ++ (10 ∷ rest) =
+    let behind = behind-line digits (behind-encoded (written_bytes place
+    (record_bytes image place)) (fits_bytes image is place below)) in
+    let grouped : line_of place (record_bytes image place) ++ rest
+    ≡ line_text image place ++ (10 ∷ rest) =
     append_assoc (line_text image place) (10 ∷ []) rest in
     ap (λ (text : List ℕ). reverse_aux before (lines text)) grouped
     ∙ ap (reverse_aux before) (lines-behind (line_text image place) rest (omega arith) behind)
 
-lines-lines_below : (image : ℕ → Option ℕ) → IsImage image → (place : ℕ) → place ≤ 65536 → (rest : List ℕ)
-    → lines (lines_below image place ++ rest) ≡ reverse_aux (written image place) (lines rest)
-unfolding lines_below written
+lines-lines_below : (image : ℕ → Option ℕ) → IsImage image → (place : ℕ) → place ≤ 65536
+    → (rest : List ℕ)
+    → lines (lines_below image place ++ rest) ≡ reverse_aux (record_lines image place) (lines rest)
+unfolding lines_below record_lines
 lines-lines_below image is zero within rest = refl
 lines-lines_below image is (suc place) within rest =
     ap lines (append_assoc (lines_below image place) (line_at image place) rest)
     ∙ lines-lines_below image is place (omega (arith, within)) (line_at image place ++ rest)
-    ∙ lines-line_at image is place (omega (arith, within)) (begins image place) rest (written image place)
+    ∙ lines-line_at image is place (omega (arith, within)) (is_record_start image place) rest
+    (record_lines image place)
 
-reverse_aux-twice : (xs ys zs : List (List ℕ)) → reverse_aux (reverse_aux xs ys) zs ≡ reverse_aux ys (xs ++ zs)
+reverse_aux-twice : (xs ys zs : List (List ℕ))
+    → reverse_aux (reverse_aux xs ys) zs ≡ reverse_aux ys (xs ++ zs)
 reverse_aux-twice [] ys zs = refl
 reverse_aux-twice (x ∷ xs) ys zs = reverse_aux-twice xs (x ∷ ys) zs
 
@@ -71,11 +81,13 @@ record IsPlain (image : ℕ → Option ℕ) (lines : List (List ℕ)) : Type 0 w
   sound : first_fault lines ≡ None
   bytes : (place byte : ℕ) → byte_after lines place ≡ Some byte → image place ≡ Some byte
 
-either_some : (one two : Option ℕ) (byte : ℕ) → option_or one two ≡ Some byte → (one ≡ Some byte) ⊎ (two ≡ Some byte)
+either_some : (one two : Option ℕ) (byte : ℕ) → option_or one two ≡ Some byte
+    → (one ≡ Some byte) ⊎ (two ≡ Some byte)
 either_some None two byte h = inr h
 either_some (Some here) two byte h = inl h
 
-plain-cons : (image : ℕ → Option ℕ) (first : ℕ) (rest : List ℕ) (place : ℕ) (bytes : List ℕ) (before : List (List ℕ))
+plain-cons : (image : ℕ → Option ℕ) (first : ℕ) (rest : List ℕ) (place : ℕ) (bytes : List ℕ)
+    (before : List (List ℕ))
     → record_in (first ∷ rest) ≡ Ok (Places place bytes) → are_image_places place bytes ≡ true
     → ((other byte : ℕ) → byte_among place bytes other ≡ Some byte → image other ≡ Some byte)
     → IsPlain image before → IsPlain image ((first ∷ rest) ∷ before)
@@ -84,24 +96,35 @@ plain-cons image first rest place bytes before says places held plain = record {
   unended = rw (says, plain.unended) refl;
   sound = rw (plain.sound, plain.unended, says, plain.base, zero-add, places) refl;
   bytes = λ other byte found.
-      elim (either_some (byte_among place bytes other) (byte_after before other) byte (rw (says, plain.base, zero-add) at found)) [
+      elim (either_some (byte_among place bytes other) (byte_after before other) byte
+      (rw (says, plain.base, zero-add) at found)) [
         | inl here ↦ held other byte here
         | inr there ↦ plain.bytes other byte there
       ];
 }
 
-plain-line : (image : ℕ → Option ℕ) → IsImage image → (place : ℕ) → place < 65536 → (begun : Bool) (before : List (List ℕ))
+plain-line : (image : ℕ → Option ℕ) → IsImage image → (place : ℕ) → place < 65536
+    → (begun : Bool) (before : List (List ℕ))
     → IsPlain image before → IsPlain image (cond begun (line_text image place ∷ before) before)
 plain-line image is place below false before plain = plain
 plain-line image is place below true before plain =
-    plain-cons image 58 (encode_upper (written_bytes place (record_bytes image place))) place (record_bytes image place) before
-    (line_says image is place below) (run-places image is place (16 - place % 16)) (run-sound image place (16 - place % 16)) plain
+    plain-cons image 58 (encode_upper (written_bytes place (record_bytes image place))) place
+    (record_bytes image place) before
+    (line_says image is place below) (run-places image is place (16 - place % 16))
+    (run-sound image place (16 - place % 16)) plain
 
-plain-written : (image : ℕ → Option ℕ) → IsImage image → (place : ℕ) → place ≤ 65536 → IsPlain image (written image place)
-unfolding written
-plain-written image is zero within = record { base = refl; unended = refl; sound = refl; bytes = λ place byte found. absurd cc }
+plain-written : (image : ℕ → Option ℕ) → IsImage image → (place : ℕ) → place ≤ 65536
+    → IsPlain image (record_lines image place)
+unfolding record_lines
+plain-written image is zero within = record {
+  base = refl;
+  unended = refl;
+  sound = refl;
+  bytes = λ place byte found. absurd cc;
+}
 plain-written image is (suc place) within =
-    plain-line image is place (omega (arith, within)) (begins image place) (written image place)
+    plain-line image is place (omega (arith, within)) (is_record_start image place)
+    (record_lines image place)
     (plain-written image is place (omega (arith, within)))
 
 some_first : (one two : Option ℕ) → IsSome one → IsSome (option_or one two)
@@ -113,42 +136,52 @@ some_second None two h = h
 some_second (Some byte) two h = refl
 
 -- every place that a record covers has a byte
-covers-line : (image : ℕ → Option ℕ) → IsImage image → (place : ℕ) → place < 65536 → (before : List (List ℕ)) → IsPlain image before
-    → (other : ℕ) → place ≤ other → other < place + length (record_bytes image place) → IsSome (byte_after (line_text image place ∷ before) other)
+covers-line : (image : ℕ → Option ℕ) → IsImage image → (place : ℕ) → place < 65536
+    → (before : List (List ℕ)) → IsPlain image before
+    → (other : ℕ) → place ≤ other → other < place + length (record_bytes image place)
+    → IsSome (byte_after (line_text image place ∷ before) other)
 covers-line image is place below before plain other from to =
     let bytes : List ℕ = record_bytes image place in
     rw (line_says image is place below, plain.base, zero-add)
-    (some_first (byte_among place bytes other) (byte_after before other) (byte_among-some place bytes other from to))
+    (some_first (byte_among place bytes other) (byte_after before other)
+    (byte_among-some place bytes other from to))
 
-covers : (image : ℕ → Option ℕ) → IsImage image → (count : ℕ) → count ≤ 65536 → (first other : ℕ) → first < count → begins image first ≡ true
-    → first ≤ other → other < first + length (record_bytes image first) → IsSome (byte_after (written image count) other)
-unfolding written
+covers : (image : ℕ → Option ℕ) → IsImage image → (count : ℕ) → count ≤ 65536 → (first other : ℕ)
+    → first < count → is_record_start image first ≡ true
+    → first ≤ other → other < first + length (record_bytes image first)
+    → IsSome (byte_after (record_lines image count) other)
+unfolding record_lines
 covers image is zero within first other below begun from to = absurd (omega (arith, below))
 covers image is (suc count) within first other below begun from to =
-    let before : List (List ℕ) = written image count in
+    let before : List (List ℕ) = record_lines image count in
     elim (cases_lt first count) [
       | inl earlier ↦
-          let held = covers image is count (omega (arith, within)) first other earlier begun from to in
-          elim (begins image count) as (λ b. IsSome (byte_after (cond b (line_text image count ∷ before) before) other)) [
+          let held = covers image is count (omega (arith, within)) first other earlier begun from
+          to in
+          elim (is_record_start image count) as (λ b. IsSome
+          (byte_after (cond b (line_text image count ∷ before) before) other)) [
             | true ↦ some_second _ (byte_after before other) held
             | false ↦ held
           ]
       | inr last ↦
           let same : first ≡ count = omega (arith, below, last) in
-          let here : begins image count ≡ true = rw (← same) begun in
+          let here : is_record_start image count ≡ true = rw (← same) begun in
           let plain = plain-written image is count (omega (arith, within)) in
-          rw here (covers-line image is count (omega (arith, within)) before plain other (omega (arith, same, from)) (rw (← same) to))
+          rw here (covers-line image is count (omega (arith, within)) before plain other
+          (omega (arith, same, from)) (rw (← same) to))
     ]
 
 end_says : record_in (codes ":00000001FF") ≡ Ok Ends
 unfolding decode_pairs
 end_says = refl
 
-end-text : (image : ℕ → Option ℕ) → IsImage image → reverse (lines (hex_text image)) ≡ codes ":00000001FF" ∷ written image 65536
+end-text : (image : ℕ → Option ℕ) → IsImage image
+    → reverse (lines (hex_text image)) ≡ codes ":00000001FF" ∷ record_lines image 65536
 end-text image is =
     ap reverse (lines-lines_below image is 65536 (omega arith) end_line)
-    ∙ reverse_aux-twice (written image 65536) (codes ":00000001FF" ∷ []) []
-    ∙ ap (λ (before : List (List ℕ)). codes ":00000001FF" ∷ before) (append-nil (written image 65536))
+    ∙ reverse_aux-twice (record_lines image 65536) (codes ":00000001FF" ∷ []) []
+    ∙ ap (λ (before : List (List ℕ)). codes ":00000001FF" ∷ before)
+    (append-nil (record_lines image 65536))
 
 same_byte : (held : Option ℕ) (read : Option ℕ) → ((byte : ℕ) → read ≡ Some byte → held ≡ Some byte)
     → ((byte : ℕ) → held ≡ Some byte → IsSome read) → read ≡ held
@@ -167,7 +200,8 @@ in_either false false false false h = absurd cc
 
 place_small : (place : ℕ) → is_image_place place ≡ true → place < 65536
 place_small place held =
-    elim (in_either (nat_le 0x0200 place) (nat_le place 0x21FF) (nat_le 0xC000 place) (nat_le place 0xFFFF) held) [
+    elim (in_either (nat_le 0x0200 place) (nat_le place 0x21FF) (nat_le 0xC000 place)
+    (nat_le place 0xFFFF) held) [
       | inl ram ↦ omega (arith, leb-true place 0x21FF ram)
       | inr program ↦ omega (arith, leb-true place 0xFFFF program)
     ]
@@ -178,9 +212,10 @@ read_back image is =
     let all = end-text image is in (
       rw (all, plain.sound, plain.unended, end_says) refl,
       λ place. rw (all, end_says)
-          (same_byte (image place) (byte_after (written image 65536) place) (plain.bytes place)
+          (same_byte (image place) (byte_after (record_lines image 65536) place) (plain.bytes place)
           (λ byte held.
           let covered = is_covered image place byte held in
           let small = place_small place (is place byte held).0 in
-          covers image is 65536 (omega arith) covered.first place (omega (arith, covered.from, small)) covered.begun covered.from covered.to)),
+          covers image is 65536 (omega arith) covered.first place
+          (omega (arith, covered.from, small)) covered.begun covered.from covered.to)),
     )

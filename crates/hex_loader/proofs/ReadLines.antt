@@ -12,7 +12,8 @@ use Rattle.hex_loader.specs.HexImage.{first_fault, line_fault, has_ended, hex_fa
 use Rattle.hex_loader.specs.Reader.{ReaderStandsFor}
 
 -- the lines up to these were read, and have no fault
-pub record IsReadTo (text : List ℕ) (left : List (ℕ × List ℕ)) (count : ℕ) (reader : Reader) : Type 0 where
+pub record IsReadTo (text : List ℕ) (left : List (ℕ × List ℕ)) (count : ℕ) (reader : Reader) : Type
+    0 where
   pub earlier : List (List ℕ)
   pub rest : List (List ℕ)
   pub numbers : left ≡ numbered_lines (count + 1) rest
@@ -29,7 +30,8 @@ first_fault-stays (line ∷ rest) earlier fault first =
     first_fault-stays rest (line ∷ earlier) fault (rw first refl)
 
 -- the next line of those that are left
-record Next (rest : List (List ℕ)) (count number : ℕ) (line : List ℕ) (left : List (ℕ × List ℕ)) : Type 0 where
+record Next (rest : List (List ℕ)) (count number : ℕ) (line : List ℕ)
+    (left : List (ℕ × List ℕ)) : Type 0 where
   after : List (List ℕ)
   is : rest ≡ line ∷ after
   number_is : number ≡ count + 1
@@ -50,7 +52,8 @@ next_of (first ∷ rest) count number line left is =
     }
 
 -- one line more
-pub line_read : (text : List ℕ) (left more : List (ℕ × List ℕ)) (count number : ℕ) (line : List ℕ) (reader new : Reader)
+pub line_read : (text : List ℕ) (left more : List (ℕ × List ℕ)) (count number : ℕ) (line : List ℕ)
+    (reader new : Reader)
     (at : IsReadTo text left count reader) → left ≡ (number, line) ∷ more
     → None ≡ line_fault at.earlier line → ReaderStandsFor new (line ∷ at.earlier)
     → IsReadTo text more number new
@@ -67,7 +70,8 @@ line_read text left more count number line reader new at is sound stands =
     }
 
 -- a line with a fault
-pub fault_read : (text : List ℕ) (left more : List (ℕ × List ℕ)) (count number : ℕ) (line : List ℕ) (reader : Reader) (kind : FaultKind)
+pub fault_read : (text : List ℕ) (left more : List (ℕ × List ℕ)) (count number : ℕ) (line : List ℕ)
+    (reader : Reader) (kind : FaultKind)
     (at : IsReadTo text left count reader) → left ≡ (number, line) ∷ more
     → Some kind ≡ line_fault at.earlier line
     → hex_fault text ≡ Some (record { line = number; kind = kind })
@@ -77,7 +81,8 @@ fault_read text left more count number line reader kind at is fault =
     let same : length at.earlier + 1 ≡ number = omega (arith, next.number_is, at.counted) in
     let here : first_fault (line ∷ at.earlier) ≡ Some (record { line = number; kind = kind }) =
     rw (at.no_fault, ← fault, same) refl in
-    let first = first_fault-stays next.after (line ∷ at.earlier) (record { line = number; kind = kind }) here in
+    let first = first_fault-stays next.after (line ∷ at.earlier)
+    (record { line = number; kind = kind }) here in
     rw (lines_are, first) refl
 
 none_of : (rest : List (List ℕ)) (first : ℕ) → [] ≡ numbered_lines first rest → rest ≡ []
@@ -85,26 +90,32 @@ none_of [] first is = refl
 none_of (line ∷ rest) first is = absurd cc
 
 -- where no line is left
-all_read : (text : List ℕ) (left : List (ℕ × List ℕ)) (count : ℕ) (reader : Reader) (at : IsReadTo text left count reader)
+all_read : (text : List ℕ) (left : List (ℕ × List ℕ)) (count : ℕ) (reader : Reader)
+    (at : IsReadTo text left count reader)
     → left ≡ [] → reverse (lines text) ≡ at.earlier
 all_read text left count reader at none =
-    at.all ∙ ap (λ (rest : List (List ℕ)). reverse_aux rest at.earlier) (none_of at.rest (count + 1) (sym none ∙ at.numbers))
+    at.all ∙ ap (λ (rest : List (List ℕ)). reverse_aux rest at.earlier)
+    (none_of at.rest (count + 1) (sym none ∙ at.numbers))
 
-pub no_end : (text : List ℕ) (left : List (ℕ × List ℕ)) (count : ℕ) (reader : Reader) → IsReadTo text left count reader
-    → left ≡ [] → reader.ended ≡ false → hex_fault text ≡ Some (record { line = count; kind = NoEnd })
+pub no_end : (text : List ℕ) (left : List (ℕ × List ℕ)) (count : ℕ) (reader : Reader)
+    → IsReadTo text left count reader
+    → left ≡ [] → reader.ended ≡ false → hex_fault text
+    ≡ Some (record { line = count; kind = NoEnd })
 no_end text left count reader at none ended =
     let lines_are = all_read text left count reader at none in
     let open_ended : has_ended at.earlier ≡ false = sym at.stands.ended ∙ ended in
     rw (lines_are, at.no_fault, open_ended, ← at.counted) refl
 
-pub no_fault : (text : List ℕ) (left : List (ℕ × List ℕ)) (count : ℕ) (reader : Reader) → IsReadTo text left count reader
+pub no_fault : (text : List ℕ) (left : List (ℕ × List ℕ)) (count : ℕ) (reader : Reader)
+    → IsReadTo text left count reader
     → left ≡ [] → reader.ended ≡ true → hex_fault text ≡ None
 no_fault text left count reader at none ended =
     let lines_are = all_read text left count reader at none in
     let closed : has_ended at.earlier ≡ true = sym at.stands.ended ∙ ended in
     rw (lines_are, at.no_fault, closed) refl
 
-pub bytes_read : (text : List ℕ) (left : List (ℕ × List ℕ)) (count : ℕ) (reader : Reader) → IsReadTo text left count reader
+pub bytes_read : (text : List ℕ) (left : List (ℕ × List ℕ)) (count : ℕ) (reader : Reader)
+    → IsReadTo text left count reader
     → left ≡ [] → (place : ℕ) → byte_in reader.image place ≡ hex_byte text place
 bytes_read text left count reader at none place =
     rw (all_read text left count reader at none) (at.stands.bytes place)

@@ -8,7 +8,7 @@ use Rattle.hex.proofs.HexLemmas.{decode_sized-twice, decode_of-encode_upper, len
 use Rattle.text_scan.specs.declared.fault_kind.FaultKind.{FaultKind}
 use Rattle.text_scan.specs.declared.fault_kind.FaultKind.TheVariants.{Count, Check}
 use Rattle.text_scan.specs.Hexadecimal.{hex_bytes_of}
-use Rattle.hex_loader.specs.HexRecord.{Meaning, Places, record_in, record_of, record_of_type, of_bytes, big_endian}
+use Rattle.hex_loader.specs.HexRecord.{Meaning, Places, record_in, record_of, record_of_type, record_or_fault, big_endian}
 use Rattle.hex_loader.specs.HexText.{check_of, data_record}
 use Rattle.hex_loader.proofs.Encoded.{hexdigits-encoded}
 
@@ -16,14 +16,15 @@ use Rattle.hex_loader.proofs.Encoded.{hexdigits-encoded}
 abbrev pub record_line : List ℕ → List ℕ
 record_line bytes = 58 ∷ encode_upper bytes
 
-pub record_in-line : (bytes : List ℕ) → IsBytes bytes → record_in (record_line bytes) ≡ record_of bytes
+pub record_in-line : (bytes : List ℕ) → IsBytes bytes
+    → record_in (record_line bytes) ≡ record_of bytes
 record_in-line bytes fits =
     let digits : List ℕ = encode_upper bytes in
     let twice : length digits ≡ 2 * length bytes = length-encode_with upper_digits bytes in
     let half : length digits / 2 ≡ length bytes = omega arith in
     let decoded : decode_sized digits (length bytes) ≡ Ok bytes =
     decode_sized-twice digits (length bytes) twice ∙ decode_of-encode_upper bytes fits in
-    ap (λ (n : ℕ). of_bytes (hex_bytes_of n digits)) half
+    ap (λ (n : ℕ). record_or_fault (hex_bytes_of n digits)) half
     ∙ rw (hexdigits-encoded bytes fits, decoded) refl
 
 -- the bytes of a record that is written
@@ -37,14 +38,17 @@ passed : (counted summed : Bool) (found : Result Meaning FaultKind) → counted 
     → cond counted (cond summed found (Err Check)) (Err Count) ≡ found
 passed counted summed found x y = rw (x, y) refl
 
-pub record_of-written : (address : ℕ) (bytes : List ℕ) → record_of (written_bytes address bytes) ≡ Ok (Places address bytes)
+pub record_of-written : (address : ℕ) (bytes : List ℕ)
+    → record_of (written_bytes address bytes) ≡ Ok (Places address bytes)
 record_of-written address bytes =
     let check : ℕ = check_of (data_record address bytes) in
     let all : List ℕ = written_bytes address bytes in
-    let counted = eq-eqb (length all) (length bytes + 5) (omega (arith, length-append bytes (check ∷ []))) in
+    let counted = eq-eqb (length all) (length bytes + 5)
+    (omega (arith, length-append bytes (check ∷ []))) in
     let summed = eq-eqb (sum all % 256) 0 (sums_to_0 (data_record address bytes)) in
     let place : big_endian (drop 1 all) ≡ address = omega arith in
-    let data_bytes : take (length bytes) (drop 4 all) ≡ bytes = take-append_seam bytes (check ∷ []) in
+    let data_bytes : take (length bytes) (drop 4 all)
+    ≡ bytes = take-append_seam bytes (check ∷ []) in
     passed (eqb (length all) (length bytes + 5)) (eqb (sum all % 256) 0)
     (record_of_type 0 (big_endian (drop 1 all)) (take (length bytes) (drop 4 all))) counted summed
     ∙ ap (λ (n : ℕ). Ok (Places n (take (length bytes) (drop 4 all)))) place
@@ -54,12 +58,15 @@ IsBytes-cons : (byte : ℕ) (bytes : List ℕ) → byte < 256 → IsBytes bytes 
 IsBytes-cons byte bytes small fits zero = small
 IsBytes-cons byte bytes small fits (suc i) = fits i
 
-IsBytes-end : (bytes : List ℕ) (last : ℕ) → last < 256 → IsBytes bytes → IsBytes (bytes ++ last ∷ [])
+IsBytes-end : (bytes : List ℕ) (last : ℕ) → last < 256 → IsBytes bytes
+    → IsBytes (bytes ++ last ∷ [])
 IsBytes-end [] last small fits = IsBytes-cons last [] small (λ i. omega arith)
 IsBytes-end (byte ∷ bytes) last small fits =
-    IsBytes-cons byte (bytes ++ last ∷ []) (fits 0) (IsBytes-end bytes last small (λ i. fits (suc i)))
+    IsBytes-cons byte (bytes ++ last ∷ []) (fits 0) (IsBytes-end bytes last small
+    (λ i. fits (suc i)))
 
-pub IsBytes-written : (address : ℕ) (bytes : List ℕ) → address < 65536 → length bytes < 256 → IsBytes bytes → IsBytes (written_bytes address bytes)
+pub IsBytes-written : (address : ℕ) (bytes : List ℕ) → address < 65536 → length bytes < 256
+    → IsBytes bytes → IsBytes (written_bytes address bytes)
 IsBytes-written address bytes small short fits =
     let high : address / 256 < 256 = omega arith in
     let low : address % 256 < 256 = omega arith in

@@ -6,15 +6,18 @@ use Rattle.std.proofs.lemmas.Bool.Decides.{eqb_tells}
 use Rattle.hex.specs.Hex.{IsBytes}
 use Rattle.part_definitions.specs.Memory.{is_image_place}
 use Rattle.hex_loader.specs.HexImage.{byte_among, are_image_places}
-use Rattle.hex_loader.specs.HexText.{begins, go_on, run, record_bytes}
+use Rattle.hex_loader.specs.HexText.{is_record_start, run_after, run, record_bytes}
 use Rattle.mem_map.specs.Placed.{IsImage}
 use Rattle.hex_loader.proofs.Placing.{and_both}
 
 -- a byte among those of a run is the image's
-pub run-sound : (image : ℕ → Option ℕ) (first most place byte : ℕ) → byte_among first (run image first most) place ≡ Some byte → image place ≡ Some byte
+pub run-sound : (image : ℕ → Option ℕ) (first most place byte : ℕ)
+    → byte_among first (run image first most) place ≡ Some byte → image place ≡ Some byte
 run-sound image first zero place byte found = absurd cc
 run-sound image first (suc most) place byte found =
-    elim (image first) as (λ o. image first ≡ o → byte_among first (go_on o (run image (first + 1) most)) place ≡ Some byte → image place ≡ Some byte) [
+    elim (image first) as (λ o. image first ≡ o
+    → byte_among first (run_after o (run image (first + 1) most)) place ≡ Some byte
+    → image place ≡ Some byte) [
       | None ↦ λ is among. absurd cc
       | Some here ↦ λ is among.
           elim (eqb_tells place first) [
@@ -24,20 +27,26 @@ run-sound image first (suc most) place byte found =
     ] refl found
 
 -- bytes cover their places
-pub byte_among-some : (first : ℕ) (bytes : List ℕ) (place : ℕ) → first ≤ place → place < first + length bytes → IsSome (byte_among first bytes place)
+pub byte_among-some : (first : ℕ) (bytes : List ℕ) (place : ℕ) → first ≤ place
+    → place < first + length bytes → IsSome (byte_among first bytes place)
 byte_among-some first [] place from to = absurd (omega (arith, from, to))
 byte_among-some first (byte ∷ bytes) place from to =
     elim (eqb_tells place first) [
       | inl same ↦ rw same.0 refl
-      | inr other ↦ rw other.0 (byte_among-some (first + 1) bytes place (omega (arith, from, other.1)) (omega (arith, to)))
+      | inr other ↦ rw other.0 (byte_among-some (first + 1) bytes place
+          (omega (arith, from, other.1)) (omega (arith, to)))
     ]
 
 -- a run ends where it may go no further, or where there is no byte
-run-ends : (image : ℕ → Option ℕ) (first most : ℕ) → (length (run image first most) ≡ most) ⊎ (image (first + length (run image first most)) ≡ None)
+run-ends : (image : ℕ → Option ℕ) (first most : ℕ)
+    → (length (run image first most) ≡ most) ⊎ (image (first + length (run image first most))
+    ≡ None)
 run-ends image first zero = inl refl
 run-ends image first (suc most) =
     let rest : List ℕ = run image (first + 1) most in
-    elim (image first) as (λ o. image first ≡ o → (length (go_on o rest) ≡ suc most) ⊎ (image (first + length (go_on o rest)) ≡ None)) [
+    elim (image first) as (λ o. image first ≡ o
+    → (length (run_after o rest) ≡ suc most) ⊎ (image (first + length (run_after o rest))
+    ≡ None)) [
       | None ↦ λ is.
           let here : first + 0 ≡ first = omega arith in
           inr (ap image here ∙ is)
@@ -50,7 +59,8 @@ run-ends image first (suc most) =
           ]
     ] refl
 
-run-some : (image : ℕ → Option ℕ) (first most byte : ℕ) → 0 < most → image first ≡ Some byte → 0 < length (run image first most)
+run-some : (image : ℕ → Option ℕ) (first most byte : ℕ) → 0 < most → image first ≡ Some byte
+    → 0 < length (run image first most)
 run-some image first zero byte some held = absurd (omega (arith, some))
 run-some image first (suc most) byte some held = rw held (omega arith)
 
@@ -58,25 +68,33 @@ run-some image first (suc most) byte some held = rw held (omega arith)
 pub record Covered (image : ℕ → Option ℕ) (place : ℕ) : Type 0 where
   pub first : ℕ
   pub from : first ≤ place
-  pub begun : begins image first ≡ true
+  pub begun : is_record_start image first ≡ true
   pub to : place < first + length (record_bytes image first)
 
-here : (image : ℕ → Option ℕ) (place byte : ℕ) → image place ≡ Some byte → begins image place ≡ true → Covered image place
+here : (image : ℕ → Option ℕ) (place byte : ℕ) → image place ≡ Some byte
+    → is_record_start image place ≡ true → Covered image place
 here image place byte held begun =
     let some : 0 < 16 - place % 16 = omega arith in
     let long = run-some image place (16 - place % 16) byte some held in
     record { first = place; from = omega arith; begun = begun; to = omega (arith, long) }
 
-not_begun : (aligned : Bool) (before : Option ℕ) → (aligned || is_none before) ≡ false → (aligned ≡ false) × ((byte : ℕ) × (before ≡ Some byte))
+not_begun : (aligned : Bool) (before : Option ℕ) → (aligned || is_none before) ≡ false
+    → (aligned ≡ false) × ((byte : ℕ) × (before ≡ Some byte))
 not_begun true before h = absurd cc
 not_begun false None h = absurd cc
 not_begun false (Some byte) h = (refl, (byte, refl))
 
-goes_on : (image : ℕ → Option ℕ) (place byte : ℕ) → image (suc place) ≡ Some byte → eqb (suc place % 16) 0 ≡ false → Covered image place → Covered image (suc place)
+goes_on : (image : ℕ → Option ℕ) (place byte : ℕ) → image (suc place) ≡ Some byte
+    → eqb (suc place % 16) 0 ≡ false → Covered image place → Covered image (suc place)
 goes_on image place byte held inside before =
     let count : ℕ = length (record_bytes image before.first) in
     elim (cases_lt (suc place) (before.first + count)) [
-      | inl within ↦ record { first = before.first; from = omega (arith, before.from); begun = before.begun; to = within }
+      | inl within ↦ record {
+        first = before.first;
+        from = omega (arith, before.from);
+        begun = before.begun;
+        to = within;
+      }
       | inr past ↦
           let same : suc place ≡ before.first + count = omega (arith, past, before.to) in
           elim (run-ends image before.first (16 - before.first % 16)) [
@@ -87,42 +105,53 @@ goes_on image place byte held inside before =
           ]
     ]
 
-pub is_covered : (image : ℕ → Option ℕ) (place byte : ℕ) → image place ≡ Some byte → Covered image place
+pub is_covered : (image : ℕ → Option ℕ) (place byte : ℕ) → image place ≡ Some byte
+    → Covered image place
 is_covered image zero byte held = here image 0 byte held (rw held refl)
 is_covered image (suc place) byte held =
-    elim (begins image (suc place)) as (λ b. begins image (suc place) ≡ b → Covered image (suc place)) [
+    elim (is_record_start image (suc place)) as (λ b. is_record_start image (suc place) ≡ b
+    → Covered image (suc place)) [
       | true ↦ λ begun. here image (suc place) byte held begun
       | false ↦ λ begun.
-          let inside = not_begun (eqb (suc place % 16) 0) (image (suc place - 1)) (rw held at begun) in
+          let inside = not_begun (eqb (suc place % 16) 0) (image (suc place - 1))
+          (rw held at begun) in
           let back : place ≡ suc place - 1 = omega arith in
-          goes_on image place byte held inside.0 (is_covered image place inside.1.0 (ap image back ∙ inside.1.1))
+          goes_on image place byte held inside.0 (is_covered image place inside.1.0
+          (ap image back ∙ inside.1.1))
     ] refl
 
 -- a run of an image: its length, its bytes, its places
 pub run-short : (image : ℕ → Option ℕ) (first most : ℕ) → length (run image first most) ≤ most
 run-short image first zero = omega arith
 run-short image first (suc most) =
-    elim (image first) as (λ o. length (go_on o (run image (first + 1) most)) ≤ suc most) [
+    elim (image first) as (λ o. length (run_after o (run image (first + 1) most)) ≤ suc most) [
       | None ↦ omega arith
       | Some byte ↦ omega (arith, run-short image (first + 1) most)
     ]
 
-pub run-bytes : (image : ℕ → Option ℕ) → IsImage image → (first most : ℕ) → IsBytes (run image first most)
+pub run-bytes : (image : ℕ → Option ℕ) → IsImage image → (first most : ℕ)
+    → IsBytes (run image first most)
 run-bytes image is first zero = λ i. omega arith
 run-bytes image is first (suc most) =
-    elim (image first) as (λ o. image first ≡ o → IsBytes (go_on o (run image (first + 1) most))) [
+    elim (image first) as (λ o. image first ≡ o
+    → IsBytes (run_after o (run image (first + 1) most))) [
       | None ↦ λ none i. omega arith
-      | Some byte ↦ λ held. cons byte (run image (first + 1) most) (is first byte held).1 (run-bytes image is (first + 1) most)
+      | Some byte ↦ λ held. cons byte (run image (first + 1) most) (is first byte held).1
+          (run-bytes image is (first + 1) most)
     ] refl
   where
     cons : (byte : ℕ) (bytes : List ℕ) → byte < 256 → IsBytes bytes → IsBytes (byte ∷ bytes)
     cons byte bytes small fits zero = small
     cons byte bytes small fits (suc i) = fits i
 
-pub run-places : (image : ℕ → Option ℕ) → IsImage image → (first most : ℕ) → are_image_places first (run image first most) ≡ true
+pub run-places : (image : ℕ → Option ℕ) → IsImage image → (first most : ℕ)
+    → are_image_places first (run image first most) ≡ true
 run-places image is first zero = refl
 run-places image is first (suc most) =
-    elim (image first) as (λ o. image first ≡ o → are_image_places first (go_on o (run image (first + 1) most)) ≡ true) [
+    elim (image first) as (λ o. image first ≡ o
+    → are_image_places first (run_after o (run image (first + 1) most)) ≡ true) [
       | None ↦ λ none. refl
-      | Some byte ↦ λ held. and_both (is_image_place first) (are_image_places (first + 1) (run image (first + 1) most)) (is first byte held).0 (run-places image is (first + 1) most)
+      | Some byte ↦ λ held. and_both (is_image_place first)
+          (are_image_places (first + 1) (run image (first + 1) most)) (is first byte held).0
+          (run-places image is (first + 1) most)
     ] refl

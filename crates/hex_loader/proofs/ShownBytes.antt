@@ -4,7 +4,8 @@ use Rattle.std.specs.Prelude.{◌&&◌, ◌||◌, nat_le, slice_get}
 use Rattle.part_definitions.specs.Memory.{PowerOn, MemoryWrite, byte_at, bytes_from, is_ram, is_program, is_image_place}
 use Rattle.hex_loader.specs.MemoryImage.{image_of}
 
-either : (a ram program : Bool) → (a && ((ram && ram) || (program && program))) ≡ true → (ram || program) ≡ true
+either : (a ram program : Bool) → (a && ((ram && ram) || (program && program))) ≡ true
+    → (ram || program) ≡ true
 either true true program h = refl
 either true false program h = and_self program h
   where
@@ -18,8 +19,10 @@ chosen true byte h = refl
 chosen false byte h = absurd cc
 
 -- the span of one place is the byte there
-pub span-one : (start : PowerOn) (exec : Bool) (writes : List MemoryWrite) (place : ℕ) (bytes : List ℕ)
-    → (nat_le place place && ((is_ram place && is_ram place) || (is_program place && is_program place))) ≡ true
+pub span-one : (start : PowerOn) (exec : Bool) (writes : List MemoryWrite) (place : ℕ)
+    (bytes : List ℕ)
+    → (nat_le place place && ((is_ram place && is_ram place) ||
+    (is_program place && is_program place))) ≡ true
     → bytes ≡ bytes_from (byte_at start exec writes) place (place + 1 - place)
     → slice_get bytes 0 ≡ image_of start exec writes place
 span-one start exec writes place bytes within is =

@@ -11,7 +11,8 @@ use Rattle.hex_loader.specs.HexText.{run, lines_below, line_at, end_line, hex_te
 -- the digits of one byte more
 pub encode_with-more : (digits line bytes whole : List ℕ) (i : ℕ) → i < length bytes
     → line ++ encode_with digits (drop i bytes) ≡ whole
-    → (line ++ get_or digits (get_or bytes i 0 / 16) 0 ∷ []) ++ get_or digits (get_or bytes i 0 % 16) 0 ∷ [] ++ encode_with digits (drop (i + 1) bytes) ≡ whole
+    → (line ++ get_or digits (get_or bytes i 0 / 16) 0 ∷ []) ++ get_or digits
+    (get_or bytes i 0 % 16) 0 ∷ [] ++ encode_with digits (drop (i + 1) bytes) ≡ whole
 unfolding encode_with
 encode_with-more digits line bytes whole i within before =
     let next : drop (i + 1) bytes ≡ drop (suc i) bytes = ap (λ (k : ℕ). drop k bytes) (add-one i) in
@@ -27,7 +28,8 @@ encode_with-end digits line bytes whole i all before =
     sym (append-nil line) ∙ rw none at before
 
 -- a run with one byte more
-pub run-more : (image : ℕ → Option ℕ) (found whole : List ℕ) (place offset most byte : ℕ) → offset < most
+pub run-more : (image : ℕ → Option ℕ) (found whole : List ℕ) (place offset most byte : ℕ)
+    → offset < most
     → image (place + offset) ≡ Some byte
     → found ++ run image (place + offset) (most - offset) ≡ whole
     → (found ++ byte ∷ []) ++ run image (place + (offset + 1)) (most - (offset + 1)) ≡ whole
@@ -53,7 +55,8 @@ run-full image found whole place offset most full before =
     sym (append-nil found) ∙ rw none at before
 
 -- the lines below the next place
-pub lines_below-next : (image : ℕ → Option ℕ) (place : ℕ) → lines_below image (place + 1) ≡ lines_below image place ++ line_at image place
+pub lines_below-next : (image : ℕ → Option ℕ) (place : ℕ)
+    → lines_below image (place + 1) ≡ lines_below image place ++ line_at image place
 unfolding lines_below
 lines_below-next image place = rw add-one refl
 
@@ -70,16 +73,23 @@ lines_below-prefix image first (suc last) order =
           let is : first ≡ suc last = omega arith in
           ([], rw is (sym (append-nil (lines_below image (suc last)))))
       | inr below ↦
-          let before = lines_below-prefix image first last below in
-          (before.0 ++ line_at image last, rw before.1 (append_assoc (lines_below image first) before.0 (line_at image last)))
+          let before = lines_below-prefix image first last below in (
+            before.0 ++ line_at image last,
+            rw before.1 (append_assoc (lines_below image first)
+                before.0 (line_at image last)),
+          )
     ]
 
 -- a prefix of a line is a prefix of the text, where the lines before it were taken
-pub prefix_in_text : {S : Type 0} (stands : S → List ℕ → Type 0) (image : ℕ → Option ℕ) (old mid new : S) (place : ℕ) → place < 65536
-    → Takes stands old mid (lines_below image place) → TakesPrefix stands mid new (line_at image place)
+pub prefix_in_text : {S : Type 0} (stands : S → List ℕ → Type 0) (image : ℕ → Option ℕ)
+    (old mid new : S) (place : ℕ) → place < 65536
+    → Takes stands old mid (lines_below image place)
+    → TakesPrefix stands mid new (line_at image place)
     → TakesPrefix stands old new (hex_text image)
 prefix_in_text stands image old mid new place within before prefix =
     let rest = lines_below-prefix image (place + 1) 65536 (omega arith) in
-    let here = prefix_after stands old mid new (lines_below image place) (line_at image place) before prefix in
-    let all = prefix_of_more stands old new (lines_below image place ++ line_at image place) (rest.0 ++ end_line) here in
+    let here = prefix_after stands old mid new (lines_below image place) (line_at image place)
+    before prefix in
+    let all = prefix_of_more stands old new (lines_below image place ++ line_at image place)
+    (rest.0 ++ end_line) here in
     rw (rest.1, append_assoc, lines_below-next) all

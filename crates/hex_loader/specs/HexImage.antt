@@ -1,4 +1,4 @@
--- The image of an Intel HEX text, or its first fault. Lists of lines here have the newest line first.
+-- The image of an Intel HEX text, or its first fault. Lists of lines have the newest line first.
 use Rattle.std.specs.Prelude.{◌+◌, ◌==◌, ◌&&◌, ◌||◌, ℕ, Bool, true, false, List, [], ◌∷◌, length, reverse, if◌then◌else◌, Option, Some, None, unwrap_or, Result, Ok, Err}
 use Rattle.std.specs.Option.{option_or}
 use Rattle.std.specs.Str.Lines.{lines}
@@ -33,7 +33,8 @@ has_ended (line ∷ earlier) = is_end (record_in line) || has_ended earlier
 -- which of these bytes, from the first place upwards, is at a place
 abbrev pub byte_among : ℕ → List ℕ → ℕ → Option ℕ
 byte_among first [] place = None
-byte_among first (byte ∷ bytes) place = if place == first then Some byte else byte_among (first + 1) bytes place
+byte_among first (byte ∷ bytes) place =
+    if place == first then Some byte else byte_among (first + 1) bytes place
 
 -- all of these bytes, from the first place upwards, are at places that an image may hold
 abbrev pub are_image_places : ℕ → List ℕ → Bool
@@ -53,7 +54,8 @@ byte_after (line ∷ earlier) place =
 
 -- the fault of a record, over this base
 abbrev pub record_fault : ℕ → Result Meaning FaultKind → Option FaultKind
-record_fault base (Ok (Places address bytes)) = if are_image_places (base + address) bytes then None else Some Place
+record_fault base (Ok (Places address bytes)) =
+    if are_image_places (base + address) bytes then None else Some Place
 record_fault base (Ok _) = None
 record_fault base (Err kind) = Some kind
 
@@ -61,7 +63,8 @@ record_fault base (Err kind) = Some kind
 abbrev pub line_fault : List (List ℕ) → List ℕ → Option FaultKind
 line_fault earlier [] = None
 line_fault earlier (first ∷ rest) =
-    if has_ended earlier then Some AfterEnd else record_fault (base_after earlier) (record_in (first ∷ rest))
+    if has_ended earlier then Some AfterEnd
+    else record_fault (base_after earlier) (record_in (first ∷ rest))
 
 -- a fault with its line
 abbrev pub in_line : ℕ → Option FaultKind → Option FaultAt
@@ -71,11 +74,13 @@ in_line line None = None
 -- the fault of the first line that has one
 abbrev pub first_fault : List (List ℕ) → Option FaultAt
 first_fault [] = None
-first_fault (line ∷ earlier) = option_or (first_fault earlier) (in_line (length earlier + 1) (line_fault earlier line))
+first_fault (line ∷ earlier) =
+    option_or (first_fault earlier) (in_line (length earlier + 1) (line_fault earlier line))
 
 -- where no line has a fault there has to be an end record
 abbrev pub end_fault : List (List ℕ) → Option FaultAt
-end_fault lines = if has_ended lines then None else Some (record { line = length lines; kind = NoEnd })
+end_fault lines =
+    if has_ended lines then None else Some (record { line = length lines; kind = NoEnd })
 
 -- the first fault of a text
 abbrev pub hex_fault : List ℕ → Option FaultAt

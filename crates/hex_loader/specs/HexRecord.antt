@@ -6,7 +6,8 @@ use Rattle.text_scan.specs.Hexadecimal.{hex_bytes_of}
 use Rattle.hex_loader.specs.declared.hex_record.HexRecord.{HexRecord}
 use Rattle.hex_loader.specs.declared.hex_record.HexRecord.TheVariants as parsed
 
--- what a record says: bytes from an address on, the end, a base, or a start address, which is passed over
+-- what a record says: bytes from an address on, the end, a base, or a start address, which is
+-- passed over
 pub data Meaning : Type 0 where
   Places : ℕ → List ℕ → Meaning
   Ends : Meaning
@@ -36,20 +37,21 @@ abbrev pub record_of : List ℕ → Result Meaning FaultKind
 record_of bytes =
     if length bytes == slice_index bytes 0 + 5
     then (if sum bytes % 256 == 0
-    then record_of_type (slice_index bytes 3) (big_endian (drop 1 bytes)) (take (slice_index bytes 0) (drop 4 bytes))
+    then record_of_type (slice_index bytes 3) (big_endian (drop 1 bytes))
+    (take (slice_index bytes 0) (drop 4 bytes))
     else Err Check)
     else Err Count
 
 -- what the bytes are, or why there are none
-abbrev pub of_bytes : Result (List ℕ) FaultKind → Result Meaning FaultKind
-of_bytes (Ok bytes) = record_of bytes
-of_bytes (Err kind) = Err kind
+abbrev pub record_or_fault : Result (List ℕ) FaultKind → Result Meaning FaultKind
+record_or_fault (Ok bytes) = record_of bytes
+record_or_fault (Err kind) = Err kind
 
 -- the record of a line: a colon (58), and the digits of its bytes
 abbrev pub record_in : List ℕ → Result Meaning FaultKind
 record_in [] = Err NoColon
 record_in (first ∷ digits) =
-    if first == 58 then of_bytes (hex_bytes_of (length digits / 2) digits) else Err NoColon
+    if first == 58 then record_or_fault (hex_bytes_of (length digits / 2) digits) else Err NoColon
 
 -- a record of the program, seen as what it says
 abbrev pub meaning : HexRecord → Meaning

@@ -13,20 +13,22 @@ data_record address bytes = length bytes ∷ address / 256 ∷ address % 256 ∷
 -- the line of a record, ended by LF
 abbrev pub line_of : ℕ → List ℕ → List ℕ
 line_of address bytes =
-    codes ":" ++ encode_upper (data_record address bytes ++ check_of (data_record address bytes) ∷ []) ++ 10 ∷ []
+    let bytes_before = data_record address bytes in
+    codes ":" ++ encode_upper (bytes_before ++ check_of bytes_before ∷ []) ++ 10 ∷ []
 
 -- a record begins at a byte that has no byte before it, and at each multiple of 16
-abbrev pub begins : (ℕ → Option ℕ) → ℕ → Bool
-begins image place = is_some (image place) && ((place % 16 == 0) || is_none (image (place - 1)))
+abbrev pub is_record_start : (ℕ → Option ℕ) → ℕ → Bool
+is_record_start image place =
+    is_some (image place) && ((place % 16 == 0) || is_none (image (place - 1)))
 
-abbrev pub go_on : Option ℕ → List ℕ → List ℕ
-go_on (Some byte) bytes = byte ∷ bytes
-go_on None bytes = []
+abbrev pub run_after : Option ℕ → List ℕ → List ℕ
+run_after (Some byte) bytes = byte ∷ bytes
+run_after None bytes = []
 
 -- the bytes from a place on that follow each other, at most so many
 abbrev pub run : (ℕ → Option ℕ) → ℕ → ℕ → List ℕ
 run image place zero = []
-run image place (suc most) = go_on (image place) (run image (place + 1) most)
+run image place (suc most) = run_after (image place) (run image (place + 1) most)
 
 -- a record goes on to the last consecutive byte before the next multiple of 16
 abbrev pub record_bytes : (ℕ → Option ℕ) → ℕ → List ℕ
@@ -34,7 +36,8 @@ record_bytes image place = run image place (16 - place % 16)
 
 -- the line of the record that begins at a place, where one does
 abbrev pub line_at : (ℕ → Option ℕ) → ℕ → List ℕ
-line_at image place = if begins image place then line_of place (record_bytes image place) else []
+line_at image place =
+    if is_record_start image place then line_of place (record_bytes image place) else []
 
 -- the lines of the records that begin below a place, in ascending order
 unfoldable pub lines_below : (ℕ → Option ℕ) → ℕ → List ℕ

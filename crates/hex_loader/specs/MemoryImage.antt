@@ -6,7 +6,8 @@ use Rattle.mem_map.specs.Memory.{MemoryStandsFor}
 
 -- a byte for each place of RAM, program and vectors
 abbrev pub image_of : PowerOn → Bool → List MemoryWrite → ℕ → Option ℕ
-image_of start exec writes place = if is_image_place place then Some (byte_at start exec writes place) else None
+image_of start exec writes place =
+    if is_image_place place then Some (byte_at start exec writes place) else None
 
 -- the memory stands for these bytes
 pub record MemoryShows (memory : Memory) (image : ℕ → Option ℕ) : Type 0 where

@@ -6,7 +6,9 @@ use Rattle.hex_loader.specs.HexText.{hex_text}
 
 -- the text of an image has no fault, and its image is that image
 abbrev pub ReadsBack : (ℕ → Option ℕ) → Type 0
-ReadsBack image = (hex_fault (hex_text image) ≡ None) × ((place : ℕ) → hex_byte (hex_text image) place ≡ image place)
+ReadsBack image =
+    (hex_fault (hex_text image) ≡ None)
+    × ((place : ℕ) → hex_byte (hex_text image) place ≡ image place)
 
 abbrev pub IsReadBack : Type 0
 IsReadBack = (image : ℕ → Option ℕ) → IsImage image → ReadsBack image

@@ -1,6 +1,6 @@
 ghost use Rattle.std.specs.Prelude.{◌≡◌, ◌<◌, ◌≤◌, ◌+◌, ◌*◌, ◌/◌, ◌%◌, length, sum, MatchResult};
 ghost use Rattle.text_scan.specs.Hexadecimal.{hex_bytes_of};
-ghost use Rattle.hex_loader.specs.HexRecord.{big_endian, record_of_type, record_of, of_bytes, record_in, GivesRecord};
+ghost use Rattle.hex_loader.specs.HexRecord.{big_endian, record_of_type, record_of, record_or_fault, record_in, GivesRecord};
 
 use text_scan::{FaultKind, hex_bytes};
 
@@ -47,7 +47,7 @@ pub fn sum_of(bytes: &[u8]) -> u8
     total
 }
 
-/// The record of a type, with the number of data bytes that the type wants.
+// The record of a type, with the number of data bytes that the type wants.
 fn record_of_type(kind: u8, address: u16, bytes: &[u8]) -> Result<HexRecord<'_>, FaultKind>
     ensures { GivesRecord result (record_of_type kind address bytes.now) }
 {
@@ -69,7 +69,7 @@ pub fn record_of_digits<'a>(
     digits: &[u8],
     room: &'a mut [u8; MOST_BYTES],
 ) -> Result<HexRecord<'a>, FaultKind>
-    ensures { GivesRecord result (of_bytes (hex_bytes_of (length digits.now / 2) digits.now)) }
+    ensures { GivesRecord result (record_or_fault (hex_bytes_of (length digits.now / 2) digits.now)) }
 {
     let bytes = &mut room[..(digits.len() / 2).min(MOST_BYTES)];
     hex_bytes(digits, bytes)?;

@@ -8,12 +8,13 @@ ghost use Rattle.hex_loader.specs.ReadBack.{ReadsBack};
 ghost use Rattle.hex_loader.specs.MemoryImage.{image_of};
 
 use crate::law::reads_back;
-use crate::places::{Places, begins, record_bytes};
+use crate::places::{Places, is_record_start, record_bytes};
 use crate::record_line::line_of;
 use mem_map::{Image, Memory};
 use outside_edge::{Failed, Sink, put_all};
 
-/// Puts the text of an image, which reads as that image. After `Failed` the sink took a prefix of it.
+/// Puts the text of an image, which reads as that image. After `Failed` the sink took a prefix of
+/// it.
 pub fn write_hex<W: Sink>(image: &Image, sink: &mut W) -> Result<(), Failed>
     ensures puts { Puts W.stands sink.old sink.new (hex_text (byte_in image.now)) result }
     ensures read_back { ReadsBack (byte_in image.now) }
@@ -23,8 +24,8 @@ pub fn write_hex<W: Sink>(image: &Image, sink: &mut W) -> Result<(), Failed>
     write_places(image, sink)
 }
 
-/// Puts the bytes of RAM, program and vectors as the text of an image. After `Failed` the sink took a
-/// prefix of it.
+/// Puts the bytes of RAM, program and vectors as the text of an image. After `Failed` the sink took
+/// a prefix of it.
 pub fn write_memory<W: Sink>(memory: &Memory, sink: &mut W) -> Result<(), Failed>
     ensures puts { (start : PowerOn) (exec : Bool) (writes : List MemoryWrite)
         → MemoryStandsFor memory.now start exec writes
@@ -34,7 +35,7 @@ pub fn write_memory<W: Sink>(memory: &Memory, sink: &mut W) -> Result<(), Failed
     write_places(memory, sink)
 }
 
-/// Puts the text of these bytes.
+// Puts the text of these bytes.
 fn write_places<P: Places, W: Sink>(bytes: &P, sink: &mut W) -> Result<(), Failed>
     ensures puts { (image : ℕ → Option ℕ)
         → P.shows bytes.now image
@@ -47,14 +48,14 @@ fn write_places<P: Places, W: Sink>(bytes: &P, sink: &mut W) -> Result<(), Faile
     put_all(sink, b":00000001FF\n")
 }
 
-/// Puts the line of the record that begins at this place, where one does.
+// Puts the line of the record that begins at this place, where one does.
 fn write_line_at<P: Places, W: Sink>(bytes: &P, place: u16, sink: &mut W) -> Result<(), Failed>
     ensures puts { (image : ℕ → Option ℕ)
         → P.shows bytes.now image
         → Puts W.stands sink.old sink.new (line_at image place) result }
     ensures counts { CountsFaults W.faults sink.old sink.new result }
 {
-    if !begins(bytes, place) {
+    if !is_record_start(bytes, place) {
         return Ok(());
     }
     put_all(sink, &line_of(place, &record_bytes(bytes, place)))

@@ -1,9 +1,9 @@
 //! Intel HEX: images read from text, and images and memory written as text.
 //!
 //! Record types 00 to 05 are read as Intel's "Hexadecimal Object File Format Specification" (1988)
-//! has them. Written are records of type 00 of at most 16 bytes, and the end record. The contract of
-//! [`read_hex`] is the image of the text, where the last byte placed at a place counts, or the first
-//! fault of its first faulty line; that of [`write_hex`] is the text of the image.
+//! has them. Written are records of type 00 of at most 16 bytes, and the end record. The contract
+//! of [`read_hex`] is the image of the text, where the last byte placed at a place counts, or the
+//! first fault of its first faulty line; that of [`write_hex`] is the text of the image.
 #![tactic(auto)]
 
 mod hex_record;

@@ -1,5 +1,5 @@
 ghost use Rattle.std.specs.Prelude.{◌≡◌, ◌<◌, ◌≤◌, ℕ, Option};
-ghost use Rattle.hex_loader.specs.HexText.{begins, record_bytes};
+ghost use Rattle.hex_loader.specs.HexText.{is_record_start, record_bytes};
 
 use crate::record_line::MOST_DATA;
 use arrayvec::ArrayVec;
@@ -38,8 +38,10 @@ impl Places for Memory {
 }
 
 /// Whether a record begins at this place.
-pub fn begins<P: Places>(bytes: &P, place: u16) -> bool
-    ensures { (image : ℕ → Option ℕ) → P.shows bytes.now image → result ≡ begins image place }
+pub fn is_record_start<P: Places>(bytes: &P, place: u16) -> bool
+    ensures { (image : ℕ → Option ℕ)
+        → P.shows bytes.now image
+        → result ≡ is_record_start image place }
 {
     bytes.byte(place).is_some() && (place % 16 == 0 || bytes.byte(place - 1).is_none())
 }

@@ -24,7 +24,7 @@ pub fn read_hex(alloc: Global, text: &[u8]) -> Result<Image, TextFault>
     }
 }
 
-/// Reads a text into an empty image.
+// Reads a text into an empty image.
 fn read_into(image: Image, text: &[u8]) -> Result<Image, FaultAt>
     requires { (place : ℕ) → byte_in image place ≡ None }
     ensures bytes { IfOk result (λ image.
@@ -52,7 +52,7 @@ fn read_into(image: Image, text: &[u8]) -> Result<Image, FaultAt>
     Ok(reader.image)
 }
 
-/// Puts one byte at a place that an image may hold.
+// Puts one byte at a place that an image may hold.
 fn set_byte(image: &mut Image, place: u64, byte: u8) -> bool
     ensures taken { result ≡ is_image_place place }
     ensures bytes { (other : ℕ)
@@ -65,7 +65,7 @@ fn set_byte(image: &mut Image, place: u64, byte: u8) -> bool
     }
 }
 
-/// Puts these bytes from a place upwards.
+// Puts these bytes from a place upwards.
 fn set_bytes(image: &mut Image, first: u64, bytes: &[u8]) -> Result<(), FaultKind>
     requires { first + length bytes.now < 2 ^ 64 }
     ensures taken { OnOk result (are_image_places first bytes.now ≡ true) }
@@ -99,7 +99,7 @@ impl Reader {
     ghost use Rattle.hex_loader.specs.HexImage.{base_after, record_fault, line_fault};
     ghost use Rattle.hex_loader.specs.Reader.{ReaderStandsFor};
 
-    /// Does what a record says.
+    // Does what a record says.
     fn take(&mut self, found: HexRecord<'_>) -> Result<(), FaultKind>
         ensures fault { (earlier : List (List ℕ))
             → ReaderStandsFor self.old earlier

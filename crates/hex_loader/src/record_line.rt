@@ -8,7 +8,7 @@ use arrayvec::ArrayVec;
 /// The most data bytes of a record that is written.
 pub const MOST_DATA: usize = 16;
 
-/// The most bytes of a record that is written: count, address, type, data and check.
+// The most bytes of a record that is written: count, address, type, data and check.
 const MOST_BYTES: usize = 21;
 
 /// The most characters of its line: a colon, two digits a byte, and LF.
@@ -25,7 +25,7 @@ pub fn line_of(address: u16, bytes: &[u8]) -> ArrayVec<u8, MOST_CHARACTERS>
     hex_line(&record)
 }
 
-/// Count, address, type 00 and data.
+// Count, address, type 00 and data.
 fn data_record(address: u16, bytes: &[u8]) -> ArrayVec<u8, MOST_BYTES>
     requires { length bytes.now ≤ 16 }
     ensures { result.items ≡ data_record address bytes.now }
@@ -42,7 +42,7 @@ fn data_record(address: u16, bytes: &[u8]) -> ArrayVec<u8, MOST_BYTES>
     record
 }
 
-/// A colon, the bytes in upper-case digits, and LF.
+// A colon, the bytes in upper-case digits, and LF.
 fn hex_line(bytes: &[u8]) -> ArrayVec<u8, MOST_CHARACTERS>
     requires { length bytes.now ≤ 21 }
     ensures { result.items ≡ codes ":" ++ encode_upper bytes.now ++ 10 ∷ [] }

@@ -4,8 +4,9 @@ use outside_edge::MemSink;
 use std::alloc::{AllocError, Global};
 use std::test::Fail;
 use text_scan::{FaultAt, FaultKind, TextFault};
+use word_arith::Size;
 
-/// Written by hand: eight bytes of a program, and the reset vector.
+// Written by hand: eight bytes of a program, and the reset vector.
 const FIRST: &[u8] = b":08C00000B24041007600FF3F51\n:02FFFE0000C041\n:00000001FF\n";
 
 #[test]
@@ -77,8 +78,8 @@ fn the_first_fault_of_the_first_faulty_line_is_answered(rt: HostRuntime) -> Resu
     Ok(())
 }
 
-/// Reads a text and says whether the image has these bytes from the first place on, and none before
-/// and after them.
+// Reads a text and says whether the image has these bytes from the first place on, and none before
+// and after them.
 fn holds(alloc: Global, text: &[u8], first: u16, bytes: &[u8]) -> Result<bool, TextFault> {
     let image = read_hex(alloc, text)?;
     let mut place = first;
@@ -91,7 +92,7 @@ fn holds(alloc: Global, text: &[u8], first: u16, bytes: &[u8]) -> Result<bool, T
     Ok(image.get(first.wrapping_sub(1)).is_none() && image.get(place).is_none())
 }
 
-/// GNU objcopy 2.40: records of 16 bytes and a start address of type 03.
+// GNU objcopy 2.40: records of 16 bytes and a start address of type 03.
 const OBJCOPY: &[u8] = b":10C00000B24041007600FF3F00010203040506072D\r
 :10C0100008090A0B0C0D0E0F101112131415161728\r
 :09C0200018191A1B1C1D1E1F201B\r
@@ -99,7 +100,7 @@ const OBJCOPY: &[u8] = b":10C00000B24041007600FF3F00010203040506072D\r
 :00000001FF\r
 ";
 
-/// llvm-objcopy 14.0.6: a start address of type 05.
+// llvm-objcopy 14.0.6: a start address of type 05.
 const LLVM_OBJCOPY: &[u8] = b":10C00000B24041007600FF3F00010203040506072D
 :10C0100008090A0B0C0D0E0F101112131415161728
 :09C0200018191A1B1C1D1E1F201B
@@ -107,7 +108,7 @@ const LLVM_OBJCOPY: &[u8] = b":10C00000B24041007600FF3F00010203040506072D
 :00000001FF
 ";
 
-/// srec_cat 1.64: a base of type 02 and records of 32 bytes.
+// srec_cat 1.64: a base of type 02 and records of 32 bytes.
 const SREC_CAT_SEGMENTS: &[u8] = b":020000020000FC
 :20020000B24041007600FF3F000102030405060708090A0B0C0D0E0F1011121314151617E3
 :0902200018191A1B1C1D1E1F20D9
@@ -115,7 +116,7 @@ const SREC_CAT_SEGMENTS: &[u8] = b":020000020000FC
 :00000001FF
 ";
 
-/// srec_cat 1.64: a base of type 04.
+// srec_cat 1.64: a base of type 04.
 const SREC_CAT_LINEAR: &[u8] = b":020000040000fa
 :20020000b24041007600ff3f000102030405060708090a0b0c0d0e0f1011121314151617e3
 :0902200018191a1b1c1d1e1f20d9
@@ -135,7 +136,8 @@ fn images_that_other_tools_wrote_are_read(rt: HostRuntime) -> Result<(), Fail> {
     for (text, first) in texts {
         assert!(rt; holds(rt.alloc(), text, first, bytes)?);
     }
-    // The base 0C00 times 16, then 0 again; the byte that was placed last counts; a record of no bytes.
+    // The base 0C00 times 16, then 0 again; the byte that was placed last counts; a record of no
+    // bytes.
     let text =
         b":020000020C00F0\n:020000001122CB\n:020000040000FA\n:01C00100330B\n\n:0000000000\n:00000001FF\n";
     assert!(rt; holds(rt.alloc(), text, 0xC000, b"\x11\x33")?);
@@ -151,7 +153,7 @@ fn an_image_is_written_as_it_was_read(rt: HostRuntime) -> Result<(), Fail> {
     Ok(())
 }
 
-/// Three bytes across a multiple of 16, and one more behind a gap.
+// Three bytes across a multiple of 16, and one more behind a gap.
 fn torn_image(alloc: Global) -> Result<Image, AllocError> {
     let mut image = Image::new(alloc)?;
     image.set(0x020F, 0xAB);
@@ -185,5 +187,11 @@ fn a_memory_is_written_as_1536_records_and_the_end(rt: HostRuntime) -> Result<()
             b":10FFF0000000000000000000000000000000000001\n:00000001FF\n".as_slice()
         )
     );
+    let image = read_hex(alloc, sink.held())?;
+    for place in 0x0200..0x2200 {
+        let byte = memory.read(place, Size::Byte);
+        assert!(rt; image.get(place).map(u16::from) == Some(byte), "at {place}");
+    }
+    assert!(rt; image.get(0xFFFF) == Some(0) && image.get(0x01FF).is_none());
     Ok(())
 }

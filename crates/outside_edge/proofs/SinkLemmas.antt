@@ -5,8 +5,10 @@ use Rattle.std.proofs.Math.Seq.{take-add, take-append-add}
 use Rattle.outside_edge.specs.Sink.{Takes, TakesPrefix, Puts, CountsFaults}
 
 -- a prefix of the rest after a prefix is a longer prefix
-pub takes_more : {S : Type 0} (stands : S → List ℕ → Type 0) (old mid new : S) (bytes : List ℕ) (at n : ℕ)
-    → Takes stands old mid (take at bytes) → Takes stands mid new (take n (take (length bytes - at) (drop at bytes)))
+pub takes_more : {S : Type 0} (stands : S → List ℕ → Type 0) (old mid new : S) (bytes : List ℕ)
+    (at n : ℕ)
+    → Takes stands old mid (take at bytes)
+    → Takes stands mid new (take n (take (length bytes - at) (drop at bytes)))
     → Takes stands old new (take (at + n) bytes)
 takes_more stands old mid new bytes at n first second = λ taken stood.
     let more = second (taken ++ take at bytes) (first taken stood) in
@@ -20,11 +22,13 @@ takes_both stands old mid new one two first second = λ taken stood.
 
 -- a prefix of a text after another text
 pub prefix_after : {S : Type 0} (stands : S → List ℕ → Type 0) (old mid new : S) (one two : List ℕ)
-    → Takes stands old mid one → TakesPrefix stands mid new two → TakesPrefix stands old new (one ++ two)
+    → Takes stands old mid one → TakesPrefix stands mid new two
+    → TakesPrefix stands old new (one ++ two)
 prefix_after stands old mid new one two first second = (
   length one + second.0,
   omega (arith, length-append one two, second.1),
-  λ taken stood. rw (take-append-add one two second.0, ← append_assoc) (second.2 (taken ++ one) (first taken stood)),
+  λ taken stood. rw (take-append-add one two second.0, ← append_assoc)
+      (second.2 (taken ++ one) (first taken stood)),
 )
 
 -- a prefix of a text is a prefix of a longer one
@@ -38,8 +42,10 @@ prefix_of_more stands old new one two prefix =
     )
 
 -- a text that is put after another one
-pub puts_after : {S V E : Type 0} (stands : S → List ℕ → Type 0) (old mid new : S) (one two : List ℕ) (result : Result V E)
-    → Takes stands old mid one → Puts stands mid new two result → Puts stands old new (one ++ two) result
+pub puts_after : {S V E : Type 0} (stands : S → List ℕ → Type 0) (old mid new : S)
+    (one two : List ℕ) (result : Result V E)
+    → Takes stands old mid one → Puts stands mid new two result
+    → Puts stands old new (one ++ two) result
 puts_after stands old mid new one two (Ok value) first second = record {
   all = takes_both stands old mid new one two first second.all;
   prefix = tt;
@@ -51,7 +57,8 @@ puts_after stands old mid new one two (Err error) first second = record {
 
 -- the counts after calls that have counted nothing
 pub counts_after : {S V E : Type 0} (faults : S → ℕ) (old mid new : S) (result : Result V E)
-    → faults mid ≡ faults old → CountsFaults faults mid new result → CountsFaults faults old new result
+    → faults mid ≡ faults old → CountsFaults faults mid new result
+    → CountsFaults faults old new result
 counts_after faults old mid new result same counts = record {
   failed = rw same at counts.failed;
   quiet = rw same at counts.quiet;

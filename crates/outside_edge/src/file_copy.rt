@@ -1,5 +1,5 @@
-ghost use Rattle.std.specs.Prelude.{◌≡◌, ◌≤◌, option_map, IfNone, IfSome, IsSomeAnd};
-ghost use Rattle.outside_edge.specs.File.{file_of, named_files, CopiesMost};
+ghost use Rattle.std.specs.Prelude.{◌≡◌, ◌≤◌, Some, option_map, IfNone, IfSome};
+ghost use Rattle.outside_edge.specs.File.{file_of, named_files, HasFile, CopiesMost};
 
 // The bytes of the first file of that name.
 fn file_named<'a>(files: &'a [(String, Vec<u8>)], name: &str) -> Option<&'a [u8]>
@@ -13,8 +13,8 @@ fn file_named<'a>(files: &'a [(String, Vec<u8>)], name: &str) -> Option<&'a [u8]
     None
 }
 
-// Copies the bytes at a place of the file of that name, at most `most` of them, to the beginning of the
-// piece.
+// Copies the bytes at a place of the file of that name, at most `most` of them, to the beginning of
+// the piece.
 pub fn copy_of_file(
     files: &[(String, Vec<u8>)],
     most: usize,
@@ -23,7 +23,7 @@ pub fn copy_of_file(
     piece: &mut [u8],
 ) -> Option<usize>
     requires { 1 ≤ most }
-    ensures copied { IfSome result (λ n. IsSomeAnd (file_of (named_files files.now) name.now) (λ file.
+    ensures copied { IfSome result (λ n. HasFile (Some (named_files files.now)) name.now (λ file.
         CopiesMost most file at n piece.old piece.new)) }
     ensures absent { IfNone result (file_of (named_files files.now) name.now ≡ None) }
     ensures untouched { IfNone result (piece.new ≡ piece.old) }

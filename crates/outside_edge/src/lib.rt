@@ -1,9 +1,9 @@
 //! The outside as the program sees it: a shelf of files that are read, and a sink that takes bytes.
 //!
-//! Both are traits that count their faults, so that "it failed" is answered only where a count rose.
-//! There are shelves and sinks in memory, some of which fail on purpose, and thin adapters over
-//! files and writers, about whose bytes nothing is claimed. [`read_whole`] gives a whole file or a
-//! counted fault, and [`put_all`] puts all bytes or a prefix of them and a counted fault.
+//! Both are traits that count their faults, so that "it failed" is answered only where a count
+//! rose. There are shelves and sinks in memory, some of which fail on purpose, and thin adapters
+//! over files and writers, about whose bytes nothing is claimed. [`read_whole`] gives a whole file
+//! or a counted fault, and [`put_all`] puts all bytes or a prefix of them and a counted fault.
 #![tactic(auto)]
 
 mod file_copy;

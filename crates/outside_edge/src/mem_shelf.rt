@@ -37,8 +37,8 @@ impl Model for MemShelf {
 }
 
 impl MemShelf {
-    /// A shelf that gives at most `most` bytes in one call, and fails in the calls of these numbers,
-    /// counted from 1. Of two files of one name the first counts.
+    /// A shelf that gives at most `most` bytes in one call, and fails in the calls of these
+    /// numbers, counted from 1. Of two files of one name the first counts.
     pub fn new(files: Vec<(String, Vec<u8>)>, most: usize, failing: Vec<u64>) -> MemShelf
         requires { 1 ≤ most }
         ensures { result ≡ record {
@@ -73,9 +73,12 @@ impl Shelf for MemShelf {
         ensures bytes { IfOk result (λ n. HasFile (Some self.old.files) name.now (λ file.
             CopiesMost self.old.most file at n piece.old piece.new)) }
 
-        // It fails exactly in the calls that it is to fail in, and else misses exactly what it lacks.
-        ensures failed { IsErrOf result ShelfError.Failed ↔ Contains self.old.failing self.new.calls }
-        ensures absent { IsErrOf result ShelfError.Absent → Finds (Some self.old.files) name.now None }
+        // It fails exactly in the calls that it is to fail in, and else misses exactly what it
+        // lacks.
+        ensures failed { IsErrOf result ShelfError.Failed
+            ↔ Contains self.old.failing self.new.calls }
+        ensures absent { IsErrOf result ShelfError.Absent
+            → Finds (Some self.old.files) name.now None }
 
         ensures kept { KeepsFiles (λ shelf. Some shelf.files) (λ shelf. shelf.faults)
             (λ shelf. shelf.misses) self.old self.new }

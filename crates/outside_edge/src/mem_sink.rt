@@ -6,7 +6,8 @@ use crate::sink::{Failed, Sink};
 use std::alloc::AllocError;
 use std::marker::Model;
 
-/// Bytes in memory, with a sink whose room is taken at the start and whose calls of some numbers fail.
+/// Bytes in memory, with a sink whose room is taken at the start and whose calls of some numbers
+/// fail.
 #[derive(Drop)]
 pub struct MemSink {
     held: Vec<u8>,
@@ -32,7 +33,8 @@ impl Model for MemSink {
       faults = sink.faults;
     } };
 
-    ghost invariant = { λ sink. (1 ≤ sink.most) × (vec_len sink.held + sink.room ≤ vec_capacity sink.held) };
+    ghost invariant = { λ sink. (1 ≤ sink.most)
+        × (vec_len sink.held + sink.room ≤ vec_capacity sink.held) };
 }
 
 impl MemSink {
@@ -85,7 +87,8 @@ impl Sink for MemSink {
         // It fails exactly in the calls that it is to fail in, and where there is no room.
         ensures refused { IsErr result ↔ (Contains self.old.failing self.new.calls
             ⊎ ((0 < length piece.now) × (self.old.room ≡ 0))) }
-        ensures amount { IfOk result (λ n. n ≡ min (length piece.now) (min self.old.most self.old.room)) }
+        ensures amount { IfOk result (λ n.
+            n ≡ min (length piece.now) (min self.old.most self.old.room)) }
         ensures taken { IfOk result (λ n. self.new ≡ record self.old {
           held = self.old.held ++ take n piece.now;
           room = self.old.room - n;

@@ -37,8 +37,10 @@ pub trait Shelf {
 
         // An error has its cause.
         ensures absent { IsErrOf result ShelfError.Absent → Finds (files self.old) name.now None }
-        ensures missed { IsErrOf result ShelfError.Absent → Rose (misses self.old) (misses self.new) }
-        ensures failed { IsErrOf result ShelfError.Failed → Rose (faults self.old) (faults self.new) }
+        ensures missed { IsErrOf result ShelfError.Absent
+            → Rose (misses self.old) (misses self.new) }
+        ensures failed { IsErrOf result ShelfError.Failed
+            → Rose (faults self.old) (faults self.new) }
 
         ensures kept { KeepsFiles files faults misses self.old self.new }
         ensures quiet { OnOk result (CountsNothing faults misses self.old self.new) };

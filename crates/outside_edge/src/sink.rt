@@ -21,7 +21,9 @@ pub trait Sink {
         ensures within { IfOk result (λ n. n ≤ length piece.now) }
         ensures some { IfOk result (λ n. 0 < length piece.now → 1 ≤ n) }
         ensures taken { IfOk result (λ n. Takes stands self.old self.new (take n piece.now)) }
-        ensures kept { OnErr result ((taken : List ℕ) → stands self.old taken → stands self.new taken) }
+        ensures kept { OnErr result ((taken : List ℕ)
+            → stands self.old taken
+            → stands self.new taken) }
         ensures counts { CountsFaults faults self.old self.new result };
 }
 

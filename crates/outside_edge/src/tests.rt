@@ -100,7 +100,7 @@ fn a_file_of_the_file_system_is_read(rt: HostRuntime) -> Result<(), Fail> {
     Ok(())
 }
 
-/// Bytes that do not repeat: the number of each and that of its 256 bytes, added.
+// Bytes that do not repeat: the number of each and that of its 256 bytes, added.
 fn distinct_bytes(alloc: Global, length: u16) -> Result<Vec<u8>, AllocError> {
     let mut bytes = Vec::new(alloc);
     for number in 0..length {
@@ -132,7 +132,7 @@ fn a_file_of_several_pieces_is_read(rt: HostRuntime) -> Result<(), Fail> {
     Ok(())
 }
 
-/// A file of 10,000 zeros that can't be read past its first 4,096.
+// A file of 10,000 zeros that can't be read past its first 4,096.
 #[derive(Drop)]
 struct TornFile {
     at: u64,
@@ -167,7 +167,7 @@ fn an_error_in_the_middle_of_a_file_is_an_error(rt: HostRuntime) -> Result<(), F
     Ok(())
 }
 
-/// A writer that keeps what it takes, at most seven bytes in one call.
+// A writer that keeps what it takes, at most seven bytes in one call.
 #[derive(Drop)]
 struct Keeper<'a> {
     bytes: &'a mut Vec<u8>,
@@ -216,7 +216,7 @@ fn long_names_and_large_rooms_have_room(rt: HostRuntime) -> Result<(), Fail> {
     Ok(())
 }
 
-/// A writer that takes three bytes and then fails.
+// A writer that takes three bytes and then fails.
 #[derive(Drop)]
 struct JammedWriter {
     taken: usize,

@@ -38,14 +38,16 @@ read_later : (entry : Entry) (later : Result (List TimedEvent) FaultAt) (script 
 read_later entry (Ok events) script h = (events, refl, cc h)
 read_later entry (Err fault) script h = cc h
 
-order_kept : (greatest number : ℕ) (entry : Entry) (below : Bool) (next : Entry → Result (List TimedEvent) FaultAt) (script : List TimedEvent)
+order_kept : (greatest number : ℕ) (entry : Entry) (below : Bool)
+    (next : Entry → Result (List TimedEvent) FaultAt) (script : List TimedEvent)
     → nat_lt entry.0 greatest ≡ below
     → (in_line number (cond below (Err Order) (Ok entry)) >>= next) ≡ Ok script
     → (greatest ≤ entry.0) × (next entry ≡ Ok script)
 order_kept greatest number entry true next script is h = cc h
 order_kept greatest number entry false next script is h = (ltb-false entry.0 greatest is, h)
 
-read_entry : (greatest : ℕ) (line : ℕ × List ℕ) (next : Entry → Result (List TimedEvent) FaultAt) (script : List TimedEvent) (found : Result Entry FaultKind)
+read_entry : (greatest : ℕ) (line : ℕ × List ℕ) (next : Entry → Result (List TimedEvent) FaultAt)
+    (script : List TimedEvent) (found : Result Entry FaultKind)
     → entry_in line ≡ found
     → (in_line line.0 (found >>= in_order greatest) >>= next) ≡ Ok script
     → (entry : Entry) × (entry_in line ≡ Ok entry) × (greatest ≤ entry.0) × (next entry ≡ Ok script)
@@ -54,27 +56,35 @@ read_entry greatest line next script (Ok entry) is h =
     let kept = order_kept greatest line.0 entry (nat_lt entry.0 greatest) next script refl h in
     (entry, is, kept.0, kept.1)
 
-read_first : (greatest : ℕ) (line : ℕ × List ℕ) (lines : List (ℕ × List ℕ)) (entry : Entry) (later script : List TimedEvent)
-    → entry_in line ≡ Ok entry → greatest ≤ entry.0 → ReadFrom entry.0 lines later → script ≡ timed_events entry ++ later
+read_first : (greatest : ℕ) (line : ℕ × List ℕ) (lines : List (ℕ × List ℕ)) (entry : Entry)
+    (later script : List TimedEvent)
+    → entry_in line ≡ Ok entry → greatest ≤ entry.0 → ReadFrom entry.0 lines later → script
+    ≡ timed_events entry ++ later
     → ReadFrom greatest (line ∷ lines) script
 read_first greatest line lines entry later script is order rest same = record {
   entries = entry ∷ rest.entries;
   each = cc (is, rest.each);
-  above = All-cons (λ e. greatest ≤ e.0) entry rest.entries order (λ k d h. omega (arith, rest.above k d h, order));
-  ascending = AllPairs-cons (λ earlier later. earlier.0 ≤ later.0) entry rest.entries rest.above rest.ascending;
+  above = All-cons (λ e. greatest ≤ e.0) entry rest.entries order
+      (λ k d h. omega (arith, rest.above k d h, order));
+  ascending = AllPairs-cons (λ earlier later. earlier.0 ≤ later.0) entry rest.entries rest.above
+      rest.ascending;
   events = same ∙ ap (λ (events : List TimedEvent). timed_events entry ++ events) rest.events;
 }
 
-read_line : (greatest : ℕ) (line : ℕ × List ℕ) (lines : List (ℕ × List ℕ)) (script : List TimedEvent) (passed : Bool)
+read_line : (greatest : ℕ) (line : ℕ × List ℕ) (lines : List (ℕ × List ℕ))
+    (script : List TimedEvent) (passed : Bool)
     → is_passed_over line.1 ≡ passed
-    → ((from : ℕ) (events : List TimedEvent) → script_lines from lines ≡ Ok events → ReadFrom from (filter says lines) events)
-    → cond passed (script_lines greatest lines) (entry_of greatest line >>= then_later lines) ≡ Ok script
+    → ((from : ℕ) (events : List TimedEvent) → script_lines from lines ≡ Ok events
+    → ReadFrom from (filter says lines) events)
+    → cond passed (script_lines greatest lines) (entry_of greatest line >>= then_later lines)
+    ≡ Ok script
     → ReadFrom greatest (filter says (line ∷ lines)) script
 read_line greatest line lines script true is later h = rw is (later greatest script h)
 read_line greatest line lines script false is later h =
     let entry = read_entry greatest line (then_later lines) script (entry_in line) refl h in
     let rest = read_later entry.0 (script_lines entry.0.0 lines) script entry.3 in
-    rw is (read_first greatest line (filter says lines) entry.0 rest.0 script entry.1 entry.2 (later entry.0.0 rest.0 rest.1) rest.2)
+    rw is (read_first greatest line (filter says lines) entry.0 rest.0 script entry.1 entry.2
+    (later entry.0.0 rest.0 rest.1) rest.2)
 
 read_lines : (greatest : ℕ) (lines : List (ℕ × List ℕ)) (script : List TimedEvent)
     → script_lines greatest lines ≡ Ok script → ReadFrom greatest (filter says lines) script
@@ -87,11 +97,13 @@ read_lines greatest [] script h = record {
   events = cc h;
 }
 read_lines greatest (line ∷ lines) script h =
-    read_line greatest line lines script (is_passed_over line.1) refl (λ from events same. read_lines from lines events same) h
+    read_line greatest line lines script (is_passed_over line.1) refl
+    (λ from events same. read_lines from lines events same) h
 
 -- a text that is read is a script
 
-read_text : (text : List ℕ) (script : List TimedEvent) (sound : Result Unit FaultAt) → utf8_of text ≡ sound
+read_text : (text : List ℕ) (script : List TimedEvent) (sound : Result Unit FaultAt) → utf8_of text
+    ≡ sound
     → (sound >>= (λ _. script_lines 0 (lines_of text))) ≡ Ok script → IsScript text script
 read_text text script (Err fault) is h = cc h
 read_text text script (Ok u) is h =
@@ -102,7 +114,8 @@ read_text text script (Ok u) is h =
       events = read.events;
     }
 
-pub script_of-lines : (text : List ℕ) (script : List TimedEvent) → script_of text ≡ Ok script → IsScript text script
+pub script_of-lines : (text : List ℕ) (script : List TimedEvent) → script_of text ≡ Ok script
+    → IsScript text script
 unfolding script_of
 script_of-lines text script h = read_text text script (utf8_of text) refl h
 
@@ -126,7 +139,8 @@ record FaultFrom (greatest : ℕ) (lines : List (ℕ × List ℕ)) (fault : Faul
   kind : IsFaultFrom greatest entries (entry_in line) fault.kind
 
 fault_here : (greatest : ℕ) (line : ℕ × List ℕ) (lines : List (ℕ × List ℕ)) (fault : FaultAt)
-    → fault.line ≡ line.0 → IsFaultFrom greatest [] (entry_in line) fault.kind → FaultFrom greatest (line ∷ lines) fault
+    → fault.line ≡ line.0 → IsFaultFrom greatest [] (entry_in line) fault.kind
+    → FaultFrom greatest (line ∷ lines) fault
 fault_here greatest line lines fault number kind = record {
   before = [];
   line = line;
@@ -140,15 +154,22 @@ fault_here greatest line lines fault number kind = record {
   kind = kind;
 }
 
-fault_kept : (greatest : ℕ) (entry : Entry) (entries : List Entry) (found : Result Entry FaultKind) (kind : FaultKind)
+fault_kept : (greatest : ℕ) (entry : Entry) (entries : List Entry) (found : Result Entry FaultKind)
+    (kind : FaultKind)
     → IsFaultFrom entry.0 entries found kind → IsFaultFrom greatest (entry ∷ entries) found kind
 fault_kept greatest entry entries (Err error) kind h = h
-fault_kept greatest entry entries (Ok late) kind (inl below, is) = (inr (0, entry, omega arith, refl, below), is)
+fault_kept greatest entry entries (Ok late) kind (inl below, is) = (
+  inr
+      (0, entry, omega arith, refl, below),
+  is,
+)
 fault_kept greatest entry entries (Ok late) kind (inr any, is) =
     (inr (suc any.0, any.1, omega (arith, any.2), any.3, any.4), is)
 
-fault_first : (greatest : ℕ) (line : ℕ × List ℕ) (lines : List (ℕ × List ℕ)) (entry : Entry) (fault : FaultAt)
-    → entry_in line ≡ Ok entry → greatest ≤ entry.0 → FaultFrom entry.0 lines fault → FaultFrom greatest (line ∷ lines) fault
+fault_first : (greatest : ℕ) (line : ℕ × List ℕ) (lines : List (ℕ × List ℕ)) (entry : Entry)
+    (fault : FaultAt)
+    → entry_in line ≡ Ok entry → greatest ≤ entry.0 → FaultFrom entry.0 lines fault
+    → FaultFrom greatest (line ∷ lines) fault
 fault_first greatest line lines entry fault is order rest = record {
   before = line ∷ rest.before;
   line = rest.line;
@@ -156,8 +177,10 @@ fault_first greatest line lines entry fault is order rest = record {
   cut = ap (λ (more : List (ℕ × List ℕ)). line ∷ more) rest.cut;
   entries = entry ∷ rest.entries;
   each = cc (is, rest.each);
-  above = All-cons (λ e. greatest ≤ e.0) entry rest.entries order (λ k d h. omega (arith, rest.above k d h, order));
-  ascending = AllPairs-cons (λ earlier later. earlier.0 ≤ later.0) entry rest.entries rest.above rest.ascending;
+  above = All-cons (λ e. greatest ≤ e.0) entry rest.entries order
+      (λ k d h. omega (arith, rest.above k d h, order));
+  ascending = AllPairs-cons (λ earlier later. earlier.0 ≤ later.0) entry rest.entries rest.above
+      rest.ascending;
   number = rest.number;
   kind = fault_kept greatest entry rest.entries (entry_in rest.line) fault.kind rest.kind;
 }
@@ -168,7 +191,8 @@ fault_later : (entry : Entry) (later : Result (List TimedEvent) FaultAt) (fault 
 fault_later entry (Ok events) fault h = cc h
 fault_later entry (Err found) fault h = cc h
 
-order_fault : (greatest : ℕ) (line : ℕ × List ℕ) (lines : List (ℕ × List ℕ)) (entry : Entry) (below : Bool) (fault : FaultAt)
+order_fault : (greatest : ℕ) (line : ℕ × List ℕ) (lines : List (ℕ × List ℕ)) (entry : Entry)
+    (below : Bool) (fault : FaultAt)
     → entry_in line ≡ Ok entry → nat_lt entry.0 greatest ≡ below
     → ((from : ℕ) → script_lines from lines ≡ Err fault → FaultFrom from (filter says lines) fault)
     → (in_line line.0 (cond below (Err Order) (Ok entry)) >>= then_later lines) ≡ Err fault
@@ -177,12 +201,14 @@ order_fault greatest line lines entry true fault is order later h =
     let same : record { line = line.0; kind = Order } ≡ fault = cc h in
     let here : IsFaultFrom greatest [] (Ok entry) fault.kind =
     (inl (ltb-true entry.0 greatest order), sym (ap (λ (f : FaultAt). f.kind) same)) in
-    fault_here greatest line (filter says lines) fault (sym (ap (λ (f : FaultAt). f.line) same)) (rw is here)
+    fault_here greatest line (filter says lines) fault (sym (ap (λ (f : FaultAt). f.line) same))
+    (rw is here)
 order_fault greatest line lines entry false fault is order later h =
     fault_first greatest line (filter says lines) entry fault is (ltb-false entry.0 greatest order)
     (later entry.0 (fault_later entry (script_lines entry.0 lines) fault h))
 
-entry_fault : (greatest : ℕ) (line : ℕ × List ℕ) (lines : List (ℕ × List ℕ)) (found : Result Entry FaultKind) (fault : FaultAt)
+entry_fault : (greatest : ℕ) (line : ℕ × List ℕ) (lines : List (ℕ × List ℕ))
+    (found : Result Entry FaultKind) (fault : FaultAt)
     → entry_in line ≡ found
     → ((from : ℕ) → script_lines from lines ≡ Err fault → FaultFrom from (filter says lines) fault)
     → (in_line line.0 (found >>= in_order greatest) >>= then_later lines) ≡ Err fault
@@ -190,14 +216,17 @@ entry_fault : (greatest : ℕ) (line : ℕ × List ℕ) (lines : List (ℕ × Li
 entry_fault greatest line lines (Err kind) fault is later h =
     let same : record { line = line.0; kind = kind } ≡ fault = cc h in
     let here : IsFaultFrom greatest [] (Err kind) fault.kind = ap (λ (f : FaultAt). f.kind) same in
-    fault_here greatest line (filter says lines) fault (sym (ap (λ (f : FaultAt). f.line) same)) (rw is here)
+    fault_here greatest line (filter says lines) fault (sym (ap (λ (f : FaultAt). f.line) same))
+    (rw is here)
 entry_fault greatest line lines (Ok entry) fault is later h =
     order_fault greatest line lines entry (nat_lt entry.0 greatest) fault is refl later h
 
-line_fault : (greatest : ℕ) (line : ℕ × List ℕ) (lines : List (ℕ × List ℕ)) (fault : FaultAt) (passed : Bool)
+line_fault : (greatest : ℕ) (line : ℕ × List ℕ) (lines : List (ℕ × List ℕ)) (fault : FaultAt)
+    (passed : Bool)
     → is_passed_over line.1 ≡ passed
     → ((from : ℕ) → script_lines from lines ≡ Err fault → FaultFrom from (filter says lines) fault)
-    → cond passed (script_lines greatest lines) (entry_of greatest line >>= then_later lines) ≡ Err fault
+    → cond passed (script_lines greatest lines) (entry_of greatest line >>= then_later lines)
+    ≡ Err fault
     → FaultFrom greatest (filter says (line ∷ lines)) fault
 line_fault greatest line lines fault true is later h = rw is (later greatest h)
 line_fault greatest line lines fault false is later h =
@@ -208,7 +237,8 @@ lines_fault : (greatest : ℕ) (lines : List (ℕ × List ℕ)) (fault : FaultAt
 unfolding script_lines
 lines_fault greatest [] fault h = cc h
 lines_fault greatest (line ∷ lines) fault h =
-    line_fault greatest line lines fault (is_passed_over line.1) refl (λ from same. lines_fault from lines fault same) h
+    line_fault greatest line lines fault (is_passed_over line.1) refl
+    (λ from same. lines_fault from lines fault same) h
 
 -- no step is less than 0
 fault_after : (entries : List Entry) (found : Result Entry FaultKind) (kind : FaultKind)
@@ -219,7 +249,11 @@ fault_after entries (Ok late) kind (inr any, is) = (any, is)
 
 text_fault : (text : List ℕ) (fault : FaultAt) (sound : Result Unit FaultAt) → utf8_of text ≡ sound
     → (sound >>= (λ _. script_lines 0 (lines_of text))) ≡ Err fault → IsFaultOf text fault
-text_fault text fault (Err found) is h = inl (λ utf8. cc (is, (utf8_of-whole text).1 utf8), cc (is, h))
+text_fault text fault (Err found) is h = inl (
+  λ utf8. cc (is, (utf8_of-whole text).1 utf8),
+  cc
+      (is, h),
+)
 text_fault text fault (Ok u) is h =
     let found = lines_fault 0 (lines_of text) fault h in
     inr (
@@ -236,6 +270,7 @@ text_fault text fault (Ok u) is h =
       },
     )
 
-pub script_of-fault : (text : List ℕ) (fault : FaultAt) → script_of text ≡ Err fault → IsFaultOf text fault
+pub script_of-fault : (text : List ℕ) (fault : FaultAt) → script_of text ≡ Err fault
+    → IsFaultOf text fault
 unfolding script_of
 script_of-fault text fault h = text_fault text fault (utf8_of text) refl h

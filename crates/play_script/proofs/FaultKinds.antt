@@ -9,7 +9,7 @@ use Rattle.hex.specs.declared.error.FromHexError.{FromHexError}
 use Rattle.text_scan.specs.declared.fault_at.FaultAt.{FaultAt}
 use Rattle.text_scan.specs.declared.fault_kind.FaultKind.{FaultKind}
 use Rattle.text_scan.specs.declared.fault_kind.FaultKind.TheVariants.{Utf8, Word, Digit, Range}
-use Rattle.text_scan.specs.Decimal.{is_decimal_word, within, decimal_of}
+use Rattle.text_scan.specs.Decimal.{is_decimal_word, value_within, decimal_of}
 use Rattle.text_scan.specs.Hexadecimal.{or_count, word_value, hex_bytes_of, hex_word_of, even_bytes_of}
 use Rattle.text_scan.specs.Line.{lines_of}
 use Rattle.text_scan.specs.Reader.{◌>>=◌}
@@ -27,7 +27,8 @@ other-then : {A B : Type 0} (first : Result A FaultKind) (next : A → Result B 
 other-then (Ok value) next one rest = rest value
 other-then (Err kind) next one rest = one
 
-other-if : {V : Type 0} (test : Bool) (one two : Result V FaultKind) → IsOther one → IsOther two → IsOther (cond test one two)
+other-if : {V : Type 0} (test : Bool) (one two : Result V FaultKind) → IsOther one → IsOther two
+    → IsOther (cond test one two)
 other-if true one two first second = first
 other-if false one two first second = second
 
@@ -47,9 +48,11 @@ other-end (word ∷ rest) = λ same. cc same
 other-decimal : (least most : ℕ) (word : List ℕ) → IsOther (decimal_of least most word)
 other-decimal least most word =
     let value = digits_value 10 word in
-    other-if (is_decimal_word word) (cond (nat_lt 10 (length word)) (Err Range) (within least most value)) (Err Digit)
-    (other-if (nat_lt 10 (length word)) (Err Range) (within least most value) (λ same. cc same)
-    (other-if (nat_lt value least) (Err Range) (cond (nat_lt most value) (Err Range) (Ok value)) (λ same. cc same)
+    other-if (is_decimal_word word) (cond (nat_lt 10 (length word)) (Err Range)
+    (value_within least most value)) (Err Digit)
+    (other-if (nat_lt 10 (length word)) (Err Range) (value_within least most value) (λ same. cc same)
+    (other-if (nat_lt value least) (Err Range) (cond (nat_lt most value) (Err Range) (Ok value))
+    (λ same. cc same)
     (other-if (nat_lt most value) (Err Range) (Ok value) (λ same. cc same) tt)))
     (λ same. cc same)
 
@@ -59,7 +62,8 @@ other-count (Err error) = λ same. cc same
 
 other-bytes : (word : List ℕ) → IsOther (even_bytes_of word)
 other-bytes word =
-    other-if (list_all is_ascii_hexdigit word) (or_count (decode_of word)) (Err Digit) (other-count (decode_of word)) (λ same. cc same)
+    other-if (list_all is_ascii_hexdigit word) (or_count (decode_of word)) (Err Digit)
+    (other-count (decode_of word)) (λ same. cc same)
 
 other-value : (bytes : Result (List ℕ) FaultKind) → IsOther bytes → IsOther (word_value bytes)
 other-value (Ok bytes) other = tt
@@ -68,7 +72,8 @@ other-value (Err kind) other = other
 other-hex_word : (word : List ℕ) → IsOther (hex_word_of word)
 other-hex_word word =
     other-value (hex_bytes_of 2 word)
-    (other-if (list_all is_ascii_hexdigit word) (or_count (decode_sized word 2)) (Err Digit) (other-count (decode_sized word 2)) (λ same. cc same))
+    (other-if (list_all is_ascii_hexdigit word) (or_count (decode_sized word 2)) (Err Digit)
+    (other-count (decode_sized word 2)) (λ same. cc same))
 
 other-arrivals : (words : List (List ℕ)) → IsOther (arrivals_of words)
 unfolding arrivals_of
@@ -119,19 +124,24 @@ other-fault : (entries : List Entry) (found : Result Entry FaultKind) (kind : Fa
 other-fault entries (Err error) kind other is = λ same. other (is ∙ same)
 other-fault entries (Ok entry) kind other is = λ same. cc (is.1, same)
 
-utf8-fault : (found : Option (ℕ × List ℕ)) (fault : FaultAt) → fault_of_line found ≡ Err fault → fault.kind ≡ Utf8
+utf8-fault : (found : Option (ℕ × List ℕ)) (fault : FaultAt) → fault_of_line found ≡ Err fault
+    → fault.kind ≡ Utf8
 utf8-fault None fault h = cc h
 utf8-fault (Some line) fault h =
-    let same : record { line = line.0; kind = Utf8 } ≡ fault = cc h in sym (ap (λ (f : FaultAt). f.kind) same)
+    let same : record { line = line.0; kind = Utf8 }
+    ≡ fault = cc h in sym (ap (λ (f : FaultAt). f.kind) same)
 
-by_fault : (text : List ℕ) (fault : FaultAt) → IsFaultOf text fault → (fault.kind ≡ Utf8) ↔ (¬ (IsUtf8 text))
+by_fault : (text : List ℕ) (fault : FaultAt) → IsFaultOf text fault → (fault.kind ≡ Utf8)
+    ↔ (¬ (IsUtf8 text))
 by_fault text fault (inl broken) =
     (λ is. broken.0, λ not. utf8-fault (find is_broken (lines_of text)) fault broken.1)
 by_fault text fault (inr sound) =
     let first = sound.1 in (
-      λ is. absurd (other-fault first.entries (entry_in first.line) fault.kind (other-line (words_of first.line.1)) first.kind is),
+      λ is. absurd (other-fault first.entries (entry_in first.line) fault.kind
+          (other-line (words_of first.line.1)) first.kind is),
       λ not. absurd (not sound.0),
     )
 
-pub script_of-utf8 : (text : List ℕ) (fault : FaultAt) → script_of text ≡ Err fault → (fault.kind ≡ Utf8) ↔ (¬ (IsUtf8 text))
+pub script_of-utf8 : (text : List ℕ) (fault : FaultAt) → script_of text ≡ Err fault
+    → (fault.kind ≡ Utf8) ↔ (¬ (IsUtf8 text))
 script_of-utf8 text fault h = by_fault text fault (script_of-fault text fault h)

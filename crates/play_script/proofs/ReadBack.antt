@@ -54,7 +54,8 @@ plain-digit character h =
     let both = and_both (nat_le 48 character) (nat_le character 57) h in
     let low = leb-true 48 character both.0 in
     let high = leb-true character 57 both.1 in
-    both_true (nat_le 33 character) (nat_lt character 127) (le-leb 33 character (omega (arith, low))) (lt-ltb character 127 (omega (arith, high)))
+    both_true (nat_le 33 character) (nat_lt character 127)
+    (le-leb 33 character (omega (arith, low))) (lt-ltb character 127 (omega (arith, high)))
 
 -- digits of a decimal, as one test of all of them and as the other
 digits_each : (word : List ℕ) → all_ascii_digits word ≡ true → list_all is_ascii_digit word ≡ true
@@ -67,24 +68,29 @@ plain_each : (word : List ℕ) → list_all is_ascii_digit word ≡ true → lis
 plain_each [] h = refl
 plain_each (digit ∷ word) h =
     let both = and_both (is_ascii_digit digit) (list_all is_ascii_digit word) h in
-    both_true (is_plain digit) (list_all is_plain word) (plain-digit digit both.0) (plain_each word both.1)
+    both_true (is_plain digit) (list_all is_plain word) (plain-digit digit both.0)
+    (plain_each word both.1)
 
 digits-decimal : (number : ℕ) → number < 2 ^ 64 → list_all is_ascii_digit (decimal number) ≡ true
 digits-decimal number small =
     digits_each (decimal number)
-    (digits_decimal (numerals_by_value (λ ds. all_ascii_digits ds ≡ true) tells_all_ascii_digits) number small)
+    (digits_decimal (numerals_by_value (λ ds. all_ascii_digits ds ≡ true) tells_all_ascii_digits)
+    number small)
 
 -- a test that all sixteen digits pass
-encoded_pass : (test : ℕ → Bool) → list_all test lower_digits ≡ true → (bytes : List ℕ) → IsBytes bytes
+encoded_pass : (test : ℕ → Bool) → list_all test lower_digits ≡ true → (bytes : List ℕ)
+    → IsBytes bytes
     → list_all test (encode_with lower_digits bytes) ≡ true
 unfolding encode_with
 encoded_pass test digits [] fits = refl
 encoded_pass test digits (byte ∷ bytes) fits =
     let high : byte / 16 < 16 = omega (arith, fits 0) in
     let low : byte % 16 < 16 = omega arith in
-    both_true (test (get_or lower_digits (byte / 16) 0)) (list_all test (get_or lower_digits (byte % 16) 0 ∷ encode_with lower_digits bytes))
+    both_true (test (get_or lower_digits (byte / 16) 0))
+    (list_all test (get_or lower_digits (byte % 16) 0 ∷ encode_with lower_digits bytes))
     (AllPass-from_list_all test lower_digits digits (byte / 16) 0 high)
-    (both_true (test (get_or lower_digits (byte % 16) 0)) (list_all test (encode_with lower_digits bytes))
+    (both_true (test (get_or lower_digits (byte % 16) 0))
+    (list_all test (encode_with lower_digits bytes))
     (AllPass-from_list_all test lower_digits digits (byte % 16) 0 low)
     (encoded_pass test digits bytes (λ i. fits (suc i))))
 
@@ -98,17 +104,31 @@ two_bytes word small (suc i) = one_byte (word % 256) (omega arith) i
 
 -- the values of the words
 
-decimal_of-decimal : (most number : ℕ) → number ≤ most → most < 10 ^ 10 → decimal_of 0 most (decimal number) ≡ Ok number
+decimal_of-decimal : (most number : ℕ) → number ≤ most → most < 10 ^ 10
+    → decimal_of 0 most (decimal number) ≡ Ok number
 decimal_of-decimal most number within few =
     let small : number < 2 ^ 64 = omega (arith, within, few) in
     let some = lt-ltb 0 (length (decimal number)) (decimal_nonempty number small) in
-    let short = le-ltb 10 (length (decimal number)) (length-decimal-le 10 number (omega arith) (omega (arith, within, few)) small) in
+    let short = le-ltb 10 (length (decimal number)) (length-decimal-le 10 number (omega arith)
+    (omega (arith, within, few)) small) in
     let value = (decimal_is_IsNumeral number small).1 in
-    rw (some, digits-decimal number small, short, value, le-ltb number 0 (omega arith), le-ltb most number within) refl
+    rw (
+      some,
+      digits-decimal number small,
+      short,
+      value,
+      le-ltb number 0 (omega arith),
+      le-ltb most
+          number within,
+    ) refl
 
-even_bytes_of-byte : (byte : ℕ) → byte < 256 → even_bytes_of (encode_lower (byte ∷ [])) ≡ Ok (byte ∷ [])
+even_bytes_of-byte : (byte : ℕ) → byte < 256 → even_bytes_of (encode_lower (byte ∷ []))
+    ≡ Ok (byte ∷ [])
 even_bytes_of-byte byte small =
-    rw (encoded_pass is_ascii_hexdigit refl (byte ∷ []) (one_byte byte small), decode_of-encode_lower (byte ∷ []) (one_byte byte small)) refl
+    rw (
+      encoded_pass is_ascii_hexdigit refl (byte ∷ []) (one_byte byte small),
+      decode_of-encode_lower (byte ∷ []) (one_byte byte small),
+    ) refl
 
 word-bytes : (word : ℕ) → word < 65536 → from_be_bytes w16 (word / 256 ∷ word % 256 ∷ []) ≡ word
 word-bytes word small = omega arith
@@ -116,7 +136,11 @@ word-bytes word small = omega arith
 hex_word_of-digits : (word : ℕ) → word < 65536 → hex_word_of (word_digits word) ≡ Ok word
 hex_word_of-digits word small =
     let bytes : List ℕ = word / 256 ∷ word % 256 ∷ [] in
-    rw (encoded_pass is_ascii_hexdigit refl bytes (two_bytes word small), decode_sized-encode_lower bytes 2 refl (two_bytes word small))
+    rw (
+      encoded_pass is_ascii_hexdigit refl bytes (two_bytes word small),
+      decode_sized-encode_lower
+          bytes 2 refl (two_bytes word small),
+    )
     (ap Ok (word-bytes word small))
 
 -- the words of a line
@@ -136,28 +160,36 @@ plain-blank character h =
       ne_eqb character 9 (λ same. omega (arith, bounds.0, same)),
     ) refl
 
-plain_at : (word : List ℕ) → list_all is_plain word ≡ true → (k : ℕ) → k < length word → is_blank (get_or word k 0) ≡ false
-plain_at word h k below = plain-blank (get_or word k 0) (AllPass-from_list_all is_plain word h k 0 below)
+plain_at : (word : List ℕ) → list_all is_plain word ≡ true → (k : ℕ) → k < length word
+    → is_blank (get_or word k 0) ≡ false
+plain_at word h k below = plain-blank (get_or word k 0)
+    (AllPass-from_list_all is_plain word h k 0 below)
 
 words_of-word : (word : List ℕ) → IsPlainWord word → words_of word ≡ word ∷ []
 words_of-word word plain =
-    words_cut word (length word) (omega arith) (plain_at word plain.1) (λ below. absurd (omega (arith, below))) plain.0 (plain_at word plain.1 0 plain.0)
+    words_cut word (length word) (omega arith) (plain_at word plain.1)
+    (λ below. absurd (omega (arith, below))) plain.0 (plain_at word plain.1 0 plain.0)
     ∙ ap (λ (first : List ℕ). first ∷ words_of (drop (length word) word)) (take-length word)
     ∙ ap (λ (rest : List ℕ). word ∷ words_of rest) (drop-length word)
 
-words_of-seam : (word rest : List ℕ) → IsPlainWord word → words_of (word ++ (32 ∷ rest)) ≡ word ∷ words_of rest
+words_of-seam : (word rest : List ℕ) → IsPlainWord word → words_of (word ++ (32 ∷ rest))
+    ≡ word ∷ words_of rest
 words_of-seam word rest plain =
     let line : List ℕ = word ++ (32 ∷ rest) in
     let count : length line ≡ length word + suc (length rest) = length-append word (32 ∷ rest) in
     let before : (k : ℕ) → k < length word → is_blank (get_or line k 0) ≡ false =
     λ k below. rw (get_or-append word (32 ∷ rest) 0 k below) (plain_at word plain.1 k below) in
-    let blank : is_blank (get_or line (length word) 0) ≡ true = rw (get_or-append_seam word 32 rest 0) refl in
-    words_cut line (length word) (omega (arith, count)) before (λ below. blank) (omega (arith, count)) (before 0 plain.0)
-    ∙ ap (λ (first : List ℕ). first ∷ words_of (drop (length word) line)) (take-append_seam word (32 ∷ rest))
+    let blank : is_blank (get_or line (length word) 0)
+    ≡ true = rw (get_or-append_seam word 32 rest 0) refl in
+    words_cut line (length word) (omega (arith, count)) before (λ below. blank)
+    (omega (arith, count)) (before 0 plain.0)
+    ∙ ap (λ (first : List ℕ). first ∷ words_of (drop (length word) line))
+    (take-append_seam word (32 ∷ rest))
     ∙ ap (λ (back : List ℕ). word ∷ words_of back) (drop-append_seam word (32 ∷ rest))
     ∙ ap (λ (words : List (List ℕ)). word ∷ words) (words_of-blank 32 rest refl)
 
-words_of-join : (words : List (List ℕ)) → ArePlain words → words_of (join_with_byte 32 words) ≡ words
+words_of-join : (words : List (List ℕ)) → ArePlain words → words_of (join_with_byte 32 words)
+    ≡ words
 words_of-join [] plain = refl
 words_of-join (word ∷ []) plain = words_of-word word plain.0
 words_of-join (word ∷ next ∷ words) plain =
@@ -175,49 +207,70 @@ printed-word (character ∷ word) h =
     let both = and_both (is_plain character) (list_all is_plain word) h in
     let bounds = plain_bounds character both.0 in
     both_true (is_printed character) (list_all is_printed word)
-    (both_true (nat_le 32 character) (nat_lt character 127) (le-leb 32 character (omega (arith, bounds.0))) (lt-ltb character 127 bounds.1))
+    (both_true (nat_le 32 character) (nat_lt character 127)
+    (le-leb 32 character (omega (arith, bounds.0))) (lt-ltb character 127 bounds.1))
     (printed-word word both.1)
 
-printed-join : (words : List (List ℕ)) → ArePlain words → list_all is_printed (join_with_byte 32 words) ≡ true
+printed-join : (words : List (List ℕ)) → ArePlain words
+    → list_all is_printed (join_with_byte 32 words) ≡ true
 printed-join [] plain = refl
 printed-join (word ∷ []) plain = printed-word word plain.0.1
 printed-join (word ∷ next ∷ words) plain =
     list_all-append is_printed word (32 ∷ join_with_byte 32 (next ∷ words))
-    ∙ both_true (list_all is_printed word) (list_all is_printed (32 ∷ join_with_byte 32 (next ∷ words)))
+    ∙ both_true (list_all is_printed word) (list_all is_printed
+    (32 ∷ join_with_byte 32 (next ∷ words)))
     (printed-word word plain.0.1) (printed-join (next ∷ words) plain.1)
 
-printed_bounds : (line : List ℕ) → list_all is_printed line ≡ true → (k : ℕ) → k < length line → 14 ≤ get_or line k 0
+printed_bounds : (line : List ℕ) → list_all is_printed line ≡ true → (k : ℕ) → k < length line
+    → 14 ≤ get_or line k 0
 printed_bounds line h k below =
-    let both = and_both (nat_le 32 (get_or line k 0)) (nat_lt (get_or line k 0) 127) (AllPass-from_list_all is_printed line h k 0 below) in
+    let both = and_both (nat_le 32 (get_or line k 0)) (nat_lt (get_or line k 0) 127)
+    (AllPass-from_list_all is_printed line h k 0 below) in
     omega (arith, leb-true 32 (get_or line k 0) both.0)
 
 printed-ascii : (line : List ℕ) → list_all is_printed line ≡ true → IsAscii line
 printed-ascii [] h = IsAscii-nil
 printed-ascii (character ∷ line) h =
     let both = and_both (is_printed character) (list_all is_printed line) h in
-    let high = ltb-true character 127 (and_both (nat_le 32 character) (nat_lt character 127) both.0).1 in
+    let high = ltb-true character 127 (and_both (nat_le 32 character) (nat_lt character 127)
+    both.0).1 in
     IsAscii-cons character line (omega (arith, high)) (printed-ascii line both.1)
 
 -- the words of an entry
 
 plain-decimal : (number : ℕ) → number < 2 ^ 64 → IsPlainWord (decimal number)
-plain-decimal number small = (decimal_nonempty number small, plain_each (decimal number) (digits-decimal number small))
+plain-decimal number small = (
+  decimal_nonempty number small,
+  plain_each (decimal number)
+      (digits-decimal number small),
+)
 
-plain-encoded : (bytes : List ℕ) → IsBytes bytes → 0 < length bytes → IsPlainWord (encode_lower bytes)
-plain-encoded bytes fits some =
-    (omega (arith, length-encode_with lower_digits bytes, some), encoded_pass is_plain refl bytes fits)
+plain-encoded : (bytes : List ℕ) → IsBytes bytes → 0 < length bytes
+    → IsPlainWord (encode_lower bytes)
+plain-encoded bytes fits some = (
+  omega (arith, length-encode_with lower_digits bytes, some),
+  encoded_pass is_plain refl bytes
+      fits,
+)
 
 plain-event : (event : Event) → FitsEvent event → ArePlain (event_words event)
 plain-event (Rx byte) fits =
     ((omega arith, refl), (plain-encoded (byte ∷ []) (one_byte byte fits) (omega arith), tt))
-plain-event (Pins pins) fits =
-    ((omega arith, refl), (plain-encoded (pins / 256 ∷ pins % 256 ∷ []) (two_bytes pins fits) (omega arith), tt))
+plain-event (Pins pins) fits = (
+  (omega arith, refl),
+  (
+    plain-encoded (pins / 256 ∷ pins % 256 ∷ []) (two_bytes pins fits)
+        (omega arith),
+    tt,
+  ),
+)
 plain-event (Dma source destination count) fits = (
   (omega arith, refl),
   (
     plain-encoded (source / 256 ∷ source % 256 ∷ []) (two_bytes source fits.0) (omega arith),
     (
-      plain-encoded (destination / 256 ∷ destination % 256 ∷ []) (two_bytes destination fits.1) (omega arith),
+      plain-encoded (destination / 256 ∷ destination % 256 ∷ []) (two_bytes destination fits.1)
+          (omega arith),
       (plain-decimal count (omega (arith, fits.2)), tt),
     ),
   ),
@@ -228,8 +281,14 @@ abbrev Fits : TimedEvent → Type 0
 Fits entry = (entry.0 ≤ 9999999) × FitsEvent entry.1
 
 plain-entry : (entry : TimedEvent) → Fits entry → ArePlain (entry_words entry)
-plain-entry entry fits =
-    ((omega arith, refl), (plain-decimal entry.0 (omega (arith, fits.0)), plain-event entry.1 fits.1))
+plain-entry entry fits = (
+  (omega arith, refl),
+  (
+    plain-decimal entry.0 (omega (arith, fits.0)),
+    plain-event entry.1
+        fits.1,
+  ),
+)
 
 line_of-entry : (step : ℕ) (event : Event) → step ≤ 9999999 → FitsEvent event
     → line_of (entry_words (step, event)) ≡ Ok (step, event ∷ [])
@@ -245,20 +304,24 @@ line_of-entry step (Dma source destination count) within fits =
       hex_word_of-digits destination fits.1,
       decimal_of-decimal 65535 count (omega (arith, fits.2)) (omega arith),
     ) refl
-line_of-entry step Reset within fits = rw (decimal_of-decimal 9999999 step within (omega arith)) refl
+line_of-entry step Reset within fits = rw (decimal_of-decimal 9999999 step within (omega arith))
+    refl
 
 -- the lines of the text
 
 abbrev line_text : TimedEvent → List ℕ
 line_text entry = join_with_byte 32 (entry_words entry)
 
-lines-entry : (entry : TimedEvent) (rest : List ℕ) → Fits entry → lines (entry_line entry ++ rest) ≡ line_text entry ∷ lines rest
+lines-entry : (entry : TimedEvent) (rest : List ℕ) → Fits entry → lines (entry_line entry ++ rest)
+    ≡ line_text entry ∷ lines rest
 lines-entry entry rest fits =
     ap lines (append_assoc (line_text entry) (10 ∷ []) rest)
-    ∙ lines-line (line_text entry) rest (omega arith) (printed_bounds (line_text entry) (printed-join (entry_words entry) (plain-entry entry fits)))
+    ∙ lines-line (line_text entry) rest (omega arith) (printed_bounds (line_text entry)
+    (printed-join (entry_words entry) (plain-entry entry fits)))
 
 passed-entry : (entry : TimedEvent) → Fits entry → is_passed_over (line_text entry) ≡ false
-passed-entry entry fits = ap says_nothing (words_of-join (entry_words entry) (plain-entry entry fits))
+passed-entry entry fits = ap says_nothing (words_of-join (entry_words entry)
+    (plain-entry entry fits))
 
 entry_of-entry : (greatest number : ℕ) (entry : TimedEvent) → Fits entry → greatest ≤ entry.0
     → entry_of greatest (number, line_text entry) ≡ Ok (entry.0, entry.1 ∷ [])
@@ -269,22 +332,28 @@ entry_of-entry greatest number entry fits order =
       le-ltb entry.0 greatest order,
     ) refl
 
-script_lines-first : (greatest : ℕ) (line : ℕ × List ℕ) (lines : List (ℕ × List ℕ)) (entry : ℕ × List Event) (later : List TimedEvent)
-    → is_passed_over line.1 ≡ false → entry_of greatest line ≡ Ok entry → script_lines entry.0 lines ≡ Ok later
+script_lines-first : (greatest : ℕ) (line : ℕ × List ℕ) (lines : List (ℕ × List ℕ))
+    (entry : ℕ × List Event) (later : List TimedEvent)
+    → is_passed_over line.1 ≡ false → entry_of greatest line ≡ Ok entry
+    → script_lines entry.0 lines ≡ Ok later
     → script_lines greatest (line ∷ lines) ≡ Ok (timed_events entry ++ later)
 unfolding script_lines
 script_lines-first greatest line lines entry later kept read rest = rw kept (rw read (rw rest refl))
 
 read_back_lines : (script : List TimedEvent) (greatest number : ℕ) → All Fits script
-    → All (λ entry. greatest ≤ entry.0) script → AllPairs (λ earlier later. earlier.0 ≤ later.0) script
+    → All (λ entry. greatest ≤ entry.0) script
+    → AllPairs (λ earlier later. earlier.0 ≤ later.0) script
     → script_lines greatest (numbered_lines number (lines (script_text script))) ≡ Ok script
 unfolding script_lines
 read_back_lines [] greatest number fits above ascending = refl
 read_back_lines (entry ∷ script) greatest number fits above ascending =
     let here : Fits entry = fits 0 entry (omega arith) in
-    ap (λ (all : List (List ℕ)). script_lines greatest (numbered_lines number all)) (lines-entry entry (script_text script) here)
-    ∙ script_lines-first greatest (number, line_text entry) (numbered_lines (number + 1) (lines (script_text script))) (entry.0, entry.1 ∷ []) script
-    (passed-entry entry here) (entry_of-entry greatest number entry here (above 0 entry (omega arith)))
+    ap (λ (all : List (List ℕ)). script_lines greatest (numbered_lines number all))
+    (lines-entry entry (script_text script) here)
+    ∙ script_lines-first greatest (number, line_text entry)
+    (numbered_lines (number + 1) (lines (script_text script))) (entry.0, entry.1 ∷ []) script
+    (passed-entry entry here) (entry_of-entry greatest number entry here
+    (above 0 entry (omega arith)))
     (read_back_lines script entry.0 (number + 1)
     (λ k d below. fits (suc k) d (omega arith))
     (λ k d below. ascending 0 (suc k) d (omega arith) (omega arith))
@@ -294,7 +363,8 @@ utf8-text : (script : List TimedEvent) → All Fits script → IsUtf8 (script_te
 utf8-text [] fits = IsUtf8-nil
 utf8-text (entry ∷ script) fits =
     let here : Fits entry = fits 0 entry (omega arith) in
-    let line = printed-ascii (line_text entry) (printed-join (entry_words entry) (plain-entry entry here)) in
+    let line = printed-ascii (line_text entry) (printed-join (entry_words entry)
+    (plain-entry entry here)) in
     let end = IsUtf8-from_ascii (10 ∷ []) (IsAscii-cons 10 [] (omega arith) IsAscii-nil) in
     IsUtf8-append (entry_line entry) (script_text script)
     (IsUtf8-append (line_text entry) (10 ∷ []) (IsUtf8-from_ascii (line_text entry) line) end)

@@ -87,7 +87,7 @@ script_lines greatest (line ∷ lines) =
       later ← script_lines entry.0 lines
       Ok (timed_events entry ++ later))
 
--- a script's events with their steps, or its first fault; a line that is not UTF-8 comes before all else
+-- a script's events with their steps, or its first fault, of which `Utf8` comes before all others
 unfoldable pub script_of : List ℕ → Result (List TimedEvent) FaultAt
 script_of text = do
   sound ← utf8_of text

@@ -17,7 +17,8 @@ events_in (Arrivals bytes) = map Rx bytes
 events_in (One event) = event ∷ []
 
 -- the events read, and the words after them
-abbrev pub ReadsOn : Result Happening WordFault → List (List ℕ) → Result (List Event × List (List ℕ)) FaultKind → Type 0
+abbrev pub ReadsOn : Result Happening WordFault → List (List ℕ)
+    → Result (List Event × List (List ℕ)) FaultKind → Type 0
 ReadsOn (Ok happening) rest read = read ≡ Ok (events_in happening, rest)
 ReadsOn (Err (Kind kind)) rest read = read ≡ Err kind
 ReadsOn (Err (Memory _)) rest read = Unit {0}

@@ -54,4 +54,5 @@ pub record IsFirstFault (lines : List (ℕ × List ℕ)) (fault : FaultAt) : Typ
 -- a text is no script: a line of it is not UTF-8, or it is UTF-8 and this is its first fault
 abbrev pub IsFaultOf : List ℕ → FaultAt → Type 0
 IsFaultOf text fault =
-    (¬ (IsUtf8 text) × (utf8_of text ≡ Err fault)) ⊎ (IsUtf8 text × IsFirstFault (event_lines text) fault)
+    (¬ (IsUtf8 text) × (utf8_of text ≡ Err fault))
+    ⊎ (IsUtf8 text × IsFirstFault (event_lines text) fault)

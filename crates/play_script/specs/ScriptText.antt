@@ -30,7 +30,8 @@ script_text script = flat_map entry_line script
 abbrev pub FitsEvent : Event → Type 0
 FitsEvent (Rx byte) = byte < 256
 FitsEvent (Pins pins) = pins < 65536
-FitsEvent (Dma source destination count) = (source < 65536) × (destination < 65536) × (count < 65536)
+FitsEvent (Dma source destination count) =
+    (source < 65536) × (destination < 65536) × (count < 65536)
 FitsEvent Reset = Unit {0}
 
 -- events at steps that a script may name, of which none is less than an earlier one
@@ -40,4 +41,5 @@ pub record IsWritable (script : List TimedEvent) : Type 0 where
 
 -- the text of a script is read as that script
 abbrev pub IsReadBack : Type 0
-IsReadBack = (script : List TimedEvent) → IsWritable script → script_of (script_text script) ≡ Ok script
+IsReadBack =
+    (script : List TimedEvent) → IsWritable script → script_of (script_text script) ≡ Ok script

@@ -8,7 +8,7 @@ use bus_signals::Event;
 use std::alloc::Global;
 use text_scan::{Bytes, FaultKind, WordFault, Words, decimal, hex_word};
 
-/// The last step of which a script may speak.
+// The last step of which a script may speak.
 const LAST_STEP: u64 = 9_999_999;
 
 /// What a line says.

@@ -18,7 +18,7 @@ pub struct Script {
     events: Vec<Event>,
 }
 
-/// Seen as pairs of a step and an event.
+// Seen as pairs of a step and an event.
 impl Model for Script {
     ghost Value = { List TimedEvent };
 
@@ -54,7 +54,8 @@ impl Script {
     /// Puts what a line says of a step after the other events.
     pub(crate) fn add_all(&mut self, step: u64, happening: &Happening) -> Result<(), AllocError>
         requires { All (λ earlier. earlier.0 ≤ step) self.old }
-        ensures { OnOk result (self.new ≡ self.old ++ timed_events (step, events_in happening.now)) }
+        ensures { OnOk result (
+            self.new ≡ self.old ++ timed_events (step, events_in happening.now)) }
     {
         match happening {
             Happening::Arrivals(bytes) => self.add_arrivals(step, bytes.as_slice()),
@@ -90,7 +91,7 @@ impl Script {
     }
 }
 
-/// How many steps are less than a step.
+// How many steps are less than a step.
 fn count_before(steps: &[u64], step: u64) -> usize
     requires { IsNonDecreasing steps.now }
     ensures within { result ≤ length steps.now }
@@ -103,7 +104,7 @@ fn count_before(steps: &[u64], step: u64) -> usize
     steps.partition_point(|known| *known < step)
 }
 
-/// How many steps are at most a step.
+// How many steps are at most a step.
 fn count_through(steps: &[u64], step: u64) -> usize
     requires { IsNonDecreasing steps.now }
     ensures within { result ≤ length steps.now }
@@ -113,5 +114,8 @@ fn count_through(steps: &[u64], step: u64) -> usize
         → k < length steps.now
         → step < slice_index_or steps.now k d }
 {
-    steps.partition_point(|known| *known <= step)
+    match step.checked_add(1) {
+        Some(next) => count_before(steps, next),
+        None => steps.len(),
+    }
 }

@@ -1,13 +1,15 @@
 //! The lines that the program prints of a play.
 //!
-//! Each call puts exactly one line of the play's text, built in a fixed buffer, into any sink. After
-//! a failure the sink took a prefix of the line.
+//! Each call puts exactly one line of the play's text into any sink, built in a fixed buffer but
+//! for the output of a report. After a failure the sink took a prefix of the line.
 #![tactic(auto)]
 
 mod line;
 mod printed_line;
+mod report_line;
 
 pub use printed_line::{print_end, print_reset, print_sent};
+pub use report_line::print_report;
 
 #[cfg(test)]
 mod tests;

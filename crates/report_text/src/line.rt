@@ -1,4 +1,5 @@
 ghost use Rattle.std.specs.Prelude.{◌≡◌, ◌+◌, ◌≤◌, ◌/◌, ◌%◌, ◌++◌, ◌∷◌, [], ℕ, List, length, decimal};
+ghost use Rattle.hex.specs.Hex.{encode_lower};
 ghost use Rattle.printed_lines.specs.Lines.{byte_digits, word_digits};
 ghost use Rattle.report_text.specs.declared.line.TheConstants.{ROOM};
 
@@ -7,7 +8,7 @@ use itoa::Buffer;
 use std::marker::Model;
 
 /// How many bytes a line has room for.
-pub const ROOM: usize = 96;
+pub const ROOM: usize = 160;
 
 /// A line that is being built, seen as its bytes.
 #[derive(Drop)]
@@ -77,6 +78,19 @@ impl Line {
     {
         let mut digits = [0; 4];
         match hex::encode_to_slice(&word.to_be_bytes(), &mut digits) {
+            Ok(()) => self.push(&digits),
+            Err(_) => unreachable!(),
+        }
+    }
+
+    /// 64 digits, lower case.
+    pub fn push_hash(&mut self, hash: &[u8; 32])
+        requires { length self.old + 64 ≤ ROOM }
+        ensures text { self.new ≡ self.old ++ encode_lower hash.now }
+        ensures len { length self.new ≡ length self.old + 64 }
+    {
+        let mut digits = [0; 64];
+        match hex::encode_to_slice(hash.as_slice(), &mut digits) {
             Ok(()) => self.push(&digits),
             Err(_) => unreachable!(),
         }

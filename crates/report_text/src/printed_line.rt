@@ -34,7 +34,8 @@ pub fn print_reset<W: Sink>(step: u64, rule: Rule, sink: &mut W) -> Result<(), F
     put_all(sink, line.as_slice())
 }
 
-/// Puts `end N pc H exec E`: after N steps, the `pc` that the next step would have and the EXEC flag.
+/// Puts `end N pc H exec E`: after N steps, the `pc` that the next step would have and the EXEC
+/// flag.
 pub fn print_end<W: Sink>(steps: u64, pc: u16, exec: bool, sink: &mut W) -> Result<(), Failed>
     ensures puts { Puts W.stands sink.old sink.new (end_line steps pc exec) result }
     ensures counts { CountsFaults W.faults sink.old sink.new result }
@@ -50,14 +51,14 @@ pub fn print_end<W: Sink>(steps: u64, pc: u16, exec: bool, sink: &mut W) -> Resu
     put_all(sink, line.as_slice())
 }
 
-fn flag_digit(flag: bool) -> &'static [u8]
+pub fn flag_digit(flag: bool) -> &'static [u8]
     ensures digit { result.now ≡ flag_digit flag }
     ensures len { length result.now ≡ 1 }
 {
     if flag { b"1" } else { b"0" }
 }
 
-/// A rule's name, as it is printed.
+// A rule's name, as it is printed.
 fn rule_name(rule: Rule) -> &'static [u8]
     ensures name { result.now ≡ rule_name rule }
     ensures len { length result.now ≡ 2 }

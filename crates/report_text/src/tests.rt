@@ -1,5 +1,5 @@
 use super::*;
-use bus_signals::Rule;
+use bus_signals::{Bounds, ReportView, Rule};
 use outside_edge::{Failed, MemSink};
 use std::test::Fail;
 
@@ -24,6 +24,53 @@ fn each_line_has_its_form(rt: HostRuntime) -> Result<(), Fail> {
     let text =
         b"tx 4 41\ntx 17 5a\ntx 9999999 0b\nreset 0 X0\nreset 1 I1\nreset 106 A4\nreset 10 K6\nend 5 pc c006 exec 0\nend 560 pc c03e exec 1\nend 4 pc 0000 exec 0\n";
     assert_eq!(rt; sink.held(), text.as_slice());
+    Ok(())
+}
+
+// Two lines of a model of the device that was written apart from this repository.
+const REPORTS: [(&[u8], &[u8]); 2] = [
+    (
+        b"27e7bfad39f78de2506c5878caa8f4d8d0e233ebf540788c79db5a0b4bb844c4",
+        b"report 123 exec 1 chal 0000000000000000000000000000000000000000000000000000000000000000 er 0300 0304 or d000 d000 data 0000 mac 27e7bfad39f78de2506c5878caa8f4d8d0e233ebf540788c79db5a0b4bb844c4\n",
+    ),
+    (
+        b"206a871ad2c0d8cbff287b7742c4d69a9767990788f73b8f9d925c6ecef04168",
+        b"report 125 exec 0 chal 0000000000000000000000000000000000000000000000000000000000000000 er fff4 edfc or 111a 0303 data - mac 206a871ad2c0d8cbff287b7742c4d69a9767990788f73b8f9d925c6ecef04168\n",
+    ),
+];
+
+#[test]
+fn a_report_has_its_form(rt: HostRuntime) -> Result<(), Fail> {
+    let valid = Bounds {
+        er_min: 0x0300,
+        er_max: 0x0304,
+        or_min: 0xD000,
+        or_max: 0xD000,
+    };
+    let invalid = Bounds {
+        er_min: 0xFFF4,
+        er_max: 0xEDFC,
+        or_min: 0x111A,
+        or_max: 0x0303,
+    };
+    let output: Option<&[u8]> = Some(&[0, 0]);
+    let fields = [(123, true, valid, output), (125, false, invalid, None)];
+    for ((step, exec, bounds, output), (digits, text)) in fields.into_iter().zip(REPORTS) {
+        let mut mac = [0; 32];
+        assert!(rt; hex::decode_to_slice(digits, &mut mac).is_ok());
+        let chal = [0; 32];
+        let view = ReportView {
+            step,
+            exec,
+            chal,
+            bounds,
+            output,
+            mac,
+        };
+        let mut sink = MemSink::new(Vec::new(rt.alloc()), 400, 50, Vec::new(rt.alloc()))?;
+        print_report(&view, &mut sink)?;
+        assert_eq!(rt; sink.held(), text);
+    }
     Ok(())
 }
 

@@ -13,7 +13,8 @@ use Rattle.std.specs.Char.{is_ascii_digit}
 use Rattle.text_scan.specs.Decimal.{is_decimal_word}
 
 -- one digit more
-pub one_more : (value digit count : ℕ) → value < 10 ^ count → digit ≤ 9 → value * 10 + digit < 10 ^ (count + 1)
+pub one_more : (value digit count : ℕ) → value < 10 ^ count → digit ≤ 9
+    → value * 10 + digit < 10 ^ (count + 1)
 one_more value digit count h small = grind (arith, pow-suc 10 count)
 
 and_both : (a b : Bool) → (a && b) ≡ true → (a ≡ true) × (b ≡ true)
@@ -21,7 +22,8 @@ and_both true b h = (refl, h)
 and_both false b h = absurd (false≢true h)
 
 -- a character of a decimal word is one of `0` to `9`
-pub digit_at : (word : List ℕ) (i : ℕ) → is_decimal_word word ≡ true → i < length word → IsInRange 48 57 (get_or word i 0)
+pub digit_at : (word : List ℕ) (i : ℕ) → is_decimal_word word ≡ true → i < length word
+    → IsInRange 48 57 (get_or word i 0)
 digit_at word i h below =
     let all = (and_both (nat_lt 0 (length word)) (list_all is_ascii_digit word) h).1 in
     let here = AllPass-from_list_all is_ascii_digit word all i 0 below in
@@ -34,4 +36,10 @@ pub value_more : (word : List ℕ) (i value : ℕ) → is_decimal_word word ≡ 
     → value * 10 + (get_or word i 0 - 48) ≡ digits_value 10 (take (i + 1) word)
 value_more word i value h below read =
     let digit = digit_at word i h below in
-    omega (arith, read, digits_value_more 10 word i below, digit_value_digit (get_or word i 0) digit)
+    omega (
+      arith,
+      read,
+      digits_value_more 10 word i below,
+      digit_value_digit (get_or word i 0)
+          digit,
+    )

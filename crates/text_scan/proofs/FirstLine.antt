@@ -19,9 +19,11 @@ lines_of_parts-cons part (next ∷ more) h = refl
 
 lines_of_parts-one : (part : List ℕ) → 0 < length part → lines_of_parts (part ∷ []) ≡ part ∷ []
 lines_of_parts-one [] h = absurd (omega arith)
-lines_of_parts-one (byte ∷ rest) h = rw (ne_eqb (length (byte ∷ rest)) 0 (λ e. omega (arith, h, e))) refl
+lines_of_parts-one (byte ∷ rest) h = rw (ne_eqb (length (byte ∷ rest)) 0
+    (λ e. omega (arith, h, e))) refl
 
-pub is_first_end : (text : List ℕ) (end : ℕ) → end ≤ length text → ((k : ℕ) → k < end → get_or text k 0 ≢ 10)
+pub is_first_end : (text : List ℕ) (end : ℕ) → end ≤ length text
+    → ((k : ℕ) → k < end → get_or text k 0 ≢ 10)
     → (end < length text → get_or text end 0 ≡ 10) → position_or_len is_end text ≡ end
 is_first_end text end within before at = position_or_len_is is_end text end 0 within
     (λ k h. ne_eqb (get_or text k 0) 10 (before k h)) (λ h. eq-eqb (get_or text end 0) 10 (at h))
@@ -34,16 +36,20 @@ lines_cut text end below is =
     let rest = after_first is_end text in
     subst (λ n. lines text ≡ strip_carriage_return (take n text) ∷ lines (drop (n + 1) text)) is
     (ap lines_of_parts (slice_split_first is_end text 0 first)
-    ∙ lines_of_parts-cons (before_first is_end text) (slice_split is_end rest) (omega (arith, length-slice_split is_end rest)))
+    ∙ lines_of_parts-cons (before_first is_end text) (slice_split is_end rest)
+    (omega (arith, length-slice_split is_end rest)))
 
 -- a text without an LF is one line
-pub lines_uncut : (text : List ℕ) → position_or_len is_end text ≡ length text → 0 < length text → lines text ≡ text ∷ []
+pub lines_uncut : (text : List ℕ) → position_or_len is_end text ≡ length text → 0 < length text
+    → lines text ≡ text ∷ []
 lines_uncut text is some =
-    ap lines_of_parts (slice_split_none is_end text (λ k d below. fails_before_first is_end text k d (omega (arith, is, below))))
+    ap lines_of_parts (slice_split_none is_end text (λ k d below. fails_before_first is_end text k
+    d (omega (arith, is, below))))
     ∙ lines_of_parts-one text some
 
 -- a line of characters behind CR and LF, ended by LF, is the first line of a text
-pub lines-line : (line rest : List ℕ) → 0 < length line → ((k : ℕ) → k < length line → 14 ≤ get_or line k 0)
+pub lines-line : (line rest : List ℕ) → 0 < length line
+    → ((k : ℕ) → k < length line → 14 ≤ get_or line k 0)
     → lines (line ++ (10 ∷ rest)) ≡ line ∷ lines rest
 lines-line line rest some behind =
     let text : List ℕ = line ++ (10 ∷ rest) in
@@ -56,6 +62,8 @@ lines-line line rest some behind =
     let cut = lines_cut text (length line) within end in
     let first : take (length line) text ≡ line = take-append_seam line (10 ∷ rest) in
     let back : drop (length line + 1) text ≡ rest = drop-append-add line (10 ∷ rest) 1 in
-    let last : get_or line (length line - 1) 0 ≢ 13 = λ same. omega (arith, behind (length line - 1) (omega arith), same) in
-    let kept : strip_carriage_return line ≡ line = rw (ne_eqb (get_or line (length line - 1) 0) 13 last) refl in
+    let last : get_or line (length line - 1) 0 ≢ 13 = λ same. omega
+    (arith, behind (length line - 1) (omega arith), same) in
+    let kept : strip_carriage_return line
+    ≡ line = rw (ne_eqb (get_or line (length line - 1) 0) 13 last) refl in
     cut ∙ rw (first, back, kept) refl

@@ -20,32 +20,44 @@ some_of_three false false false x y z h = h
 
 -- what std and the crate `hex` call a digit is one thing
 pub hex_digit-from_ascii : (c : ℕ) → is_ascii_hexdigit c ≡ true → is_hex_digit c ≡ true
-hex_digit-from_ascii c h = some_of_three (nat_le 48 c && nat_le c 57) (nat_le 65 c && nat_le c 70) (nat_le 97 c && nat_le c 102) (c - 55) (c - 87) (c - 48) h
+hex_digit-from_ascii c h = some_of_three (nat_le 48 c && nat_le c 57) (nat_le 65 c && nat_le c 70)
+    (nat_le 97 c && nat_le c 102) (c - 55) (c - 87) (c - 48) h
 
-digits-from_ascii : (word : List ℕ) → list_all is_ascii_hexdigit word ≡ true → AllPass is_hex_digit word
-digits-from_ascii word digits k d h = hex_digit-from_ascii (get_or word k d) (AllPass-from_list_all is_ascii_hexdigit word digits k d h)
+digits-from_ascii : (word : List ℕ) → list_all is_ascii_hexdigit word ≡ true
+    → AllPass is_hex_digit word
+digits-from_ascii word digits k d h = hex_digit-from_ascii (get_or word k d)
+    (AllPass-from_list_all is_ascii_hexdigit word digits k d h)
 
 -- a word of digits decodes where it has two for each byte, and else says that it has not
-pub Err-decode_sized : (word : List ℕ) (count : ℕ) (error : FromHexError) → list_all is_ascii_hexdigit word ≡ true → decode_sized word count ≡ Err error → length word ≢ 2 * count
+pub Err-decode_sized : (word : List ℕ) (count : ℕ) (error : FromHexError)
+    → list_all is_ascii_hexdigit word ≡ true → decode_sized word count ≡ Err error
+    → length word ≢ 2 * count
 Err-decode_sized word count error digits refused twice =
     let decoded = (IsOk-decode_sized word count).1 (twice, digits-from_ascii word digits) in
     cc (decoded, refused)
 
 -- by what is decoded: its bytes were written, or nothing was
-by_cases : (old new : List ℕ) (r : Result Unit FromHexError) (s : Result Unit FaultKind) (d : Result (List ℕ) FromHexError)
+by_cases : (old new : List ℕ) (r : Result Unit FromHexError) (s : Result Unit FaultKind)
+    (d : Result (List ℕ) FromHexError)
     → ((error : FromHexError) → d ≡ Err error → new ≡ old)
     → MatchResult d (λ bytes. (r ≡ Ok tt) × (new ≡ bytes)) (λ e. r ≡ Err e)
     → MatchResult r (λ _. s ≡ Ok tt) (λ _. s ≡ Err Count)
-    → MatchResult (or_count d) (λ bytes. (s ≡ Ok tt) × (new ≡ bytes)) (λ fault. (s ≡ Err fault) × (new ≡ old))
+    → MatchResult (or_count d) (λ bytes. (s ≡ Ok tt) × (new ≡ bytes))
+    (λ fault. (s ≡ Err fault) × (new ≡ old))
 by_cases old new r s (Ok bytes) same written answer = (rw written.0 at answer, written.1)
 by_cases old new r s (Err error) same written answer = (rw written at answer, same error refl)
 
 -- what is written where a word of digits is decoded
-pub hex_bytes_of-digits : (word old new : List ℕ) (r : Result Unit FromHexError) (s : Result Unit FaultKind)
+pub hex_bytes_of-digits : (word old new : List ℕ) (r : Result Unit FromHexError)
+    (s : Result Unit FaultKind)
     → list_all is_ascii_hexdigit word ≡ true
-    → MatchResult (decode_sized word (length old)) (λ bytes. (r ≡ Ok tt) × (new ≡ bytes)) (λ e. r ≡ Err e)
+    → MatchResult (decode_sized word (length old)) (λ bytes. (r ≡ Ok tt) × (new ≡ bytes))
+    (λ e. r ≡ Err e)
     → (length word ≢ 2 * length old → new ≡ old)
     → MatchResult r (λ _. s ≡ Ok tt) (λ _. s ≡ Err Count)
-    → MatchResult (hex_bytes_of (length old) word) (λ bytes. (s ≡ Ok tt) × (new ≡ bytes)) (λ fault. (s ≡ Err fault) × (new ≡ old))
+    → MatchResult (hex_bytes_of (length old) word) (λ bytes. (s ≡ Ok tt) × (new ≡ bytes))
+    (λ fault. (s ≡ Err fault) × (new ≡ old))
 hex_bytes_of-digits word old new r s digits written same answer =
-    rw digits (by_cases old new r s (decode_sized word (length old)) (λ error refused. same (Err-decode_sized word (length old) error digits refused)) written answer)
+    rw digits (by_cases old new r s (decode_sized word (length old))
+    (λ error refused. same (Err-decode_sized word (length old) error digits refused)) written
+    answer)

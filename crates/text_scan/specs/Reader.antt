@@ -7,7 +7,8 @@ use Rattle.text_scan.specs.declared.text_fault.TextFault.TheVariants.{At, Memory
 use Rattle.text_scan.specs.declared.word_fault.WordFault.{WordFault}
 use Rattle.text_scan.specs.declared.word_fault.WordFault.TheVariants as words
 
--- a reader answered the value that a text has, or its first fault; out of memory says nothing of the text
+-- a reader answered the value that a text has, or its first fault; out of memory says nothing of
+-- the text
 abbrev pub Reads : {Value : Type 0} → Result Value TextFault → Result Value FaultAt → Type 0
 Reads (Ok value) read = read ≡ Ok value
 Reads (Err (At fault)) read = read ≡ Err fault

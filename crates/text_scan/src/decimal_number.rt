@@ -6,7 +6,7 @@ ghost use Rattle.text_scan.specs.Decimal.{is_decimal_word, decimal_of};
 
 use crate::fault_kind::FaultKind;
 
-/// The most digits that a decimal has, leading zeros among them.
+// The most digits that a decimal has, leading zeros among them.
 const MOST_DIGITS: usize = 10;
 
 /// The value of a decimal word, which is one of `least..=most`. Leading zeros are free.

@@ -1,8 +1,8 @@
 //! Texts of the project's files: lines, words and numbers, and the faults that a text can have.
 //!
-//! A reader gives a value, or the first fault of the text: its line and its kind. Hexadecimal digits
-//! are of either case, decimals have one to ten digits, lines end with LF or CRLF, and words are
-//! separated by spaces and tabs. Each call is a function of the text, and its contract is that
+//! A reader gives a value, or the first fault of the text: its line and its kind. Hexadecimal
+//! digits are of either case, decimals have one to ten digits, lines end with LF or CRLF, and words
+//! are separated by spaces and tabs. Each call is a function of the text, and its contract is that
 //! function.
 #![tactic(auto)]
 

@@ -13,7 +13,7 @@ pub struct Lines<'a> {
     last: u64,
 }
 
-/// Seen as the lines that are left, with their numbers.
+// Seen as the lines that are left, with their numbers.
 impl<'a> Model for Lines<'a> {
     ghost Value = { List (ℕ × List ℕ) };
 
@@ -51,7 +51,7 @@ impl<'a> Iterator for Lines<'a> {
     }
 }
 
-/// The first line of a text without its end, and what follows it.
+// The first line of a text without its end, and what follows it.
 fn first_line(text: &[u8]) -> (&[u8], &[u8])
     requires { 0 < length text.now }
     ensures first { lines text.now ≡ result.0.now ∷ lines result.1.now }
@@ -64,7 +64,7 @@ fn first_line(text: &[u8]) -> (&[u8], &[u8])
     (without_return(&text[..end]), &text[end + 1..])
 }
 
-/// The number of bytes before the first LF, or of all where there is none.
+// The number of bytes before the first LF, or of all where there is none.
 fn line_len(text: &[u8]) -> usize
     ensures within { result ≤ length text.now }
     ensures before { (k : ℕ) → k < result → slice_index text.now k ≢ 10 }

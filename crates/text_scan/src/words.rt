@@ -12,7 +12,7 @@ pub struct Words<'a> {
     rest: &'a [u8],
 }
 
-/// Seen as the words that are left.
+// Seen as the words that are left.
 impl<'a> Model for Words<'a> {
     ghost Value = { List (List ℕ) };
 
@@ -35,7 +35,8 @@ impl<'a> Words<'a> {
         self.next().ok_or(FaultKind::Missing)
     }
 
-    /// Passes the next word, whatever it is. One that is not the keyword is `Word`, none is `Missing`.
+    /// Passes the next word, whatever it is. One that is not the keyword is `Word`, none is
+    /// `Missing`.
     pub fn keyword(&mut self, keyword: &[u8]) -> Result<(), FaultKind>
         ensures word { OnOk result (keyword_of keyword.now self.old ≡ Ok self.new) }
         ensures fault { IfErr result (λ kind. keyword_of keyword.now self.old ≡ Err kind) }
@@ -89,7 +90,7 @@ impl<'a> Iterator for Words<'a> {
     }
 }
 
-/// What stands from the first word on.
+// What stands from the first word on.
 fn after_blanks(line: &[u8]) -> &[u8]
     ensures words { words_of result.now ≡ words_of line.now }
     ensures word { 0 < length result.now → is_blank (slice_index result.now 0) ≡ false }
@@ -97,7 +98,7 @@ fn after_blanks(line: &[u8]) -> &[u8]
     &line[blanks_len(line)..]
 }
 
-/// The number of blanks before the first other byte, or of all bytes where there is none.
+// The number of blanks before the first other byte, or of all bytes where there is none.
 fn blanks_len(line: &[u8]) -> usize
     ensures within { result ≤ length line.now }
     ensures before { (k : ℕ) → k < result → is_blank (slice_index line.now k) ≡ true }
@@ -108,7 +109,7 @@ fn blanks_len(line: &[u8]) -> usize
         .unwrap_or(line.len())
 }
 
-/// The word at the beginning of a line, and what follows it.
+// The word at the beginning of a line, and what follows it.
 #[tactic(auto, using(crate::proofs::FirstWord::words_cut))]
 fn first_word(line: &[u8]) -> (&[u8], &[u8])
     requires some { 0 < length line.now }
@@ -118,7 +119,7 @@ fn first_word(line: &[u8]) -> (&[u8], &[u8])
     line.split_at(word_len(line))
 }
 
-/// The number of bytes before the first blank, or of all where there is none.
+// The number of bytes before the first blank, or of all where there is none.
 fn word_len(line: &[u8]) -> usize
     ensures within { result ≤ length line.now }
     ensures before { (k : ℕ) → k < result → is_blank (slice_index line.now k) ≡ false }

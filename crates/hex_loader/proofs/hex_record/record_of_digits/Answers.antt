@@ -1,7 +1,7 @@
 use Rattle.std.proofs.Common.{◌≡◌, ◌∙◌, ◌/◌, length, take, min, sym, arith, length-take}
 use Rattle.std.proofs.lemmas.Result.{err_from_is_err_and}
 use Rattle.text_scan.specs.Hexadecimal.{hex_bytes_of}
-use Rattle.hex_loader.proofs.Digits.{of_bytes-room, err_read, ok_read}
+use Rattle.hex_loader.proofs.Digits.{record_or_fault-room, err_read, ok_read}
 use Rattle.hex_loader.proofs.hex_record.record_of_digits.Goals as goal
 
 pub returns-in_err-hex_bytes : goal.returns-in_err-hex_bytes
@@ -9,8 +9,10 @@ returns-in_err-hex_bytes c =
     let p = err_from_is_err_and c.from_residual.result c.from_residual.ensures.1 in
     let room : length (take c.min.result c.args.room.now) ≡ min (length c.args.digits.now / 2) 260 =
     omega (arith, length-take c.min.result c.args.room.now, c.min.ensures, c.told-room) in
-    rw (p.1, p.2) (sym (of_bytes-room c.args.digits.now)
-    ∙ err_read (hex_bytes_of (min (length c.args.digits.now / 2) 260) c.args.digits.now) c.in_err-hex_bytes.field-0.0 (take c.min.result c.args.room.now) c.hex_bytes.new.out c.hex_bytes.result c.in_err-hex_bytes.was
+    rw (p.1, p.2) (sym (record_or_fault-room c.args.digits.now)
+    ∙ err_read (hex_bytes_of (min (length c.args.digits.now / 2) 260) c.args.digits.now)
+    c.in_err-hex_bytes.field-0.0 (take c.min.result c.args.room.now) c.hex_bytes.new.out
+    c.hex_bytes.result c.in_err-hex_bytes.was
     (rw room at c.hex_bytes.ensures))
 
 pub returns : goal.returns
@@ -18,7 +20,9 @@ returns c =
     let room : length (take c.min.result c.args.room.now) ≡ min (length c.args.digits.now / 2) 260 =
     omega (arith, length-take c.min.result c.args.room.now, c.min.ensures, c.told-room) in
     rw (
-      ← of_bytes-room c.args.digits.now,
-      ok_read (hex_bytes_of (min (length c.args.digits.now / 2) 260) c.args.digits.now) (take c.min.result c.args.room.now) c.hex_bytes.new.out c.hex_bytes.result c.in_ok-hex_bytes.was
+      ← record_or_fault-room c.args.digits.now,
+      ok_read (hex_bytes_of (min (length c.args.digits.now / 2) 260) c.args.digits.now)
+          (take c.min.result c.args.room.now) c.hex_bytes.new.out c.hex_bytes.result
+          c.in_ok-hex_bytes.was
           (rw room at c.hex_bytes.ensures),
     ) c.record_of.ensures

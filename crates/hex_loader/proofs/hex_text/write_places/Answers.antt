@@ -19,7 +19,8 @@ returns-in_err-write_line_at-clause-puts g c =
     let p = err_from_is_err_and c.from_residual.result c.from_residual.ensures.1 in
     rw p.1 (λ image shows. record {
       all = tt;
-      prefix = prefix_in_text g.W.Sink.stands image c.args.sink.now at.sink c.write_line_at.new.sink at.place c.loop-place-test.true
+      prefix = prefix_in_text g.W.Sink.stands image c.args.sink.now at.sink
+          c.write_line_at.new.sink at.place c.loop-place-test.true
           (at.invariant.taken image shows) (c.in_err-write_line_at.ensures.puts image shows).prefix;
     })
 
@@ -28,7 +29,8 @@ loop-place-preserved g c =
     let at = c.loop-place in record {
       taken = λ image shows.
           rw lines_below-next
-          (takes_both g.W.Sink.stands c.args.sink.now at.sink c.write_line_at.new.sink (lines_below image at.place) (line_at image at.place)
+          (takes_both g.W.Sink.stands c.args.sink.now at.sink c.write_line_at.new.sink
+          (lines_below image at.place) (line_at image at.place)
           (at.invariant.taken image shows) (c.in_ok-write_line_at.ensures.puts image shows).all);
       quiet = c.in_ok-write_line_at.ensures.counts.quiet ∙ at.invariant.quiet;
     }
@@ -37,5 +39,6 @@ pub returns-clause-puts : goal.returns-clause-puts
 returns-clause-puts g c = λ image shows.
     let at = c.loop-place in
     let all : at.place ≡ 65536 = omega (arith, c.loop-place-test.false, at.auto.place-end) in
-    puts_after g.W.Sink.stands c.args.sink.now at.sink c.put_all.new.sink (lines_below image 65536) end_line c.put_all.result
+    puts_after g.W.Sink.stands c.args.sink.now at.sink c.put_all.new.sink (lines_below image 65536)
+    end_line c.put_all.result
     (rw all at (at.invariant.taken image shows)) c.put_all.ensures.puts

@@ -6,4 +6,5 @@ abbrev pub invariant-loop-offset : goal.invariant-loop-offset
 invariant-loop-offset g l =
     (length l.found.items ≡ l.offset)
     × ((image : ℕ → Option ℕ) → g.P.Places.shows l.bytes image
-    → l.found.items ++ run image (l.place + l.offset) (l.offset-end - l.offset) ≡ record_bytes image l.place)
+    → l.found.items ++ run image (l.place + l.offset) (l.offset-end - l.offset)
+    ≡ record_bytes image l.place)

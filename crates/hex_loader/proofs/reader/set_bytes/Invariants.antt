@@ -8,6 +8,7 @@ abbrev pub invariant-loop-byte : goal.invariant-loop-byte
 invariant-loop-byte l = record {
   place : l.place ≡ l.first + l.byte-index;
   taken : are_image_places l.first l.bytes ≡ are_image_places l.place (drop l.byte-index l.bytes);
-  bytes : (place : ℕ) → option_or (byte_among l.place (drop l.byte-index l.bytes) place) (byte_in l.image place)
+  bytes : (place : ℕ) → option_or (byte_among l.place (drop l.byte-index l.bytes) place)
+      (byte_in l.image place)
       ≡ option_or (byte_among l.first l.bytes place) (byte_in l.fn.image place);
 }

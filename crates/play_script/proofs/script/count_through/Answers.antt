@@ -1,14 +1,12 @@
-use Rattle.std.proofs.Common.{leb, leb-true, leb-false, get_or, arith, rules}
-use Rattle.std.proofs.lemmas.List.Sorted.{IsPartitionPoint-from_clause, IsPartitionedBy-leb}
+use Rattle.std.proofs.Common.{arith}
+use Rattle.std.proofs.lemmas.List.{get_or_default}
 use Rattle.play_script.proofs.script.count_through.Goals as goal
 
-pub returns : goal.returns
-returns c =
-    let steps = c.args.steps.now in
-    let parted = IsPartitionedBy-leb (λ s. s) steps c.args.step c.requires in
-    let point = IsPartitionPoint-from_clause (λ s. leb s c.args.step) steps c.partition_point.result c.partition_point.ensures.partitioned parted (λ a r q k. search rules) in
-    record {
-      within = c.partition_point.ensures.bound;
-      through = λ k d h. leb-true (get_or steps k d) c.args.step (point.0 k d (omega arith) h);
-      after = λ k d h l. leb-false (get_or steps k d) c.args.step (point.1 k d h l);
-    }
+pub returns-in-None : goal.returns-in-None
+returns-in-None c = record {
+  within = omega arith;
+  through = λ k d below.
+      let known = get_or_default c.args.steps.now k d 0 below in
+      omega (arith, c.in-None.ensures, c.type_inv.steps k, known);
+  after = λ k d end below. absurd (omega arith);
+}

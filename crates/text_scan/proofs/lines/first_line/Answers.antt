@@ -9,7 +9,8 @@ returns-then-end-text-clause-first c =
     let text = c.args.text.now in
     let found = c.line_len-end.ensures in
     let end = c.line_len-end.result in
-    lines_uncut text (is_first_end text end found.within found.before found.end ∙ c.if-end-text.true) c.requires
+    lines_uncut text (is_first_end text end found.within found.before found.end
+    ∙ c.if-end-text.true) c.requires
 
 pub returns-clause-first : goal.returns-clause-first
 returns-clause-first c =
