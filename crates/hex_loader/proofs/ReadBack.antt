@@ -11,7 +11,7 @@ use Rattle.part_definitions.specs.Memory.{is_image_place}
 use Rattle.hex_loader.specs.HexRecord.{Places, Ends, record_in}
 use Rattle.hex_loader.specs.HexImage.{base_after, has_ended, byte_after, byte_among, are_image_places, first_fault}
 use Rattle.hex_loader.specs.HexText.{is_record_start, record_bytes, line_of, line_at, lines_below, end_line, hex_text}
-use Rattle.mem_map.specs.Placed.{IsImage}
+use Rattle.mem_map.specs.ImagePlace.{IsImage}
 use Rattle.hex_loader.specs.ReadBack.{IsReadBack}
 use Rattle.hex_loader.proofs.Encoded.{behind-encoded, behind-line, lines-behind}
 use Rattle.hex_loader.proofs.RecordRead.{record_line, written_bytes, record_in-line, record_of-written, IsBytes-written}

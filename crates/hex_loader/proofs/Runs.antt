@@ -7,7 +7,7 @@ use Rattle.hex.specs.Hex.{IsBytes}
 use Rattle.part_definitions.specs.Memory.{is_image_place}
 use Rattle.hex_loader.specs.HexImage.{byte_among, are_image_places}
 use Rattle.hex_loader.specs.HexText.{is_record_start, run_after, run, record_bytes}
-use Rattle.mem_map.specs.Placed.{IsImage}
+use Rattle.mem_map.specs.ImagePlace.{IsImage}
 use Rattle.hex_loader.proofs.Placing.{and_both}
 
 -- a byte among those of a run is the image's

@@ -1,6 +1,6 @@
 -- What is written is read again.
 use Rattle.std.specs.Prelude.{◌≡◌, ℕ, Option, None}
-use Rattle.mem_map.specs.Placed.{IsImage}
+use Rattle.mem_map.specs.ImagePlace.{IsImage}
 use Rattle.hex_loader.specs.HexImage.{hex_fault, hex_byte}
 use Rattle.hex_loader.specs.HexText.{hex_text}
 

@@ -2,7 +2,7 @@
 use Rattle.std.specs.Prelude.{◌+◌, ◌*◌, ◌%◌, ◌==◌, ℕ, zero, suc, Option, Some, None, length, nat_le, if◌then◌else◌}
 use Rattle.msp_decode.specs.declared.head.Head.{Head}
 use Rattle.msp_decode.specs.Completion.{extension_count, completed, words_of}
-use Rattle.msp_decode.specs.Heads.{head_of}
+use Rattle.msp_decode.specs.Head.{head_of}
 use Rattle.msp_disasm.specs.declared.item.Item.{Item}
 use Rattle.msp_disasm.specs.declared.item.Item.TheVariants.{Byte, Word, Instruction}
 

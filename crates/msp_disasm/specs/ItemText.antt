@@ -8,14 +8,14 @@ use Rattle.msp_decode.specs.declared.reg.Reg.{Reg}
 use Rattle.msp_decode.specs.declared.reg.Reg.TheVariants.{R0, R1, R2, R3, R4, R5, R6, R7, R8, R9, R10, R11, R12, R13, R14, R15}
 use Rattle.msp_decode.specs.declared.cond.Cond.{Cond}
 use Rattle.msp_decode.specs.declared.cond.Cond.TheVariants.{Ne, Eq, Nc, C, N, Ge, L, Always}
-use Rattle.msp_decode.specs.declared.operand.Gen.{Gen}
-use Rattle.msp_decode.specs.declared.operand.Gen.TheVariants.{Zero, One as PlusOne, Two as PlusTwo, Four, Eight, MinusOne}
-use Rattle.msp_decode.specs.declared.operand.Source.{Source}
-use Rattle.msp_decode.specs.declared.operand.Source.TheVariants.{Reg as Register, Indexed, Indirect, IndirectInc, Immediate, Constant}
-use Rattle.msp_decode.specs.declared.operand.Dest.{Dest}
-use Rattle.msp_decode.specs.declared.operand.Dest.TheVariants.{Reg as DestRegister, Indexed as DestIndexed}
-use Rattle.msp_decode.specs.declared.instr.One.{One}
-use Rattle.msp_decode.specs.declared.instr.One.TheVariants.{Rrc, Swpb, Rra, Sxt, Push, Call}
+use Rattle.msp_decode.specs.declared.constant.Gen.{Gen}
+use Rattle.msp_decode.specs.declared.constant.Gen.TheVariants.{Zero, One as PlusOne, Two as PlusTwo, Four, Eight, MinusOne}
+use Rattle.msp_decode.specs.declared.source.Source.{Source}
+use Rattle.msp_decode.specs.declared.source.Source.TheVariants.{Reg as Register, Indexed, Indirect, IndirectInc, Immediate, Constant}
+use Rattle.msp_decode.specs.declared.dest.Dest.{Dest}
+use Rattle.msp_decode.specs.declared.dest.Dest.TheVariants.{Reg as DestRegister, Indexed as DestIndexed}
+use Rattle.msp_decode.specs.declared.one.One.{One}
+use Rattle.msp_decode.specs.declared.one.One.TheVariants.{Rrc, Swpb, Rra, Sxt, Push, Call}
 use Rattle.msp_decode.specs.declared.instr.Instr.{Instr}
 use Rattle.msp_decode.specs.declared.instr.Instr.TheVariants.{Two, One as OneOperand, Reti, Jump}
 use Rattle.part_definitions.specs.Words.{plus}
