@@ -31,17 +31,20 @@ pub cpu_access_some : (cpu : Cpu) (state : CpuState) (access : Access) →
 cpu_access_some cpu state access stands asks =
     ap asked_access (sym (state_course-nil state) ∙ (stands.same_course [] ∙ asks))
 
-registers_of-with_value : (state : CpuState) (value : ℕ) → registers_of (with_value state value) ≡ registers_of state
+registers_of-with_value : (state : CpuState) (value : ℕ) →
+    registers_of (with_value state value) ≡ registers_of state
 registers_of-with_value (Boundary regs) value = refl
 registers_of-with_value (Executing regs before) value = refl
 registers_of-with_value (Entering regs vector before) value = refl
 
-is_at_boundary-with_value : (state : CpuState) (value : ℕ) → is_at_boundary (with_value state value) ≡ false
+is_at_boundary-with_value : (state : CpuState) (value : ℕ) →
+    is_at_boundary (with_value state value) ≡ false
 is_at_boundary-with_value (Boundary regs) value = refl
 is_at_boundary-with_value (Executing regs before) value = refl
 is_at_boundary-with_value (Entering regs vector before) value = refl
 
-is_entering-with_value : (state : CpuState) (value : ℕ) → is_entering (with_value state value) ≡ is_entering state
+is_entering-with_value : (state : CpuState) (value : ℕ) →
+    is_entering (with_value state value) ≡ is_entering state
 is_entering-with_value (Boundary regs) value = refl
 is_entering-with_value (Executing regs before) value = refl
 is_entering-with_value (Entering regs vector before) value = refl

@@ -41,8 +41,8 @@ pub fn write_at(size: Size, place: u16, number: u16) -> Access
 }
 
 /// What an instruction asks of the bus; `number` is its result, once it is written.
-pub fn bus_access(head: Head, access: CpuAccess, working: &Working, number: u16) -> Access
-    ensures value { result ≡ latched_access head access working.now number }
+pub fn bus_access(head: &Head, access: CpuAccess, working: &Working, number: u16) -> Access
+    ensures value { result ≡ latched_access head.now access working.now number }
     ensures formed { IsFormed result }
 {
     match access {

@@ -104,29 +104,23 @@ impl Cpu {
         sr_in(&self.regs) / 16 % 2 == 1
     }
 
-    /// Sets the program counter and the stack pointer.
+    /// At a boundary: sets the program counter and the stack pointer.
     pub fn start(&mut self, pc: u16, sp: u16)
-        requires { (state : CpuState)
-            × CpuStandsFor self.old state
-            × IsTrue (is_at_boundary state) }
-        ensures { (state : CpuState)
-            → CpuStandsFor self.old state
-            → CpuStandsFor self.new (Boundary (with_sp (with_pc (registers_of state) pc) sp)) }
+        ensures { (regs : List ℕ)
+            → CpuStandsFor self.old (Boundary regs)
+            → CpuStandsFor self.new (Boundary (with_sp (with_pc regs pc) sp)) }
     {
         set_pc(&mut self.working.regs, pc);
         set_sp(&mut self.working.regs, sp);
         self.complete();
     }
 
-    /// Accepts an interrupt: the next three accesses enter the handler whose address is the word at
-    /// `vector`.
+    /// At a boundary: accepts an interrupt. The next three accesses enter the handler whose address
+    /// is the word at `vector`.
     pub fn begin_irq(&mut self, vector: u16)
-        requires { (state : CpuState)
-            × CpuStandsFor self.old state
-            × IsTrue (is_at_boundary state) }
-        ensures { (state : CpuState)
-            → CpuStandsFor self.old state
-            → CpuStandsFor self.new (entry_begun (registers_of state) vector) }
+        ensures { (regs : List ℕ)
+            → CpuStandsFor self.old (Boundary regs)
+            → CpuStandsFor self.new (entry_begun regs vector) }
     {
         self.phase = Phase::Entering(EntryAccess::PushPc, vector);
     }
@@ -152,7 +146,7 @@ impl Cpu {
         match self.phase {
             Phase::Boundary => fetch_at(pc_in(&self.working.regs)),
             Phase::Executing(access) => {
-                bus_access(self.head, access, &self.working, self.number)
+                bus_access(&self.head, access, &self.working, self.number)
             }
             Phase::Entering(access, vector) => self.entry_access(access, vector),
         }
@@ -180,19 +174,16 @@ impl Cpu {
 
     /// Goes on to an access of the instruction, or completes it. The result is computed once all
     /// operands are known.
+    #[inline(always)]
     fn advance(&mut self, next: Option<CpuAccess>)
         ensures { Follows self.new self.old.regs false
             (walk self.old.head (accesses_from self.old.head next) self.old.working) }
     {
+        if matches!(next, None | Some(CpuAccess::WriteResult)) {
+            self.number = end(&mut self.working, &self.head);
+        }
         match next {
-            None => {
-                end(&mut self.working, self.head);
-                self.complete();
-            }
-            Some(CpuAccess::WriteResult) => {
-                self.number = end(&mut self.working, self.head);
-                self.phase = Phase::Executing(CpuAccess::WriteResult);
-            }
+            None => self.complete(),
             Some(access) => self.phase = Phase::Executing(access),
         }
     }
@@ -209,7 +200,7 @@ impl Cpu {
         match decode(word) {
             Some(head) => {
                 self.head = head;
-                let next = start(&mut self.working, head);
+                let next = start(&mut self.working, &self.head);
                 self.advance(next);
                 true
             }
@@ -226,7 +217,7 @@ impl Cpu {
         match access {
             CpuAccess::WriteResult => self.complete(),
             _ => {
-                let next = learn(&mut self.working, self.head, access, value);
+                let next = learn(&mut self.working, &self.head, access, value);
                 self.advance(next);
             }
         }

@@ -12,20 +12,20 @@ use part_definitions::{CpuAccess, Working};
 use word_arith::{Op2, Size, alu};
 
 /// B/W of an instruction; RETI and jumps are of words.
-pub fn size_of(head: Head) -> Size
-    ensures { result ≡ size_of head }
+pub fn size_of(head: &Head) -> Size
+    ensures { result ≡ size_of head.now }
 {
-    match head {
+    match *head {
         Head::Two(_, size, _, _) | Head::One(_, size, _) => size,
         Head::Reti | Head::Jump(..) => Size::Word,
     }
 }
 
 /// The next access once the source is known.
-fn access_after_source(head: Head) -> Option<CpuAccess>
-    ensures { accesses_from head result ≡ after_source head }
+fn access_after_source(head: &Head) -> Option<CpuAccess>
+    ensures { accesses_from head.now result ≡ after_source head.now }
 {
-    match head {
+    match *head {
         Head::Two(_, _, _, DestForm::Indexed(register)) => {
             Some(CpuAccess::FetchDestinationIndex(register))
         }
@@ -41,10 +41,10 @@ fn access_after_source(head: Head) -> Option<CpuAccess>
 }
 
 /// The next access once the place of the destination is known.
-fn access_after_index(head: Head) -> Option<CpuAccess>
-    ensures { accesses_from head result ≡ after_index head }
+fn access_after_index(head: &Head) -> Option<CpuAccess>
+    ensures { accesses_from head.now result ≡ after_index head.now }
 {
-    match head {
+    match *head {
         Head::Two(Op2::Mov, ..) => Some(CpuAccess::WriteResult),
         Head::Two(..) => Some(CpuAccess::ReadDestination),
         Head::One(..) | Head::Reti | Head::Jump(..) => None,
@@ -52,10 +52,10 @@ fn access_after_index(head: Head) -> Option<CpuAccess>
 }
 
 /// The next access once the destination was read.
-fn access_after_read(head: Head) -> Option<CpuAccess>
-    ensures { accesses_from head result ≡ after_read head }
+fn access_after_read(head: &Head) -> Option<CpuAccess>
+    ensures { accesses_from head.now result ≡ after_read head.now }
 {
-    match head {
+    match *head {
         Head::Two(Op2::Cmp | Op2::Bit, ..) => None,
         Head::Two(..) => Some(CpuAccess::WriteResult),
         Head::One(..) | Head::Reti | Head::Jump(..) => None,
@@ -63,15 +63,15 @@ fn access_after_read(head: Head) -> Option<CpuAccess>
 }
 
 /// The opcode was fetched; the answer is the first access after it.
-pub fn start(working: &mut Working, head: Head) -> Option<CpuAccess>
-    ensures working { working.new ≡ working_at_start head working.old.regs }
-    ensures next { accesses_from head result ≡ accesses_of head }
+pub fn start(working: &mut Working, head: &Head) -> Option<CpuAccess>
+    ensures working { working.new ≡ working_at_start head.now working.old.regs }
+    ensures next { accesses_from head.now result ≡ accesses_of head.now }
 {
     pass_word(&mut working.regs);
     working.source = 0;
     working.place = 0;
     working.destination = 0;
-    match head {
+    match *head {
         Head::Two(_, size, source, _) | Head::One(_, size, source) => match source {
             SourceForm::Register(register) => {
                 working.source = operand_in(size, &working.regs, register);
@@ -98,9 +98,9 @@ pub fn start(working: &mut Working, head: Head) -> Option<CpuAccess>
 }
 
 /// An access was made and gave this value, 0 for a write; the answer is the access after it.
-pub fn learn(working: &mut Working, head: Head, access: CpuAccess, value: u16) -> Option<CpuAccess>
-    ensures working { working.new ≡ after_value head access value working.old }
-    ensures next { accesses_from head result ≡ accesses_after head access }
+pub fn learn(working: &mut Working, head: &Head, access: CpuAccess, value: u16) -> Option<CpuAccess>
+    ensures working { working.new ≡ after_value head.now access value working.old }
+    ensures next { accesses_from head.now result ≡ accesses_after head.now access }
 {
     match access {
         CpuAccess::FetchImmediate => {
@@ -149,11 +149,12 @@ pub fn learn(working: &mut Working, head: Head, access: CpuAccess, value: u16) -
 
 /// All operands are known: leaves the registers as they are after the instruction. The answer is the
 /// result, 0 of RETI and of jumps.
-pub fn end(working: &mut Working, head: Head) -> u16
-    ensures number { result ≡ (result_of head working.old).0 }
-    ensures after { working.new ≡ record working.old { regs = registers_after head working.old } }
+#[inline(never)]
+pub fn end(working: &mut Working, head: &Head) -> u16
+    ensures number { result ≡ (result_of head.now working.old).0 }
+    ensures after { working.new ≡ record working.old { regs = registers_after head.now working.old } }
 {
-    match head {
+    match *head {
         Head::Two(op, size, _, form) => {
             let destination = destination_in(size, form, working);
             let (number, flags) = alu(

@@ -16,3 +16,6 @@ mod phase;
 mod register;
 
 pub use cpu::Cpu;
+
+#[cfg(test)]
+mod tests;
