@@ -1,8 +1,8 @@
 //! HMAC over any digest of 32 bytes, whole or as a message comes.
 //!
-//! HMAC is that of RFC 2104 with a block of 64 bytes, SHA-256 that of FIPS 180-4. The one contract is
-//! that the code of a message is the definition's, for every digest, key and message, however the
-//! message is cut.
+//! HMAC is that of RFC 2104 with a block of 64 bytes, SHA-256 that of FIPS 180-4. The one contract
+//! is that the code of a message is the definition's, for every digest, key and message, however
+//! the message is cut.
 #![tactic(auto)]
 
 mod constant;

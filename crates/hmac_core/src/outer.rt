@@ -15,12 +15,12 @@ pub struct Outer<D> {
 }
 
 impl<D: Digest32> Outer<D> {
-    ghost use Rattle.hmac_core.specs.Standing.{OuterStandsFor};
+    ghost use Rattle.hmac_core.specs.Outer.{OuterStandsFor};
 
     pub(crate) fn new(block: &[u8; BLOCK]) -> Outer<D>
-        ensures { (key : List ℕ) →
-            block.now ≡ key_block D.digest_of key →
-            OuterStandsFor D.has_taken D.digest_of result key }
+        ensures { (key : List ℕ)
+            → block.now ≡ key_block D.digest_of key
+            → OuterStandsFor D.has_taken D.digest_of result key }
     {
         let mut digest = D::begin();
         digest.update(&with_mask(OUTER_PAD, block));
@@ -29,9 +29,9 @@ impl<D: Digest32> Outer<D> {
 
     /// The code of the message with this inner digest.
     pub fn finish(mut self, inner: &[u8; 32]) -> [u8; 32]
-        ensures { (key : List ℕ) →
-            OuterStandsFor D.has_taken D.digest_of self key →
-            result ≡ D.digest_of (outer_input D.digest_of key inner.now) }
+        ensures { (key : List ℕ)
+            → OuterStandsFor D.has_taken D.digest_of self key
+            → result ≡ D.digest_of (outer_input D.digest_of key inner.now) }
     {
         self.digest.update(inner);
         self.digest.finish()

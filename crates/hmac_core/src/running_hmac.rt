@@ -17,7 +17,8 @@ pub struct Hmac<D> {
 }
 
 impl<D: Digest32> Hmac<D> {
-    ghost use Rattle.hmac_core.specs.Standing.{HmacStandsFor, OuterStandsFor};
+    ghost use Rattle.hmac_core.specs.Outer.{OuterStandsFor};
+    ghost use Rattle.hmac_core.specs.Hmac.{HmacStandsFor};
 
     /// Begins with no message. The key may have any length.
     pub fn new(key: &[u8]) -> Hmac<D>
@@ -34,21 +35,21 @@ impl<D: Digest32> Hmac<D> {
 
     /// Takes the next bytes of the message. Where it is cut changes nothing.
     pub fn update(&mut self, piece: &[u8])
-        ensures { (key message : List ℕ) →
-            HmacStandsFor D.has_taken D.digest_of self.old key message →
-            HmacStandsFor D.has_taken D.digest_of self.new key (message ++ piece.now) }
+        ensures { (key message : List ℕ)
+            → HmacStandsFor D.has_taken D.digest_of self.old key message
+            → HmacStandsFor D.has_taken D.digest_of self.new key (message ++ piece.now) }
     {
         self.inner.update(piece);
     }
 
     /// Ends the message: the inner digest, and the half that makes the code of it.
     pub fn inner(self) -> ([u8; 32], Outer<D>)
-        ensures digest { (key message : List ℕ) →
-            HmacStandsFor D.has_taken D.digest_of self key message →
-            result.0 ≡ inner_digest D.digest_of key message }
-        ensures outer { (key message : List ℕ) →
-            HmacStandsFor D.has_taken D.digest_of self key message →
-            OuterStandsFor D.has_taken D.digest_of result.1 key }
+        ensures digest { (key message : List ℕ)
+            → HmacStandsFor D.has_taken D.digest_of self key message
+            → result.0 ≡ inner_digest D.digest_of key message }
+        ensures outer { (key message : List ℕ)
+            → HmacStandsFor D.has_taken D.digest_of self key message
+            → OuterStandsFor D.has_taken D.digest_of result.1 key }
     {
         (self.inner.finish(), self.outer)
     }

@@ -1,15 +1,13 @@
 -- Words as their bytes in memory order.
-use Rattle.std.proofs.Common.{◌≡◌, ◌+◌, ◌*◌, ◌/◌, ◌%◌, ◌++◌, ◌∷◌, ◌∙◌, ◌<◌, ◌^◌, [], ℕ, List, length, append_assoc, take, get_or, ap, sym, refl, arith}
+use Rattle.std.proofs.Common.{◌≡◌, ◌+◌, ◌/◌, ◌%◌, ◌++◌, ◌∷◌, ◌∙◌, ◌<◌, ◌^◌, [], ℕ, List, length, append_assoc, take, get_or, ap, sym, refl, arith}
 use Rattle.std.proofs.lemmas.List.{take_more}
 use Rattle.part_definitions.specs.Attestation.{bytes_of_words}
 
-pub bytes_of_words-append : (xs ys : List ℕ) → bytes_of_words (xs ++ ys) ≡ bytes_of_words xs ++ bytes_of_words ys
+pub bytes_of_words-append :
+    (xs ys : List ℕ) → bytes_of_words (xs ++ ys) ≡ bytes_of_words xs ++ bytes_of_words ys
 bytes_of_words-append [] ys = refl
-bytes_of_words-append (x ∷ xs) ys = ap (λ bytes. x % 256 ∷ x / 256 ∷ bytes) (bytes_of_words-append xs ys)
-
-pub length-bytes_of_words : (xs : List ℕ) → length (bytes_of_words xs) ≡ 2 * length xs
-length-bytes_of_words [] = refl
-length-bytes_of_words (x ∷ xs) = omega (arith, length-bytes_of_words xs)
+bytes_of_words-append (x ∷ xs) ys =
+    ap (λ bytes. x % 256 ∷ x / 256 ∷ bytes) (bytes_of_words-append xs ys)
 
 -- the bytes of one word more
 pub bytes_of_words-more :

@@ -1,2 +1,5 @@
-pub mod Call
-pub mod Standing
+pub mod RomCall
+pub mod DigestWords
+pub mod Phase
+pub mod State
+pub mod Rom

@@ -1,8 +1,8 @@
 //! The attestation ROM: a call of it as a sequence of bus steps, in place of machine code.
 //!
-//! What a call does is VRASED's software attestation (USENIX Security 2019) over the metadata and the
-//! regions of APEX (USENIX Security 2020), with HMAC-SHA-256 (RFC 2104, FIPS 180-4). The one contract
-//! is that after all words that it read the engine asks for the definition's next access.
+//! What a call does is VRASED's software attestation (USENIX Security 2019) over the metadata and
+//! the regions of APEX (USENIX Security 2020), with HMAC (RFC 2104) over any digest of 32 bytes.
+//! The one contract is that whatever it reads the engine asks for the definition's next access.
 #![tactic(auto)]
 
 mod digest_words;

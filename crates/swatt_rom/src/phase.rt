@@ -1,8 +1,8 @@
-ghost use Rattle.std.specs.Prelude.{◌≡◌, ◌≤◌, ◌++◌, ◌∷◌, [], ℕ, List, length, Some};
+ghost use Rattle.std.specs.Prelude.{◌≡◌, ◌≤◌, ◌++◌, ◌∷◌, [], ℕ, List, length};
 ghost use Rattle.bus_signals.specs.Access.{IsFormed};
-ghost use Rattle.part_definitions.specs.Attestation.{call_item, item_pc, word_passed, bounds_read, bytes_of_words, derived_key, tag_in};
-ghost use Rattle.hmac_core.specs.Standing.{HmacStandsFor};
-ghost use Rattle.swatt_rom.specs.Call.{call_access};
+ghost use Rattle.part_definitions.specs.Attestation.{call_item, item_pc, bounds_read, bytes_of_words, derived_key, tag_in};
+ghost use Rattle.hmac_core.specs.Hmac.{HmacStandsFor};
+ghost use Rattle.swatt_rom.specs.RomCall.{call_access, next_word};
 
 use crate::digest_words::DigestWords;
 use crate::region_words::RegionWords;
@@ -29,7 +29,7 @@ pub enum Phase<D> {
         metadata: WordBuffer<METADATA_WORDS>,
     },
     WritesDerivedKey {
-        writes: DigestWords,
+        key: DigestWords,
         bounds: Bounds,
         hash: Hmac<D>,
     },
@@ -38,11 +38,11 @@ pub enum Phase<D> {
         hash: Hmac<D>,
     },
     WritesInnerDigest {
-        writes: DigestWords,
+        inner: DigestWords,
         mac: [u8; 32],
     },
     WritesMac {
-        writes: DigestWords,
+        mac: DigestWords,
     },
 }
 
@@ -68,9 +68,10 @@ fn derived_key<D: Digest32>(key: &[u8], metadata: &[u8]) -> [u8; 32]
 
 // The hash takes a word, its two bytes in memory order.
 fn hash_word<D: Digest32>(hash: &mut Hmac<D>, word: u16)
-    ensures { (key message : List ℕ) →
-        HmacStandsFor D.has_taken D.digest_of hash.old key message →
-        HmacStandsFor D.has_taken D.digest_of hash.new key (message ++ bytes_of_words (word ∷ [])) }
+    ensures { (key message : List ℕ)
+        → HmacStandsFor D.has_taken D.digest_of hash.old key message
+        → HmacStandsFor D.has_taken D.digest_of hash.new key
+        (message ++ bytes_of_words (word ∷ [])) }
 {
     hash.update(&word.to_le_bytes());
 }
@@ -85,7 +86,8 @@ fn hash_of<D: Digest32>(key: &[u8], message: &[u8]) -> Hmac<D>
 }
 
 impl<D: Digest32> Phase<D> {
-    ghost use Rattle.swatt_rom.specs.Standing.{PhaseStandsFor, OptionStandsFor, HashesRegion, StandsAtDerivedKey, StandsAtRegion, StandsAtInnerDigest, WritesDigest, BEFORE_REGION, before_inner_digest, before_mac};
+    ghost use Rattle.swatt_rom.specs.DigestWords.{WritesDigest};
+    ghost use Rattle.swatt_rom.specs.Phase.{PhaseStandsFor, NextStandsFor, HashesRegion, StandsAtDerivedKey, StandsAtRegion, StandsAtInnerDigest, BEFORE_REGION, before_inner_digest, before_mac};
 
     /// The beginning of a call.
     pub fn new() -> Phase<D>
@@ -98,26 +100,26 @@ impl<D: Digest32> Phase<D> {
 
     /// The access of the next step.
     pub fn access(&self) -> Access
-        ensures access { (sp : ℕ) (words : List ℕ) →
-            PhaseStandsFor D.has_taken D.digest_of self.now words →
-            result ≡ call_access D.digest_of sp words }
+        ensures access { (sp : ℕ) (words : List ℕ)
+            → PhaseStandsFor D.has_taken D.digest_of self.now words
+            → result ≡ call_access D.digest_of sp words }
         ensures formed { IsFormed result }
     {
         match self {
             Phase::ReadsKey { key } => key.access(KR.first),
             Phase::ReadsMetadata { metadata, .. } => metadata.access(META.first),
-            Phase::WritesDerivedKey { writes, .. } => writes.access(XS.first),
+            Phase::WritesDerivedKey { key, .. } => key.access(XS.first),
             Phase::ReadsRegion { region, .. } => region.access(),
-            Phase::WritesInnerDigest { writes, .. } => writes.access(XS.first + 32),
-            Phase::WritesMac { writes } => writes.access(MR.first),
+            Phase::WritesInnerDigest { inner, .. } => inner.access(XS.first + 32),
+            Phase::WritesMac { mac } => mac.access(MR.first),
         }
     }
 
     /// The `pc` of the next step: the first is the entry of the ROM.
     pub fn pc(&self) -> u16
-        ensures { (words : List ℕ) →
-            PhaseStandsFor D.has_taken D.digest_of self.now words →
-            result ≡ item_pc (call_item words) }
+        ensures { (words : List ℕ)
+            → PhaseStandsFor D.has_taken D.digest_of self.now words
+            → result ≡ item_pc (call_item words) }
     {
         match self {
             Phase::ReadsKey { key } if key.is_empty() => CR.first,
@@ -127,28 +129,26 @@ impl<D: Digest32> Phase<D> {
 
     /// What it does after a step whose access read this value, `None` before the return read.
     pub fn after(self, value: u16) -> Option<Phase<D>>
-        ensures { (sp : ℕ) (words : List ℕ) →
-            PhaseStandsFor D.has_taken D.digest_of self words →
-            OptionStandsFor D.has_taken D.digest_of result
-            (words ++ word_passed (Some (call_access D.digest_of sp words)) value ∷ []) }
+        ensures { (sp : ℕ) (words : List ℕ)
+            → PhaseStandsFor D.has_taken D.digest_of self words
+            → NextStandsFor D.has_taken D.digest_of result
+            (words ++ next_word D.digest_of sp words value ∷ []) }
     {
         match self {
             Phase::ReadsKey { key } => Some(Phase::after_key_word(key, value)),
             Phase::ReadsMetadata { key, metadata } => {
                 Some(Phase::after_metadata_word(key, metadata, value))
             }
-            Phase::WritesDerivedKey {
-                writes,
-                bounds,
-                hash,
-            } => Some(Phase::after_derived_key_word(writes, bounds, hash)),
+            Phase::WritesDerivedKey { key, bounds, hash } => {
+                Some(Phase::after_derived_key_word(key, bounds, hash))
+            }
             Phase::ReadsRegion { region, hash } => {
                 Some(Phase::after_region_word(region, hash, value))
             }
-            Phase::WritesInnerDigest { writes, mac } => {
-                Some(Phase::after_inner_digest_word(writes, mac))
+            Phase::WritesInnerDigest { inner, mac } => {
+                Some(Phase::after_inner_digest_word(inner, mac))
             }
-            Phase::WritesMac { writes } => Phase::after_mac_word(writes),
+            Phase::WritesMac { mac } => Phase::after_mac_word(mac),
         }
     }
 
@@ -169,7 +169,8 @@ impl<D: Digest32> Phase<D> {
         metadata: WordBuffer<METADATA_WORDS>,
         word: u16,
     ) -> Phase<D>
-        ensures { PhaseStandsFor D.has_taken D.digest_of result (key ++ metadata.words.items ++ word ∷ []) }
+        ensures { PhaseStandsFor D.has_taken D.digest_of result
+            (key ++ metadata.words.items ++ word ∷ []) }
     {
         match metadata.with(word) {
             Ok(metadata) => Phase::after_metadata(&key, &metadata),
@@ -184,36 +185,32 @@ impl<D: Digest32> Phase<D> {
         let bounds = bounds_of(metadata);
         let key: ArrayVec<u8, 64> = bytes_of(key);
         let metadata: ArrayVec<u8, 42> = bytes_of(metadata);
-        let derived = derived_key::<D>(&key, &metadata);
+        let challenge_key = derived_key::<D>(&key, &metadata);
         Phase::WritesDerivedKey {
-            writes: DigestWords::new(derived),
+            key: DigestWords::new(challenge_key),
             bounds,
-            hash: hash_of(&derived, &metadata),
+            hash: hash_of(&challenge_key, &metadata),
         }
     }
 
-    fn after_derived_key_word(writes: DigestWords, bounds: Bounds, hash: Hmac<D>) -> Phase<D>
-        ensures { (words : List ℕ) (word : ℕ) →
-            StandsAtDerivedKey D.has_taken D.digest_of writes bounds hash words →
-            PhaseStandsFor D.has_taken D.digest_of result (words ++ word ∷ []) }
+    fn after_derived_key_word(key: DigestWords, bounds: Bounds, hash: Hmac<D>) -> Phase<D>
+        ensures { (words : List ℕ) (word : ℕ)
+            → StandsAtDerivedKey D.has_taken D.digest_of key bounds hash words
+            → PhaseStandsFor D.has_taken D.digest_of result (words ++ word ∷ []) }
     {
-        match writes.rest() {
-            Some(writes) => Phase::WritesDerivedKey {
-                writes,
-                bounds,
-                hash,
-            },
+        match key.rest() {
+            Some(key) => Phase::WritesDerivedKey { key, bounds, hash },
             None => Phase::after_derived_key(bounds, hash),
         }
     }
 
     // Where the bounds are not valid there is no region.
     fn after_derived_key(bounds: Bounds, hash: Hmac<D>) -> Phase<D>
-        ensures { (words : List ℕ) →
-            bounds ≡ bounds_read words →
-            length words ≡ BEFORE_REGION →
-            HashesRegion D.has_taken D.digest_of hash words →
-            PhaseStandsFor D.has_taken D.digest_of result words }
+        ensures { (words : List ℕ)
+            → bounds ≡ bounds_read words
+            → length words ≡ BEFORE_REGION
+            → HashesRegion D.has_taken D.digest_of hash words
+            → PhaseStandsFor D.has_taken D.digest_of result words }
     {
         match RegionWords::new(bounds) {
             Some(region) => Phase::ReadsRegion { region, hash },
@@ -222,9 +219,9 @@ impl<D: Digest32> Phase<D> {
     }
 
     fn after_region_word(region: RegionWords, mut hash: Hmac<D>, word: u16) -> Phase<D>
-        ensures { (words : List ℕ) →
-            StandsAtRegion D.has_taken D.digest_of region hash words →
-            PhaseStandsFor D.has_taken D.digest_of result (words ++ word ∷ []) }
+        ensures { (words : List ℕ)
+            → StandsAtRegion D.has_taken D.digest_of region hash words
+            → PhaseStandsFor D.has_taken D.digest_of result (words ++ word ∷ []) }
     {
         hash_word(&mut hash, word);
         match region.rest() {
@@ -235,38 +232,38 @@ impl<D: Digest32> Phase<D> {
 
     // The hash ends: its inner digest is written first, and then the MAC made of it.
     fn after_region(hash: Hmac<D>) -> Phase<D>
-        ensures { (words : List ℕ) →
-            length words ≡ before_inner_digest words →
-            HashesRegion D.has_taken D.digest_of hash words →
-            PhaseStandsFor D.has_taken D.digest_of result words }
+        ensures { (words : List ℕ)
+            → length words ≡ before_inner_digest words
+            → HashesRegion D.has_taken D.digest_of hash words
+            → PhaseStandsFor D.has_taken D.digest_of result words }
     {
         let (inner, outer) = hash.inner();
         Phase::WritesInnerDigest {
-            writes: DigestWords::new(inner),
+            inner: DigestWords::new(inner),
             mac: outer.finish(&inner),
         }
     }
 
-    fn after_inner_digest_word(writes: DigestWords, mac: [u8; 32]) -> Phase<D>
-        ensures { (words : List ℕ) (word : ℕ) →
-            StandsAtInnerDigest D.digest_of writes mac words →
-            PhaseStandsFor D.has_taken D.digest_of result (words ++ word ∷ []) }
+    fn after_inner_digest_word(inner: DigestWords, mac: [u8; 32]) -> Phase<D>
+        ensures { (words : List ℕ) (word : ℕ)
+            → StandsAtInnerDigest D.digest_of inner mac words
+            → PhaseStandsFor D.has_taken D.digest_of result (words ++ word ∷ []) }
     {
-        match writes.rest() {
-            Some(writes) => Phase::WritesInnerDigest { writes, mac },
+        match inner.rest() {
+            Some(inner) => Phase::WritesInnerDigest { inner, mac },
             None => Phase::WritesMac {
-                writes: DigestWords::new(mac),
+                mac: DigestWords::new(mac),
             },
         }
     }
 
-    fn after_mac_word(writes: DigestWords) -> Option<Phase<D>>
-        ensures { (words : List ℕ) (word : ℕ) →
-            WritesDigest writes (tag_in D.digest_of words) (before_mac words) words →
-            OptionStandsFor D.has_taken D.digest_of result (words ++ word ∷ []) }
+    fn after_mac_word(mac: DigestWords) -> Option<Phase<D>>
+        ensures { (words : List ℕ) (word : ℕ)
+            → WritesDigest mac (tag_in D.digest_of words) (before_mac words) words
+            → NextStandsFor D.has_taken D.digest_of result (words ++ word ∷ []) }
     {
-        match writes.rest() {
-            Some(writes) => Some(Phase::WritesMac { writes }),
+        match mac.rest() {
+            Some(mac) => Some(Phase::WritesMac { mac }),
             None => None,
         }
     }

@@ -8,13 +8,14 @@ ghost use Rattle.part_definitions.specs.Attestation.{words_between, executable_w
 use bus_signals::{Access, Bounds, valid};
 use word_arith::Size;
 
-/// The words of ER and then of OR that are read one by one; some are left.
+/// The words of ER and then of OR, which are read one by one; some are left.
 #[derive(Clone, Copy, Debug)]
 pub struct RegionWords {
     pub bounds: Bounds,
-    pub read: usize,
+    /// The number of the next word.
+    pub next: usize,
     pub ghost valid: { are_valid bounds ≡ true },
-    pub ghost some_left: { read < region_words bounds },
+    pub ghost some_left: { next < region_words bounds },
 }
 
 // How many words there are from one place to another.
@@ -28,12 +29,12 @@ fn words_between(first: u16, last: u16) -> usize
 impl RegionWords {
     /// All words of the region, `None` where the bounds are not valid.
     pub fn new(bounds: Bounds) -> Option<RegionWords>
-        ensures valid { IsNone result ↔ (region_words bounds ≡ 0) }
+        ensures none { IsNone result ↔ (region_words bounds ≡ 0) }
         ensures bounds { IfSome result (λ words. words.bounds ≡ bounds) }
-        ensures read { IfSome result (λ words. words.read ≡ 0) }
+        ensures next { IfSome result (λ words. words.next ≡ 0) }
     {
         if valid(&bounds) {
-            Some(RegionWords { bounds, read: 0 })
+            Some(RegionWords { bounds, next: 0 })
         } else {
             None
         }
@@ -41,39 +42,39 @@ impl RegionWords {
 
     /// The read of the next word.
     pub fn access(self) -> Access
-        ensures access { result ≡ read_at Word (region_place self.bounds self.read) }
+        ensures access { result ≡ read_at Word (region_place self.bounds self.next) }
         ensures formed { IsFormed result }
     {
         Access::Read(self.place(), Size::Word)
     }
 
-    #[tactic(auto, using(crate::proofs::ValidBounds::executable_ordered, crate::proofs::ValidBounds::output_even))]
+    #[tactic(auto, using(crate::proofs::ValidBounds::valid_bounds))]
     fn place(self) -> u16
-        ensures place { result ≡ region_place self.bounds self.read }
+        ensures place { result ≡ region_place self.bounds self.next }
         ensures even { result % 2 ≡ 0 }
     {
         let bounds = self.bounds;
         let executable = words_between(bounds.er_min, bounds.er_max);
-        if self.read < executable {
-            bounds.er_min + 2 * self.read as u16
+        if self.next < executable {
+            bounds.er_min + 2 * self.next as u16
         } else {
-            bounds.or_min + 2 * (self.read - executable) as u16
+            bounds.or_min + 2 * (self.next - executable) as u16
         }
     }
 
     /// What is left after the next word, `None` where it was the last.
-    #[tactic(auto, using(crate::proofs::ValidBounds::executable_ordered, crate::proofs::ValidBounds::output_ordered))]
+    #[tactic(auto, using(crate::proofs::ValidBounds::valid_bounds))]
     pub fn rest(self) -> Option<RegionWords>
-        ensures last { IsNone result ↔ (self.read + 1 ≡ region_words self.bounds) }
+        ensures last { IsNone result ↔ (self.next + 1 ≡ region_words self.bounds) }
         ensures bounds { IfSome result (λ rest. rest.bounds ≡ self.bounds) }
-        ensures read { IfSome result (λ rest. rest.read ≡ self.read + 1) }
+        ensures next { IfSome result (λ rest. rest.next ≡ self.next + 1) }
     {
         let bounds = self.bounds;
         let executable = words_between(bounds.er_min, bounds.er_max);
         let output = words_between(bounds.or_min, bounds.or_max);
-        let read = self.read + 1;
-        if read < executable + output {
-            Some(RegionWords { bounds, read })
+        let next = self.next + 1;
+        if next < executable + output {
+            Some(RegionWords { bounds, next })
         } else {
             None
         }

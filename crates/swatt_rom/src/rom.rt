@@ -1,6 +1,6 @@
 ghost use Rattle.std.specs.Prelude.{◌≡◌, [], ℕ, IfSome};
 ghost use Rattle.bus_signals.specs.Access.{IsFormed};
-ghost use Rattle.swatt_rom.specs.Call.{RomCall, NoCall, InCall, IsBetweenCalls, rom_access, rom_pc, rom_return, after_value};
+ghost use Rattle.swatt_rom.specs.RomCall.{RomCall, NoCall, InCall, IsBetweenCalls, Tells, rom_access, rom_pc, registers_after, after_value};
 
 use crate::phase::Phase;
 use crate::state::State;
@@ -18,7 +18,7 @@ pub struct Rom<D> {
 const _: () = prove!(size_of::<Rom<Sha256Digest>>() <= 2048);
 
 impl<D: Digest32> Rom<D> {
-    ghost use Rattle.swatt_rom.specs.Standing.{RomStandsFor, idle_rom};
+    ghost use Rattle.swatt_rom.specs.Rom.{RomStandsFor, idle_rom};
 
     /// An engine in no call.
     pub fn new() -> Rom<D>
@@ -30,35 +30,35 @@ impl<D: Digest32> Rom<D> {
 
     /// Begins a call, with the processor's stack pointer; no call may be in progress.
     pub fn begin(&mut self, sp: u16)
-        requires { (call : RomCall) × RomStandsFor D.has_taken D.digest_of self.old call × IsBetweenCalls call }
+        requires { (call : RomCall)
+            × RomStandsFor D.has_taken D.digest_of self.old call
+            × IsBetweenCalls call }
         ensures { RomStandsFor D.has_taken D.digest_of self.new (InCall sp []) }
     {
-        self.state = State::Calling {
+        self.state = State::Calls {
             sp,
             phase: Phase::new(),
         };
     }
 
-    /// The `pc` of the next step of a call: A000 in the first, BFFE in the last and A002 in the others;
-    /// 0 where no call is in progress.
+    /// The `pc` of the next step of a call: A000 in the first, BFFE in the last and A002 in the
+    /// others; 0 where no call is in progress.
     pub fn pc(&self) -> u16
-        ensures { (call : RomCall) →
-            RomStandsFor D.has_taken D.digest_of self.now call → result ≡ rom_pc call }
+        ensures { Tells (RomStandsFor D.has_taken D.digest_of) self.now rom_pc result }
     {
         self.state.pc()
     }
 
     /// PC and SP after a call: there from its last step until the next call begins.
     pub fn done(&self) -> Option<(u16, u16)>
-        ensures { (call : RomCall) →
-            RomStandsFor D.has_taken D.digest_of self.now call → result ≡ rom_return call }
+        ensures { Tells (RomStandsFor D.has_taken D.digest_of) self.now registers_after result }
     {
         self.state.registers()
     }
 }
 
 impl<D: Digest32> BusMaster for Rom<D> {
-    ghost use Rattle.swatt_rom.specs.Standing.{RomStandsFor, idle_rom};
+    ghost use Rattle.swatt_rom.specs.Rom.{RomStandsFor, idle_rom};
 
     ghost Meaning = { RomCall };
 
@@ -73,8 +73,8 @@ impl<D: Digest32> BusMaster for Rom<D> {
     ghost cleared = { λ call. NoCall };
 
     fn ask(&self) -> Option<Access>
-        ensures access { (call : RomCall) →
-            RomStandsFor D.has_taken D.digest_of self.now call → result ≡ rom_access D.digest_of call }
+        ensures access { Tells (RomStandsFor D.has_taken D.digest_of) self.now
+            (rom_access D.digest_of) result }
         ensures formed { IfSome result IsFormed }
     {
         self.state.access()
@@ -92,3 +92,6 @@ impl<D: Digest32> BusMaster for Rom<D> {
         *self = Rom::new();
     }
 }
+
+#[cfg(test)]
+mod tests;

@@ -1,6 +1,6 @@
-ghost use Rattle.std.specs.Prelude.{◌≡◌, ℕ, Option, IfSome};
+ghost use Rattle.std.specs.Prelude.{IfSome};
 ghost use Rattle.bus_signals.specs.Access.{IsFormed};
-ghost use Rattle.swatt_rom.specs.Call.{RomCall, rom_access, rom_pc, rom_return, after_value};
+ghost use Rattle.swatt_rom.specs.RomCall.{RomCall, Tells, rom_access, rom_pc, registers_after, after_value};
 
 use crate::phase::Phase;
 use bus_signals::{Access, CR};
@@ -13,62 +13,60 @@ pub enum State<D> {
     /// No call.
     Idle,
     /// In a call that began with this stack pointer.
-    Calling { sp: u16, phase: Phase<D> },
+    Calls { sp: u16, phase: Phase<D> },
     /// Before the return read, at the stack pointer.
-    Returning { sp: u16 },
+    Returns { sp: u16 },
     /// After the last step: PC and SP with which the processor goes on.
-    Finished { pc: u16, sp: u16 },
+    Leaves { pc: u16, sp: u16 },
 }
 
 impl<D: Digest32> State<D> {
-    ghost use Rattle.swatt_rom.specs.Standing.{StateStandsFor};
+    ghost use Rattle.swatt_rom.specs.State.{StateStandsFor};
 
     pub fn access(&self) -> Option<Access>
-        ensures access { (call : RomCall) →
-            StateStandsFor D.has_taken D.digest_of self.now call → result ≡ rom_access D.digest_of call }
+        ensures access { Tells (StateStandsFor D.has_taken D.digest_of) self.now
+            (rom_access D.digest_of) result }
         ensures formed { IfSome result IsFormed }
     {
         match self {
-            State::Calling { phase, .. } => Some(phase.access()),
-            State::Returning { sp } => Some(Access::Read(*sp / 2 * 2, Size::Word)),
-            State::Idle | State::Finished { .. } => None,
+            State::Calls { phase, .. } => Some(phase.access()),
+            State::Returns { sp } => Some(Access::Read(*sp / 2 * 2, Size::Word)),
+            State::Idle | State::Leaves { .. } => None,
         }
     }
 
     pub fn pc(&self) -> u16
-        ensures { (call : RomCall) →
-            StateStandsFor D.has_taken D.digest_of self.now call → result ≡ rom_pc call }
+        ensures { Tells (StateStandsFor D.has_taken D.digest_of) self.now rom_pc result }
     {
         match self {
-            State::Calling { phase, .. } => phase.pc(),
-            State::Returning { .. } => CR.last - 1,
-            State::Idle | State::Finished { .. } => 0,
+            State::Calls { phase, .. } => phase.pc(),
+            State::Returns { .. } => CR.last - 1,
+            State::Idle | State::Leaves { .. } => 0,
         }
     }
 
     /// PC and SP after the last step.
     pub fn registers(&self) -> Option<(u16, u16)>
-        ensures { (call : RomCall) →
-            StateStandsFor D.has_taken D.digest_of self.now call → result ≡ rom_return call }
+        ensures { Tells (StateStandsFor D.has_taken D.digest_of) self.now registers_after result }
     {
         match self {
-            State::Finished { pc, sp } => Some((*pc, *sp)),
+            State::Leaves { pc, sp } => Some((*pc, *sp)),
             _ => None,
         }
     }
 
     /// Where it stands after the access read this value.
     pub fn after(self, value: u16) -> State<D>
-        ensures { (call : RomCall) →
-            StateStandsFor D.has_taken D.digest_of self call →
-            StateStandsFor D.has_taken D.digest_of result (after_value D.digest_of call value) }
+        ensures { (call : RomCall)
+            → StateStandsFor D.has_taken D.digest_of self call
+            → StateStandsFor D.has_taken D.digest_of result (after_value D.digest_of call value) }
     {
         match self {
-            State::Calling { sp, phase } => match phase.after(value) {
-                Some(phase) => State::Calling { sp, phase },
-                None => State::Returning { sp },
+            State::Calls { sp, phase } => match phase.after(value) {
+                Some(phase) => State::Calls { sp, phase },
+                None => State::Returns { sp },
             },
-            State::Returning { sp } => State::Finished {
+            State::Returns { sp } => State::Leaves {
                 pc: value / 2 * 2,
                 sp: sp.wrapping_add(2),
             },

@@ -45,7 +45,8 @@ impl<const N: usize> WordBuffer<N> {
     pub fn with(self, word: u16) -> Result<[u16; N], WordBuffer<N>>
         ensures last { IsOk result ↔ (length self.entry.words.items + 1 ≡ N) }
         ensures all { IfOk result (λ words. words ≡ self.entry.words.items ++ word ∷ []) }
-        ensures more { IfErr result (λ buffer. buffer.words.items ≡ self.entry.words.items ++ word ∷ []) }
+        ensures more { IfErr result (λ buffer.
+            buffer.words.items ≡ self.entry.words.items ++ word ∷ []) }
     {
         let mut words = self.words;
         words.push(word);

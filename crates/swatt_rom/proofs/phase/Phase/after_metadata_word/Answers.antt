@@ -1,5 +1,5 @@
 use Rattle.std.proofs.Common.{◌++◌, ◌∷◌, ◌∙◌, [], append_assoc, ap, sym, subst}
-use Rattle.swatt_rom.specs.Standing.{PhaseStandsFor}
+use Rattle.swatt_rom.specs.Phase.{PhaseStandsFor}
 use Rattle.swatt_rom.proofs.phase.Phase.after_metadata_word.Goals as goal
 
 pub returns-in-Ok : goal.returns-in-Ok

@@ -5,19 +5,22 @@ use Rattle.swatt_rom.proofs.phase.Phase.after_region_word.Goals as goal
 
 pub returns-in-Some : goal.returns-in-Some
 returns-in-Some g c = λ words stands.
-    let passed : length words ≡ 69 + c.args.region.read = stands.same_length in
-    region-more g.D.Digest32.has_taken g.D.Digest32.digest_of c.args.hash c.hash_word.new.hash c.args.region c.in-Some.region
-    words c.args.word c.in-Some.ensures.bounds c.in-Some.ensures.read c.args.region.some_left stands
-    (HashesRegion-more g.D.Digest32.has_taken g.D.Digest32.digest_of c.hash_word.new.hash words c.args.word (omega arith)
-    (region-left c.args.region words stands.same_bounds passed)
-    (c.hash_word.ensures (derived_in g.D.Digest32.digest_of words) (metadata_read words ++ region_read words) stands.hashed))
+    let count : length words ≡ 69 + c.args.region.next = stands.same_length in
+    region-more g.D.Digest32.has_taken g.D.Digest32.digest_of c.args.hash c.hash_word.new.hash
+    c.args.region c.in-Some.region words c.args.word
+    c.in-Some.ensures.bounds c.in-Some.ensures.next stands
+    (HashesRegion-more g.D.Digest32.has_taken g.D.Digest32.digest_of c.hash_word.new.hash
+    words c.args.word (omega arith) (region-left c.args.region words stands.same_bounds count)
+    (c.hash_word.ensures (derived_in g.D.Digest32.digest_of words)
+    (metadata_read words ++ region_read words) stands.hashes))
 
 pub returns-in-None : goal.returns-in-None
 returns-in-None g c = λ words stands.
-    let passed : length words ≡ 69 + c.args.region.read = stands.same_length in
-    let last : c.args.region.read + 1 ≡ region_words c.args.region.bounds = search rules in
+    let count : length words ≡ 69 + c.args.region.next = stands.same_length in
+    let last : c.args.region.next + 1 ≡ region_words c.args.region.bounds = search rules in
     c.after_region.ensures (words ++ c.args.word ∷ [])
-    (region-last c.args.region words c.args.word stands.same_bounds passed last)
-    (HashesRegion-more g.D.Digest32.has_taken g.D.Digest32.digest_of c.hash_word.new.hash words c.args.word (omega arith)
-    (region-left c.args.region words stands.same_bounds passed)
-    (c.hash_word.ensures (derived_in g.D.Digest32.digest_of words) (metadata_read words ++ region_read words) stands.hashed))
+    (region-last c.args.region words c.args.word stands.same_bounds count last)
+    (HashesRegion-more g.D.Digest32.has_taken g.D.Digest32.digest_of c.hash_word.new.hash
+    words c.args.word (omega arith) (region-left c.args.region words stands.same_bounds count)
+    (c.hash_word.ensures (derived_in g.D.Digest32.digest_of words)
+    (metadata_read words ++ region_read words) stands.hashes))
