@@ -1,2 +1,8 @@
-pub mod Formed
-pub mod Progress
+pub mod Calls
+pub mod Happenings
+pub mod Histories
+pub mod Lives
+pub mod NextProgress
+pub mod Registers
+pub mod Steps
+pub mod Turns

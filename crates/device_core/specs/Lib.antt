@@ -1,3 +1,7 @@
-pub mod Processor
+pub mod Bus
+pub mod Device
 pub mod Machine
-pub mod States
+pub mod Monitors
+pub mod Past
+pub mod Peripherals
+pub mod Turn

@@ -1,22 +1,83 @@
--- What a machine stands for.
-use Rattle.std.specs.Prelude.{◌≡◌, ℕ, false, List, length}
-use Rattle.bus_signals.specs.declared.event.Event.{Event}
-use Rattle.part_definitions.specs.Memory.{PowerOn}
-use Rattle.mem_map.specs.Memory.{MemoryStandsFor}
-use Rattle.bus_signals.specs.declared.signals.Signals.{Signals}
-use Rattle.device_trace.specs.Progress.{registers_of}
-use Rattle.device_trace.specs.Step.{signals_of}
-use Rattle.device_trace.specs.Trace.{trace, last_record, logs_after}
+-- What a machine stands for, at each stage.
+use Rattle.std.specs.Prelude.{◌≡◌, ◌⊎◌, ℕ, Bool, true, List}
+use Rattle.part_definitions.specs.CpuRegisters.{sp_of}
+use Rattle.part_definitions.specs.CpuState.{CpuState, Boundary, Executing, Entering, clear_cpu, registers_of}
+use Rattle.msp_exec.specs.Course.{CpuStandsFor}
+use Rattle.swatt_rom.specs.Call.{NoCall, InCall as RomInCall}
+use Rattle.swatt_rom.specs.Standing.{RomStandsFor}
+use Rattle.bus_signals.specs.declared.kind.Kind.{Kind}
+use Rattle.bus_signals.specs.declared.kind.Kind.TheVariants.{Idle}
+use Rattle.device_trace.specs.Logs.{Logs, step_progress}
+use Rattle.device_trace.specs.Progress.{Held, Runs, InCall}
+use Rattle.device_trace.specs.Signals.{step_kind}
+use Rattle.device_trace.specs.Start.{Start}
+use Rattle.device_core.specs.Bus.{BusStandsFor, TurnStandsFor}
 use Rattle.device_core.specs.declared.machine.Machine.{Machine}
+use Rattle.device_core.specs.declared.turn.Turn.{Turn}
+use Rattle.device_core.specs.declared.stage.Stage.{Stage}
+use Rattle.device_core.specs.declared.stage.Stage.TheVariants.{Held as HeldStage, Running as RunningStage, InRom as InRomStage}
 
--- the machine stands for what it was powered on with and a play, but for the processor
-pub record MachineStandsFor (machine : Machine) (start : PowerOn) (play : List (List Event)) : Type 0 where
-  pub memory : MemoryStandsFor machine.memory start false (logs_after start play).memory
-  pub steps : machine.steps ≡ length play
-  pub last : machine.last ≡ last_record (trace start play)
+-- held: the processor and the attestation engine are clear
+pub record HeldMachine {D : Type 0} (taken : D → List ℕ → Type 0) (digest : List ℕ → List ℕ)
+    (machine : Machine D) (start : Start) (logs : Logs) : Type 0 where
+  pub same_bus : BusStandsFor machine.bus start logs
+  pub same_progress : logs.progress ≡ Held
+  pub same_processor : CpuStandsFor machine.processor clear_cpu
+  pub same_call : RomStandsFor taken digest machine.call NoCall
 
--- the machine stands for the play, and these are the registers and the signals of its next step
-pub record StandsBefore (machine : Machine) (regs : List ℕ) (now : Signals) (start : PowerOn) (play : List (List Event)) : Type 0 where
-  pub stands : MachineStandsFor machine start play
-  pub signals : now ≡ signals_of start (logs_after start play)
-  pub registers : regs ≡ registers_of (logs_after start play).progress
+-- the processor stands for this state, and the engine is clear
+pub record RunsFrom {D : Type 0} (taken : D → List ℕ → Type 0) (digest : List ℕ → List ℕ)
+    (machine : Machine D) (start : Start) (logs : Logs) (state : CpuState) : Type 0 where
+  pub same_bus : BusStandsFor machine.bus start logs
+  pub same_progress : logs.progress ≡ Runs state
+  pub same_processor : CpuStandsFor machine.processor state
+  pub same_call : RomStandsFor taken digest machine.call NoCall
+
+-- running, from some state
+pub record RunningMachine {D : Type 0} (taken : D → List ℕ → Type 0) (digest : List ℕ → List ℕ)
+    (machine : Machine D) (start : Start) (logs : Logs) : Type 0 where
+  pub state : CpuState
+  pub same : RunsFrom taken digest machine start logs state
+
+-- in a call: the processor waits at a boundary with these registers, and these words passed
+pub record CallingMachine {D : Type 0} (taken : D → List ℕ → Type 0) (digest : List ℕ → List ℕ)
+    (machine : Machine D) (start : Start) (logs : Logs) : Type 0 where
+  pub regs : List ℕ
+  pub words : List ℕ
+  pub same_bus : BusStandsFor machine.bus start logs
+  pub same_progress : logs.progress ≡ InCall regs words
+  pub same_processor : CpuStandsFor machine.processor (Boundary regs)
+  pub same_call : RomStandsFor taken digest machine.call (RomInCall (sp_of regs) words)
+
+-- at this stage
+abbrev pub MachineStandsFor :
+    {D : Type 0} → (D → List ℕ → Type 0) → (List ℕ → List ℕ)
+    → Stage → Machine D → Start → Logs → Type 0
+MachineStandsFor taken digest HeldStage machine start logs = HeldMachine taken digest machine start logs
+MachineStandsFor taken digest RunningStage machine start logs = RunningMachine taken digest machine start logs
+MachineStandsFor taken digest InRomStage machine start logs = CallingMachine taken digest machine start logs
+
+-- at a boundary the processor fetches an opcode, or sleeps
+abbrev pub FetchesOpcode : Kind → Bool → CpuState → Type 0
+FetchesOpcode kind opcode (Boundary regs) = (kind ≡ Idle) ⊎ (opcode ≡ true)
+FetchesOpcode kind opcode (Executing regs values) = Unit {0}
+FetchesOpcode kind opcode (Entering regs vector values) = Unit {0}
+
+-- within a step of the processor, or of its sleep: it is the processor's turn, from this state
+pub record RunsWithin {D : Type 0} (taken : D → List ℕ → Type 0) (digest : List ℕ → List ℕ)
+    (machine : Machine D) (turn : Turn) (start : Start) (logs : Logs) (state : CpuState) : Type 0 where
+  pub same_bus : BusStandsFor machine.bus start logs
+  pub same_turn : TurnStandsFor (registers_of state) turn start logs
+  pub same_within : step_progress logs (step_kind logs) ≡ Runs state
+  pub fetches : FetchesOpcode turn.kind turn.opcode state
+  pub same_processor : CpuStandsFor machine.processor state
+  pub same_call : RomStandsFor taken digest machine.call NoCall
+
+-- within a step of a call, which began with these registers and in which these words passed
+pub record CallsWithin {D : Type 0} (taken : D → List ℕ → Type 0) (digest : List ℕ → List ℕ)
+    (machine : Machine D) (turn : Turn) (start : Start) (logs : Logs) (regs words : List ℕ) : Type 0 where
+  pub same_bus : BusStandsFor machine.bus start logs
+  pub same_turn : TurnStandsFor regs turn start logs
+  pub same_within : step_progress logs (step_kind logs) ≡ InCall regs words
+  pub same_processor : CpuStandsFor machine.processor (Boundary regs)
+  pub same_call : RomStandsFor taken digest machine.call (RomInCall (sp_of regs) words)

@@ -1,123 +1,232 @@
-ghost use Rattle.std.specs.Prelude.{◌≡◌, ℕ, Bool, List, Some, None};
+ghost use Rattle.std.specs.Prelude.{◌≡◌, ◌<◌, ◌^◌, ◌∷◌, ℕ, Bool, List, IfSome, IfOk, Some, None};
+ghost use Rattle.bus_signals.specs.Access.{IsFormed};
+ghost use Rattle.bus_signals.specs.declared.event.Event.{Event};
+ghost use Rattle.bus_signals.specs.declared.rule.Rule.{Rule};
+ghost use Rattle.bus_signals.specs.declared.signals.Signals.{Signals};
+ghost use Rattle.bus_signals.specs.Seen.{Seen};
+ghost use Rattle.part_definitions.specs.Flag.{exec, last_pc};
 ghost use Rattle.part_definitions.specs.Memory.{PowerOn, MemoryWrite, byte_at, with_access};
-ghost use Rattle.device_trace.specs.Step.{value_read, word_fetched, breaks_i1, first_rule, without_number, access_recorded, value_recorded, recorded};
-ghost use Rattle.device_trace.specs.Logs.{memory_after};
 ghost use Rattle.mem_map.specs.Memory.{MemoryStandsFor};
+ghost use Rattle.mem_map.specs.Image.{powered_on};
+ghost use Rattle.device_trace.specs.Start.{Start};
+ghost use Rattle.device_trace.specs.Logs.{Logs, power_on_logs, accepts_timer, memory_after, with_events, with_record, exec_of, vector_of};
+ghost use Rattle.device_trace.specs.Signals.{signals_of, word_fetched, value_read};
+ghost use Rattle.device_trace.specs.Step.{is_reset, asks_reset, memory_read, dma_value_read, record_from, record_of};
+ghost use Rattle.device_core.specs.Peripherals.{PeripheralsStandFor};
 
-use crate::processor::is_illegal;
-use bus_signals::{Access, BusRecord, Rule, Signals};
-use mem_map::Memory;
-use word_arith::Size;
+use crate::access::{memory_read, value_read, word_fetched, write_access};
+use crate::monitors::Monitors;
+use crate::past::Past;
+use crate::peripherals::Peripherals;
+use crate::record::{performed, refused};
+use crate::turn::Turn;
+use bus_signals::{Bounds, BusMaster, BusRecord, Event, Rule, Signals};
+use mem_map::{Image, Memory};
+use std::alloc::{AllocError, Global};
 
-/// What an access reads, 0 for a write and for none.
-pub fn value_read(memory: &Memory, access: Option<Access>) -> u16
-    ensures { (start : PowerOn) (exec : Bool) (writes : List MemoryWrite)
-        → MemoryStandsFor memory.now start exec writes
-        → result ≡ value_read (byte_at start exec writes) access }
-{
-    match access {
-        Some(Access::Fetch(place)) => memory.read(place, Size::Word),
-        Some(Access::Read(place, size)) => memory.read(place, size),
-        Some(Access::Write(..)) | None => 0,
-    }
+/// What the accesses of a step read, 0 for a write and for none.
+#[derive(Clone, Copy)]
+struct Values {
+    cpu: u16,
+    dma: u16,
 }
 
-/// What a fetch would read, 0 for other accesses.
-pub fn word_fetched(memory: &Memory, access: Option<Access>) -> u16
-    ensures { (start : PowerOn) (exec : Bool) (writes : List MemoryWrite)
-        → MemoryStandsFor memory.now start exec writes
-        → result ≡ word_fetched (byte_at start exec writes) access }
-{
-    match access {
-        Some(Access::Fetch(place)) => memory.read(place, Size::Word),
-        Some(Access::Read(..) | Access::Write(..)) | None => 0,
-    }
+/// The bus, with what is reached over it and what watches it.
+#[derive(Drop)]
+pub struct Bus {
+    pub memory: Memory,
+    pub peripherals: Peripherals,
+    pub monitors: Monitors,
+    pub past: Past,
 }
 
-/// The access writes, if it is a write.
-fn write_access(memory: &mut Memory, access: Option<Access>)
-    ensures { (start : PowerOn) (exec : Bool) (writes : List MemoryWrite)
-        → MemoryStandsFor memory.old start exec writes
-        → MemoryStandsFor memory.new start exec (with_access access writes) }
+fn is_reset(event: &Event) -> bool
+    ensures { result ≡ is_reset event.now }
 {
-    if let Some(Access::Write(place, size, number)) = access {
-        memory.write(place, size, number);
-    }
+    matches!(event, Event::Reset)
 }
 
-/// The first rule that the step breaks.
-#[tactic(auto, unfolding(device_trace::specs::Step::first_rule))]
-fn first_rule(now: &Signals) -> Option<Rule>
-    ensures { result ≡ first_rule now.now }
+// Whether the script asks for a reset in this step.
+fn asks_reset(events: &[Event]) -> bool
+    ensures { result ≡ asks_reset events.now }
 {
-    if now.opcode && is_illegal(now.word) {
-        Some(Rule::I1)
-    } else {
-        None
-    }
+    events.iter().any(|event| is_reset(event))
 }
 
-/// A refused access, with 0 in place of the number that a write carries.
-fn without_number(access: Option<Access>) -> Option<Access>
-    ensures { result ≡ without_number access }
+// Makes the accesses of a step: the DMA sees what the processor writes.
+fn exchange(memory: &mut Memory, peripherals: &Peripherals, now: &Signals) -> Values
+    ensures cpu { (start : Start) (logs : Logs)
+        → MemoryStandsFor memory.old start.power (exec_of logs) logs.memory
+        → PeripheralsStandFor peripherals.now logs.peripherals
+        → now.now.word ≡ word_fetched start logs now.now.cpu
+        → result.cpu ≡ value_read start logs now.now.cpu }
+    ensures dma { (start : Start) (logs : Logs)
+        → MemoryStandsFor memory.old start.power (exec_of logs) logs.memory
+        → result.dma ≡ dma_value_read start logs now.now }
+    ensures memory { (start : PowerOn) (flag : Bool) (writes : List MemoryWrite)
+        → MemoryStandsFor memory.old start flag writes
+        → MemoryStandsFor memory.new start flag (memory_after None now.now.cpu now.now.dma writes) }
 {
-    match access {
-        Some(Access::Write(place, size, _)) => Some(Access::Write(place, size, 0)),
-        other => other,
-    }
+    let cpu = value_read(memory, peripherals, now.cpu, now.word);
+    write_access(memory, now.cpu);
+    let dma = memory_read(memory, now.dma);
+    write_access(memory, now.dma);
+    Values { cpu, dma }
 }
 
-/// The record of a step that was not refused.
-fn performed(regs: [u16; 16], now: &Signals, value: u16) -> BusRecord
-    ensures { result ≡ recorded regs now.now None value }
-{
-    BusRecord {
-        kind: now.kind,
-        pc: now.pc,
-        regs,
-        cpu: now.cpu,
-        value,
-        dma: now.dma,
-        dma_value: 0,
-        irq: now.irq,
-        reset: None,
-    }
-}
+impl Bus {
+    ghost use Rattle.device_core.specs.Bus.{BusStandsFor, TurnStandsFor, PastStandsFor, answer_in};
+    ghost use Rattle.device_core.specs.Past.{StepsFrom};
+    ghost use Rattle.device_core.specs.Monitors.{MonitorsStandFor};
 
-/// The record of a step that broke a rule.
-fn refused(regs: [u16; 16], now: &Signals, rule: Rule) -> BusRecord
-    ensures { result ≡ recorded regs now.now (Some rule) 0 }
-{
-    BusRecord {
-        kind: now.kind,
-        pc: now.pc,
-        regs,
-        cpu: without_number(now.cpu),
-        value: 0,
-        dma: without_number(now.dma),
-        dma_value: 0,
-        irq: now.irq,
-        reset: Some(rule),
+    /// The bus at power-on.
+    #[tactic(auto, unfolding(part_definitions::specs::Flag::exec))]
+    pub fn new(alloc: Global, key: &[u8; 64], image: &Image) -> Result<Bus, AllocError>
+        ensures stands { (start : Start)
+            → start.power ≡ powered_on key.now image.now
+            → IfOk result (λ bus. BusStandsFor bus start power_on_logs) }
+        ensures none { IfOk result (λ bus. bus.past.steps ≡ 0) }
+    {
+        Ok(Bus {
+            memory: Memory::new(alloc, key, image)?,
+            peripherals: Peripherals::new(alloc)?,
+            monitors: Monitors::new(),
+            past: Past {
+                steps: 0,
+                last: None,
+            },
+        })
     }
-}
 
-/// Tries the rules against what the step is about to do, and does it where none is broken.
-pub fn act(memory: &mut Memory, regs: [u16; 16], now: &Signals) -> BusRecord
-    ensures kind { result.kind ≡ now.now.kind }
-    ensures entry { (start : PowerOn) (exec : Bool) (writes : List MemoryWrite)
-        → MemoryStandsFor memory.old start exec writes
-        → result ≡ recorded regs now.now (first_rule now.now)
-        (value_read (byte_at start exec writes) now.now.cpu) }
-    ensures memory { (start : PowerOn) (exec : Bool) (writes : List MemoryWrite)
-        → MemoryStandsFor memory.old start exec writes
-        → MemoryStandsFor memory.new start exec (memory_after result.reset result.cpu writes) }
-{
-    match first_rule(now) {
-        None => {
-            let value = value_read(memory, now.cpu);
-            write_access(memory, now.cpu);
-            performed(regs, now, value)
+    /// The events of a step come, in their order. Whether one asks for a reset.
+    #[tactic(auto, unfolding(device_trace::specs::Logs::with_events))]
+    pub fn hear(&mut self, events: &[Event]) -> bool
+        ensures past { self.new.past ≡ self.old.past }
+        ensures reset { result ≡ asks_reset events.now }
+        ensures stands { (start : Start) (logs : Logs)
+            → BusStandsFor self.old start logs
+            → BusStandsFor self.new start (with_events logs events.now) }
+    {
+        self.peripherals.hear(events);
+        asks_reset(events)
+    }
+
+    // What the step of this turn is about to do.
+    #[tactic(auto, unfolding(device_trace::specs::Signals::signals_at))]
+    fn signals(&self, turn: &Turn, script_reset: bool) -> Signals
+        requires { IfSome turn.now.access IsFormed }
+        ensures cpu { IfSome result.cpu IsFormed }
+        ensures dma { IfSome result.dma IsFormed }
+        ensures value { (start : Start) (logs : Logs) (regs : List ℕ)
+            → BusStandsFor self.now start logs
+            → TurnStandsFor regs turn.now start logs
+            → result ≡ signals_of start logs script_reset }
+    {
+        Signals {
+            kind: turn.kind,
+            pc: turn.pc,
+            cpu: turn.access,
+            dma: self.peripherals.dma.ask(),
+            irq: turn.irq,
+            word: word_fetched(&self.memory, &self.peripherals, turn.access),
+            opcode: turn.opcode,
+            script_reset,
         }
-        Some(rule) => refused(regs, now, rule),
+    }
+
+    // The step ends with this record; the bounds are those before it.
+    fn record(&mut self, entry: BusRecord, bounds: &Bounds)
+        requires few { self.old.past.steps < 2 ^ 63 }
+        requires cpu { IfSome entry.cpu IsFormed }
+        requires dma { IfSome entry.dma IsFormed }
+        ensures past_steps { StepsFrom self.old.past self.new.past }
+        ensures peripherals { self.new.peripherals ≡ self.old.peripherals }
+        ensures memory { (start : PowerOn) (flag : Bool) (writes : List MemoryWrite) (seen : List Seen)
+            → MemoryStandsFor self.old.memory start flag writes
+            → MonitorsStandFor self.old.monitors seen
+            → MemoryStandsFor self.new.memory start
+            (exec (record { entry = entry; bounds = bounds.now } ∷ seen)) writes }
+        ensures monitors { (seen : List Seen)
+            → MonitorsStandFor self.old.monitors seen
+            → MonitorsStandFor self.new.monitors (record { entry = entry; bounds = bounds.now } ∷ seen) }
+        ensures past { (seen : List Seen)
+            → PastStandsFor self.old.past seen
+            → PastStandsFor self.new.past (record { entry = entry; bounds = bounds.now } ∷ seen) }
+    {
+        self.monitors.see(&entry, bounds);
+        self.memory.set_exec(self.monitors.exec());
+        self.past = Past {
+            steps: self.past.steps + 1,
+            last: Some(entry),
+        };
+    }
+
+    // Makes a step that breaks no rule. What the access of the processor read.
+    #[tactic(auto, unfolding(device_trace::specs::Logs::with_record))]
+    fn perform(&mut self, regs: [u16; 16], is_accepted: bool, now: &Signals) -> u16
+        requires few { self.old.past.steps < 2 ^ 63 }
+        requires cpu { IfSome now.now.cpu IsFormed }
+        requires dma { IfSome now.now.dma IsFormed }
+        ensures past_steps { StepsFrom self.old.past self.new.past }
+        ensures value { (start : Start) (logs : Logs)
+            → BusStandsFor self.old start logs
+            → now.now.word ≡ word_fetched start logs now.now.cpu
+            → result ≡ value_read start logs now.now.cpu }
+        ensures stands { (start : Start) (logs : Logs)
+            → BusStandsFor self.old start logs
+            → now.now.word ≡ word_fetched start logs now.now.cpu
+            → is_accepted ≡ accepts_timer logs.progress now.now.kind (vector_of logs)
+            → BusStandsFor self.new start (with_record start logs
+            (record_from regs now.now None (value_read start logs now.now.cpu)
+            (dma_value_read start logs now.now))) }
+    {
+        let bounds = self.memory.bounds();
+        let values = exchange(&mut self.memory, &self.peripherals, now);
+        self.peripherals
+            .serve(now.cpu, now.dma, values.dma, is_accepted);
+        self.record(performed(regs, now, values.cpu, values.dma), &bounds);
+        values.cpu
+    }
+
+    // Makes no access, and resets all that is reached over the bus but memory and pins.
+    #[tactic(auto, unfolding(device_trace::specs::Logs::with_record))]
+    fn refuse(&mut self, regs: [u16; 16], rule: Rule, now: &Signals)
+        requires few { self.old.past.steps < 2 ^ 63 }
+        requires cpu { IfSome now.now.cpu IsFormed }
+        requires dma { IfSome now.now.dma IsFormed }
+        ensures past_steps { StepsFrom self.old.past self.new.past }
+        ensures stands { (start : Start) (logs : Logs) (value dma_value : ℕ)
+            → BusStandsFor self.old start logs
+            → BusStandsFor self.new start (with_record start logs
+            (record_from regs now.now (Some rule) value dma_value)) }
+    {
+        let bounds = self.memory.bounds();
+        self.peripherals.clear();
+        self.record(refused(regs, now, rule), &bounds);
+    }
+
+    /// Tries the rules, and makes the step of this turn where none is broken. What the access of
+    /// processor or ROM read, `None` where the step is refused.
+    pub fn act(&mut self, regs: [u16; 16], turn: &Turn, script_reset: bool) -> Option<u16>
+        requires few { self.old.past.steps < 2 ^ 63 }
+        requires formed { IfSome turn.now.access IsFormed }
+        ensures past_steps { StepsFrom self.old.past self.new.past }
+        ensures answer { (start : Start) (logs : Logs)
+            → BusStandsFor self.old start logs
+            → TurnStandsFor regs turn.now start logs
+            → result ≡ answer_in (record_of start logs script_reset) }
+        ensures stands { (start : Start) (logs : Logs)
+            → BusStandsFor self.old start logs
+            → TurnStandsFor regs turn.now start logs
+            → BusStandsFor self.new start (with_record start logs (record_of start logs script_reset)) }
+    {
+        let now = self.signals(turn, script_reset);
+        match self.monitors.first_rule(&now) {
+            None => Some(self.perform(regs, turn.accepts_timer, &now)),
+            Some(rule) => {
+                self.refuse(regs, rule, &now);
+                None
+            }
+        }
     }
 }

@@ -1,18 +1,23 @@
-//! The device: memory and processor on one bus, a bus step at a time.
+//! The device: an attested MSP430 microcontroller, a bus step at a time.
 //!
-//! A device stands for what it was powered on with and a play: its records are the trace of that
-//! play, its memory the bytes last written. So far the device is narrow: it boots and runs MOV of an
-//! immediate to an absolute address and JMP, any other word resets it, and it has one register, STXD.
+//! In a step the events from outside come, then the processor or the attestation ROM makes at most
+//! one access, then the DMA engine at most one, then the timer ticks. A step that breaks a rule of
+//! the monitors (VRASED, USENIX Security 2019) makes none of these and resets the device. A device
+//! stands for what it was powered on with and a play: its records are the trace of that play, its
+//! EXEC flag (APEX, USENIX Security 2020) and its memory are what the trace leaves.
 #![tactic(auto)]
 
+mod access;
 mod bus;
+mod device;
 mod live;
 mod machine;
-mod processor;
-mod states;
+mod monitors;
+mod past;
+mod peripherals;
+mod record;
+mod stage;
+mod turn;
 
+pub use device::{Device, Held, InRom, Running, power_on};
 pub use live::Live;
-pub use states::{Device, Held, Running, power_on};
-
-#[cfg(test)]
-mod tests;

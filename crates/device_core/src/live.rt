@@ -1,89 +1,102 @@
-ghost use Rattle.std.specs.Prelude.{◌≡◌, ◌∷◌, ◌<◌, ◌+◌, ◌^◌, [], ℕ, List, Some, IsSome, false, length, ◌==◌};
-ghost use Rattle.std.specs.List.{list_any};
-ghost use Rattle.bus_signals.specs.Access.{span_of};
+ghost use Rattle.std.specs.Prelude.{◌≡◌, ◌==◌, ◌<◌, ◌+◌, ◌^◌, ◌∷◌, ℕ, List, Some, length};
 ghost use Rattle.bus_signals.specs.declared.event.Event.{Event};
-ghost use Rattle.part_definitions.specs.Memory.{PowerOn};
 ghost use Rattle.mem_map.specs.Memory.{MemoryStandsFor};
-ghost use Rattle.device_trace.specs.Progress.{next_pc_of};
-ghost use Rattle.device_trace.specs.Text.{sent_in, sent_last};
 ghost use Rattle.device_trace.specs.Formed.{AccessesAreFormed};
+ghost use Rattle.device_trace.specs.Logs.{Logs, exec_of};
+ghost use Rattle.device_trace.specs.Progress.{next_pc_of};
+ghost use Rattle.device_trace.specs.Start.{Start, with_key};
+ghost use Rattle.device_trace.specs.Text.{byte_sent_in, last_byte_sent, finishes_call};
 ghost use Rattle.device_trace.specs.Trace.{trace, last_record, logs_after};
-ghost use Rattle.device_core.specs.States.{LiveStandsFor, steps_made, machine_of};
+ghost use Rattle.device_core.specs.Device.{LiveStandsAt, LiveStandsFor, machine_of, steps_made, HasStepped};
+ghost use Rattle.device_core.specs.Machine.{MachineStandsFor};
 
+use crate::device::{Device, Held, InRom, Running};
 use crate::machine::Machine;
-use crate::states::{Device, Held, Running};
+use crate::stage::Stage;
 use bus_signals::{Access, BusRecord, Event};
+use hmac_core::Digest32;
 use mem_map::Memory;
-use word_arith::Size;
+use peripheral_register::covers_byte;
+
+/// The register that sends a byte.
+const STXD: u16 = 0x0076;
 
 /// A device in whatever state it is.
 #[derive(Drop)]
-pub enum Live {
+pub enum Live<D: Digest32> {
     /// Its next step is a boot.
-    Held(Device<Held>),
-    /// Its next step is an access of the processor.
-    Running(Device<Running>),
+    Held(Device<Held, D>),
+    /// Its next step is an access of the processor, sleep, or the first of a call.
+    Running(Device<Running, D>),
+    /// Its next step is one of a call.
+    InRom(Device<InRom, D>),
 }
 
-/// The byte that a step sent: an access that was not refused and writes byte 0076 (STXD) sends its
-/// low byte.
-fn sent_in(entry: &BusRecord) -> Option<u8>
-    ensures { result ≡ sent_in entry.now }
+// The byte that a step sent.
+fn byte_sent_in(entry: &BusRecord) -> Option<u8>
+    ensures { result ≡ byte_sent_in entry.now }
 {
     match (entry.reset, entry.cpu) {
-        (None, Some(Access::Write(place, size, number))) if covers_stxd(place, size) => {
-            Some((number % 256) as u8)
+        (None, Some(Access::Write(place, size, number))) if covers_byte(place, size, STXD) => {
+            Some((number % 0x100) as u8)
         }
         _ => None,
     }
 }
 
-/// Whether an access at this place is of byte 0076.
-fn covers_stxd(place: u16, size: Size) -> bool
-    ensures { result ≡ list_any (λ byte. byte == 0x0076) (span_of place size) }
-{
-    match size {
-        Size::Byte => place == 0x0076,
-        Size::Word => place == 0x0076 || place == 0x0075,
+impl<D: Digest32> Live<D> {
+    /// The device whose machine has come to this stage.
+    pub(crate) fn at(machine: Box<Machine<D>>, stage: Stage) -> Live<D>
+        ensures stands { (start : Start) (logs : Logs)
+            → MachineStandsFor D.has_taken D.digest_of stage machine.value start logs
+            → LiveStandsAt D.has_taken D.digest_of result start logs }
+        ensures machine { machine_of result ≡ machine.value }
+    {
+        match stage {
+            Stage::Held => Live::Held(Device::of(machine)),
+            Stage::Running => Live::Running(Device::of(machine)),
+            Stage::InRom => Live::InRom(Device::of(machine)),
+        }
     }
-}
 
-impl Live {
     /// Makes the next step. The events come at its beginning.
-    pub fn step(self, events: &[Event]) -> Live
+    pub fn step(self, events: &[Event]) -> Live<D>
         requires { steps_made self < 2 ^ 63 }
-        ensures stands { (start : PowerOn) (play : List (List Event))
-            → LiveStandsFor self start play
-            → LiveStandsFor result start (events.now ∷ play) }
+        ensures stands { (key : List ℕ) (image : ℕ → ℕ) (play : List (List Event))
+            → LiveStandsFor D.has_taken D.digest_of self (with_key D.digest_of key image) play
+            → LiveStandsFor D.has_taken D.digest_of result (with_key D.digest_of key image)
+            (events.now ∷ play) }
         ensures steps { steps_made result ≡ steps_made self + 1 }
-        ensures recorded { IsSome (machine_of result).last }
+        ensures recorded { HasStepped result }
     {
         match self {
             Live::Held(device) => device.step(events),
             Live::Running(device) => device.step(events),
+            Live::InRom(device) => device.step(events),
         }
     }
 
-    fn machine(&self) -> &Machine
+    fn machine(&self) -> &Machine<D>
         ensures { result.now ≡ machine_of self.now }
     {
         match self {
             Live::Held(device) => &device.machine,
             Live::Running(device) => &device.machine,
+            Live::InRom(device) => &device.machine,
         }
     }
 
     /// The record of the last step, once a step was made.
     pub fn entry(&self) -> BusRecord
-        requires { IsSome (machine_of self.now).last }
-        ensures formed { (start : PowerOn) (play : List (List Event))
-            → LiveStandsFor self.now start play
+        requires { HasStepped self.now }
+        ensures formed { (start : Start) (play : List (List Event))
+            → LiveStandsFor D.has_taken D.digest_of self.now start play
             → AccessesAreFormed result }
-        ensures last { (start : PowerOn) (play : List (List Event))
-            → LiveStandsFor self.now start play
+        ensures last { (start : Start) (play : List (List Event))
+            → LiveStandsFor D.has_taken D.digest_of self.now start play
             → last_record (trace start play) ≡ Some result }
     {
-        match self.machine().last {
+        match self.machine().bus.past.last {
             Some(entry) => entry,
             None => unreachable!(),
         }
@@ -91,41 +104,55 @@ impl Live {
 
     /// The byte that the last step sent.
     pub fn sent(&self) -> Option<u8>
-        ensures { (start : PowerOn) (play : List (List Event))
-            → LiveStandsFor self.now start play
-            → result ≡ sent_last (trace start play) }
+        ensures { (start : Start) (play : List (List Event))
+            → LiveStandsFor D.has_taken D.digest_of self.now start play
+            → result ≡ last_byte_sent (trace start play) }
     {
-        sent_in(&self.machine().last?)
+        match &self.machine().bus.past.last {
+            Some(entry) => byte_sent_in(entry),
+            None => None,
+        }
     }
 
     /// The memory after the last step.
     pub fn memory(&self) -> &Memory
-        ensures { (start : PowerOn) (play : List (List Event))
-            → LiveStandsFor self.now start play
-            → MemoryStandsFor result.now start false (logs_after start play).memory }
+        ensures { (start : Start) (play : List (List Event))
+            → LiveStandsFor D.has_taken D.digest_of self.now start play
+            → MemoryStandsFor result.now start.power (exec_of (logs_after start play))
+            (logs_after start play).memory }
     {
-        &self.machine().memory
+        &self.machine().bus.memory
+    }
+
+    /// The EXEC flag after the last step.
+    pub fn exec(&self) -> bool
+        ensures { (start : Start) (play : List (List Event))
+            → LiveStandsFor D.has_taken D.digest_of self.now start play
+            → result ≡ exec_of (logs_after start play) }
+    {
+        self.machine().bus.monitors.exec()
     }
 
     /// How many steps were made.
     pub fn steps(&self) -> u64
         ensures made { result ≡ steps_made self.now }
-        ensures stands { (start : PowerOn) (play : List (List Event))
-            → LiveStandsFor self.now start play
+        ensures stands { (start : Start) (play : List (List Event))
+            → LiveStandsFor D.has_taken D.digest_of self.now start play
             → result ≡ length play }
     {
-        self.machine().steps
+        self.machine().bus.past.steps
     }
 
     /// The `pc` that the next step will have.
     pub fn next_pc(&self) -> u16
-        ensures { (start : PowerOn) (play : List (List Event))
-            → LiveStandsFor self.now start play
+        ensures { (start : Start) (play : List (List Event))
+            → LiveStandsFor D.has_taken D.digest_of self.now start play
             → result ≡ next_pc_of (logs_after start play).progress }
     {
         match self {
             Live::Held(_) => 0,
             Live::Running(device) => device.machine.processor.pc(),
+            Live::InRom(device) => device.machine.call.pc(),
         }
     }
 }

@@ -1,96 +1,399 @@
-ghost use Rattle.std.specs.Prelude.{◌≡◌, ◌∷◌, ◌<◌, ◌+◌, ◌^◌, ℕ, List, Some};
-ghost use Rattle.bus_signals.specs.declared.event.Event.{Event};
-ghost use Rattle.bus_signals.specs.declared.kind.Kind.TheVariants.{Boot, Cpu};
-ghost use Rattle.part_definitions.specs.Memory.{PowerOn};
-ghost use Rattle.device_trace.specs.Progress.{Held};
-ghost use Rattle.device_trace.specs.Logs.{progress_after};
-ghost use Rattle.device_core.specs.Processor.{progress_in};
-ghost use Rattle.device_trace.specs.Step.{signals_of, next_record};
-ghost use Rattle.device_trace.specs.Trace.{logs_after};
-ghost use Rattle.device_core.specs.Machine.{MachineStandsFor, StandsBefore};
+ghost use Rattle.std.specs.Prelude.{◌≡◌, ◌⊎◌, ◌==◌, ◌<◌, ◌^◌, ℕ, List, IfOk, IfSome, Some, true, false, is_some, if◌then◌else◌};
+ghost use Rattle.bus_signals.specs.Access.{IsFormed};
+ghost use Rattle.bus_signals.specs.Map.{ROM_ENTRY};
+ghost use Rattle.part_definitions.specs.CpuRegisters.{with_pc, with_sp, is_asleep};
+ghost use Rattle.part_definitions.specs.CpuState.{CpuState, Boundary, clear_cpu, registers_of, is_at_boundary, is_entering, cpu_takes};
+ghost use Rattle.part_definitions.specs.Words.{even, plus};
+ghost use Rattle.msp_exec.specs.Course.{CpuStandsFor};
+ghost use Rattle.swatt_rom.specs.Call.{NoCall, InCall, Returned};
+ghost use Rattle.swatt_rom.specs.Standing.{RomStandsFor};
+ghost use Rattle.device_trace.specs.Start.{Start, with_key};
+ghost use Rattle.device_trace.specs.Logs.{Logs, power_on_logs, vector_of, with_record};
+ghost use Rattle.device_trace.specs.Progress.{last_registers, boundary_kind, running_after};
+ghost use Rattle.device_trace.specs.Step.{record_of};
+ghost use Rattle.device_trace.specs.Trace.{next_logs};
+ghost use Rattle.mem_map.specs.Image.{powered_on};
 
-use crate::bus::{act, word_fetched};
-use crate::processor::Processor;
-use bus_signals::{Access, BusRecord, Kind, Signals};
-use mem_map::Memory;
-use word_arith::Size;
+use crate::bus::Bus;
+use crate::peripherals::TIMER_VECTOR;
+use crate::stage::Stage;
+use crate::turn::Turn;
+use bus_signals::{BusMaster, CR, Event, Kind};
+use hmac_core::Digest32;
+use mem_map::Image;
+use msp_exec::Cpu;
+use std::alloc::{AllocError, Global};
+use swatt_rom::Rom;
 
-/// What a device is made of, whatever state it is in.
+/// What a device is made of, at whatever stage it is.
 #[derive(Drop)]
-pub struct Machine {
-    pub memory: Memory,
-    pub processor: Processor,
-    /// How many steps were made.
-    pub steps: u64,
-    /// The record of the last one.
-    pub last: Option<BusRecord>,
+pub struct Machine<D: Digest32> {
+    pub processor: Cpu,
+    /// The attestation engine, clear outside a call.
+    pub call: Rom<D>,
+    pub bus: Bus,
 }
 
-impl Machine {
-    /// What a held device is about to do: it boots.
-    #[tactic(auto, unfolding(device_trace::specs::Step::signals_of))]
-    pub fn boot_signals(&self) -> Signals
-        ensures kind { result.kind ≡ Boot }
-        ensures signals { (start : PowerOn) (play : List (List Event))
-            → (logs_after start play).progress ≡ Held
-            → result ≡ signals_of start (logs_after start play) }
+// Whose step comes next, at a boundary: a call of the ROM, code inside the ROM, an interrupt, sleep,
+// or an instruction.
+fn boundary_kind(processor: &Cpu, vector: Option<u16>) -> Kind
+    ensures { (state : CpuState)
+        → CpuStandsFor processor.now state
+        → result ≡ boundary_kind (registers_of state) vector }
+{
+    let pc = processor.pc();
+    if is_rom_entry(pc) {
+        Kind::Rom
+    } else if CR.contains(pc) {
+        Kind::Cpu
+    } else {
+        kind_outside_rom(processor, vector)
+    }
+}
+
+// Likewise, outside the ROM.
+fn kind_outside_rom(processor: &Cpu, vector: Option<u16>) -> Kind
+    ensures { (state : CpuState)
+        → CpuStandsFor processor.now state
+        → result ≡ (if is_some vector then Kind.Irq else if is_asleep (registers_of state) then Kind.Idle else Kind.Cpu) }
+{
+    if vector.is_some() {
+        Kind::Irq
+    } else if processor.is_asleep() {
+        Kind::Idle
+    } else {
+        Kind::Cpu
+    }
+}
+
+fn is_rom_entry(pc: u16) -> bool
+    ensures { result ≡ (pc == ROM_ENTRY) }
+{
+    pc == CR.first
+}
+
+impl<D: Digest32> Machine<D> {
+    ghost use Rattle.device_core.specs.Bus.{BusStandsFor};
+    ghost use Rattle.device_core.specs.Past.{StepsFrom};
+    ghost use Rattle.device_core.specs.Machine.{HeldMachine, RunningMachine, RunsFrom, CallingMachine, RunsWithin, CallsWithin, MachineStandsFor};
+
+    /// The machine at power-on.
+    pub fn new(alloc: Global, key: &[u8; 64], image: &Image) -> Result<Machine<D>, AllocError>
+        ensures stands { (start : Start)
+            → start.power ≡ powered_on key.now image.now
+            → IfOk result (λ machine. HeldMachine D.has_taken D.digest_of machine start power_on_logs) }
+        ensures steps { IfOk result (λ machine. machine.bus.past.steps ≡ 0) }
     {
-        Signals {
-            kind: Kind::Boot,
-            pc: 0,
-            cpu: Some(Access::Read(0xFFFE, Size::Word)),
-            dma: None,
-            irq: false,
-            word: 0,
-            opcode: false,
-            script_reset: false,
+        Ok(Machine {
+            processor: Cpu::new(),
+            call: Rom::new(),
+            bus: Bus::new(alloc, key, image)?,
+        })
+    }
+
+    // The vector of the interrupt that could be accepted.
+    fn vector(&self) -> Option<u16>
+        ensures { (start : Start) (logs : Logs) (state : CpuState)
+            → BusStandsFor self.now.bus start logs
+            → CpuStandsFor self.now.processor state
+            → registers_of state ≡ last_registers logs.progress
+            → result ≡ vector_of logs }
+    {
+        self.bus
+            .peripherals
+            .vector(self.processor.allows_interrupts())
+    }
+
+    // A step that breaks a rule resets the device.
+    fn hold(&mut self) -> Stage
+        ensures bus { self.new.bus ≡ self.old.bus }
+        ensures processor { CpuStandsFor self.new.processor clear_cpu }
+        ensures call { RomStandsFor D.has_taken D.digest_of self.new.call NoCall }
+        ensures stage { result ≡ Stage.Held }
+    {
+        self.processor.clear();
+        self.call.clear();
+        Stage::Held
+    }
+
+    // The step of a held device, after its events.
+    fn boot(&mut self, script_reset: bool) -> Stage
+        requires { self.old.bus.past.steps < 2 ^ 63 }
+        ensures past { StepsFrom self.old.bus.past self.new.bus.past }
+        ensures stands { (start : Start) (logs : Logs)
+            → HeldMachine D.has_taken D.digest_of self.old start logs
+            → MachineStandsFor D.has_taken D.digest_of result self.new start
+            (with_record start logs (record_of start logs script_reset)) }
+    {
+        let turn = Turn::boot();
+        match self.bus.act(self.processor.regs(), &turn, script_reset) {
+            Some(vector) => {
+                self.processor.start(vector, 0);
+                Stage::Running
+            }
+            None => self.hold(),
         }
     }
 
-    /// What a running device is about to do: the next access of the current instruction.
-    #[tactic(auto, unfolding(device_trace::specs::Step::signals_of))]
-    pub fn instruction_signals(&self) -> Signals
-        ensures kind { result.kind ≡ Cpu }
-        ensures signals { (start : PowerOn) (play : List (List Event))
-            → MachineStandsFor self.now start play
-            → (logs_after start play).progress ≡ progress_in self.now.processor
-            → result ≡ signals_of start (logs_after start play) }
+    // A step of the processor, or of its sleep.
+    fn run(&mut self, turn: &Turn, script_reset: bool) -> Stage
+        requires few { self.old.bus.past.steps < 2 ^ 63 }
+        requires formed { IfSome turn.now.access IsFormed }
+        ensures past { StepsFrom self.old.bus.past self.new.bus.past }
+        ensures stands { (start : Start) (logs : Logs) (state : CpuState)
+            → RunsWithin D.has_taken D.digest_of self.old turn.now start logs state
+            → MachineStandsFor D.has_taken D.digest_of result self.new start
+            (with_record start logs (record_of start logs script_reset)) }
     {
-        let access = Some(self.processor.access());
-        Signals {
-            kind: Kind::Cpu,
-            pc: self.processor.pc(),
-            cpu: access,
-            dma: None,
-            irq: false,
-            word: word_fetched(&self.memory, access),
-            opcode: self.processor.is_at_boundary(),
-            script_reset: false,
+        match self.bus.act(self.processor.regs(), turn, script_reset) {
+            Some(value) => {
+                take_unless_asleep(&mut self.processor, turn.kind, value);
+                Stage::Running
+            }
+            None => self.hold(),
         }
     }
 
-    /// Makes the step, but for the processor's part of it.
-    #[tactic(auto, unfolding(device_trace::specs::Step::next_record, device_trace::specs::Trace::trace, device_trace::specs::Logs::logs_of, device_trace::specs::Logs::with_events, device_trace::specs::Logs::with_record))]
-    pub fn act(&mut self, regs: [u16; 16], now: &Signals) -> BusRecord
-        requires { self.old.steps < 2 ^ 63 }
-        ensures processor { self.new.processor ≡ self.old.processor }
-        ensures steps { self.new.steps ≡ self.old.steps + 1 }
-        ensures last { self.new.last ≡ Some result }
-        ensures kind { result.kind ≡ now.now.kind }
-        ensures progress { (start : PowerOn) (play : List (List Event)) (events : List Event)
-            → StandsBefore self.old regs now.now start play
-            → (logs_after start (events ∷ play)).progress
-            ≡ progress_after result.reset result.kind result.value (logs_after start play).progress }
-        ensures entry { (start : PowerOn) (play : List (List Event)) (events : List Event)
-            → StandsBefore self.old regs now.now start play
-            → result ≡ next_record start (logs_after start play) events }
-        ensures stands { (start : PowerOn) (play : List (List Event)) (events : List Event)
-            → StandsBefore self.old regs now.now start play
-            → MachineStandsFor self.new start (events ∷ play) }
+    // A step of a call.
+    fn attest(&mut self, turn: &Turn, script_reset: bool) -> Stage
+        requires few { self.old.bus.past.steps < 2 ^ 63 }
+        requires formed { IfSome turn.now.access IsFormed }
+        ensures past { StepsFrom self.old.bus.past self.new.bus.past }
+        ensures stands { (key : List ℕ) (image : ℕ → ℕ) (logs : Logs) (regs words : List ℕ)
+            → CallsWithin D.has_taken D.digest_of self.old turn.now
+            (with_key D.digest_of key image) logs regs words
+            → MachineStandsFor D.has_taken D.digest_of result self.new (with_key D.digest_of key image)
+            (with_record (with_key D.digest_of key image) logs
+            (record_of (with_key D.digest_of key image) logs script_reset)) }
     {
-        let entry = act(&mut self.memory, regs, now);
-        self.steps += 1;
-        self.last = Some(entry);
-        entry
+        match self.bus.act(self.processor.regs(), turn, script_reset) {
+            Some(value) => {
+                self.call.take(value);
+                self.leave_call()
+            }
+            None => self.hold(),
+        }
+    }
+
+    // After the last step of a call the processor goes on.
+    fn leave_call(&mut self) -> Stage
+        ensures bus { self.new.bus ≡ self.old.bus }
+        ensures returned { (regs : List ℕ) (sp word : ℕ)
+            → CpuStandsFor self.old.processor (Boundary regs)
+            → RomStandsFor D.has_taken D.digest_of self.old.call (Returned sp word)
+            → (result ≡ Stage.Running)
+            × CpuStandsFor self.new.processor (Boundary (with_sp (with_pc regs (even word)) (plus sp 2)))
+            × RomStandsFor D.has_taken D.digest_of self.new.call NoCall }
+        ensures goes_on { (sp : ℕ) (words : List ℕ)
+            → RomStandsFor D.has_taken D.digest_of self.old.call (InCall sp words)
+            → (result ≡ Stage.InRom) × (self.new ≡ self.old) }
+    {
+        match self.call.done() {
+            Some((pc, sp)) => {
+                self.call.clear();
+                self.processor.start(pc, sp);
+                Stage::Running
+            }
+            None => Stage::InRom,
+        }
+    }
+
+    // The step of a device in a call, after its events.
+    fn go_on_with_call(&mut self, script_reset: bool) -> Stage
+        requires { self.old.bus.past.steps < 2 ^ 63 }
+        ensures past { StepsFrom self.old.bus.past self.new.bus.past }
+        ensures stands { (key : List ℕ) (image : ℕ → ℕ) (logs : Logs)
+            → CallingMachine D.has_taken D.digest_of self.old (with_key D.digest_of key image) logs
+            → MachineStandsFor D.has_taken D.digest_of result self.new (with_key D.digest_of key image)
+            (with_record (with_key D.digest_of key image) logs
+            (record_of (with_key D.digest_of key image) logs script_reset)) }
+    {
+        let irq = self.vector().is_some();
+        let turn = Turn::of_call(&self.call, irq);
+        self.attest(&turn, script_reset)
+    }
+
+    // The first step of a call.
+    fn begin_call(&mut self, irq: bool, script_reset: bool) -> Stage
+        requires { self.old.bus.past.steps < 2 ^ 63 }
+        ensures past { StepsFrom self.old.bus.past self.new.bus.past }
+        ensures stands { (key : List ℕ) (image : ℕ → ℕ) (logs : Logs) (regs : List ℕ)
+            → RunsFrom D.has_taken D.digest_of self.old (with_key D.digest_of key image) logs (Boundary regs)
+            → boundary_kind regs (vector_of logs) ≡ Kind.Rom
+            → irq ≡ is_some (vector_of logs)
+            → MachineStandsFor D.has_taken D.digest_of result self.new (with_key D.digest_of key image)
+            (with_record (with_key D.digest_of key image) logs
+            (record_of (with_key D.digest_of key image) logs script_reset)) }
+    {
+        self.call.begin(self.processor.sp());
+        let turn = Turn::of_call(&self.call, irq);
+        self.attest(&turn, script_reset)
+    }
+
+    // The first step of an interrupt entry.
+    fn enter(&mut self, vector: u16, script_reset: bool) -> Stage
+        requires { self.old.bus.past.steps < 2 ^ 63 }
+        ensures past { StepsFrom self.old.bus.past self.new.bus.past }
+        ensures stands { (start : Start) (logs : Logs) (regs : List ℕ)
+            → RunsFrom D.has_taken D.digest_of self.old start logs (Boundary regs)
+            → boundary_kind regs (vector_of logs) ≡ Kind.Irq
+            → vector_of logs ≡ Some vector
+            → MachineStandsFor D.has_taken D.digest_of result self.new start
+            (with_record start logs (record_of start logs script_reset)) }
+    {
+        self.processor.begin_irq(vector);
+        let accepts_timer = vector == TIMER_VECTOR;
+        let turn = Turn::of_processor(&self.processor, Kind::Irq, true, false, accepts_timer);
+        self.run(&turn, script_reset)
+    }
+
+    // An opcode fetch.
+    fn fetch(&mut self, irq: bool, script_reset: bool) -> Stage
+        requires { self.old.bus.past.steps < 2 ^ 63 }
+        ensures past { StepsFrom self.old.bus.past self.new.bus.past }
+        ensures stands { (start : Start) (logs : Logs) (regs : List ℕ)
+            → RunsFrom D.has_taken D.digest_of self.old start logs (Boundary regs)
+            → boundary_kind regs (vector_of logs) ≡ Kind.Cpu
+            → irq ≡ is_some (vector_of logs)
+            → MachineStandsFor D.has_taken D.digest_of result self.new start
+            (with_record start logs (record_of start logs script_reset)) }
+    {
+        let turn = Turn::of_processor(&self.processor, Kind::Cpu, irq, true, false);
+        self.run(&turn, script_reset)
+    }
+
+    // A step of sleep.
+    fn sleep(&mut self, irq: bool, script_reset: bool) -> Stage
+        requires { self.old.bus.past.steps < 2 ^ 63 }
+        ensures past { StepsFrom self.old.bus.past self.new.bus.past }
+        ensures stands { (start : Start) (logs : Logs) (regs : List ℕ)
+            → RunsFrom D.has_taken D.digest_of self.old start logs (Boundary regs)
+            → boundary_kind regs (vector_of logs) ≡ Kind.Idle
+            → irq ≡ is_some (vector_of logs)
+            → MachineStandsFor D.has_taken D.digest_of result self.new start
+            (with_record start logs (record_of start logs script_reset)) }
+    {
+        let turn = Turn::of_processor(&self.processor, Kind::Idle, irq, false, false);
+        self.run(&turn, script_reset)
+    }
+
+    // A step in the middle of an instruction or an interrupt entry.
+    fn go_on(&mut self, script_reset: bool) -> Stage
+        requires { self.old.bus.past.steps < 2 ^ 63 }
+        ensures past { StepsFrom self.old.bus.past self.new.bus.past }
+        ensures stands { (start : Start) (logs : Logs) (state : CpuState)
+            → RunsFrom D.has_taken D.digest_of self.old start logs state
+            → is_at_boundary state ≡ false
+            → MachineStandsFor D.has_taken D.digest_of result self.new start
+            (with_record start logs (record_of start logs script_reset)) }
+    {
+        let kind = kind_within(&self.processor);
+        let turn = Turn::of_processor(&self.processor, kind, false, false, false);
+        self.run(&turn, script_reset)
+    }
+
+    // A step at a boundary.
+    fn begin(&mut self, script_reset: bool) -> Stage
+        requires { self.old.bus.past.steps < 2 ^ 63 }
+        ensures past { StepsFrom self.old.bus.past self.new.bus.past }
+        ensures stands { (key : List ℕ) (image : ℕ → ℕ) (logs : Logs) (regs : List ℕ)
+            → RunsFrom D.has_taken D.digest_of self.old (with_key D.digest_of key image) logs (Boundary regs)
+            → MachineStandsFor D.has_taken D.digest_of result self.new (with_key D.digest_of key image)
+            (with_record (with_key D.digest_of key image) logs
+            (record_of (with_key D.digest_of key image) logs script_reset)) }
+    {
+        let vector = self.vector();
+        let irq = vector.is_some();
+        match boundary_kind(&self.processor, vector) {
+            Kind::Rom => self.begin_call(irq, script_reset),
+            Kind::Irq => self.enter(vector.unwrap_or(0), script_reset),
+            Kind::Idle => self.sleep(irq, script_reset),
+            Kind::Cpu => self.fetch(irq, script_reset),
+            Kind::Boot => self.fetch(irq, script_reset),
+        }
+    }
+
+    // The step of a device that runs, after its events.
+    fn go(&mut self, script_reset: bool) -> Stage
+        requires { self.old.bus.past.steps < 2 ^ 63 }
+        ensures past { StepsFrom self.old.bus.past self.new.bus.past }
+        ensures stands { (key : List ℕ) (image : ℕ → ℕ) (logs : Logs)
+            → RunningMachine D.has_taken D.digest_of self.old (with_key D.digest_of key image) logs
+            → MachineStandsFor D.has_taken D.digest_of result self.new (with_key D.digest_of key image)
+            (with_record (with_key D.digest_of key image) logs
+            (record_of (with_key D.digest_of key image) logs script_reset)) }
+    {
+        if self.processor.at_boundary() {
+            self.begin(script_reset)
+        } else {
+            self.go_on(script_reset)
+        }
+    }
+
+    /// The step of a held device, at whose beginning these events come.
+    pub fn held_step(&mut self, events: &[Event]) -> Stage
+        requires { self.old.bus.past.steps < 2 ^ 63 }
+        ensures past { StepsFrom self.old.bus.past self.new.bus.past }
+        ensures stands { (key : List ℕ) (image : ℕ → ℕ) (logs : Logs)
+            → HeldMachine D.has_taken D.digest_of self.old (with_key D.digest_of key image) logs
+            → MachineStandsFor D.has_taken D.digest_of result self.new (with_key D.digest_of key image)
+            (next_logs (with_key D.digest_of key image) logs events.now) }
+    {
+        let script_reset = self.bus.hear(events);
+        self.boot(script_reset)
+    }
+
+    /// The step of a device that runs.
+    pub fn running_step(&mut self, events: &[Event]) -> Stage
+        requires { self.old.bus.past.steps < 2 ^ 63 }
+        ensures past { StepsFrom self.old.bus.past self.new.bus.past }
+        ensures stands { (key : List ℕ) (image : ℕ → ℕ) (logs : Logs)
+            → RunningMachine D.has_taken D.digest_of self.old (with_key D.digest_of key image) logs
+            → MachineStandsFor D.has_taken D.digest_of result self.new (with_key D.digest_of key image)
+            (next_logs (with_key D.digest_of key image) logs events.now) }
+    {
+        let script_reset = self.bus.hear(events);
+        self.go(script_reset)
+    }
+
+    /// The step of a device in a call.
+    pub fn call_step(&mut self, events: &[Event]) -> Stage
+        requires { self.old.bus.past.steps < 2 ^ 63 }
+        ensures past { StepsFrom self.old.bus.past self.new.bus.past }
+        ensures stands { (key : List ℕ) (image : ℕ → ℕ) (logs : Logs)
+            → CallingMachine D.has_taken D.digest_of self.old (with_key D.digest_of key image) logs
+            → MachineStandsFor D.has_taken D.digest_of result self.new (with_key D.digest_of key image)
+            (next_logs (with_key D.digest_of key image) logs events.now) }
+    {
+        let script_reset = self.bus.hear(events);
+        self.go_on_with_call(script_reset)
+    }
+}
+
+// The kind of a step in the middle of an instruction or an interrupt entry.
+fn kind_within(processor: &Cpu) -> Kind
+    ensures { (state : CpuState)
+        → CpuStandsFor processor.now state
+        → result ≡ (if is_entering state then Kind.Irq else Kind.Cpu) }
+{
+    if processor.is_entering() {
+        Kind::Irq
+    } else {
+        Kind::Cpu
+    }
+}
+
+// The processor takes what it read; asleep it reads nothing.
+fn take_unless_asleep(processor: &mut Cpu, kind: Kind, value: u16)
+    ensures { (state : CpuState)
+        → CpuStandsFor processor.old state
+        → (kind ≡ Kind.Idle) ⊎ (cpu_takes state value ≡ true)
+        → CpuStandsFor processor.new (running_after kind state value) }
+{
+    match kind {
+        Kind::Idle => {}
+        Kind::Boot | Kind::Cpu | Kind::Irq | Kind::Rom => {
+            let _ = processor.try_take(value);
+        }
     }
 }

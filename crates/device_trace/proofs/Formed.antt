@@ -1,108 +1,140 @@
--- The program counter stays even, so the accesses of the records are well formed.
-use Rattle.std.proofs.Common.{◌≡◌, ◌/◌, ◌%◌, ℕ, zero, suc, List, [], ◌∷◌, Option, Some, None, IfSome, All, refl, arith}
+-- Each access is made by a place and a size that clear bit 0 of a word's place, so it is well formed.
+use Rattle.std.proofs.Common.{◌≡◌, ◌/◌, ◌%◌, ℕ, zero, suc, List, [], ◌∷◌, length, Bool, Option, Some, None, IfSome, All, arith, ◌==◌}
+use Rattle.std.proofs.lemmas.Bool.{cond_both}
 use Rattle.std.proofs.Math.Nat.{mul-mod_left}
+use Rattle.word_arith.specs.declared.size.Size.{Size}
 use Rattle.word_arith.specs.declared.size.Size.TheVariants.{Byte, Word}
+use Rattle.msp_decode.specs.declared.head.Head.{Head}
+use Rattle.msp_decode.specs.Head.{head_of}
 use Rattle.bus_signals.specs.Access.{IsFormed}
 use Rattle.bus_signals.specs.declared.access.Access.{Access}
 use Rattle.bus_signals.specs.declared.access.Access.TheVariants.{Fetch, Read, Write}
-use Rattle.bus_signals.specs.declared.bus_record.BusRecord.{BusRecord}
 use Rattle.bus_signals.specs.declared.event.Event.{Event}
+use Rattle.bus_signals.specs.declared.bounds.Bounds.{Bounds}
 use Rattle.bus_signals.specs.declared.kind.Kind.{Kind}
 use Rattle.bus_signals.specs.declared.kind.Kind.TheVariants.{Boot, Cpu, Idle, Irq, Rom}
 use Rattle.bus_signals.specs.declared.rule.Rule.{Rule}
-use Rattle.part_definitions.specs.Memory.{PowerOn}
-use Rattle.part_definitions.specs.CpuRegisters.{clear_registers, pc_of, with_pc}
-use Rattle.part_definitions.specs.NarrowInstruction.{Head, MoveToAbsolute, Jump, Part, FetchSource, FetchDestination, WriteResult, Latches, head_of, parts_of, asked, ended, learned, opcode_latches}
-use Rattle.part_definitions.specs.NarrowNextAccess.{walk, walk_head, next_access}
-use Rattle.device_trace.specs.Progress.{Progress, Held, AtBoundary, InInstruction, registers_of, asked_access, access_of, progress_in, advanced}
-use Rattle.device_trace.specs.Logs.{Logs, progress_after, logs_of, with_events, with_record}
-use Rattle.device_trace.specs.Step.{access_recorded, without_number, signals_of, next_record}
+use Rattle.bus_signals.specs.Map.{RESET_VECTOR}
+use Rattle.part_definitions.specs.Accesses.{fetch_at, read_at, write_at}
+use Rattle.part_definitions.specs.Attestation.{CallItem, KeyRead, MetadataRead, DerivedKeyWrite, RegionRead, InnerDigestWrite, MacWrite, ReturnRead, item_access, bounds_read, call_item}
+use Rattle.part_definitions.specs.declared.cpu_access.CpuAccess.{CpuAccess}
+use Rattle.part_definitions.specs.declared.cpu_access.CpuAccess.TheVariants.{FetchImmediate, FetchSourceIndex, ReadSource, ReadIncrementing, FetchDestinationIndex, ReadDestination, WriteResult, PushSource, PushPc, PopSr, PopPc}
+use Rattle.part_definitions.specs.declared.working.Working.{Working}
+use Rattle.part_definitions.specs.CpuAccesses.{accesses_of}
+use Rattle.part_definitions.specs.CpuState.{CpuState, Boundary, Executing, Entering, asked_access, cpu_access}
+use Rattle.part_definitions.specs.Dma.{Transfer, is_active, place_of_word, access_at, transfer_access, dma_access, transfer_of, latch}
+use Rattle.part_definitions.specs.Instruction.{bus_access, after_value}
+use Rattle.part_definitions.specs.NextAccess.{walk, walk_head, next_access, entry_access}
+use Rattle.part_definitions.specs.Operands.{size_of, working_at_start}
+use Rattle.device_trace.specs.Progress.{Progress, Held, Runs, InCall, running_access, access_of}
+use Rattle.device_trace.specs.Logs.{Logs, step_progress}
+use Rattle.device_trace.specs.Signals.{signals_at, step_kind, proposed_access}
+use Rattle.device_trace.specs.Start.{Start}
+use Rattle.device_trace.specs.Step.{without_number, access_recorded, record_of, next_record}
 use Rattle.device_trace.specs.Trace.{trace}
 use Rattle.device_trace.specs.Formed.{AccessesAreFormed}
 
-abbrev HasEvenPc : List ℕ → Type 0
-HasEvenPc regs = pc_of regs % 2 ≡ 0
+fetch_at-formed : (place : ℕ) → IsFormed (fetch_at place)
+fetch_at-formed place = mul-mod_left (place / 2) 2
 
-with_pc-even : (regs : List ℕ) (pc : ℕ) → HasEvenPc (with_pc regs pc)
-with_pc-even [] pc = refl
-with_pc-even (r ∷ regs) pc = mul-mod_left (pc / 2) 2
+read_at-formed : (size : Size) (place : ℕ) → IsFormed (read_at size place)
+read_at-formed Byte place = tt
+read_at-formed Word place = mul-mod_left (place / 2) 2
 
-ended-even : (head : Head) (regs : List ℕ) (latches : Latches) → HasEvenPc (ended head regs latches)
-ended-even MoveToAbsolute regs latches = with_pc-even regs _
-ended-even (Jump offset) regs latches = with_pc-even regs _
+write_at-formed : (size : Size) (place number : ℕ) → IsFormed (write_at size place number)
+write_at-formed Byte place number = omega arith
+write_at-formed Word place number = mul-mod_left (place / 2) 2
 
-walk-even :
-    (head : Head) (regs : List ℕ) (parts : List Part) (latches : Latches) (values all : List ℕ)
-    → HasEvenPc regs → HasEvenPc (registers_of (progress_in regs all (walk head regs parts latches values)))
-walk-even head regs [] latches values all even = ended-even head regs latches
-walk-even head regs (part ∷ parts) latches [] all even = even
-walk-even head regs (part ∷ parts) latches (value ∷ values) all even =
-    walk-even head regs parts (learned part value latches) values all even
-
-asked-formed : (part : Part) (regs : List ℕ) (latches : Latches) → HasEvenPc regs → IsFormed (asked part regs latches)
-asked-formed FetchSource regs latches even = omega (arith, even)
-asked-formed FetchDestination regs latches even = omega (arith, even)
-asked-formed WriteResult regs latches even = mul-mod_left (latches.destination / 2) 2
+-- the accesses of an instruction
+bus_access-formed : (head : Head) (access : CpuAccess) (working : Working) → IsFormed (bus_access head access working)
+bus_access-formed head FetchImmediate working = fetch_at-formed _
+bus_access-formed head (FetchSourceIndex register) working = fetch_at-formed _
+bus_access-formed head ReadSource working = read_at-formed (size_of head) _
+bus_access-formed head (ReadIncrementing register) working = read_at-formed (size_of head) _
+bus_access-formed head (FetchDestinationIndex register) working = fetch_at-formed _
+bus_access-formed head ReadDestination working = read_at-formed (size_of head) _
+bus_access-formed head WriteResult working = write_at-formed (size_of head) _ _
+bus_access-formed head PushSource working = write_at-formed (size_of head) _ _
+bus_access-formed head PushPc working = write_at-formed Word _ 0
+bus_access-formed head PopSr working = read_at-formed Word _
+bus_access-formed head PopPc working = read_at-formed Word _
 
 walk-formed :
-    (head : Head) (regs : List ℕ) (parts : List Part) (latches : Latches) (values : List ℕ)
-    → HasEvenPc regs → IfSome (asked_access (walk head regs parts latches values)) IsFormed
-walk-formed head regs [] latches values even = tt
-walk-formed head regs (part ∷ parts) latches [] even = asked-formed part regs latches even
-walk-formed head regs (part ∷ parts) latches (value ∷ values) even =
-    walk-formed head regs parts (learned part value latches) values even
-
-walk_head-even :
-    (head : Option Head) (regs values all : List ℕ)
-    → HasEvenPc regs → HasEvenPc (registers_of (progress_in regs all (walk_head head regs values)))
-walk_head-even None regs values all even = even
-walk_head-even (Some head) regs values all even = walk-even head regs (parts_of head) opcode_latches values all even
+    (head : Head) (accesses : List CpuAccess) (working : Working) (values : List ℕ)
+    → IfSome (asked_access (walk head accesses working values)) IsFormed
+walk-formed head [] working values = tt
+walk-formed head (access ∷ accesses) working [] = bus_access-formed head access working
+walk-formed head (access ∷ accesses) working (value ∷ values) =
+    walk-formed head accesses (after_value head access value working) values
 
 walk_head-formed :
-    (head : Option Head) (regs values : List ℕ)
-    → HasEvenPc regs → IfSome (asked_access (walk_head head regs values)) IsFormed
-walk_head-formed None regs values even = tt
-walk_head-formed (Some head) regs values even = walk-formed head regs (parts_of head) opcode_latches values even
+    (head : Option Head) (regs values : List ℕ) → IfSome (asked_access (walk_head head regs values)) IsFormed
+walk_head-formed None regs values = tt
+walk_head-formed (Some head) regs values =
+    walk-formed head (accesses_of head) (working_at_start head regs) values
 
-next_access-even :
-    (regs values all : List ℕ) → HasEvenPc regs → HasEvenPc (registers_of (progress_in regs all (next_access regs values)))
+next_access-formed : (regs values : List ℕ) → IfSome (asked_access (next_access regs values)) IsFormed
 unfolding next_access
-next_access-even regs [] all even = even
-next_access-even regs (word ∷ values) all even = walk_head-even (head_of word) regs values all even
+next_access-formed regs [] = fetch_at-formed _
+next_access-formed regs (word ∷ values) = walk_head-formed (head_of word) regs values
 
-next_access-formed : (regs values : List ℕ) → HasEvenPc regs → IfSome (asked_access (next_access regs values)) IsFormed
-unfolding next_access
-next_access-formed regs [] even = even
-next_access-formed regs (word ∷ values) even = walk_head-formed (head_of word) regs values even
+-- the accesses of an interrupt entry
+entry_access-formed :
+    (regs : List ℕ) (vector : ℕ) (values : List ℕ) → IfSome (asked_access (entry_access regs vector values)) IsFormed
+unfolding entry_access
+entry_access-formed regs vector [] = write_at-formed Word _ 0
+entry_access-formed regs vector (first ∷ []) = write_at-formed Word _ 0
+entry_access-formed regs vector (first ∷ second ∷ []) = read_at-formed Word _
+entry_access-formed regs vector (first ∷ second ∷ word ∷ values) = tt
 
-advanced-even :
-    (progress : Progress) (kind : Kind) (value : ℕ)
-    → HasEvenPc (registers_of progress) → HasEvenPc (registers_of (advanced progress kind value))
-advanced-even progress Boot value even = with_pc-even clear_registers value
-advanced-even progress Cpu value even = next_access-even (registers_of progress) _ _ even
-advanced-even progress Idle value even = even
-advanced-even progress Irq value even = even
-advanced-even progress Rom value even = even
+cpu_access-formed : (cpu : CpuState) → IfSome (cpu_access cpu) IsFormed
+cpu_access-formed (Boundary regs) = next_access-formed regs []
+cpu_access-formed (Executing regs values) = next_access-formed regs values
+cpu_access-formed (Entering regs vector values) = entry_access-formed regs vector values
 
-progress_after-even :
-    (rule : Option Rule) (kind : Kind) (value : ℕ) (progress : Progress)
-    → HasEvenPc (registers_of progress) → HasEvenPc (registers_of (progress_after rule kind value progress))
-progress_after-even None kind value progress even = advanced-even progress kind value even
-progress_after-even (Some rule) kind value progress even = refl
+running_access-formed : (kind : Kind) (cpu : CpuState) → IfSome (running_access kind cpu) IsFormed
+running_access-formed Boot cpu = cpu_access-formed cpu
+running_access-formed Cpu cpu = cpu_access-formed cpu
+running_access-formed Idle cpu = tt
+running_access-formed Irq cpu = cpu_access-formed cpu
+running_access-formed Rom cpu = cpu_access-formed cpu
 
-logs_of-even :
-    (play : List (List Event)) (history : List BusRecord) → HasEvenPc (registers_of (logs_of play history).progress)
-unfolding logs_of with_events with_record
-logs_of-even [] history = refl
-logs_of-even (events ∷ play) [] = refl
-logs_of-even (events ∷ play) (entry ∷ history) =
-    progress_after-even entry.reset entry.kind entry.value (logs_of play history).progress (logs_of-even play history)
+-- the accesses of a call
+item_access-formed :
+    (sp : ℕ) (bounds : Bounds) (item : CallItem) (number : ℕ) → IsFormed (item_access sp bounds item number)
+item_access-formed sp bounds (KeyRead i) number = read_at-formed Word _
+item_access-formed sp bounds (MetadataRead i) number = read_at-formed Word _
+item_access-formed sp bounds (DerivedKeyWrite i) number = write_at-formed Word _ 0
+item_access-formed sp bounds (RegionRead i) number = read_at-formed Word _
+item_access-formed sp bounds (InnerDigestWrite i) number = write_at-formed Word _ 0
+item_access-formed sp bounds (MacWrite i) number = write_at-formed Word _ 0
+item_access-formed sp bounds ReturnRead number = read_at-formed Word _
 
-access_of-formed :
-    (progress : Progress) → HasEvenPc (registers_of progress) → IfSome (access_of progress) IsFormed
-access_of-formed Held even = refl
-access_of-formed (AtBoundary regs) even = next_access-formed regs [] even
-access_of-formed (InInstruction regs values) even = next_access-formed regs values even
+pub access_of-formed :
+    (start : Start) (releases : ℕ) (kind : Kind) (progress : Progress)
+    → IfSome (access_of start releases kind progress) IsFormed
+access_of-formed start releases kind Held = read_at-formed Word RESET_VECTOR
+access_of-formed start releases kind (Runs cpu) = running_access-formed kind cpu
+access_of-formed start releases kind (InCall regs words) =
+    item_access-formed _ (bounds_read words) (call_item words) _
+
+-- the accesses of the DMA engine
+place_of_word-even : (address i : ℕ) → place_of_word address i % 2 ≡ 0
+place_of_word-even address i = omega arith
+
+access_at-formed : (transfer : Transfer) (distance : ℕ) → IsFormed (access_at transfer distance)
+access_at-formed transfer distance =
+    cond_both (distance % 2 == 0) (Read (place_of_word transfer.source (distance / 2)) Word)
+    (Write (place_of_word transfer.destination (distance / 2)) Word (latch transfer.values)) IsFormed
+    (λ even. place_of_word-even transfer.source (distance / 2))
+    (λ odd. place_of_word-even transfer.destination (distance / 2))
+
+pub transfer_access-formed : (transfer : Transfer) → IfSome (transfer_access transfer) IsFormed
+transfer_access-formed transfer =
+    cond_both (is_active transfer) (Some (access_at transfer (length transfer.values))) None
+    (λ access. IfSome access IsFormed)
+    (λ active. access_at-formed transfer (length transfer.values))
+    (λ idle. tt)
 
 without_number-formed : (access : Option Access) → IfSome access IsFormed → IfSome (without_number access) IsFormed
 without_number-formed None formed = tt
@@ -116,21 +148,26 @@ access_recorded-formed :
 access_recorded-formed None access formed = formed
 access_recorded-formed (Some rule) access formed = without_number-formed access formed
 
-next_record-formed :
-    (start : PowerOn) (logs : Logs) (events : List Event)
-    → HasEvenPc (registers_of logs.progress) → AccessesAreFormed (next_record start logs events)
-unfolding next_record signals_of with_events
-next_record-formed start logs events even =
+pub record_of-formed : (start : Start) (logs : Logs) (reset : Bool) → AccessesAreFormed (record_of start logs reset)
+unfolding record_of signals_at
+record_of-formed start logs reset =
     record {
-      cpu = access_recorded-formed _ (access_of logs.progress) (access_of-formed logs.progress even);
-      dma = access_recorded-formed _ None tt;
+      cpu = access_recorded-formed _ (proposed_access start logs (step_kind logs))
+          (access_of-formed start (length logs.released_words) (step_kind logs) (step_progress logs (step_kind logs)));
+      dma =
+          access_recorded-formed _ (dma_access logs.peripherals.dma)
+          (transfer_access-formed (transfer_of logs.peripherals.dma));
     }
 
+pub next_record-formed :
+    (start : Start) (logs : Logs) (events : List Event) → AccessesAreFormed (next_record start logs events)
+unfolding next_record
+next_record-formed start logs events = record_of-formed start _ _
+
 -- each record of a play
-pub trace-formed : (start : PowerOn) (play : List (List Event)) → All AccessesAreFormed (trace start play)
+pub trace-formed : (start : Start) (play : List (List Event)) → All AccessesAreFormed (trace start play)
 unfolding trace
 trace-formed start [] place default within = absurd (omega (arith, within))
-trace-formed start (events ∷ play) zero default within =
-    next_record-formed start _ events (logs_of-even play (trace start play))
+trace-formed start (events ∷ play) zero default within = next_record-formed start _ events
 trace-formed start (events ∷ play) (suc place) default within =
     trace-formed start play place default (omega (arith, within))

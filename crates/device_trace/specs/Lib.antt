@@ -1,7 +1,13 @@
-pub mod Formed
-pub mod Logs
+pub mod Start
 pub mod Progress
+pub mod Peripherals
+pub mod Logs
+pub mod Signals
+pub mod FirstRule
 pub mod Step
-pub mod Text
 pub mod Trace
-pub mod Examples
+pub mod Formed
+pub mod Blank
+pub mod WholeRun
+pub mod Text
+pub mod Example

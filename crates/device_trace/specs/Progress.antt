@@ -1,71 +1,115 @@
--- Where the processor stands between two steps.
-use Rattle.std.specs.Prelude.{◌++◌, ℕ, Bool, true, false, List, [], ◌∷◌, Option, Some, None}
+-- Where the device stands between two steps: whose step comes next, with which access, and what it
+-- leads to.
+use Rattle.std.specs.Prelude.{◌==◌, ◌++◌, ℕ, Bool, true, false, List, [], ◌∷◌, Option, Some, None, is_some, if◌then◌else◌}
 use Rattle.word_arith.specs.declared.size.Size.TheVariants.{Word}
 use Rattle.bus_signals.specs.declared.access.Access.{Access}
-use Rattle.bus_signals.specs.declared.access.Access.TheVariants.{Read}
+use Rattle.bus_signals.specs.declared.access.Access.TheVariants.{Write}
 use Rattle.bus_signals.specs.declared.kind.Kind.{Kind}
 use Rattle.bus_signals.specs.declared.kind.Kind.TheVariants.{Boot, Cpu, Idle, Irq, Rom}
-use Rattle.part_definitions.specs.CpuRegisters.{clear_registers, pc_of, with_pc}
-use Rattle.part_definitions.specs.NarrowNextAccess.{Next, Asks, Ends, next_access}
+use Rattle.bus_signals.specs.Map.{lies_in, mac_region, ROM_ENTRY, RESET_VECTOR}
+use Rattle.part_definitions.specs.Accesses.{read_at}
+use Rattle.part_definitions.specs.Attestation.{call_item, item_access, item_pc, bounds_read, is_return}
+use Rattle.part_definitions.specs.CpuRegisters.{clear_registers, pc_of, sp_of, with_pc, after_pop, is_asleep}
+use Rattle.part_definitions.specs.CpuState.{CpuState, Boundary, Executing, Entering, registers_of, cpu_pc, cpu_access, cpu_after, entry_begun}
+use Rattle.part_definitions.specs.Monitors.{in_rom}
+use Rattle.device_trace.specs.Start.{Start}
 
 pub data Progress : Type 0 where
-  -- after power-on and after a reset
+  -- after power-on and after a reset: the next step boots
   Held : Progress
-  -- between two instructions, with these registers
-  AtBoundary : List ℕ → Progress
-  -- in an instruction, with the registers at its start and its values so far, oldest first
-  InInstruction : List ℕ → List ℕ → Progress
+  -- the processor runs
+  Runs : CpuState → Progress
+  -- in a call of the ROM: the registers at its start, and the words that passed in it, oldest first
+  InCall : List ℕ → List ℕ → Progress
 
 -- the registers at the last boundary
-abbrev pub registers_of : Progress → List ℕ
-registers_of Held = clear_registers
-registers_of (AtBoundary regs) = regs
-registers_of (InInstruction regs values) = regs
-
--- the values of the current instruction
-abbrev pub values_of : Progress → List ℕ
-values_of Held = []
-values_of (AtBoundary regs) = []
-values_of (InInstruction regs values) = values
-
--- whose step comes next: a held device boots
-abbrev pub kind_of : Progress → Kind
-kind_of Held = Boot
-kind_of (AtBoundary regs) = Cpu
-kind_of (InInstruction regs values) = Cpu
+abbrev pub last_registers : Progress → List ℕ
+last_registers Held = clear_registers
+last_registers (Runs cpu) = registers_of cpu
+last_registers (InCall regs words) = regs
 
 -- the `pc` of the next step
 abbrev pub next_pc_of : Progress → ℕ
-next_pc_of progress = pc_of (registers_of progress)
+next_pc_of Held = 0
+next_pc_of (Runs cpu) = cpu_pc cpu
+next_pc_of (InCall regs words) = item_pc (call_item words)
 
--- boot reads the reset vector
-abbrev pub asked_access : Next → Option Access
-asked_access (Asks access) = Some access
-asked_access (Ends regs) = None
+-- at a boundary: a call of the ROM, code inside the ROM, an interrupt, sleep, or an instruction
+abbrev pub boundary_kind : List ℕ → Option ℕ → Kind
+boundary_kind regs vector =
+    if pc_of regs == ROM_ENTRY then Rom
+    else if in_rom (pc_of regs) then Cpu
+    else if is_some vector then Irq
+    else if is_asleep regs then Idle
+    else Cpu
 
-abbrev pub access_of : Progress → Option Access
-access_of Held = Some (Read 0xFFFE Word)
-access_of (AtBoundary regs) = asked_access (next_access regs [])
-access_of (InInstruction regs values) = asked_access (next_access regs values)
+-- whose step comes next, where this interrupt could be accepted
+abbrev pub kind_of : Progress → Option ℕ → Kind
+kind_of Held vector = Boot
+kind_of (Runs (Boundary regs)) vector = boundary_kind regs vector
+kind_of (Runs (Executing regs values)) vector = Cpu
+kind_of (Runs (Entering regs chosen values)) vector = Irq
+kind_of (InCall regs words) vector = Rom
 
--- an access at a boundary is an opcode fetch
-abbrev pub is_opcode_next : Progress → Bool
-is_opcode_next Held = false
-is_opcode_next (AtBoundary regs) = true
-is_opcode_next (InInstruction regs values) = false
+-- at a boundary a step of this kind may begin a call, or the entry of this interrupt
+abbrev pub progress_from_boundary : List ℕ → Kind → Option ℕ → Progress
+progress_from_boundary regs Rom vector = InCall regs []
+progress_from_boundary regs Irq (Some vector) = Runs (entry_begun regs vector)
+progress_from_boundary regs kind vector = Runs (Boundary regs)
 
--- after a value of an instruction
-abbrev pub progress_in : List ℕ → List ℕ → Next → Progress
-progress_in regs values (Asks access) = InInstruction regs values
-progress_in regs values (Ends after) = AtBoundary after
+-- within a step of this kind, from which its access and `pc` are read
+abbrev pub progress_within : Progress → Kind → Option ℕ → Progress
+progress_within (Runs (Boundary regs)) kind vector = progress_from_boundary regs kind vector
+progress_within progress kind vector = progress
 
-abbrev pub instruction_after : List ℕ → List ℕ → Progress
-instruction_after regs values = progress_in regs values (next_access regs values)
+-- at a boundary and in a call the monitors are told of an interrupt that could be accepted
+abbrev pub tells_irq : Progress → Bool
+tells_irq (Runs (Boundary regs)) = true
+tells_irq (InCall regs words) = true
+tells_irq progress = false
 
--- after an access of this kind whose value is this; the reset vector becomes the program counter
-abbrev pub advanced : Progress → Kind → ℕ → Progress
-advanced progress Boot value = AtBoundary (with_pc clear_registers value)
-advanced progress Cpu value = instruction_after (registers_of progress) (values_of progress ++ value ∷ [])
-advanced progress Idle value = progress
-advanced progress Irq value = progress
-advanced progress Rom value = progress
+-- the access of a call, after so many released words of the play
+abbrev pub call_access : Start → ℕ → List ℕ → List ℕ → Access
+call_access start releases regs words =
+    item_access (sp_of regs) (bounds_read words) (call_item words)
+    (start.call_word releases (call_item words) words)
+
+-- the processor has no access while it sleeps
+abbrev pub running_access : Kind → CpuState → Option Access
+running_access Idle cpu = None
+running_access kind cpu = cpu_access cpu
+
+-- the access of a step; a boot reads the reset vector
+abbrev pub access_of : Start → ℕ → Kind → Progress → Option Access
+access_of start releases kind Held = Some (read_at Word RESET_VECTOR)
+access_of start releases kind (Runs cpu) = running_access kind cpu
+access_of start releases kind (InCall regs words) = Some (call_access start releases regs words)
+
+-- the access at a boundary is an opcode fetch
+abbrev pub fetches_opcode : Kind → Progress → Bool
+fetches_opcode Cpu (Runs (Boundary regs)) = true
+fetches_opcode kind progress = false
+
+-- the word that passes in a call: what it reads, or the word that it releases; not what it writes
+-- to the stack, which it does not read again
+abbrev pub word_passed : Option Access → ℕ → ℕ
+word_passed (Some (Write place size number)) value = if lies_in mac_region place then number else 0
+word_passed access value = value
+
+-- the return read gives PC, and SP is raised by 2
+abbrev pub after_return : List ℕ → ℕ → Progress
+after_return regs word = Runs (Boundary (with_pc (after_pop regs) word))
+
+abbrev pub call_after : List ℕ → List ℕ → ℕ → Progress
+call_after regs words word =
+    if is_return (call_item words) then after_return regs word else InCall regs (words ++ word ∷ [])
+
+abbrev pub running_after : Kind → CpuState → ℕ → CpuState
+running_after Idle cpu value = cpu
+running_after kind cpu value = cpu_after cpu value
+
+-- after the access of a step and the value that this read; the reset vector gives PC
+abbrev pub next_progress : Kind → Progress → Option Access → ℕ → Progress
+next_progress kind Held access value = Runs (Boundary (with_pc clear_registers value))
+next_progress kind (Runs cpu) access value = Runs (running_after kind cpu value)
+next_progress kind (InCall regs words) access value = call_after regs words (word_passed access value)

@@ -1,60 +1,34 @@
--- One step: what it proposes, the rule that it breaks, and its record.
-use Rattle.std.specs.Prelude.{◌&&◌, ℕ, Bool, false, List, Option, Some, None, if◌then◌else◌}
+-- The record of a step.
+use Rattle.std.specs.Prelude.{ℕ, Bool, true, false, List, Option, Some, None}
+use Rattle.std.specs.List.{list_any}
 use Rattle.word_arith.specs.declared.size.Size.TheVariants.{Word}
 use Rattle.bus_signals.specs.declared.access.Access.{Access}
 use Rattle.bus_signals.specs.declared.access.Access.TheVariants.{Fetch, Read, Write}
 use Rattle.bus_signals.specs.declared.bus_record.BusRecord.{BusRecord}
 use Rattle.bus_signals.specs.declared.event.Event.{Event}
+use Rattle.bus_signals.specs.declared.event.Event.TheVariants.{Reset}
 use Rattle.bus_signals.specs.declared.rule.Rule.{Rule}
-use Rattle.bus_signals.specs.declared.rule.Rule.TheVariants.{I1}
 use Rattle.bus_signals.specs.declared.signals.Signals.{Signals}
-use Rattle.part_definitions.specs.NarrowInstruction.{is_illegal}
-use Rattle.part_definitions.specs.Memory.{PowerOn, number_at}
-use Rattle.device_trace.specs.Progress.{registers_of, kind_of, next_pc_of, access_of, is_opcode_next}
-use Rattle.device_trace.specs.Logs.{Logs, logged_byte, with_events}
+use Rattle.part_definitions.specs.Flag.{last_pc}
+use Rattle.part_definitions.specs.Memory.{byte_at, number_at, with_access}
+use Rattle.device_trace.specs.Logs.{Logs, exec_of, with_events}
+use Rattle.device_trace.specs.Progress.{last_registers}
+use Rattle.device_trace.specs.FirstRule.{first_rule}
+use Rattle.device_trace.specs.Signals.{value_read, signals_of}
+use Rattle.device_trace.specs.Start.{Start}
 
--- what an access reads, 0 for a write and for none
-abbrev pub value_read : (ℕ → ℕ) → Option Access → ℕ
-value_read bytes None = 0
-value_read bytes (Some (Fetch place)) = number_at bytes place Word
-value_read bytes (Some (Read place size)) = number_at bytes place size
-value_read bytes (Some (Write place size number)) = 0
+abbrev pub is_reset : Event → Bool
+is_reset Reset = true
+is_reset event = false
 
--- what a fetch would read
-abbrev pub word_fetched : (ℕ → ℕ) → Option Access → ℕ
-word_fetched bytes None = 0
-word_fetched bytes (Some (Fetch place)) = number_at bytes place Word
-word_fetched bytes (Some (Read place size)) = 0
-word_fetched bytes (Some (Write place size number)) = 0
-
--- what the step is about to do
-unfoldable pub signals_of : PowerOn → Logs → Signals
-signals_of start logs =
-    record {
-      kind = kind_of logs.progress;
-      pc = next_pc_of logs.progress;
-      cpu = access_of logs.progress;
-      dma = None;
-      irq = false;
-      word = word_fetched (logged_byte start logs) (access_of logs.progress);
-      opcode = is_opcode_next logs.progress;
-      script_reset = false;
-    }
-
--- I1: an opcode fetch reads an illegal word
-abbrev pub breaks_i1 : Signals → Bool
-breaks_i1 now = now.opcode && is_illegal now.word
-
--- the first rule that holds
-unfoldable pub first_rule : Signals → Option Rule
-first_rule now = if breaks_i1 now then Some I1 else None
+-- the script asks for a reset in this step
+abbrev pub asks_reset : List Event → Bool
+asks_reset events = list_any is_reset events
 
 -- a refused access, with 0 in place of the number that a write carries
 abbrev pub without_number : Option Access → Option Access
-without_number None = None
-without_number (Some (Fetch place)) = Some (Fetch place)
-without_number (Some (Read place size)) = Some (Read place size)
 without_number (Some (Write place size number)) = Some (Write place size 0)
+without_number access = access
 
 abbrev pub access_recorded : Option Rule → Option Access → Option Access
 access_recorded None access = access
@@ -64,9 +38,21 @@ abbrev pub value_recorded : Option Rule → ℕ → ℕ
 value_recorded None value = value
 value_recorded (Some rule) value = 0
 
--- the record of a step with these signals, from these registers, that read this value
-abbrev pub recorded : List ℕ → Signals → Option Rule → ℕ → BusRecord
-recorded regs now rule value =
+-- what the DMA reads of these bytes, 0 for a write and for none; it does not see the peripherals
+abbrev pub memory_read : (ℕ → ℕ) → Option Access → ℕ
+memory_read bytes None = 0
+memory_read bytes (Some (Fetch place)) = number_at bytes place Word
+memory_read bytes (Some (Read place size)) = number_at bytes place size
+memory_read bytes (Some (Write place size number)) = 0
+
+-- it sees the processor's write of the same step
+abbrev pub dma_value_read : Start → Logs → Signals → ℕ
+dma_value_read start logs now =
+    memory_read (byte_at start.power (exec_of logs) (with_access now.cpu logs.memory)) now.dma
+
+-- the record of a step with these signals, from these registers, that read these values
+abbrev pub record_from : List ℕ → Signals → Option Rule → ℕ → ℕ → BusRecord
+record_from regs now rule value dma_value =
     record {
       kind = now.kind;
       pc = now.pc;
@@ -74,16 +60,22 @@ recorded regs now rule value =
       cpu = access_recorded rule now.cpu;
       value = value_recorded rule value;
       dma = access_recorded rule now.dma;
-      dma_value = 0;
+      dma_value = value_recorded rule dma_value;
       irq = now.irq;
       reset = rule;
     }
 
-abbrev pub record_of : PowerOn → Logs → BusRecord
-record_of start logs =
-    let now : Signals = signals_of start logs in
-    recorded (registers_of logs.progress) now (first_rule now) (value_read (logged_byte start logs) now.cpu)
+abbrev pub record_with : Start → Logs → Signals → BusRecord
+record_with start logs now =
+    record_from (last_registers logs.progress) now
+    (first_rule (last_pc logs.seen) now)
+    (value_read start logs now.cpu)
+    (dma_value_read start logs now)
+
+-- the record of the next step, after its events
+unfoldable pub record_of : Start → Logs → Bool → BusRecord
+record_of start logs reset = record_with start logs (signals_of start logs reset)
 
 -- the record of the next step, with its events
-unfoldable pub next_record : PowerOn → Logs → List Event → BusRecord
-next_record start logs events = record_of start (with_events logs events)
+unfoldable pub next_record : Start → Logs → List Event → BusRecord
+next_record start logs events = record_of start (with_events logs events) (asks_reset events)

@@ -1,34 +1,62 @@
--- The text of a play: a line for each step that sent a byte or reset the device, and an end line.
-use Rattle.std.specs.Prelude.{◌==◌, ◌%◌, ◌++◌, ℕ, false, List, [], ◌∷◌, Option, Some, None, length, if◌then◌else◌}
-use Rattle.std.specs.List.{list_any}
-use Rattle.bus_signals.specs.Access.{span_of}
+-- The text of a play: a line for each step that sent a byte, reset the device or finished a call,
+-- and an end line.
+use Rattle.std.specs.Prelude.{◌==◌, ◌&&◌, ◌++◌, ℕ, Bool, List, [], ◌∷◌, Option, Some, None, length, is_none, if◌then◌else◌}
 use Rattle.bus_signals.specs.declared.access.Access.{Access}
-use Rattle.bus_signals.specs.declared.access.Access.TheVariants.{Fetch, Read, Write}
+use Rattle.bus_signals.specs.declared.access.Access.TheVariants.{Write}
 use Rattle.bus_signals.specs.declared.bus_record.BusRecord.{BusRecord}
 use Rattle.bus_signals.specs.declared.event.Event.{Event}
 use Rattle.bus_signals.specs.declared.rule.Rule.{Rule}
-use Rattle.printed_lines.specs.Lines.{sent_line, reset_line, end_line}
-use Rattle.part_definitions.specs.Memory.{PowerOn}
+use Rattle.bus_signals.specs.declared.bounds.Bounds.{Bounds}
+use Rattle.bus_signals.specs.Report.{ReportFields}
+use Rattle.bus_signals.specs.Kind.{is_rom}
+use Rattle.bus_signals.specs.Map.{ROM_EXIT}
+use Rattle.bus_signals.specs.Bounds.{are_valid}
+use Rattle.part_definitions.specs.Region.{challenge_bytes, mac_bytes, output_bytes}
+use Rattle.part_definitions.specs.Serial.{byte_sent}
+use Rattle.printed_lines.specs.Lines.{sent_line, reset_line, report_line, end_line}
+use Rattle.device_trace.specs.Logs.{Logs, exec_of, logged_byte, logged_bounds}
 use Rattle.device_trace.specs.Progress.{next_pc_of}
-use Rattle.device_trace.specs.Trace.{trace, logs_after}
+use Rattle.device_trace.specs.Start.{Start}
+use Rattle.device_trace.specs.Step.{next_record}
+use Rattle.device_trace.specs.Trace.{logs_after}
 
--- the byte that a step sent: an access that was not refused and writes byte 0076 (STXD) sends its low
--- byte
-abbrev pub byte_sent : Option Rule → Option Access → Option ℕ
-byte_sent (Some rule) access = None
-byte_sent None None = None
-byte_sent None (Some (Fetch place)) = None
-byte_sent None (Some (Read place size)) = None
-byte_sent None (Some (Write place size number)) =
-    if list_any (λ byte. byte == 0x0076) (span_of place size) then Some (number % 256) else None
+-- the byte that an access which was not refused sent by the serial port
+abbrev pub byte_sent_by : Option Rule → Option Access → Option ℕ
+byte_sent_by None (Some (Write place size number)) = byte_sent place size number
+byte_sent_by rule access = None
 
-abbrev pub sent_in : BusRecord → Option ℕ
-sent_in entry = byte_sent entry.reset entry.cpu
+abbrev pub byte_sent_in : BusRecord → Option ℕ
+byte_sent_in entry = byte_sent_by entry.reset entry.cpu
 
 -- the byte that the last step of a history sent
-abbrev pub sent_last : List BusRecord → Option ℕ
-sent_last [] = None
-sent_last (entry ∷ history) = sent_in entry
+abbrev pub last_byte_sent : List BusRecord → Option ℕ
+last_byte_sent [] = None
+last_byte_sent (entry ∷ history) = byte_sent_in entry
+
+-- the return read of a call that was not refused finishes the call
+abbrev pub finishes_call : BusRecord → Bool
+finishes_call entry = is_rom entry.kind && (entry.pc == ROM_EXIT) && is_none entry.reset
+
+-- the bytes of OR, where the bounds are valid
+abbrev pub reported_output : (ℕ → ℕ) → Bounds → Option (List ℕ)
+reported_output bytes bounds =
+    if are_valid bounds then Some (output_bytes bytes bounds) else None
+
+-- the report of a call that this step finished, from what stands after it
+abbrev pub report_of : Start → Logs → ℕ → ReportFields
+report_of start logs step =
+    record {
+      step = step;
+      exec = exec_of logs;
+      chal = challenge_bytes (logged_byte start logs);
+      bounds = logged_bounds start logs;
+      output = reported_output (logged_byte start logs) (logged_bounds start logs);
+      mac = mac_bytes (logged_byte start logs);
+    }
+
+abbrev pub report_in : Start → Logs → ℕ → BusRecord → Option ReportFields
+report_in start logs step entry =
+    if finishes_call entry then Some (report_of start logs step) else None
 
 -- the lines of one step
 abbrev pub sent_lines : ℕ → Option ℕ → List ℕ
@@ -39,15 +67,27 @@ abbrev pub reset_lines : ℕ → Option Rule → List ℕ
 reset_lines step None = []
 reset_lines step (Some rule) = reset_line step rule
 
-abbrev pub step_lines : ℕ → BusRecord → List ℕ
-step_lines step entry = sent_lines step (sent_in entry) ++ reset_lines step entry.reset
+abbrev pub report_lines : Option ReportFields → List ℕ
+report_lines None = []
+report_lines (Some report) = report_line report
 
--- the lines of a history in the order of its steps, which are numbered from 0
-unfoldable pub lines_of : List BusRecord → List ℕ
-lines_of [] = []
-lines_of (entry ∷ history) = lines_of history ++ step_lines (length history) entry
+-- of a step's number, its record and the logs after it
+abbrev pub step_lines : Start → ℕ → BusRecord → Logs → List ℕ
+step_lines start step entry logs =
+    sent_lines step (byte_sent_in entry) ++ reset_lines step entry.reset
+    ++ report_lines (report_in start logs step entry)
 
--- the whole text of a play; EXEC is not set yet
-unfoldable pub play_text : PowerOn → List (List Event) → List ℕ
-play_text start play =
-    lines_of (trace start play) ++ end_line (length play) (next_pc_of (logs_after start play).progress) false
+-- the lines of a play in the order of its steps, which are numbered from 0
+unfoldable pub lines_of : Start → List (List Event) → List ℕ
+lines_of start [] = []
+lines_of start (events ∷ play) =
+    lines_of start play
+    ++ step_lines start (length play) (next_record start (logs_after start play) events)
+    (logs_after start (events ∷ play))
+
+abbrev pub end_of : ℕ → Logs → List ℕ
+end_of steps logs = end_line steps (next_pc_of logs.progress) (exec_of logs)
+
+-- the whole text of a play
+unfoldable pub play_text : Start → List (List Event) → List ℕ
+play_text start play = lines_of start play ++ end_of (length play) (logs_after start play)

@@ -2,20 +2,39 @@
 use Rattle.std.specs.Prelude.{ℕ, zero, suc, List, [], ◌∷◌, Option, Some, None}
 use Rattle.bus_signals.specs.declared.bus_record.BusRecord.{BusRecord}
 use Rattle.bus_signals.specs.declared.event.Event.{Event}
-use Rattle.part_definitions.specs.Memory.{PowerOn}
-use Rattle.device_trace.specs.Logs.{Logs, logs_of}
+use Rattle.device_trace.specs.Logs.{Logs, power_on_logs, logged_byte, with_events, with_record}
+use Rattle.device_trace.specs.Start.{Start, without_key}
 use Rattle.device_trace.specs.Step.{next_record}
 
--- a play is a list of event lists, one for each step, newest first; each step adds one record
-unfoldable pub trace : PowerOn → List (List Event) → List BusRecord
-trace start [] = []
-trace start (events ∷ play) =
-    let history : List BusRecord = trace start play in
-    next_record start (logs_of play history) events ∷ history
+-- the logs after a step with these events
+abbrev pub next_logs : Start → Logs → List Event → Logs
+next_logs start logs events =
+    with_record start (with_events logs events) (next_record start logs events)
 
--- what happened to each part of the device in a play
-abbrev pub logs_after : PowerOn → List (List Event) → Logs
-logs_after start play = logs_of play (trace start play)
+-- what happened to each part of the device in a play, which is a list of event lists, one for each
+-- step, the newest first
+unfoldable pub logs_after : Start → List (List Event) → Logs
+logs_after start [] = power_on_logs
+logs_after start (events ∷ play) =
+    let logs : Logs = logs_after start play in
+    next_logs start logs events
+
+-- each step adds one record
+unfoldable pub trace : Start → List (List Event) → List BusRecord
+trace start [] = []
+trace start (events ∷ play) = next_record start (logs_after start play) events ∷ trace start play
+
+-- the trace without a key, where the calls release these words
+abbrev pub open_trace : List ℕ → (ℕ → ℕ) → List (List Event) → List BusRecord
+open_trace words image play = trace (without_key words image) play
+
+-- the words that the calls of a play wrote to the MAC
+abbrev pub released_words : Start → List (List Event) → List ℕ
+released_words start play = (logs_after start play).released_words
+
+-- the byte at a place of the memory after a play
+abbrev pub byte_after : Start → List (List Event) → ℕ → ℕ
+byte_after start play place = logged_byte start (logs_after start play) place
 
 -- the last record of a history
 abbrev pub last_record : List BusRecord → Option BusRecord

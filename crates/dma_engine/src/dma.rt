@@ -115,7 +115,9 @@ impl BusMaster for Dma {
         self.activity.access()
     }
 
-    fn take(&mut self, value: u16) {
+    fn take(&mut self, value: u16)
+        ensures { Takes DmaStandsFor self.old (Took value) self.new }
+    {
         self.activity = self.activity.after(value);
     }
 

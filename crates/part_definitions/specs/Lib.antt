@@ -20,5 +20,3 @@ pub mod Serial
 pub mod Timer
 pub mod Dma
 pub mod Interrupt
-pub mod NarrowInstruction
-pub mod NarrowNextAccess

@@ -30,9 +30,6 @@ impl<D: Digest32> Rom<D> {
 
     /// Begins a call, with the processor's stack pointer; no call may be in progress.
     pub fn begin(&mut self, sp: u16)
-        requires { (call : RomCall)
-            × RomStandsFor D.has_taken D.digest_of self.old call
-            × IsBetweenCalls call }
         ensures { RomStandsFor D.has_taken D.digest_of self.new (InCall sp []) }
     {
         self.state = State::Calls {
@@ -80,7 +77,11 @@ impl<D: Digest32> BusMaster for Rom<D> {
         self.state.access()
     }
 
-    fn take(&mut self, value: u16) {
+    fn take(&mut self, value: u16)
+        ensures { (call : RomCall)
+            → RomStandsFor D.has_taken D.digest_of self.old call
+            → RomStandsFor D.has_taken D.digest_of self.new (after_value D.digest_of call value) }
+    {
         let state = mem::replace(&mut self.state, State::Idle);
         self.state = state.after(value);
     }

@@ -1,8 +1,15 @@
 use Rattle.std.proofs.Common.{◌∙◌, sym}
-use Rattle.device_core.proofs.Formed.{last_record-formed, last-stands}
+use Rattle.device_core.proofs.Histories.{last_record-formed}
+use Rattle.device_core.proofs.Lives.{live-last}
 use Rattle.device_core.proofs.live.Live.entry.Goals as goal
 
 pub returns-clause-formed : goal.returns-clause-formed
-returns-clause-formed c = λ start play stands.
+returns-clause-formed g c = λ start play stands.
     last_record-formed start play c.in-Some.entry
-    (sym (last-stands c.args.self.now start play stands) ∙ rw c.machine.ensures at c.in-Some.is)
+    (sym (live-last g.D.Digest32.has_taken g.D.Digest32.digest_of c.args.self.now start play stands)
+    ∙ rw c.machine.ensures at c.in-Some.is)
+
+pub returns-clause-last : goal.returns-clause-last
+returns-clause-last g c = λ start play stands.
+    sym (live-last g.D.Digest32.has_taken g.D.Digest32.digest_of c.args.self.now start play stands)
+    ∙ rw c.machine.ensures at c.in-Some.is

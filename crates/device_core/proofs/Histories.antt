@@ -1,0 +1,48 @@
+-- The last record of a play, and how many there are.
+use Rattle.std.proofs.Common.{◌≡◌, List, [], ◌∷◌, length, Some, None, All, refl, arith}
+use Rattle.bus_signals.specs.declared.bus_record.BusRecord.{BusRecord}
+use Rattle.bus_signals.specs.declared.event.Event.{Event}
+use Rattle.device_trace.specs.Formed.{AccessesAreFormed}
+use Rattle.device_trace.specs.Logs.{with_events, with_record}
+use Rattle.device_trace.specs.Start.{Start}
+use Rattle.device_trace.specs.Text.{byte_sent_in, last_byte_sent}
+use Rattle.device_trace.specs.Trace.{trace, last_record, logs_after}
+use Rattle.device_trace.proofs.Formed.{trace-formed}
+use Rattle.device_core.specs.Bus.{last_seen}
+
+pub last_seen-last_record :
+    (start : Start) (play : List (List Event))
+    → last_seen (logs_after start play).seen ≡ last_record (trace start play)
+unfolding logs_after with_record trace
+last_seen-last_record start [] = refl
+last_seen-last_record start (events ∷ play) = refl
+
+pub length-seen :
+    (start : Start) (play : List (List Event)) → length (logs_after start play).seen ≡ length play
+unfolding logs_after with_record with_events
+length-seen start [] = refl
+length-seen start (events ∷ play) = rw (length-seen start play) refl
+
+last_of-formed :
+    (history : List BusRecord) (entry : BusRecord)
+    → All AccessesAreFormed history → last_record history ≡ Some entry → AccessesAreFormed entry
+last_of-formed [] entry all last = absurd cc
+last_of-formed (newest ∷ history) entry all last =
+    let same : newest ≡ entry = cc in rw same at (all 0 newest (omega arith))
+
+pub last_record-formed :
+    (start : Start) (play : List (List Event)) (entry : BusRecord)
+    → last_record (trace start play) ≡ Some entry → AccessesAreFormed entry
+last_record-formed start play entry last =
+    last_of-formed (trace start play) entry (trace-formed start play) last
+
+pub last_byte_sent-Some :
+    (history : List BusRecord) (entry : BusRecord)
+    → last_record history ≡ Some entry → last_byte_sent history ≡ byte_sent_in entry
+last_byte_sent-Some [] entry last = absurd cc
+last_byte_sent-Some (newest ∷ history) entry last = let same : newest ≡ entry = cc in rw same refl
+
+pub last_byte_sent-None :
+    (history : List BusRecord) → last_record history ≡ None → last_byte_sent history ≡ None
+last_byte_sent-None [] last = refl
+last_byte_sent-None (newest ∷ history) last = absurd cc

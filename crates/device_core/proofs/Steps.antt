@@ -1,0 +1,31 @@
+-- A step by its signals.
+use Rattle.std.proofs.Common.{◌≡◌, ℕ, Bool, List, refl}
+use Rattle.bus_signals.specs.declared.signals.Signals.{Signals}
+use Rattle.part_definitions.specs.Flag.{last_pc}
+use Rattle.device_trace.specs.FirstRule.{first_rule}
+use Rattle.device_trace.specs.Logs.{Logs}
+use Rattle.device_trace.specs.Progress.{last_registers}
+use Rattle.device_trace.specs.Signals.{signals_at, signals_of, step_kind, word_fetched, value_read}
+use Rattle.device_trace.specs.Start.{Start}
+use Rattle.device_trace.specs.Step.{dma_value_read, record_from, record_of}
+
+pub signals-word :
+    (start : Start) (logs : Logs) (reset : Bool) (now : Signals)
+    → now ≡ signals_of start logs reset → now.word ≡ word_fetched start logs now.cpu
+unfolding signals_at
+signals-word start logs reset now same = rw same refl
+
+pub signals-kind :
+    (start : Start) (logs : Logs) (reset : Bool) (now : Signals)
+    → now ≡ signals_of start logs reset → now.kind ≡ step_kind logs
+unfolding signals_at
+signals-kind start logs reset now same = rw same refl
+
+pub record_of-same :
+    (start : Start) (logs : Logs) (reset : Bool) (regs : List ℕ) (now : Signals)
+    → now ≡ signals_of start logs reset → regs ≡ last_registers logs.progress
+    → record_of start logs reset
+    ≡ record_from regs now (first_rule (last_pc logs.seen) now) (value_read start logs now.cpu)
+    (dma_value_read start logs now)
+unfolding record_of
+record_of-same start logs reset regs now same here = rw (same, here) refl

@@ -1,0 +1,333 @@
+-- Whose turn it is, by where the device stands.
+use Rattle.std.proofs.Common.{◌≡◌, ◌∙◌, ◌==◌, ◌⊎◌, unwrap_or, ℕ, Bool, true, false, not, List, [], length, Option, None, Some, is_some, if◌then◌else◌, refl, sym, ap, inl, inr}
+use Rattle.bus_signals.specs.declared.access.Access.TheVariants.{Fetch}
+use Rattle.bus_signals.specs.declared.kind.Kind.{Kind}
+use Rattle.bus_signals.specs.declared.kind.Kind.TheVariants.{Boot, Cpu, Idle, Irq, Rom}
+use Rattle.part_definitions.specs.Attestation.{CallItem, KeyRead, MetadataRead, DerivedKeyWrite, RegionRead, InnerDigestWrite, MacWrite, ReturnRead, call_item, item_access, item_pc, is_return}
+use Rattle.bus_signals.specs.declared.bounds.Bounds.{Bounds}
+use Rattle.part_definitions.specs.CpuRegisters.{clear_registers, pc_of}
+use Rattle.part_definitions.specs.CpuState.{CpuState, Boundary, Executing, Entering, registers_of, cpu_pc, cpu_takes, entry_begun, is_at_boundary, is_entering}
+use Rattle.part_definitions.specs.Interrupt.{TIMER_VECTOR}
+use Rattle.part_definitions.specs.NextAccess.{next_access}
+use Rattle.part_definitions.specs.Words.{even}
+use Rattle.device_trace.specs.Logs.{Logs, vector_of, step_progress}
+use Rattle.device_trace.specs.Progress.{Held, Runs, InCall, boundary_kind, call_access, running_access, fetches_opcode, word_passed}
+use Rattle.device_trace.specs.Signals.{step_kind, proposed_access}
+use Rattle.device_trace.specs.Start.{Start}
+use Rattle.device_trace.specs.Step.{record_of}
+use Rattle.device_core.specs.Bus.{TurnStandsFor, answer_in}
+use Rattle.device_core.specs.Machine.{FetchesOpcode}
+use Rattle.device_core.specs.Turn.{boot_turn}
+use Rattle.device_core.specs.declared.turn.Turn.{Turn}
+use Rattle.device_core.proofs.NextProgress.{fetch-legal}
+
+pub boot-turn :
+    (start : Start) (logs : Logs) → logs.progress ≡ Held → TurnStandsFor clear_registers boot_turn start logs
+boot-turn start logs held =
+    record {
+      same_regs = rw held refl;
+      same_kind = rw held refl;
+      same_pc = rw held refl;
+      same_access = rw held refl;
+      same_irq = rw held refl;
+      same_opcode = rw held refl;
+      same_acceptance = rw held refl;
+    }
+
+-- in a call
+abbrev pub call_turn : Start → Logs → List ℕ → List ℕ → Bool → Turn
+call_turn start logs regs words irq =
+    record {
+      kind = Rom;
+      pc = item_pc (call_item words);
+      access = Some (call_access start (length logs.released_words) regs words);
+      irq = irq;
+      opcode = false;
+      accepts_timer = false;
+    }
+
+pub calling-turn :
+    (start : Start) (logs : Logs) (regs words : List ℕ)
+    → logs.progress ≡ InCall regs words
+    → TurnStandsFor regs (call_turn start logs regs words (is_some (vector_of logs))) start logs
+calling-turn start logs regs words calls =
+    record {
+      same_regs = rw calls refl;
+      same_kind = rw calls refl;
+      same_pc = rw calls refl;
+      same_access = rw calls refl;
+      same_irq = rw calls refl;
+      same_opcode = rw calls refl;
+      same_acceptance = rw calls refl;
+    }
+
+pub calling-within :
+    (logs : Logs) (regs words : List ℕ)
+    → logs.progress ≡ InCall regs words → step_progress logs (step_kind logs) ≡ InCall regs words
+calling-within logs regs words calls = rw calls refl
+
+-- at a boundary
+pub boundary-kind :
+    (logs : Logs) (regs : List ℕ) (kind : Kind)
+    → logs.progress ≡ Runs (Boundary regs) → boundary_kind regs (vector_of logs) ≡ kind → kind ≡ step_kind logs
+boundary-kind logs regs kind runs same = sym same ∙ rw runs refl
+
+pub begun-turn :
+    (start : Start) (logs : Logs) (regs : List ℕ)
+    → logs.progress ≡ Runs (Boundary regs) → boundary_kind regs (vector_of logs) ≡ Rom
+    → TurnStandsFor regs (call_turn start logs regs [] (is_some (vector_of logs))) start logs
+begun-turn start logs regs runs rom =
+    let kind : Rom ≡ step_kind logs = boundary-kind logs regs Rom runs rom in
+    record {
+      same_regs = rw runs refl;
+      same_kind = kind;
+      same_pc = rw (sym kind, runs) refl;
+      same_access = rw (sym kind, runs) refl;
+      same_irq = rw runs refl;
+      same_opcode = rw (sym kind) refl;
+      same_acceptance = rw (sym kind, runs) refl;
+    }
+
+-- the first step of an interrupt entry
+abbrev pub entry_turn : List ℕ → ℕ → Turn
+entry_turn regs vector =
+    record {
+      kind = Irq;
+      pc = pc_of regs;
+      access = running_access Irq (entry_begun regs vector);
+      irq = true;
+      opcode = false;
+      accepts_timer = vector == TIMER_VECTOR;
+    }
+
+pub entry-turn :
+    (start : Start) (logs : Logs) (regs : List ℕ) (vector : ℕ)
+    → logs.progress ≡ Runs (Boundary regs) → boundary_kind regs (vector_of logs) ≡ Irq
+    → vector_of logs ≡ Some vector
+    → TurnStandsFor regs (entry_turn regs vector) start logs
+entry-turn start logs regs vector runs irq some =
+    let kind : Irq ≡ step_kind logs = boundary-kind logs regs Irq runs irq in
+    record {
+      same_regs = rw runs refl;
+      same_kind = kind;
+      same_pc = rw (sym kind, some, runs) refl;
+      same_access = rw (sym kind, some, runs) refl;
+      same_irq = rw (some, runs) refl;
+      same_opcode = rw (sym kind) refl;
+      same_acceptance = rw (sym kind, some, runs) refl;
+    }
+
+pub entry-within :
+    (logs : Logs) (regs : List ℕ) (vector : ℕ)
+    → logs.progress ≡ Runs (Boundary regs) → boundary_kind regs (vector_of logs) ≡ Irq
+    → vector_of logs ≡ Some vector
+    → step_progress logs (step_kind logs) ≡ Runs (entry_begun regs vector)
+entry-within logs regs vector runs irq some =
+    let kind : Irq ≡ step_kind logs = boundary-kind logs regs Irq runs irq in
+    rw (sym kind, some, runs) refl
+
+-- an opcode fetch, and sleep
+abbrev pub boundary_turn : Kind → Bool → List ℕ → Bool → Turn
+boundary_turn kind opcode regs irq =
+    record {
+      kind = kind;
+      pc = pc_of regs;
+      access = running_access kind (Boundary regs);
+      irq = irq;
+      opcode = opcode;
+      accepts_timer = false;
+    }
+
+pub fetch-turn :
+    (start : Start) (logs : Logs) (regs : List ℕ)
+    → logs.progress ≡ Runs (Boundary regs) → boundary_kind regs (vector_of logs) ≡ Cpu
+    → TurnStandsFor regs (boundary_turn Cpu true regs (is_some (vector_of logs))) start logs
+fetch-turn start logs regs runs cpu =
+    let kind : Cpu ≡ step_kind logs = boundary-kind logs regs Cpu runs cpu in
+    record {
+      same_regs = rw runs refl;
+      same_kind = kind;
+      same_pc = rw (sym kind, runs) refl;
+      same_access = rw (sym kind, runs) refl;
+      same_irq = rw runs refl;
+      same_opcode = rw (sym kind, runs) refl;
+      same_acceptance = rw (sym kind, runs) refl;
+    }
+
+pub fetch-within :
+    (logs : Logs) (regs : List ℕ)
+    → logs.progress ≡ Runs (Boundary regs) → boundary_kind regs (vector_of logs) ≡ Cpu
+    → step_progress logs (step_kind logs) ≡ Runs (Boundary regs)
+fetch-within logs regs runs cpu =
+    let kind : Cpu ≡ step_kind logs = boundary-kind logs regs Cpu runs cpu in
+    rw (sym kind, runs) refl
+
+pub sleep-turn :
+    (start : Start) (logs : Logs) (regs : List ℕ)
+    → logs.progress ≡ Runs (Boundary regs) → boundary_kind regs (vector_of logs) ≡ Idle
+    → TurnStandsFor regs (boundary_turn Idle false regs (is_some (vector_of logs))) start logs
+sleep-turn start logs regs runs idle =
+    let kind : Idle ≡ step_kind logs = boundary-kind logs regs Idle runs idle in
+    record {
+      same_regs = rw runs refl;
+      same_kind = kind;
+      same_pc = rw (sym kind, runs) refl;
+      same_access = rw (sym kind, runs) refl;
+      same_irq = rw runs refl;
+      same_opcode = rw (sym kind) refl;
+      same_acceptance = rw (sym kind, runs) refl;
+    }
+
+pub sleep-within :
+    (logs : Logs) (regs : List ℕ)
+    → logs.progress ≡ Runs (Boundary regs) → boundary_kind regs (vector_of logs) ≡ Idle
+    → step_progress logs (step_kind logs) ≡ Runs (Boundary regs)
+sleep-within logs regs runs idle =
+    let kind : Idle ≡ step_kind logs = boundary-kind logs regs Idle runs idle in
+    rw (sym kind, runs) refl
+
+pub begun-within :
+    (logs : Logs) (regs : List ℕ)
+    → logs.progress ≡ Runs (Boundary regs) → boundary_kind regs (vector_of logs) ≡ Rom
+    → step_progress logs (step_kind logs) ≡ InCall regs []
+begun-within logs regs runs rom =
+    let kind : Rom ≡ step_kind logs = boundary-kind logs regs Rom runs rom in
+    rw (sym kind, runs) refl
+
+kind_of-boundary :
+    (entry inside asleep : Bool) (vector : Option ℕ)
+    → (if entry then Rom else if inside then Cpu else if is_some vector then Irq else if asleep then Idle else Cpu) ≡ Boot → ⊥
+kind_of-boundary true inside asleep vector same = cc
+kind_of-boundary false true asleep vector same = cc
+kind_of-boundary false false asleep (Some vector) same = cc
+kind_of-boundary false false true None same = cc
+kind_of-boundary false false false None same = cc
+
+kind_of-irq :
+    (entry inside asleep : Bool) (vector : Option ℕ)
+    → (if entry then Rom else if inside then Cpu else if is_some vector then Irq else if asleep then Idle else Cpu) ≡ Irq
+    → is_some vector ≡ true
+kind_of-irq true inside asleep vector same = absurd cc
+kind_of-irq false true asleep vector same = absurd cc
+kind_of-irq false false asleep (Some vector) same = refl
+kind_of-irq false false true None same = absurd cc
+kind_of-irq false false false None same = absurd cc
+
+pub boundary_kind-Boot : (regs : List ℕ) (vector : Option ℕ) → boundary_kind regs vector ≡ Boot → ⊥
+boundary_kind-Boot regs vector same = kind_of-boundary _ _ _ vector same
+
+pub boundary_kind-Irq :
+    (regs : List ℕ) (vector : Option ℕ) → boundary_kind regs vector ≡ Irq → is_some vector ≡ true
+boundary_kind-Irq regs vector same = kind_of-irq _ _ _ vector same
+
+-- in the middle of an instruction or an entry
+abbrev pub kind_within : CpuState → Kind
+kind_within state = if is_entering state then Irq else Cpu
+
+abbrev pub middle_turn : CpuState → Turn
+middle_turn state =
+    record {
+      kind = kind_within state;
+      pc = cpu_pc state;
+      access = running_access (kind_within state) state;
+      irq = false;
+      opcode = false;
+      accepts_timer = false;
+    }
+
+pub middle-turn :
+    (start : Start) (logs : Logs) (state : CpuState)
+    → logs.progress ≡ Runs state → is_at_boundary state ≡ false
+    → TurnStandsFor (registers_of state) (middle_turn state) start logs
+middle-turn start logs (Boundary regs) runs middle = absurd cc
+middle-turn start logs (Executing regs values) runs middle =
+    record {
+      same_regs = rw runs refl;
+      same_kind = rw runs refl;
+      same_pc = rw runs refl;
+      same_access = rw runs refl;
+      same_irq = rw runs refl;
+      same_opcode = rw runs refl;
+      same_acceptance = rw runs refl;
+    }
+middle-turn start logs (Entering regs vector values) runs middle =
+    record {
+      same_regs = rw runs refl;
+      same_kind = rw runs refl;
+      same_pc = rw runs refl;
+      same_access = rw runs refl;
+      same_irq = rw runs refl;
+      same_opcode = rw runs refl;
+      same_acceptance = rw runs refl;
+    }
+
+pub middle-within :
+    (logs : Logs) (state : CpuState)
+    → logs.progress ≡ Runs state → is_at_boundary state ≡ false
+    → step_progress logs (step_kind logs) ≡ Runs state
+middle-within logs (Boundary regs) runs middle = absurd cc
+middle-within logs (Executing regs values) runs middle = rw runs refl
+middle-within logs (Entering regs vector values) runs middle = rw runs refl
+
+pub middle-fetches :
+    (kind : Kind) (opcode : Bool) (state : CpuState)
+    → is_at_boundary state ≡ false → FetchesOpcode kind opcode state
+middle-fetches kind opcode (Boundary regs) middle = absurd cc
+middle-fetches kind opcode (Executing regs values) middle = tt
+middle-fetches kind opcode (Entering regs vector values) middle = tt
+
+-- a state at a boundary is its registers
+pub boundary-registers :
+    (state : CpuState) → is_at_boundary state ≡ true → state ≡ Boundary (registers_of state)
+boundary-registers (Boundary regs) here = refl
+boundary-registers (Executing regs values) here = absurd cc
+boundary-registers (Entering regs vector values) here = absurd cc
+
+fetches-cpu : (kind : Kind) (logs : Logs) → fetches_opcode kind logs.progress ≡ true → kind ≡ Cpu
+fetches-cpu Cpu logs fetches = refl
+fetches-cpu Boot logs fetches = absurd cc
+fetches-cpu Idle logs fetches = absurd cc
+fetches-cpu Irq logs fetches = absurd cc
+fetches-cpu Rom logs fetches = absurd cc
+
+boundary-access :
+    (start : Start) (logs : Logs) (regs : List ℕ)
+    → fetches_opcode (step_kind logs) logs.progress ≡ true
+    → step_progress logs (step_kind logs) ≡ Runs (Boundary regs)
+    → proposed_access start logs (step_kind logs) ≡ Some (Fetch (even (pc_of regs)))
+unfolding next_access
+boundary-access start logs regs fetches within =
+    rw (within, fetches-cpu (step_kind logs) logs fetches) refl
+
+-- the processor takes what it was given
+pub takes-value :
+    (start : Start) (logs : Logs) (reset : Bool) (turn : Turn) (state : CpuState) (value : ℕ)
+    → TurnStandsFor (registers_of state) turn start logs
+    → step_progress logs (step_kind logs) ≡ Runs state
+    → FetchesOpcode turn.kind turn.opcode state
+    → answer_in (record_of start logs reset) ≡ Some value
+    → (turn.kind ≡ Idle) ⊎ (cpu_takes state value ≡ true)
+takes-value start logs reset turn (Boundary regs) value same within (inl asleep) answer = inl asleep
+takes-value start logs reset turn (Boundary regs) value same within (inr opcode) answer =
+    let fetches : fetches_opcode (step_kind logs) logs.progress ≡ true = sym same.same_opcode ∙ opcode in
+    inr (ap not
+    (fetch-legal start logs reset value (even (pc_of regs)) fetches
+    (boundary-access start logs regs fetches within) answer))
+takes-value start logs reset turn (Executing regs values) value same within fetches answer = inr refl
+takes-value start logs reset turn (Entering regs vector values) value same within fetches answer = inr refl
+
+-- the return read passes its value
+pub word_passed-return :
+    (sp : ℕ) (bounds : Bounds) (item : CallItem) (number value : ℕ)
+    → is_return item ≡ true → word_passed (Some (item_access sp bounds item number)) value ≡ value
+word_passed-return sp bounds ReturnRead number value return = refl
+word_passed-return sp bounds (KeyRead i) number value return = absurd cc
+word_passed-return sp bounds (MetadataRead i) number value return = absurd cc
+word_passed-return sp bounds (DerivedKeyWrite i) number value return = absurd cc
+word_passed-return sp bounds (RegionRead i) number value return = absurd cc
+word_passed-return sp bounds (InnerDigestWrite i) number value return = absurd cc
+word_passed-return sp bounds (MacWrite i) number value return = absurd cc
+
+pub unwrap_or-Some : (vector : Option ℕ) → is_some vector ≡ true → vector ≡ Some (unwrap_or vector 0)
+unwrap_or-Some (Some vector) some = refl
+unwrap_or-Some None some = absurd cc

@@ -1,0 +1,82 @@
+ghost use Rattle.std.specs.Prelude.{◌≡◌, ◌∷◌, [], List, IfSome};
+ghost use Rattle.bus_signals.specs.Access.{IsFormed};
+ghost use Rattle.bus_signals.specs.Seen.{Seen};
+ghost use Rattle.part_definitions.specs.Flag.{exec, last_pc};
+ghost use Rattle.device_trace.specs.FirstRule.{first_rule, breaks_i1};
+
+use atomicity_monitor::AtomMonitor;
+use bus_signals::{Bounds, BusRecord, Rule, Signals, TraceFlag};
+use exec_automaton::ExecFlag;
+use key_monitor::KeyMonitor;
+use msp_decode::decode;
+
+/// The hardware monitors, and the EXEC flag.
+#[derive(Clone, Copy, Debug)]
+pub struct Monitors {
+    pub key: KeyMonitor,
+    pub atomicity: AtomMonitor,
+    pub exec: ExecFlag,
+}
+
+impl Monitors {
+    ghost use Rattle.device_core.specs.Monitors.{MonitorsStandFor};
+
+    /// The monitors at power-on, when they have seen no record.
+    pub fn new() -> Monitors
+        ensures { MonitorsStandFor result [] }
+    {
+        Monitors {
+            key: KeyMonitor::new(),
+            atomicity: AtomMonitor::new(),
+            exec: ExecFlag::new(),
+        }
+    }
+
+    /// The first rule that the step breaks, in the order in which records name them.
+    #[tactic(auto, unfolding(device_trace::specs::FirstRule::first_rule))]
+    pub fn first_rule(&self, now: &Signals) -> Option<Rule>
+        requires cpu { IfSome now.now.cpu IsFormed }
+        requires dma { IfSome now.now.dma IsFormed }
+        ensures { (seen : List Seen)
+            → MonitorsStandFor self.now seen
+            → result ≡ first_rule (last_pc seen) now.now }
+    {
+        if now.script_reset {
+            Some(Rule::X0)
+        } else if let Some(rule) = self.atomicity.check(now) {
+            Some(rule)
+        } else if let Some(rule) = self.key.check(now) {
+            Some(rule)
+        } else if breaks_i1(now) {
+            Some(Rule::I1)
+        } else {
+            None
+        }
+    }
+
+    /// The next record, with the bounds as they stood before it.
+    pub fn see(&mut self, entry: &BusRecord, bounds: &Bounds)
+        requires cpu { IfSome entry.now.cpu IsFormed }
+        requires dma { IfSome entry.now.dma IsFormed }
+        ensures { (seen : List Seen)
+            → MonitorsStandFor self.old seen
+            → MonitorsStandFor self.new (record { entry = entry.now; bounds = bounds.now } ∷ seen) }
+    {
+        self.atomicity.see(entry);
+        self.exec.see(entry, bounds);
+    }
+
+    /// The EXEC flag.
+    pub fn exec(&self) -> bool
+        ensures { (seen : List Seen) → MonitorsStandFor self.now seen → result ≡ exec seen }
+    {
+        self.exec.value()
+    }
+}
+
+// An opcode fetch reads an illegal word.
+fn breaks_i1(now: &Signals) -> bool
+    ensures { result ≡ breaks_i1 now.now }
+{
+    now.opcode && decode(now.word).is_none()
+}

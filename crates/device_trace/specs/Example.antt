@@ -1,0 +1,243 @@
+-- Images and plays that the definitions are tried against.
+use Rattle.std.specs.Prelude.{◌&&◌, ◌+◌, ◌-◌, ◌*◌, ℕ, zero, suc, List, [], ◌∷◌, length, map, replicate, if◌then◌else◌, nat_le, nat_lt, slice_index}
+use Rattle.bus_signals.specs.declared.event.Event.{Event}
+use Rattle.bus_signals.specs.declared.event.Event.TheVariants.{Rx}
+use Rattle.part_definitions.specs.Attestation.{bytes_of_words}
+use Rattle.device_trace.specs.Start.{Start, with_key}
+
+-- numbers from one upwards, so many
+abbrev pub upwards : ℕ → ℕ → List ℕ
+upwards first zero = []
+upwards first (suc count) = first ∷ upwards (first + 1) count
+
+-- a digest that can be computed here: always 32 bytes 0
+abbrev pub no_digest : List ℕ → List ℕ
+no_digest bytes = replicate 32 0
+
+-- a device with the key 00 to 3F
+abbrev pub start_with : (ℕ → ℕ) → Start
+start_with image = with_key no_digest (upwards 0 64) image
+
+-- an image of words, from a place upwards each; 0 elsewhere
+abbrev pub image_of : List (ℕ × List ℕ) → ℕ → ℕ
+image_of [] place = 0
+image_of (part ∷ parts) place =
+    if nat_le part.0 place && nat_lt place (part.0 + 2 * length part.1)
+    then slice_index (bytes_of_words part.1) (place - part.0)
+    else image_of parts place
+
+-- what is printed of 32 bytes 0
+abbrev pub zeros : List ℕ
+zeros = replicate 64 48
+
+abbrev pub no_image : ℕ → ℕ
+no_image place = 0
+
+-- so many steps with no event, after a play
+abbrev pub quiet_steps : ℕ → List (List Event) → List (List Event)
+quiet_steps zero play = play
+quiet_steps (suc steps) play = [] ∷ quiet_steps steps play
+
+-- bytes that arrive in one step
+abbrev pub arrivals : List ℕ → List Event
+arrivals bytes = map (λ byte. Rx byte) bytes
+
+-- MOV #0041,&0076 and a jump to itself
+abbrev pub letter_a : ℕ → ℕ
+letter_a =
+    image_of (
+    (0xC000, 0x40B2 ∷ 0x0041 ∷ 0x0076 ∷ 0x3FFF ∷ []) ∷
+    (0xFFFE, 0xC000 ∷ []) ∷
+    [])
+
+-- MOV &6A00,R5
+abbrev pub key_reader : ℕ → ℕ
+key_reader =
+    image_of (
+    (0xC000, 0x4215 ∷ 0x6A00 ∷ 0x3FFF ∷ []) ∷
+    (0xFFFE, 0xC000 ∷ []) ∷
+    [])
+
+-- BR #6A00
+abbrev pub key_runner : ℕ → ℕ
+key_runner =
+    image_of (
+    (0xC000, 0x4030 ∷ 0x6A00 ∷ []) ∷
+    (0xFFFE, 0xC000 ∷ []) ∷
+    [])
+
+-- MOV #2200,SP; DINT; CALL #A000; a jump to itself; bounds C000 to C00A and 0300
+abbrev pub attestation : ℕ → ℕ
+attestation =
+    image_of (
+    (0x0260, 0xC000 ∷ 0xC00A ∷ 0x0300 ∷ 0x0300 ∷ []) ∷
+    (0xC000, 0x4031 ∷ 0x2200 ∷ 0xC232 ∷ 0x12B0 ∷ 0xA000 ∷ 0x3FFF ∷ []) ∷
+    (0xFFFE, 0xC000 ∷ []) ∷
+    [])
+
+-- MOV #6A00,SP; BR #A000
+abbrev pub return_through_key : ℕ → ℕ
+return_through_key =
+    image_of (
+    (0xC000, 0x4031 ∷ 0x6A00 ∷ 0x4030 ∷ 0xA000 ∷ []) ∷
+    (0xFFFE, 0xC000 ∷ []) ∷
+    [])
+
+-- MOV #2200,SP; PUSH #A002; BR #A000
+abbrev pub return_into_rom : ℕ → ℕ
+return_into_rom =
+    image_of (
+    (0xC000, 0x4031 ∷ 0x2200 ∷ 0x1230 ∷ 0xA002 ∷ 0x4030 ∷ 0xA000 ∷ []) ∷
+    (0xFFFE, 0xC000 ∷ []) ∷
+    [])
+
+-- MOV #2200,SP; MOV #5F,&TCMP; MOV #3,&TCTL; EINT; CALL #A000
+abbrev pub interrupted_call : ℕ → ℕ
+interrupted_call =
+    image_of ((
+      0xC000,
+      0x4031 ∷ 0x2200 ∷ 0x40B2 ∷ 0x005F ∷ 0x0164 ∷ 0x40B2 ∷ 0x0003 ∷ 0x0160 ∷ 0xD232 ∷
+          0x12B0 ∷ 0xA000 ∷ 0x3FFF ∷ [],
+    ) ∷
+    (0xFFFE, 0xC000 ∷ []) ∷
+    [])
+
+-- receives a challenge, sets the bounds, calls the region at C040, which copies the pins to 0300,
+-- and attests
+abbrev pub ordinary_run : ℕ → ℕ
+ordinary_run =
+    image_of ((
+      0xC000,
+      0x4031 ∷ 0x2200 ∷ 0xC232 ∷ 0x4035 ∷ 0x0240 ∷ 0xB392 ∷ 0x0072 ∷ 0x27FD ∷ 0x42D5 ∷
+          0x0074 ∷ 0x0000 ∷ 0x5315 ∷ 0x9035 ∷ 0x0260 ∷ 0x23F6 ∷ 0x40B2 ∷ 0xC040 ∷ 0x0260 ∷ 0x40B2 ∷
+          0xC046 ∷ 0x0262 ∷ 0x40B2 ∷ 0x0300 ∷ 0x0264 ∷ 0x40B2 ∷ 0x0300 ∷ 0x0266 ∷ 0x12B0 ∷ 0xC040 ∷
+          0x12B0 ∷ 0xA000 ∷ 0x3FFF ∷ 0x4292 ∷ 0x0020 ∷ 0x0300 ∷ 0x4130 ∷ [],
+    ) ∷
+    (0xFFFE, 0xC000 ∷ []) ∷
+    [])
+
+-- enables the serial interrupt, calls the region C020 to C022,
+-- and attests; the handler at C030 reads the byte
+abbrev pub guarded_region : ℕ → ℕ
+guarded_region =
+    image_of (
+    (0x0260, 0xC020 ∷ 0xC022 ∷ 0x0300 ∷ 0x0300 ∷ []) ∷ (
+      0xC000,
+      0x4031 ∷ 0x2200 ∷ 0x4392 ∷ 0x0070 ∷ 0xD232 ∷ 0x12B0 ∷ 0xC020 ∷ 0x12B0 ∷ 0xA000 ∷
+          0x3FFF ∷ [],
+    ) ∷
+    (0xC020, 0x4303 ∷ 0x4130 ∷ []) ∷
+    (0xC030, 0x4256 ∷ 0x0074 ∷ 0x1300 ∷ []) ∷
+    (0xFFF4, 0xC030 ∷ []) ∷
+    (0xFFFE, 0xC000 ∷ []) ∷
+    [])
+
+-- the same with BR #C00E at C020, whose second word is past the region
+abbrev pub reach_outside : ℕ → ℕ
+reach_outside =
+    image_of (
+    (0x0260, 0xC020 ∷ 0xC022 ∷ 0x0300 ∷ 0x0300 ∷ []) ∷ (
+      0xC000,
+      0x4031 ∷ 0x2200 ∷ 0x4392 ∷ 0x0070 ∷ 0xD232 ∷ 0x12B0 ∷ 0xC020 ∷ 0x12B0 ∷ 0xA000 ∷
+          0x3FFF ∷ [],
+    ) ∷
+    (0xC020, 0x4303 ∷ 0x4030 ∷ 0xC00E ∷ []) ∷
+    (0xC030, 0x4256 ∷ 0x0074 ∷ 0x1300 ∷ []) ∷
+    (0xFFF4, 0xC030 ∷ []) ∷
+    (0xFFFE, 0xC000 ∷ []) ∷
+    [])
+
+-- MOV #2200,SP; CALL #C020; MOV #4303,&C020; CALL #A000, with the region C020 to C022
+abbrev pub overwrite : ℕ → ℕ
+overwrite =
+    image_of (
+    (0x0260, 0xC020 ∷ 0xC022 ∷ 0x0300 ∷ 0x0300 ∷ []) ∷ (
+      0xC000,
+      0x4031 ∷ 0x2200 ∷ 0x12B0 ∷ 0xC020 ∷ 0x40B2 ∷ 0x4303 ∷ 0xC020 ∷ 0x12B0 ∷ 0xA000 ∷
+          0x3FFF ∷ [],
+    ) ∷
+    (0xC020, 0x4303 ∷ 0x4130 ∷ []) ∷
+    (0xFFFE, 0xC000 ∷ []) ∷
+    [])
+
+-- MOV #2200,SP; CALL #C020; CALL #C022; CALL #A000, with the region C020 to C022
+abbrev pub inner_entry : ℕ → ℕ
+inner_entry =
+    image_of (
+    (0x0260, 0xC020 ∷ 0xC022 ∷ 0x0300 ∷ 0x0300 ∷ []) ∷
+    (0xC000, 0x4031 ∷ 0x2200 ∷ 0x12B0 ∷ 0xC020 ∷ 0x12B0 ∷ 0xC022 ∷ 0x12B0 ∷ 0xA000 ∷ 0x3FFF ∷ []) ∷
+    (0xC020, 0x4303 ∷ 0x4130 ∷ []) ∷
+    (0xFFFE, 0xC000 ∷ []) ∷
+    [])
+
+-- MOV #2200,SP; CALL #C020; CALL #A000, with the output region at the end of the region
+abbrev pub region_overlap : ℕ → ℕ
+region_overlap =
+    image_of (
+    (0x0260, 0xC020 ∷ 0xC022 ∷ 0xC022 ∷ 0xC022 ∷ []) ∷
+    (0xC000, 0x4031 ∷ 0x2200 ∷ 0x12B0 ∷ 0xC020 ∷ 0x12B0 ∷ 0xA000 ∷ 0x3FFF ∷ []) ∷
+    (0xC020, 0x4303 ∷ 0x4130 ∷ []) ∷
+    (0xFFFE, 0xC000 ∷ []) ∷
+    [])
+
+-- as before, with a region over the MAC
+abbrev pub region_over_mac : ℕ → ℕ
+region_over_mac =
+    image_of (
+    (0x0260, 0x0200 ∷ 0x0202 ∷ 0x0300 ∷ 0x0300 ∷ []) ∷ (
+      0xC000,
+      0x4031 ∷ 0x2200 ∷ 0x4392 ∷ 0x0070 ∷ 0xD232 ∷ 0x12B0 ∷ 0xC020 ∷ 0x12B0 ∷ 0xA000 ∷
+          0x3FFF ∷ [],
+    ) ∷
+    (0xC020, 0x4303 ∷ 0x4130 ∷ []) ∷
+    (0xC030, 0x4256 ∷ 0x0074 ∷ 0x1300 ∷ []) ∷
+    (0xFFF4, 0xC030 ∷ []) ∷
+    (0xFFFE, 0xC000 ∷ []) ∷
+    [])
+
+-- sleeps; the handler at C030 sends the byte that arrived back
+abbrev pub echo : ℕ → ℕ
+echo =
+    image_of (
+    (0xC000, 0x4031 ∷ 0x2200 ∷ 0x4392 ∷ 0x0070 ∷ 0xD032 ∷ 0x0018 ∷ 0x3FFF ∷ []) ∷
+    (0xC030, 0x42D2 ∷ 0x0074 ∷ 0x0076 ∷ 0x1300 ∷ []) ∷
+    (0xFFF4, 0xC030 ∷ []) ∷
+    (0xFFFE, 0xC000 ∷ []) ∷
+    [])
+
+-- a timer of ten steps; its handler at C030 sends the letter T
+abbrev pub ticker : ℕ → ℕ
+ticker =
+    image_of ((
+      0xC000,
+      0x4031 ∷ 0x2200 ∷ 0x40B2 ∷ 0x0009 ∷ 0x0164 ∷ 0x40B2 ∷ 0x0003 ∷ 0x0160 ∷ 0xD232 ∷
+          0x3FFF ∷ [],
+    ) ∷
+    (0xC030, 0x40F2 ∷ 0x0054 ∷ 0x0076 ∷ 0x1300 ∷ []) ∷
+    (0xFFF2, 0xC030 ∷ []) ∷
+    (0xFFFE, 0xC000 ∷ []) ∷
+    [])
+
+-- the letter, and two jumps to themselves
+abbrev pub rewritten_program : ℕ → ℕ
+rewritten_program =
+    image_of (
+    (0xC000, 0x40B2 ∷ 0x0041 ∷ 0x0076 ∷ 0x3FFF ∷ 0x3FFC ∷ []) ∷
+    (0xFFFE, 0xC000 ∷ []) ∷
+    [])
+
+-- MOV #0041,&0300; MOV &0300,&0076; a jump to itself
+abbrev pub store : ℕ → ℕ
+store =
+    image_of (
+    (0xC000, 0x40B2 ∷ 0x0041 ∷ 0x0300 ∷ 0x4292 ∷ 0x0300 ∷ 0x0076 ∷ 0x3FFF ∷ []) ∷
+    (0xFFFE, 0xC000 ∷ []) ∷
+    [])
+
+-- BR #A002
+abbrev pub jump_into_rom : ℕ → ℕ
+jump_into_rom =
+    image_of (
+    (0xC000, 0x4030 ∷ 0xA002 ∷ []) ∷
+    (0xFFFE, 0xC000 ∷ []) ∷
+    [])

@@ -1,0 +1,30 @@
+-- The rule that a step breaks: the first in the order in which records name them.
+use Rattle.std.specs.Prelude.{◌&&◌, ℕ, Bool, Option, Some, None, if◌then◌else◌}
+use Rattle.bus_signals.specs.declared.rule.Rule.{Rule}
+use Rattle.bus_signals.specs.declared.rule.Rule.TheVariants.{X0, I1}
+use Rattle.bus_signals.specs.declared.signals.Signals.{Signals}
+use Rattle.part_definitions.specs.NextAccess.{is_illegal}
+use Rattle.part_definitions.specs.Monitors.{key_rule, atomicity_rule}
+
+-- X0: the script asks for a reset
+abbrev pub breaks_x0 : Signals → Bool
+breaks_x0 now = now.script_reset
+
+-- I1: an opcode fetch reads an illegal word
+abbrev pub breaks_i1 : Signals → Bool
+breaks_i1 now = now.opcode && is_illegal now.word
+
+abbrev pub rule_where : Bool → Rule → Option Rule
+rule_where holds rule = if holds then Some rule else None
+
+-- the first of two
+abbrev pub or_else : Option Rule → Option Rule → Option Rule
+or_else None later = later
+or_else (Some rule) later = Some rule
+
+-- X0, then A3, A2, A1, A4, then K1 to K6, then I1; of the record before, its `pc` is given
+unfoldable pub first_rule : Option ℕ → Signals → Option Rule
+first_rule last now =
+    or_else (rule_where (breaks_x0 now) X0)
+    (or_else (atomicity_rule last now)
+    (or_else (key_rule now) (rule_where (breaks_i1 now) I1)))

@@ -1,0 +1,60 @@
+-- Memory outside the secrets, with the key away and what was written to the exclusive stack hidden.
+use Rattle.std.proofs.Common.{◌≡◌, ℕ, ◌-◌, Bool, true, false, List, [], ◌∷◌, map, refl, ap, sym, ◌∙◌, arith}
+use Rattle.std.specs.Prelude.{◌==◌, if◌then◌else◌}
+use Rattle.std.proofs.lemmas.Bool.{cond-true, cond-false, or_parts, eqb-true}
+use Rattle.std.proofs.lemmas.Bool.Decides.{nat_tests}
+use Rattle.bus_signals.specs.Map.{lies_in, key_region, stack_region}
+use Rattle.part_definitions.specs.Memory.{PowerOn, MemoryWrite, takes_write, first_byte, fixed_byte, last_written, byte_at}
+use Rattle.device_trace.specs.Blank.{is_secret}
+
+-- two choices by one test
+pub same_if : {A : Type 0} (test : Bool) (x x' y y' : A)
+    → (test ≡ true → x ≡ x') → (test ≡ false → y ≡ y') → (if test then x else y) ≡ (if test then x' else y')
+same_if true x x' y y' left right = left refl
+same_if false x x' y y' left right = right refl
+
+-- a write, with 0 in place of a byte of the exclusive stack
+abbrev pub hide_write : MemoryWrite → MemoryWrite
+hide_write write =
+    record { place = write.place; byte = if lies_in stack_region write.place then 0 else write.byte }
+
+-- a key that is all 0
+abbrev pub keyless : PowerOn → PowerOn
+keyless power = record { key = λ i. 0; image = power.image }
+
+pub last_written-hide : (writes : List MemoryWrite) (place before : ℕ)
+    → lies_in stack_region place ≡ false
+    → last_written (map hide_write writes) place before ≡ last_written writes place before
+last_written-hide [] place before off = refl
+last_written-hide (write ∷ writes) place before off =
+    same_if (write.place == place) (if lies_in stack_region write.place then 0 else write.byte) write.byte
+    (last_written (map hide_write writes) place before) (last_written writes place before)
+    (λ here.
+    cond-false (lies_in stack_region write.place) 0 write.byte
+    (ap (lies_in stack_region) (eqb-true write.place place here) ∙ off))
+    (λ there. last_written-hide writes place before off)
+
+-- outside the secrets
+pub byte_at-hide : (power : PowerOn) (exec : Bool) (writes : List MemoryWrite) (place : ℕ)
+    → is_secret place ≡ false
+    → byte_at (keyless power) exec (map hide_write writes) place ≡ byte_at power exec writes place
+byte_at-hide power exec writes place off =
+    let parts = or_parts (lies_in key_region place) (lies_in stack_region place) off in
+    same_if (takes_write place) (last_written (map hide_write writes) place (first_byte power place))
+    (last_written writes place (first_byte power place)) (fixed_byte (keyless power) exec place)
+    (fixed_byte power exec place)
+    (λ taken. last_written-hide writes place (first_byte power place) parts.1)
+    (λ fixed.
+    same_if (lies_in key_region place) 0 (power.key (place - key_region.first)) _ _
+    (λ key. absurd (let clash : true ≡ false = sym key ∙ parts.0 in cc))
+    (λ other. refl))
+
+-- the key reads as 0
+key_takes_no_write : (place : ℕ) → lies_in key_region place ≡ true → takes_write place ≡ false
+key_takes_no_write place within = grind (arith, nat_tests)
+
+pub key_byte-hide : (power : PowerOn) (exec : Bool) (writes : List MemoryWrite) (place : ℕ)
+    → lies_in key_region place ≡ true → byte_at (keyless power) exec writes place ≡ 0
+key_byte-hide power exec writes place within =
+    cond-false (takes_write place) _ _ (key_takes_no_write place within)
+    ∙ cond-true (lies_in key_region place) _ _ within

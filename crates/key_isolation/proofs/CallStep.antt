@@ -1,0 +1,174 @@
+-- A step of a call that is not refused, with and without the key.
+use Rattle.std.proofs.Common.{◌≡◌, ℕ, ◌+◌, ◌*◌, ◌/◌, ◌<◌, ◌≤◌, Bool, true, false, List, [], ◌∷◌, ◌++◌, length, Some, refl, ap, sym, ◌∙◌, arith}
+use Rattle.std.specs.Prelude.{◌==◌, ◌&&◌, ◌||◌, slice_index, if◌then◌else◌}
+use Rattle.std.proofs.lemmas.Bool.{cond-true, cond-false}
+use Rattle.std.proofs.lemmas.Bool.Decides.{nat_tests}
+use Rattle.word_arith.specs.declared.size.Size.TheVariants.{Word}
+use Rattle.bus_signals.specs.declared.access.Access.{Access}
+use Rattle.bus_signals.specs.declared.access.Access.TheVariants.{Read, Write}
+use Rattle.bus_signals.specs.declared.bounds.Bounds.{Bounds}
+use Rattle.bus_signals.specs.Access.{some_reads}
+use Rattle.bus_signals.specs.Map.{lies_in, touches, some_touches, mac_region, key_region, stack_region, peripheral_region, ROM_EXIT}
+use Rattle.part_definitions.specs.Attestation.{CallItem, KeyRead, MetadataRead, DerivedKeyWrite, RegionRead, InnerDigestWrite, MacWrite, ReturnRead, region_words, item_access, item_pc}
+use Rattle.device_trace.specs.Blank.{touches_secrets, blank_access, blank_value}
+use Rattle.device_trace.specs.Logs.{Logs, exec_of, logged_byte, with_released_word}
+use Rattle.device_trace.specs.Progress.{word_passed}
+use Rattle.device_trace.specs.Signals.{value_read}
+use Rattle.device_trace.specs.Start.{Start, given_word}
+use Rattle.key_isolation.proofs.Bytes.{key_byte-hide}
+use Rattle.key_isolation.proofs.Numbers.{key_word-zero}
+use Rattle.key_isolation.proofs.Hiding.{opened, hide}
+use Rattle.key_isolation.proofs.Reading.{value_read-hide}
+use Rattle.trace_facts.proofs.CallPlaces.{ItemFits, metadata_off, region_off}
+
+-- a read of no secret
+pub record ReadsOpenly (start : Start) (released : List ℕ) (logs : Logs) (access : Access) : Type 0 where
+  pub same : blank_access (Some access) ≡ Some access
+  pub value :
+      blank_value (Some access) (value_read start logs (Some access))
+      ≡ value_read (opened released start) (hide logs) (Some access)
+
+-- the real access of a call and the one without the key, after so many words
+pub record SameItem (start : Start) (released : List ℕ) (logs : Logs) (passed : ℕ) (real seen : Access) : Type 0 where
+  pub access : blank_access (Some real) ≡ Some seen
+  pub value :
+      blank_value (Some real) (value_read start logs (Some real))
+      ≡ value_read (opened released start) (hide logs) (Some seen)
+  pub hidden : passed < 32
+      → word_passed (Some seen) (value_read (opened released start) (hide logs) (Some seen)) ≡ 0
+  pub kept : 32 ≤ passed
+      → word_passed (Some seen) (value_read (opened released start) (hide logs) (Some seen))
+      ≡ word_passed (Some real) (value_read start logs (Some real))
+
+read_off : (start : Start) (released : List ℕ) (logs : Logs) (passed place : ℕ)
+    → 32 ≤ passed → touches_secrets (Read place Word) ≡ false
+    → SameItem start released logs passed (Read place Word) (Read place Word)
+read_off start released logs passed place past off =
+    let same = value_read-hide start released logs (Read place Word) off in
+    record {
+      access = refl;
+      value =
+          cond-false (touches_secrets (Read place Word)) 0 (value_read start logs (Some (Read place Word))) off ∙ sym same;
+      hidden = λ fewer. absurd (omega arith);
+      kept = λ past. same;
+    }
+
+-- a word of the key
+key_touched : (i : ℕ) → i < 32 → touches_secrets (Read ((0x6A00 + 2 * i) / 2 * 2) Word) ≡ true
+key_touched i within = grind (arith, nat_tests)
+
+key_off_peripherals : (i : ℕ) → i < 32 → lies_in peripheral_region ((0x6A00 + 2 * i) / 2 * 2) ≡ false
+key_off_peripherals i within = grind (arith, nat_tests)
+
+read_key : (start : Start) (released : List ℕ) (logs : Logs) (passed i : ℕ)
+    → i < 32 → passed < 32
+    → SameItem start released logs passed (Read ((0x6A00 + 2 * i) / 2 * 2) Word) (Read ((0x6A00 + 2 * i) / 2 * 2) Word)
+read_key start released logs passed i within fewer =
+    let zero_word : value_read (opened released start) (hide logs) (Some (Read ((0x6A00 + 2 * i) / 2 * 2) Word)) ≡ 0 =
+    cond-false (lies_in peripheral_region ((0x6A00 + 2 * i) / 2 * 2)) _ _ (key_off_peripherals i within)
+    ∙ key_word-zero (logged_byte (opened released start) (hide logs))
+    (λ place key. key_byte-hide start.power (exec_of (hide logs)) (hide logs).memory place key) i within in
+    record {
+      access = refl;
+      value =
+          cond-true (touches_secrets (Read ((0x6A00 + 2 * i) / 2 * 2) Word)) 0
+          (value_read start logs (Some (Read ((0x6A00 + 2 * i) / 2 * 2) Word))) (key_touched i within)
+          ∙ sym zero_word;
+      hidden = λ fewer. zero_word;
+      kept = λ past. absurd (omega arith);
+    }
+
+-- a word of the exclusive stack
+cond_zero : (test : Bool) → ◌≡◌ {A = ℕ} (if test then 0 else 0) 0
+cond_zero true = refl
+cond_zero false = refl
+
+write_stack : (start : Start) (released : List ℕ) (logs : Logs) (passed place number : ℕ)
+    → 32 ≤ passed
+    → touches (Read place Word) stack_region ≡ true
+    → lies_in mac_region place ≡ false
+    → SameItem start released logs passed (Write place Word number) (Write place Word 0)
+write_stack start released logs passed place number past stack off_mac =
+    record {
+      access =
+          ap (λ (n : ℕ). Some (Write place Word n)) (cond-true (touches (Read place Word) stack_region) 0 number stack);
+      value = cond_zero (touches_secrets (Read place Word));
+      hidden = λ fewer. cond-false (lies_in mac_region place) 0 0 off_mac;
+      kept = λ past.
+          cond-false (lies_in mac_region place) 0 0 off_mac ∙ sym (cond-false (lies_in mac_region place) number 0 off_mac);
+    }
+
+-- a word of the MAC
+write_mac : (start : Start) (released : List ℕ) (logs : Logs) (passed place number given : ℕ)
+    → 32 ≤ passed
+    → touches (Read place Word) stack_region ≡ false
+    → given ≡ number
+    → SameItem start released logs passed (Write place Word number) (Write place Word given)
+write_mac start released logs passed place number given past off same =
+    record {
+      access =
+          ap (λ (n : ℕ). Some (Write place Word n))
+          (cond-false (touches (Read place Word) stack_region) 0 number off ∙ sym same);
+      value = cond_zero (touches_secrets (Read place Word));
+      hidden = λ fewer. absurd (omega arith);
+      kept = λ past. ap (λ (n : ℕ). if lies_in mac_region place then n else 0) same;
+    }
+
+derived_in_stack : (i : ℕ) → i < 16 → touches (Read ((0x4000 + 2 * i) / 2 * 2) Word) stack_region ≡ true
+derived_in_stack i within = grind (arith, nat_tests)
+
+inner_in_stack : (i : ℕ) → i < 16 → touches (Read ((0x4020 + 2 * i) / 2 * 2) Word) stack_region ≡ true
+inner_in_stack i within = grind (arith, nat_tests)
+
+above_mac : (place : ℕ) → 0x4000 ≤ place → lies_in mac_region (place / 2 * 2) ≡ false
+above_mac place above = grind (arith, nat_tests)
+
+mac_off_stack : (i : ℕ) → i < 16 → touches (Read ((0x200 + 2 * i) / 2 * 2) Word) stack_region ≡ false
+mac_off_stack i within = grind (arith, nat_tests)
+
+mac_place : (i : ℕ) → i < 16 → lies_in mac_region ((0x200 + 2 * i) / 2 * 2) ≡ true
+mac_place i within = grind (arith, nat_tests)
+
+-- the word that comes next is the one that is released
+next_given : (old : List ℕ) (number : ℕ) (more : List ℕ) → slice_index ((old ++ number ∷ []) ++ more) (length old) ≡ number
+next_given [] number more = refl
+next_given (first ∷ old) number more = next_given old number more
+
+next_released : (old released more : List ℕ) (place number : ℕ)
+    → lies_in mac_region place ≡ true
+    → released ≡ with_released_word (Some (Write place Word number)) old ++ more
+    → slice_index released (length old) ≡ number
+next_released old released more place number mac split =
+    ap (λ (words : List ℕ). slice_index words (length old))
+    (split ∙ ap (λ (words : List ℕ). words ++ more) (cond-true (lies_in mac_region place) (old ++ number ∷ []) old mac))
+    ∙ next_given old number more
+
+-- the return read touches no secret where rule A4 is not broken
+return_off : (place : ℕ)
+    → (some_touches (Some (Read place Word)) key_region || some_touches (Some (Read place Word)) stack_region) ≡ false
+    → touches_secrets (Read place Word) ≡ false
+return_off place off = off
+
+pub same_item : (start : Start) (released more : List ℕ) (logs : Logs) (sp passed number : ℕ) (bounds : Bounds) (item : CallItem)
+    → ItemFits (region_words bounds) passed item
+    → ((item_pc item == ROM_EXIT) && some_reads (Some (item_access sp bounds item number))
+    && (some_touches (Some (item_access sp bounds item number)) key_region
+    || some_touches (Some (item_access sp bounds item number)) stack_region)) ≡ false
+    → released ≡ with_released_word (Some (item_access sp bounds item number)) logs.released_words ++ more
+    → SameItem start released logs passed (item_access sp bounds item number)
+    (item_access sp bounds item (given_word released (length logs.released_words) item))
+same_item start released more logs sp passed number bounds (KeyRead i) fits a4 split =
+    read_key start released logs passed i fits.0 fits.1
+same_item start released more logs sp passed number bounds (MetadataRead i) fits a4 split =
+    read_off start released logs passed _ fits.1 (metadata_off i fits.0)
+same_item start released more logs sp passed number bounds (DerivedKeyWrite i) fits a4 split =
+    write_stack start released logs passed _ number fits.1 (derived_in_stack i fits.0) (above_mac (0x4000 + 2 * i) (omega arith))
+same_item start released more logs sp passed number bounds (RegionRead i) fits a4 split =
+    read_off start released logs passed _ fits.1 (region_off bounds i fits.0)
+same_item start released more logs sp passed number bounds (InnerDigestWrite i) fits a4 split =
+    write_stack start released logs passed _ number fits.1 (inner_in_stack i fits.0) (above_mac (0x4020 + 2 * i) (omega arith))
+same_item start released more logs sp passed number bounds (MacWrite i) fits a4 split =
+    write_mac start released logs passed _ number _ fits.1 (mac_off_stack i fits.0)
+    (next_released logs.released_words released more ((0x200 + 2 * i) / 2 * 2) number (mac_place i fits.0) split)
+same_item start released more logs sp passed number bounds ReturnRead fits a4 split =
+    read_off start released logs passed _ fits (return_off (sp / 2 * 2) a4)

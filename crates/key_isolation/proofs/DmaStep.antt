@@ -1,0 +1,69 @@
+-- What the DMA reads in a step that is not refused: no secret, so the same without the key.
+use Rattle.std.proofs.Common.{◌≡◌, ℕ, Bool, true, false, List, Option, Some, None, IfSome, map, refl, ap, sym, ◌∙◌}
+use Rattle.std.specs.Prelude.{if◌then◌else◌}
+use Rattle.std.proofs.lemmas.Bool.{cond-false, or_from}
+use Rattle.word_arith.specs.declared.size.Size.TheVariants.{Word}
+use Rattle.bus_signals.specs.Access.{IsFormed}
+use Rattle.bus_signals.specs.declared.access.Access.{Access}
+use Rattle.bus_signals.specs.declared.access.Access.TheVariants.{Fetch, Read, Write}
+use Rattle.bus_signals.specs.Map.{touches, some_touches, key_region, stack_region}
+use Rattle.part_definitions.specs.Memory.{MemoryWrite, byte_at, with_access}
+use Rattle.device_trace.specs.Blank.{touches_secrets, SameOutside, blank_access, blank_value}
+use Rattle.device_trace.specs.Logs.{Logs, exec_of}
+use Rattle.device_trace.specs.Start.{Start}
+use Rattle.device_trace.specs.Step.{memory_read}
+use Rattle.key_isolation.proofs.Bytes.{hide_write, keyless, byte_at-hide}
+use Rattle.key_isolation.proofs.FlagBlank.{exec-blank}
+use Rattle.key_isolation.proofs.Hiding.{hide}
+use Rattle.key_isolation.proofs.Numbers.{number_at-outside}
+use Rattle.key_isolation.proofs.WrittenBytes.{with_access-hide}
+
+-- an access of the DMA that breaks neither K4 nor K5
+pub record SameDma (left right : ℕ → ℕ) (access : Option Access) : Type 0 where
+  pub same : blank_access access ≡ access
+  pub value : blank_value access (memory_read right access) ≡ memory_read left access
+  pub kept : blank_value access (memory_read right access) ≡ memory_read right access
+
+zero_either : (test : Bool) → ◌≡◌ {A = ℕ} (if test then 0 else 0) 0
+zero_either true = refl
+zero_either false = refl
+
+reads_same : (left right : ℕ → ℕ) (access : Access)
+    → blank_access (Some access) ≡ Some access → touches_secrets access ≡ false
+    → memory_read left (Some access) ≡ memory_read right (Some access)
+    → SameDma left right (Some access)
+reads_same left right access same off read =
+    let kept = cond-false (touches_secrets access) 0 (memory_read right (Some access)) off in
+    record { same = same; value = kept ∙ sym read; kept = kept }
+
+pub dma_same : (left right : ℕ → ℕ) → SameOutside left right → (access : Option Access)
+    → some_touches access key_region ≡ false → some_touches access stack_region ≡ false
+    → SameDma left right access
+dma_same left right same None key stack = record { same = refl; value = refl; kept = refl }
+dma_same left right same (Some (Fetch place)) key stack =
+    let off = or_from (touches (Fetch place) key_region) (touches (Fetch place) stack_region) key stack in
+    reads_same left right (Fetch place) refl off (number_at-outside left right same place Word off)
+dma_same left right same (Some (Read place size)) key stack =
+    let off = or_from (touches (Read place size) key_region) (touches (Read place size) stack_region) key stack in
+    reads_same left right (Read place size) refl off (number_at-outside left right same place size off)
+dma_same left right same (Some (Write place size number)) key stack =
+    record {
+      same =
+          ap (λ (n : ℕ). Some (Write place size n))
+          (cond-false (touches (Write place size number) stack_region) 0 number stack);
+      value = zero_either (touches_secrets (Write place size number));
+      kept = zero_either (touches_secrets (Write place size number));
+    }
+
+-- memory with the processor's write of the step
+pub written-outside : (start : Start) (logs : Logs) (real seen : Option Access)
+    → IfSome real IsFormed → blank_access real ≡ seen
+    → SameOutside (byte_at (keyless start.power) (exec_of (hide logs)) (with_access seen (map hide_write logs.memory)))
+    (byte_at start.power (exec_of logs) (with_access real logs.memory))
+written-outside start logs real seen formed same place off =
+    ap (λ (exec : Bool). byte_at (keyless start.power) exec (with_access seen (map hide_write logs.memory)) place)
+    (exec-blank logs.seen)
+    ∙ (ap (λ (writes : List MemoryWrite). byte_at (keyless start.power) (exec_of logs) writes place)
+    (ap (λ (access : Option Access). with_access access (map hide_write logs.memory)) (sym same)
+    ∙ with_access-hide real logs.memory formed)
+    ∙ byte_at-hide start.power (exec_of logs) (with_access real logs.memory) place off)

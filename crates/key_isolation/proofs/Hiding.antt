@@ -1,0 +1,124 @@
+-- The logs of a play with the secrets hidden, and what stays of them.
+use Rattle.std.proofs.Common.{◌≡◌, ℕ, Bool, false, List, Option, Some, None, map, refl, ap, sym, ◌∙◌}
+use Rattle.bus_signals.specs.declared.kind.Kind.{Kind}
+use Rattle.bus_signals.specs.declared.kind.Kind.TheVariants.{Boot, Cpu, Idle, Irq, Rom}
+use Rattle.part_definitions.specs.Attestation.{item_pc}
+use Rattle.part_definitions.specs.CpuRegisters.{allows_interrupts}
+use Rattle.part_definitions.specs.CpuState.{Boundary, Executing, Entering}
+use Rattle.part_definitions.specs.Interrupt.{accepted_vector}
+use Rattle.part_definitions.specs.Memory.{byte_at}
+use Rattle.part_definitions.specs.Serial.{serial_requests}
+use Rattle.part_definitions.specs.Timer.{timer_requests}
+use Rattle.device_trace.specs.Blank.{is_secret}
+use Rattle.device_trace.specs.Logs.{Logs, exec_of, logged_byte, logged_bounds, vector_of, step_progress, accepts_timer}
+use Rattle.device_trace.specs.Progress.{Progress, Held, Runs, InCall, last_registers, next_pc_of, kind_of, progress_from_boundary, progress_within, tells_irq, fetches_opcode}
+use Rattle.device_trace.specs.Signals.{step_kind}
+use Rattle.device_trace.specs.Start.{Start, without_key}
+use Rattle.key_isolation.proofs.HiddenWords.{hide_first, hide_first-none, call_item-hide}
+use Rattle.key_isolation.proofs.Bytes.{hide_write, keyless, byte_at-hide}
+use Rattle.key_isolation.proofs.Numbers.{bounds_in-outside}
+use Rattle.key_isolation.proofs.FlagBlank.{blank_seen, exec-blank}
+
+-- the same start without its key, where the calls release these words
+abbrev pub opened : List ℕ → Start → Start
+opened words start = without_key words start.power.image
+
+abbrev pub hide_progress : Progress → Progress
+hide_progress Held = Held
+hide_progress (Runs cpu) = Runs cpu
+hide_progress (InCall regs words) = InCall regs (hide_first 32 words)
+
+abbrev pub hide : Logs → Logs
+hide logs =
+    record {
+      progress = hide_progress logs.progress;
+      memory = map hide_write logs.memory;
+      peripherals = logs.peripherals;
+      seen = map blank_seen logs.seen;
+      released_words = logs.released_words;
+    }
+
+-- readers of the progress
+pub last_registers-hide : (progress : Progress) → last_registers (hide_progress progress) ≡ last_registers progress
+last_registers-hide Held = refl
+last_registers-hide (Runs cpu) = refl
+last_registers-hide (InCall regs words) = refl
+
+pub next_pc_of-hide : (progress : Progress) → next_pc_of (hide_progress progress) ≡ next_pc_of progress
+next_pc_of-hide Held = refl
+next_pc_of-hide (Runs cpu) = refl
+next_pc_of-hide (InCall regs words) = ap item_pc (call_item-hide words)
+
+kind_of-hide : (progress : Progress) (vector : Option ℕ) → kind_of (hide_progress progress) vector ≡ kind_of progress vector
+kind_of-hide Held vector = refl
+kind_of-hide (Runs cpu) vector = refl
+kind_of-hide (InCall regs words) vector = refl
+
+pub tells_irq-hide : (progress : Progress) → tells_irq (hide_progress progress) ≡ tells_irq progress
+tells_irq-hide Held = refl
+tells_irq-hide (Runs cpu) = refl
+tells_irq-hide (InCall regs words) = refl
+
+pub fetches_opcode-hide : (kind : Kind) (progress : Progress)
+    → fetches_opcode kind (hide_progress progress) ≡ fetches_opcode kind progress
+fetches_opcode-hide kind Held = refl
+fetches_opcode-hide kind (Runs cpu) = refl
+fetches_opcode-hide Boot (InCall regs words) = refl
+fetches_opcode-hide Cpu (InCall regs words) = refl
+fetches_opcode-hide Idle (InCall regs words) = refl
+fetches_opcode-hide Irq (InCall regs words) = refl
+fetches_opcode-hide Rom (InCall regs words) = refl
+
+pub accepts_timer-hide : (progress : Progress) (kind : Kind) (vector : Option ℕ)
+    → accepts_timer (hide_progress progress) kind vector ≡ accepts_timer progress kind vector
+accepts_timer-hide Held kind vector = refl
+accepts_timer-hide (Runs cpu) kind vector = refl
+accepts_timer-hide (InCall regs words) kind vector = refl
+
+from_boundary-hide : (regs : List ℕ) (kind : Kind) (vector : Option ℕ)
+    → progress_from_boundary regs kind vector ≡ hide_progress (progress_from_boundary regs kind vector)
+from_boundary-hide regs Boot vector = refl
+from_boundary-hide regs Cpu vector = refl
+from_boundary-hide regs Idle vector = refl
+from_boundary-hide regs Irq None = refl
+from_boundary-hide regs Irq (Some vector) = refl
+from_boundary-hide regs Rom vector = ap (λ (words : List ℕ). InCall regs words) (sym (hide_first-none 32))
+
+progress_within-hide : (progress : Progress) (kind : Kind) (vector : Option ℕ)
+    → progress_within (hide_progress progress) kind vector ≡ hide_progress (progress_within progress kind vector)
+progress_within-hide Held kind vector = refl
+progress_within-hide (Runs (Boundary regs)) kind vector = from_boundary-hide regs kind vector
+progress_within-hide (Runs (Executing regs values)) kind vector = refl
+progress_within-hide (Runs (Entering regs chosen values)) kind vector = refl
+progress_within-hide (InCall regs words) kind vector = refl
+
+-- readers of the logs
+pub vector_of-hide : (logs : Logs) → vector_of (hide logs) ≡ vector_of logs
+vector_of-hide logs =
+    ap
+    (λ (regs : List ℕ). accepted_vector (allows_interrupts regs) (serial_requests logs.peripherals.serial)
+    (timer_requests logs.peripherals.timer))
+    (last_registers-hide logs.progress)
+
+pub step_kind-hide : (logs : Logs) → step_kind (hide logs) ≡ step_kind logs
+step_kind-hide logs =
+    ap (λ (vector : Option ℕ). kind_of (hide_progress logs.progress) vector) (vector_of-hide logs)
+    ∙ kind_of-hide logs.progress (vector_of logs)
+
+pub step_progress-hide : (logs : Logs) (kind : Kind) → step_progress (hide logs) kind ≡ hide_progress (step_progress logs kind)
+step_progress-hide logs kind =
+    ap (λ (vector : Option ℕ). progress_within (hide_progress logs.progress) kind vector) (vector_of-hide logs)
+    ∙ progress_within-hide logs.progress kind (vector_of logs)
+
+-- bytes
+pub logged_byte-hide : (start : Start) (words : List ℕ) (logs : Logs) (place : ℕ)
+    → is_secret place ≡ false → logged_byte (opened words start) (hide logs) place ≡ logged_byte start logs place
+logged_byte-hide start words logs place off =
+    ap (λ (exec : Bool). byte_at (keyless start.power) exec (map hide_write logs.memory) place) (exec-blank logs.seen)
+    ∙ byte_at-hide start.power (exec_of logs) logs.memory place off
+
+pub logged_bounds-hide : (start : Start) (words : List ℕ) (logs : Logs)
+    → logged_bounds (opened words start) (hide logs) ≡ logged_bounds start logs
+logged_bounds-hide start words logs =
+    bounds_in-outside (logged_byte (opened words start) (hide logs)) (logged_byte start logs)
+    (logged_byte-hide start words logs)

@@ -1,0 +1,44 @@
+-- The isolation of the key, by induction on the play.
+use Rattle.std.proofs.Common.{◌≡◌, ℕ, List, [], ◌∷◌, ◌++◌, refl, ap, sym, ◌∙◌, append_assoc}
+use Rattle.bus_signals.specs.declared.bus_record.BusRecord.{BusRecord}
+use Rattle.bus_signals.specs.declared.event.Event.{Event}
+use Rattle.device_trace.specs.Blank.{blank}
+use Rattle.device_trace.specs.Logs.{Logs, with_events, with_record}
+use Rattle.device_trace.specs.Start.{Start}
+use Rattle.device_trace.specs.Step.{next_record}
+use Rattle.device_trace.specs.Trace.{next_logs, logs_after, trace}
+use Rattle.trace_facts.proofs.SoundPlay.{logs_after-sound}
+use Rattle.key_isolation.proofs.Hiding.{opened, hide}
+use Rattle.key_isolation.proofs.LogsBlank.{step_hides}
+use Rattle.key_isolation.proofs.Projections.{released_words_after-more}
+
+pub record PlayHides (start : Start) (released : List ℕ) (play : List (List Event)) : Type 0 where
+  pub history : blank (trace start play) ≡ trace (opened released start) play
+  pub logs : hide (logs_after start play) ≡ logs_after (opened released start) play
+
+-- a step only adds to the released words
+pub next_released : (start : Start) (logs : Logs) (events : List Event)
+    → (more : List ℕ) × ((next_logs start logs events).released_words ≡ logs.released_words ++ more)
+unfolding with_record with_events
+next_released start logs events =
+    released_words_after-more (next_record start logs events).reset (next_record start logs events).kind
+    (next_record start logs events).cpu logs.released_words
+
+pub play_hides : (start : Start) (released : List ℕ) (play : List (List Event)) (more : List ℕ)
+    → released ≡ (logs_after start play).released_words ++ more → PlayHides start released play
+unfolding trace logs_after
+play_hides start released [] more split = record { history = refl; logs = refl }
+play_hides start released (events ∷ play) more split =
+    let logs : Logs = logs_after start play in
+    let added = next_released start logs events in
+    let earlier : released ≡ logs.released_words ++ (added.0 ++ more) =
+    split ∙ (ap (λ (words : List ℕ). words ++ more) added.1 ∙ append_assoc logs.released_words added.0 more) in
+    let before = play_hides start released play (added.0 ++ more) earlier in
+    let step = step_hides start released more logs events (logs_after-sound start play) split in
+    record {
+      history =
+          ap (λ (entry : BusRecord). entry ∷ blank (trace start play)) (sym step.entry)
+          ∙ (ap (λ (ls : Logs). next_record (opened released start) ls events ∷ blank (trace start play)) before.logs
+          ∙ ap (λ (history : List BusRecord). next_record (opened released start) (logs_after (opened released start) play) events ∷ history) before.history);
+      logs = sym step.after ∙ ap (λ (ls : Logs). next_logs (opened released start) ls events) before.logs;
+    }

@@ -1,0 +1,159 @@
+-- The logs after a step without the key are the real ones, hidden.
+use Rattle.std.proofs.Common.{◌≡◌, ℕ, Bool, List, ◌∷◌, ◌++◌, Option, Some, None, map, refl, ap, ◌∙◌}
+use Rattle.bus_signals.specs.declared.access.Access.{Access}
+use Rattle.bus_signals.specs.declared.bus_record.BusRecord.{BusRecord}
+use Rattle.bus_signals.specs.declared.event.Event.{Event}
+use Rattle.bus_signals.specs.declared.rule.Rule.{Rule}
+use Rattle.part_definitions.specs.Flag.{last_pc}
+use Rattle.device_trace.specs.Blank.{blank_access, blank_value, blank_record}
+use Rattle.device_trace.specs.FirstRule.{first_rule}
+use Rattle.device_trace.specs.Formed.{AccessesAreFormed}
+use Rattle.device_trace.specs.Logs.{Logs, vector_of, step_progress, accepts_timer, progress_after, released_words_after, with_events, with_record}
+use Rattle.device_trace.specs.Peripherals.{timer_after}
+use Rattle.device_trace.specs.Progress.{Progress, last_registers, next_progress}
+use Rattle.device_trace.specs.Signals.{value_read, step_kind, proposed_access, signals_at, signals_of}
+use Rattle.device_trace.specs.Start.{Start}
+use Rattle.device_trace.specs.Step.{access_recorded, dma_value_read, record_from, record_of, asks_reset, next_record}
+use Rattle.device_trace.specs.Trace.{next_logs}
+use Rattle.device_trace.proofs.Formed.{record_of-formed}
+use Rattle.trace_facts.proofs.Sound.{IsSound}
+use Rattle.trace_facts.proofs.SoundPlay.{with_events-sound}
+use Rattle.key_isolation.proofs.Hiding.{opened, hide_progress, hide, vector_of-hide, step_progress-hide, accepts_timer-hide, logged_bounds-hide}
+use Rattle.key_isolation.proofs.FlagBlank.{blank_seen}
+use Rattle.key_isolation.proofs.WrittenBytes.{memory_after-hide}
+use Rattle.key_isolation.proofs.Projections.{timer_after-blank, serial_after-blank, dma_after-blank, released_words_after-blank}
+use Rattle.key_isolation.proofs.RecordBlank.{SameUnrefused, unrefused_same, record_of-hide}
+
+-- what the logs need of a record
+pub record FollowsBlank (logs : Logs) (entry : BusRecord) : Type 0 where
+  pub dma_kept : entry.reset ≡ None → blank_value entry.dma entry.dma_value ≡ entry.dma_value
+  pub progress :
+      progress_after entry.reset entry.kind (step_progress (hide logs) entry.kind) (blank_access entry.cpu)
+      (blank_value entry.cpu entry.value)
+      ≡ hide_progress (progress_after entry.reset entry.kind (step_progress logs entry.kind) entry.cpu entry.value)
+
+timer-hide : (logs : Logs) (entry : BusRecord)
+    → timer_after entry.reset (accepts_timer (hide_progress logs.progress) entry.kind (vector_of (hide logs))) (blank_access entry.cpu) logs.peripherals.timer
+    ≡ timer_after entry.reset (accepts_timer logs.progress entry.kind (vector_of logs)) entry.cpu logs.peripherals.timer
+timer-hide logs entry =
+    ap
+    (λ (vector : Option ℕ). timer_after entry.reset (accepts_timer (hide_progress logs.progress) entry.kind vector)
+    (blank_access entry.cpu) logs.peripherals.timer)
+    (vector_of-hide logs)
+    ∙ (ap (λ (accepted : Bool). timer_after entry.reset accepted (blank_access entry.cpu) logs.peripherals.timer)
+    (accepts_timer-hide logs.progress entry.kind (vector_of logs))
+    ∙ timer_after-blank entry.reset (accepts_timer logs.progress entry.kind (vector_of logs)) entry.cpu logs.peripherals.timer)
+
+with_record-blank : (start : Start) (released : List ℕ) (logs : Logs) (entry : BusRecord)
+    → AccessesAreFormed entry → FollowsBlank logs entry
+    → with_record (opened released start) (hide logs) (blank_record entry) ≡ hide (with_record start logs entry)
+unfolding with_record
+with_record-blank start released logs entry formed follows =
+    λ i. record {
+      progress = follows.progress i;
+      memory = memory_after-hide entry.reset entry.cpu entry.dma logs.memory formed.cpu formed.dma i;
+      peripherals =
+          record {
+            timer = timer-hide logs entry i;
+            serial = serial_after-blank entry.reset entry.cpu logs.peripherals.serial i;
+            dma =
+                dma_after-blank entry.reset entry.cpu entry.dma entry.dma_value (blank_value entry.dma entry.dma_value)
+                logs.peripherals.dma follows.dma_kept i;
+            pins = logs.peripherals.pins;
+          };
+      seen =
+          record { entry = blank_record entry; bounds = logged_bounds-hide start released logs i }
+          ∷ map blank_seen logs.seen;
+      released_words = released_words_after-blank entry.reset entry.kind entry.cpu logs.released_words i;
+    }
+
+-- the record of a step has it
+follows_at : (start : Start) (released : List ℕ) (logs : Logs) (reset : Bool) (rule : Option Rule)
+    → (rule ≡ None → SameUnrefused start released logs reset)
+    → FollowsBlank logs
+    (record_from (last_registers logs.progress) (signals_of start logs reset) rule
+    (value_read start logs (signals_of start logs reset).cpu)
+    (dma_value_read start logs (signals_of start logs reset)))
+unfolding signals_at
+follows_at start released logs reset None unrefused =
+    let same : SameUnrefused start released logs reset = unrefused refl in
+    let real : Option Access = proposed_access start logs (step_kind logs) in
+    record {
+      dma_kept = λ none. same.numbers.dma_kept;
+      progress =
+          ap
+          (λ (progress : Progress). next_progress (step_kind logs) progress (blank_access real)
+          (blank_value real (value_read start logs real)))
+          (step_progress-hide logs (step_kind logs))
+          ∙ same.next;
+    }
+follows_at start released logs reset (Some rule) unrefused =
+    record { dma_kept = λ none. absurd (cc); progress = refl }
+
+follows_record : (start : Start) (released : List ℕ) (logs : Logs) (reset : Bool)
+    → (first_rule (last_pc logs.seen) (signals_of start logs reset) ≡ None → SameUnrefused start released logs reset)
+    → FollowsBlank logs (record_of start logs reset)
+unfolding record_of
+follows_record start released logs reset unrefused =
+    follows_at start released logs reset (first_rule (last_pc logs.seen) (signals_of start logs reset)) unrefused
+
+-- a step that is not refused releases what its proposed access carries
+split_unrefused : (start : Start) (released more : List ℕ) (logs : Logs) (reset : Bool)
+    → released
+    ≡ released_words_after (record_of start logs reset).reset (record_of start logs reset).kind (record_of start logs reset).cpu logs.released_words ++ more
+    → first_rule (last_pc logs.seen) (signals_of start logs reset) ≡ None
+    → released ≡ released_words_after None (step_kind logs) (proposed_access start logs (step_kind logs)) logs.released_words ++ more
+unfolding record_of signals_at
+split_unrefused start released more logs reset split none =
+    split
+    ∙ ap
+    (λ (rule : Option Rule). released_words_after rule (step_kind logs)
+    (access_recorded rule (proposed_access start logs (step_kind logs))) logs.released_words ++ more)
+    none
+
+-- record and logs of a step
+pub record StepHides (start : Start) (released : List ℕ) (logs : Logs) (events : List Event) : Type 0 where
+  pub entry : next_record (opened released start) (hide logs) events ≡ blank_record (next_record start logs events)
+  pub after : next_logs (opened released start) (hide logs) events ≡ hide (next_logs start logs events)
+
+step_hides_after_events : (start : Start) (released more : List ℕ) (logs : Logs) (reset : Bool)
+    → IsSound logs.progress (last_pc logs.seen)
+    → released
+    ≡ released_words_after (record_of start logs reset).reset (record_of start logs reset).kind (record_of start logs reset).cpu logs.released_words ++ more
+    → (record_of (opened released start) (hide logs) reset ≡ blank_record (record_of start logs reset))
+    × (with_record (opened released start) (hide logs) (blank_record (record_of start logs reset))
+    ≡ hide (with_record start logs (record_of start logs reset)))
+step_hides_after_events start released more logs reset sound split =
+    let unrefused : first_rule (last_pc logs.seen) (signals_of start logs reset) ≡ None → SameUnrefused start released logs reset =
+    λ none. unrefused_same start released more logs reset sound none
+    (split_unrefused start released more logs reset split none) in (
+      record_of-hide start released more logs reset (first_rule (last_pc logs.seen) (signals_of start logs reset)) sound refl
+          unrefused,
+      with_record-blank start released logs (record_of start logs reset) (record_of-formed start logs reset)
+          (follows_record start released logs reset unrefused),
+    )
+
+with_events-hide : (logs : Logs) (events : List Event) → with_events (hide logs) events ≡ hide (with_events logs events)
+unfolding with_events
+with_events-hide logs events = refl
+
+pub step_hides : (start : Start) (released more : List ℕ) (logs : Logs) (events : List Event)
+    → IsSound logs.progress (last_pc logs.seen)
+    → released ≡ (next_logs start logs events).released_words ++ more
+    → StepHides start released logs events
+unfolding next_record with_record
+step_hides start released more logs events sound split =
+    let after : Logs = with_events logs events in
+    let both =
+    step_hides_after_events start released more after (asks_reset events) (with_events-sound logs events sound) split in
+    let entry : next_record (opened released start) (hide logs) events ≡ blank_record (next_record start logs events) =
+    ap (λ (ls : Logs). record_of (opened released start) ls (asks_reset events)) (with_events-hide logs events)
+    ∙ both.0 in
+    record {
+      entry = entry;
+      after =
+          ap
+          (λ (ls : Logs). with_record (opened released start) ls (next_record (opened released start) (hide logs) events))
+          (with_events-hide logs events)
+          ∙ (ap (with_record (opened released start) (hide after)) entry ∙ both.1);
+    }

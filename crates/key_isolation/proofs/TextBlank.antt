@@ -1,0 +1,157 @@
+-- The text of a play is the same without the key.
+use Rattle.std.proofs.Common.{◌≡◌, ℕ, zero, suc, ◌+◌, ◌-◌, ◌<◌, ◌≤◌, Bool, true, false, List, [], ◌∷◌, ◌++◌, length, Option, Some, None, inl, inr, refl, ap, sym, ◌∙◌, arith, lit≤, append_assoc}
+use Rattle.std.specs.Prelude.{◌&&◌, if◌then◌else◌}
+use Rattle.std.proofs.lemmas.Bool.{and_parts}
+use Rattle.std.proofs.lemmas.Bool.Decides.{nat_tests}
+use Rattle.bus_signals.specs.declared.bounds.Bounds.{Bounds}
+use Rattle.bus_signals.specs.declared.bus_record.BusRecord.{BusRecord}
+use Rattle.bus_signals.specs.declared.event.Event.{Event}
+use Rattle.bus_signals.specs.Bounds.{is_valid_region, are_valid}
+use Rattle.bus_signals.specs.Report.{ReportFields}
+use Rattle.part_definitions.specs.Memory.{bytes_from}
+use Rattle.part_definitions.specs.Region.{output_bytes}
+use Rattle.printed_lines.specs.Lines.{end_line}
+use Rattle.device_trace.specs.Blank.{is_secret, SameOutside, blank_record}
+use Rattle.device_trace.specs.Logs.{Logs, exec_of, logged_byte, logged_bounds}
+use Rattle.device_trace.specs.Progress.{next_pc_of}
+use Rattle.device_trace.specs.Start.{Start}
+use Rattle.device_trace.specs.Step.{next_record}
+use Rattle.device_trace.specs.Text.{finishes_call, byte_sent_in, reported_output, report_of, report_in, sent_lines, reset_lines, report_lines, step_lines, lines_of, end_of, play_text}
+use Rattle.device_trace.specs.Trace.{next_logs, logs_after}
+use Rattle.trace_facts.proofs.SoundPlay.{logs_after-sound}
+use Rattle.key_isolation.proofs.Bytes.{same_if}
+use Rattle.trace_facts.proofs.CallPlaces.{valid_range}
+use Rattle.key_isolation.proofs.FlagBlank.{exec-blank}
+use Rattle.key_isolation.proofs.Hiding.{opened, hide, next_pc_of-hide, logged_byte-hide, logged_bounds-hide}
+use Rattle.key_isolation.proofs.Induction.{play_hides, next_released}
+use Rattle.key_isolation.proofs.LogsBlank.{step_hides}
+use Rattle.key_isolation.proofs.Projections.{byte_sent_by-blank}
+
+-- bytes of a range with no secret
+bytes_from-outside : (left right : ℕ → ℕ) → SameOutside left right → (place count : ℕ)
+    → ((p : ℕ) → place ≤ p → p < place + count → is_secret p ≡ false)
+    → bytes_from left place count ≡ bytes_from right place count
+bytes_from-outside left right same place zero off = refl
+bytes_from-outside left right same place (suc count) off =
+    ap (λ (byte : ℕ). byte ∷ bytes_from left (place + 1) count) (same place (off place (omega arith) (omega arith)))
+    ∙ ap (λ (bytes : List ℕ). right place ∷ bytes)
+    (bytes_from-outside left right same (place + 1) count
+    (λ p low high. off p (omega (arith, low)) (omega (arith, high))))
+
+ram_open : (place : ℕ) → 0x200 ≤ place → place ≤ 0x21FF → is_secret place ≡ false
+ram_open place low high = grind (arith, nat_tests)
+
+program_open : (place : ℕ) → 0xC000 ≤ place → place ≤ 0xFFDF → is_secret place ≡ false
+program_open place low high = grind (arith, nat_tests)
+
+ram_bytes : (left right : ℕ → ℕ) → SameOutside left right → (place count : ℕ)
+    → 0x200 ≤ place → place + count ≤ 0x2200 → bytes_from left place count ≡ bytes_from right place count
+ram_bytes left right same place count low high =
+    bytes_from-outside left right same place count
+    (λ p above below. ram_open p (omega (arith, low, above)) (omega (arith, high, below)))
+
+program_bytes : (left right : ℕ → ℕ) → SameOutside left right → (place count : ℕ)
+    → 0xC000 ≤ place → place + count ≤ 0xFFE0 → bytes_from left place count ≡ bytes_from right place count
+program_bytes left right same place count low high =
+    bytes_from-outside left right same place count
+    (λ p above below. program_open p (omega (arith, low, above)) (omega (arith, high, below)))
+
+valid_bytes : (left right : ℕ → ℕ) → SameOutside left right → (first last : ℕ)
+    → is_valid_region first last ≡ true
+    → bytes_from left first (last + 2 - first) ≡ bytes_from right first (last + 2 - first)
+valid_bytes left right same first last valid =
+    let range = valid_range first last valid in
+    let ordered : first ≤ last = range.0 in
+    elim range.1 [
+      | inl ram ↦
+          let low : 0x200 ≤ first = ram.0 in
+          let high : last + 1 ≤ 0x21FF = ram.1 in
+          ram_bytes left right same first (last + 2 - first) low (omega arith)
+      | inr program ↦
+          let low : 0xC000 ≤ first = program.0 in
+          let high : last + 1 ≤ 0xFFDF = program.1 in
+          program_bytes left right same first (last + 2 - first) low (omega arith)
+    ]
+
+output-outside : (left right : ℕ → ℕ) → SameOutside left right → (bounds : Bounds)
+    → reported_output left bounds ≡ reported_output right bounds
+output-outside left right same bounds =
+    same_if (are_valid bounds) (Some (output_bytes left bounds)) (Some (output_bytes right bounds)) None None
+    (λ valid.
+    let both = and_parts (is_valid_region bounds.er_min bounds.er_max && is_valid_region bounds.or_min bounds.or_max) _ valid in
+    let each = and_parts (is_valid_region bounds.er_min bounds.er_max) (is_valid_region bounds.or_min bounds.or_max) both.0 in
+    ap (λ (bytes : List ℕ). Some bytes) (valid_bytes left right same bounds.or_min bounds.or_max each.1))
+    (λ invalid. refl)
+
+-- the report
+report_of-hide : (start : Start) (released : List ℕ) (logs : Logs) (step : ℕ)
+    → report_of (opened released start) (hide logs) step ≡ report_of start logs step
+report_of-hide start released logs step =
+    let left : ℕ → ℕ = logged_byte (opened released start) (hide logs) in
+    let right : ℕ → ℕ = logged_byte start logs in
+    let same : SameOutside left right = logged_byte-hide start released logs in
+    λ i. record {
+      step = step;
+      exec = exec-blank logs.seen i;
+      chal = ram_bytes left right same 0x240 32 (lit≤ tt) (lit≤ tt) i;
+      bounds = logged_bounds-hide start released logs i;
+      output =
+          (ap (reported_output left) (logged_bounds-hide start released logs)
+          ∙ output-outside left right same (logged_bounds start logs)) i;
+      mac = ram_bytes left right same 0x200 32 (lit≤ tt) (lit≤ tt) i;
+    }
+
+-- the lines of a step
+step_lines-hide : (start : Start) (released : List ℕ) (step : ℕ) (entry : BusRecord) (logs : Logs)
+    → step_lines (opened released start) step (blank_record entry) (hide logs) ≡ step_lines start step entry logs
+step_lines-hide start released step entry logs =
+    ap
+    (λ (byte : Option ℕ). sent_lines step byte ++ reset_lines step entry.reset
+    ++ report_lines (report_in (opened released start) (hide logs) step entry))
+    (byte_sent_by-blank entry.reset entry.cpu)
+    ∙ ap
+    (λ (report : ReportFields). sent_lines step (byte_sent_in entry) ++ reset_lines step entry.reset
+    ++ report_lines (if finishes_call entry then Some report else None))
+    (report_of-hide start released logs step)
+
+end_of-hide : (steps : ℕ) (logs : Logs) → end_of steps (hide logs) ≡ end_of steps logs
+end_of-hide steps logs =
+    ap (λ (pc : ℕ). end_line steps pc (exec_of (hide logs))) (next_pc_of-hide logs.progress)
+    ∙ ap (λ (exec : Bool). end_line steps (next_pc_of logs.progress) exec) (exec-blank logs.seen)
+
+lines_of-hide : (start : Start) (released : List ℕ) (play : List (List Event)) (more : List ℕ)
+    → released ≡ (logs_after start play).released_words ++ more
+    → lines_of start play ≡ lines_of (opened released start) play
+unfolding lines_of logs_after
+lines_of-hide start released [] more split = refl
+lines_of-hide start released (events ∷ play) more split =
+    let logs : Logs = logs_after start play in
+    let open_start : Start = opened released start in
+    let added = next_released start logs events in
+    let earlier : released ≡ logs.released_words ++ (added.0 ++ more) =
+    split ∙ (ap (λ (words : List ℕ). words ++ more) added.1 ∙ append_assoc logs.released_words added.0 more) in
+    let before = play_hides start released play (added.0 ++ more) earlier in
+    let step = step_hides start released more logs events (logs_after-sound start play) split in
+    let lines : step_lines start (length play) (next_record start logs events) (next_logs start logs events)
+    ≡ step_lines open_start (length play) (next_record open_start (hide logs) events) (next_logs open_start (hide logs) events) =
+    sym
+    (ap (λ (entry : BusRecord). step_lines open_start (length play) entry (next_logs open_start (hide logs) events)) step.entry
+    ∙ (ap (step_lines open_start (length play) (blank_record (next_record start logs events))) step.after
+    ∙ step_lines-hide start released (length play) (next_record start logs events) (next_logs start logs events))) in
+    ap (λ (text : List ℕ). text ++ step_lines start (length play) (next_record start logs events) (next_logs start logs events))
+    (lines_of-hide start released play (added.0 ++ more) earlier)
+    ∙ (ap (λ (text : List ℕ). lines_of open_start play ++ text) lines
+    ∙ ap
+    (λ (ls : Logs). lines_of open_start play
+    ++ step_lines open_start (length play) (next_record open_start ls events) (next_logs open_start ls events))
+    before.logs)
+
+pub play_text-hide : (start : Start) (released : List ℕ) (play : List (List Event)) (more : List ℕ)
+    → released ≡ (logs_after start play).released_words ++ more
+    → play_text start play ≡ play_text (opened released start) play
+unfolding play_text
+play_text-hide start released play more split =
+    let hides = play_hides start released play more split in
+    ap (λ (text : List ℕ). text ++ end_of (length play) (logs_after start play)) (lines_of-hide start released play more split)
+    ∙ ap (λ (text : List ℕ). lines_of (opened released start) play ++ text)
+    (sym (end_of-hide (length play) (logs_after start play)) ∙ ap (end_of (length play)) hides.logs)

@@ -1,0 +1,5 @@
+pub mod Unbroken
+pub mod Sound
+pub mod SoundPlay
+pub mod CallPlaces
+pub mod NeverBroken
