@@ -1,4 +1,5 @@
-pub mod Fronts
+pub mod Causes
 pub mod Lines
-pub mod Reading
-pub mod Refused
+pub mod PlayInputs
+pub mod PutsLemmas
+pub mod Refusal

@@ -1,7 +1,7 @@
-pub mod Commands
-pub mod Files
-pub mod Inputs
-pub mod Reads
-pub mod Refusals
-pub mod Run
+pub mod Answer
+pub mod Command
+pub mod Input
+pub mod Limit
+pub mod Play
+pub mod Row
 pub mod Status

@@ -1,93 +1,85 @@
-ghost use Rattle.std.specs.Prelude.{◌≡◌, ◌≤◌, ◌++◌, [], ℕ, List, IfOk, OnOk, OnErr};
-ghost use Rattle.outside_edge.specs.Count.{Rose};
-ghost use Rattle.outside_edge.specs.Sink.{Takes, TakesPrefix};
-ghost use Rattle.part_definitions.specs.Memory.{PowerOn};
-ghost use Rattle.device_trace.specs.Text.{sent_lines, reset_lines, play_text};
-ghost use Rattle.device_trace.specs.Trace.{play_of};
-ghost use Rattle.play_script.specs.Script.{events_of};
-ghost use Rattle.device_cli.specs.declared.play.TheConstants.{MOST_STEPS};
-ghost use Rattle.device_core.specs.States.{HeldStandsFor, LiveStandsFor, steps_of};
+ghost use Rattle.std.specs.Prelude.{◌≤◌};
+ghost use Rattle.device_cli.specs.Limit.{most_steps};
 
-use bus_signals::Rule;
-use device_core::{Device, Held, Live};
-use outside_edge::{Failed, Sink};
+use crate::input::read_input;
+use crate::play_text::play_on;
+use crate::status::Status;
+use device_core::power_on;
+use mem_map::Image;
+use outside_edge::{Shelf, Sink};
 use play_script::Script;
-use report_text::{print_end, print_reset, print_sent};
-
-/// Puts the lines of one step.
-fn print_step<W: Sink>(
-    step: u64,
-    sent: Option<u8>,
-    reset: Option<Rule>,
-    sink: &mut W,
-) -> Result<(), Failed>
-    ensures all { OnOk result (Takes W.stands sink.old sink.new
-        (sent_lines step sent ++ reset_lines step reset)) }
-    ensures prefix { OnErr result (TakesPrefix W.stands sink.old sink.new
-        (sent_lines step sent ++ reset_lines step reset)) }
-    ensures failed { OnErr result (Rose (W.faults sink.old) (W.faults sink.new)) }
-    ensures counted { W.faults sink.old ≤ W.faults sink.new }
-{
-    print_sent_byte(step, sent, sink)?;
-    print_broken_rule(step, reset, sink)
-}
-
-fn print_sent_byte<W: Sink>(step: u64, sent: Option<u8>, sink: &mut W) -> Result<(), Failed>
-    ensures all { OnOk result (Takes W.stands sink.old sink.new (sent_lines step sent)) }
-    ensures prefix { OnErr result (TakesPrefix W.stands sink.old sink.new (sent_lines step sent)) }
-    ensures failed { OnErr result (Rose (W.faults sink.old) (W.faults sink.new)) }
-    ensures counted { W.faults sink.old ≤ W.faults sink.new }
-{
-    match sent {
-        Some(byte) => print_sent(step, byte, sink),
-        None => Ok(()),
-    }
-}
-
-fn print_broken_rule<W: Sink>(step: u64, reset: Option<Rule>, sink: &mut W) -> Result<(), Failed>
-    ensures all { OnOk result (Takes W.stands sink.old sink.new (reset_lines step reset)) }
-    ensures prefix { OnErr result (TakesPrefix W.stands sink.old sink.new (reset_lines step reset)) }
-    ensures failed { OnErr result (Rose (W.faults sink.old) (W.faults sink.new)) }
-    ensures counted { W.faults sink.old ≤ W.faults sink.new }
-{
-    match reset {
-        Some(rule) => print_reset(step, rule, sink),
-        None => Ok(()),
-    }
-}
+use std::alloc::Global;
+use text_scan::decimal;
 
 /// The most steps that one run plays.
-pub const MOST_STEPS: u64 = 10_000_000;
+const MOST_STEPS: u64 = 10_000_000;
 
-/// Plays a script's first steps on a device at power-on, and puts the text of that play. It gives the
-/// device after the last step.
-pub fn play_on<W: Sink>(
-    device: Device<Held>,
-    script: &Script,
-    steps: u64,
-    sink: &mut W,
-) -> Result<Live, Failed>
-    requires fresh { steps_of device ≡ 0 }
-    requires few { steps ≤ MOST_STEPS }
-    ensures stands { (start : PowerOn)
-        → HeldStandsFor device start []
-        → IfOk result (λ live. LiveStandsFor live start (play_of (events_of script.now) steps)) }
-    ensures all { (start : PowerOn)
-        → HeldStandsFor device start []
-        → OnOk result (Takes W.stands sink.old sink.new
-        (play_text start (play_of (events_of script.now) steps))) }
-    ensures prefix { (start : PowerOn)
-        → HeldStandsFor device start []
-        → OnErr result (TakesPrefix W.stands sink.old sink.new
-        (play_text start (play_of (events_of script.now) steps))) }
-    ensures failed { OnErr result (Rose (W.faults sink.old) (W.faults sink.new)) }
-    ensures counted { W.faults sink.old ≤ W.faults sink.new }
-{
-    let mut live = Live::Held(device);
-    for step in 0..steps {
-        live = live.step(script.events_at(step));
-        print_step(step, live.sent(), live.entry().reset, sink)?;
+/// The command `play IMAGE SCRIPT KEY STEPS`: the names of its files, and a number of steps.
+#[derive(Clone, Copy, Debug)]
+pub struct Play<'a> {
+    pub image: &'a str,
+    pub script: &'a str,
+    pub key: &'a str,
+    pub steps: u64,
+    ghost few: { steps ≤ most_steps },
+}
+
+impl<'a> Play<'a> {
+    ghost use Rattle.std.specs.Prelude.{◌≡◌, ◌≤◌, None, Some, IfSome};
+    ghost use Rattle.outside_edge.specs.Count.{Rose};
+    ghost use Rattle.outside_edge.specs.Sink.{Takes, TakesPrefix};
+    ghost use Rattle.device_cli.specs.Command.{texts, row_in};
+    ghost use Rattle.device_cli.specs.Play.{play_row_of, row_of_play};
+    ghost use Rattle.device_cli.specs.Answer.{HasText, IsRefusal, Follows, OnDone, OnWriteFault, UnlessPut, answer_of, counts_of, first_refusal};
+
+    /// The play that the arguments after the command's name spell. STEPS is a decimal in
+    /// 1..10,000,000.
+    pub fn from_arguments(arguments: &'a [String]) -> Option<Play<'a>>
+        ensures { row_in result ≡ play_row_of (texts arguments.now) }
+    {
+        let [image, script, key, steps] = arguments else {
+            return None;
+        };
+        let steps = decimal(steps.as_bytes(), 1, MOST_STEPS).ok()?;
+        Some(Play {
+            image: image.as_str(),
+            script: script.as_str(),
+            key: key.as_str(),
+            steps,
+        })
     }
-    print_end(steps, live.next_pc(), false, sink)?;
-    Ok(live)
+
+    /// Reads the key, the image and the script, in this order, and then puts the text of their
+    /// play.
+    pub fn run<S: Shelf, W: Sink>(
+        &self,
+        alloc: Global,
+        shelf: &mut S,
+        sink: &mut W,
+    ) -> Result<(), Status>
+        ensures text { OnDone (answer_of result)
+            (HasText (S.files shelf.old) (row_of_play self.now)
+            (Takes W.stands sink.old sink.new)) }
+        ensures prefix { OnWriteFault (answer_of result)
+            (HasText (S.files shelf.old) (row_of_play self.now)
+            (TakesPrefix W.stands sink.old sink.new)) }
+        ensures failed { OnWriteFault (answer_of result)
+            (Rose (W.faults sink.old) (W.faults sink.new)) }
+        ensures refusal { UnlessPut (answer_of result) (IsRefusal (S.files shelf.old)
+            (counts_of S.faults S.misses shelf.old shelf.new)
+            (row_of_play self.now).files (answer_of result)) }
+        ensures order { IfSome (S.files shelf.old) (λ held.
+            Follows (first_refusal (row_of_play self.now).files held) (answer_of result)) }
+        ensures silent { UnlessPut (answer_of result) (sink.new ≡ sink.old) }
+        ensures faults { S.faults shelf.old ≤ S.faults shelf.new }
+        ensures misses { S.misses shelf.old ≤ S.misses shelf.new }
+        ensures sink_faults { W.faults sink.old ≤ W.faults sink.new }
+    {
+        let key: [u8; 64] = read_input(alloc, shelf, self.key)?;
+        let image: Image = read_input(alloc, shelf, self.image)?;
+        let script: Script = read_input(alloc, shelf, self.script)?;
+        let device = power_on(alloc, &key, &image)?;
+        play_on(device, &script, self.steps, sink)?;
+        Ok(())
+    }
 }

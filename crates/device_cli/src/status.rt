@@ -1,6 +1,9 @@
 ghost use Rattle.std.specs.Prelude.{◌≡◌};
+ghost use Rattle.device_cli.specs.declared.status.Status.TheVariants.{WriteFault, Memory};
 ghost use Rattle.device_cli.specs.Status.{code_of};
 
+use outside_edge::Failed;
+use std::alloc::AllocError;
 use text_scan::FaultAt;
 use thiserror::Error;
 
@@ -13,7 +16,7 @@ pub enum Status {
     /// All of the text was put, and not every verdict in it is `accept`.
     #[error("rejected")]
     Rejected,
-    /// The words are no command.
+    /// The arguments are no command.
     #[error("words are no command")]
     Words,
     /// A file is not there.
@@ -22,7 +25,7 @@ pub enum Status {
     /// A file could not be read.
     #[error("reading failed")]
     ReadFault,
-    /// The text could not be put. A front of it was.
+    /// The text could not be put. A prefix of it was.
     #[error("writing failed")]
     WriteFault,
     /// There was no memory.
@@ -68,5 +71,21 @@ impl Status {
             Status::BadReports(_) => 11,
             Status::BadSource(_) => 12,
         }
+    }
+}
+
+impl From<AllocError> for Status {
+    ghost from_gives = { λ _ status. status ≡ Memory };
+
+    fn from(_error: AllocError) -> Status {
+        Status::Memory
+    }
+}
+
+impl From<Failed> for Status {
+    ghost from_gives = { λ _ status. status ≡ WriteFault };
+
+    fn from(_failed: Failed) -> Status {
+        Status::WriteFault
     }
 }

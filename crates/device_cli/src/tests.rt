@@ -17,12 +17,12 @@ const KEY: &[u8] =
 /// The limit of an image and of a script.
 const LIMIT: usize = 1_048_576;
 
-fn words(alloc: Global, texts: &[&str]) -> Result<Vec<String>, AllocError> {
-    let mut words = Vec::new(alloc);
+fn arguments(alloc: Global, texts: &[&str]) -> Result<Vec<String>, AllocError> {
+    let mut arguments = Vec::new(alloc);
     for text in texts {
-        words.push(String::from_str(alloc, text)?)?;
+        arguments.push(String::from_str(alloc, text)?)?;
     }
-    Ok(words)
+    Ok(arguments)
 }
 
 fn files(
@@ -48,8 +48,8 @@ fn play(
 ) -> Result<(Status, Vec<u8>), AllocError> {
     let mut shelf = MemShelf::new(files(alloc, image, script, key)?, 4096, Vec::new(alloc));
     let mut sink = MemSink::new(Vec::new(alloc), 4096, 4096, Vec::new(alloc))?;
-    let words = words(alloc, &["play", "i", "s", "k", steps])?;
-    let status = run(alloc, words.as_slice(), &mut shelf, &mut sink);
+    let arguments = arguments(alloc, &["play", "i", "s", "k", steps])?;
+    let status = run(alloc, arguments.as_slice(), &mut shelf, &mut sink);
     Ok((status, sink.held().to_vec(alloc)?))
 }
 
@@ -114,7 +114,7 @@ fn refuses_files_that_are_not_in_their_grammar(rt: HostRuntime) -> Result<(), Fa
 }
 
 #[test]
-fn refuses_words_that_are_no_command(rt: HostRuntime) -> Result<(), Fail> {
+fn refuses_arguments_that_are_no_command(rt: HostRuntime) -> Result<(), Fail> {
     let alloc = rt.alloc();
     for steps in ["0", "10000001", "", "-1", "5 ", "00000000005"] {
         let (status, put) = play(alloc, LETTER_A, b"", KEY, steps)?;
@@ -130,8 +130,8 @@ fn refuses_words_that_are_no_command(rt: HostRuntime) -> Result<(), Fail> {
     for row in rows {
         let mut shelf = MemShelf::new(files(alloc, LETTER_A, b"", KEY)?, 9, Vec::new(alloc));
         let mut sink = MemSink::new(Vec::new(alloc), 99, 99, Vec::new(alloc))?;
-        let words = words(alloc, row)?;
-        let status = run(alloc, words.as_slice(), &mut shelf, &mut sink);
+        let arguments = arguments(alloc, row)?;
+        let status = run(alloc, arguments.as_slice(), &mut shelf, &mut sink);
         assert_eq!(rt; status, Status::Words);
     }
     Ok(())
@@ -189,8 +189,8 @@ fn a_file_that_is_not_held_is_absent(rt: HostRuntime) -> Result<(), Fail> {
         let [image, script, key] = row;
         let mut shelf = MemShelf::new(files(alloc, LETTER_A, b"", KEY)?, 9, Vec::new(alloc));
         let mut sink = MemSink::new(Vec::new(alloc), 99, 99, Vec::new(alloc))?;
-        let words = words(alloc, &["play", image, script, key, "5"])?;
-        let status = run(alloc, words.as_slice(), &mut shelf, &mut sink);
+        let arguments = arguments(alloc, &["play", image, script, key, "5"])?;
+        let status = run(alloc, arguments.as_slice(), &mut shelf, &mut sink);
         assert_eq!(rt; status, Status::Absent);
         assert_eq!(rt; sink.held().len(), 0);
     }
@@ -198,13 +198,13 @@ fn a_file_that_is_not_held_is_absent(rt: HostRuntime) -> Result<(), Fail> {
 }
 
 #[test]
-fn a_failing_call_of_the_sink_leaves_a_front_of_the_text(rt: HostRuntime) -> Result<(), Fail> {
+fn a_failing_call_of_the_sink_leaves_a_prefix_of_the_text(rt: HostRuntime) -> Result<(), Fail> {
     let alloc = rt.alloc();
-    let words = words(alloc, &["play", "i", "s", "k", "5"])?;
+    let arguments = arguments(alloc, &["play", "i", "s", "k", "5"])?;
     for call in 1..31u64 {
         let mut shelf = MemShelf::new(files(alloc, LETTER_A, b"", KEY)?, 99, Vec::new(alloc));
         let mut sink = MemSink::new(Vec::new(alloc), 99, 1, [call].to_vec(alloc)?)?;
-        let status = run(alloc, words.as_slice(), &mut shelf, &mut sink);
+        let status = run(alloc, arguments.as_slice(), &mut shelf, &mut sink);
         let expected = if call < 30 {
             Status::WriteFault
         } else {
@@ -219,13 +219,13 @@ fn a_failing_call_of_the_sink_leaves_a_front_of_the_text(rt: HostRuntime) -> Res
 #[test]
 fn a_failing_call_of_the_shelf_puts_nothing(rt: HostRuntime) -> Result<(), Fail> {
     let alloc = rt.alloc();
-    let words = words(alloc, &["play", "i", "s", "k", "5"])?;
+    let arguments = arguments(alloc, &["play", "i", "s", "k", "5"])?;
     let mut failed = 0;
     for call in 1..20u64 {
         let failing = [call].to_vec(alloc)?;
         let mut shelf = MemShelf::new(files(alloc, LETTER_A, b"", KEY)?, 50, failing);
         let mut sink = MemSink::new(Vec::new(alloc), 99, 99, Vec::new(alloc))?;
-        match run(alloc, words.as_slice(), &mut shelf, &mut sink) {
+        match run(alloc, arguments.as_slice(), &mut shelf, &mut sink) {
             Status::Done => break,
             status => assert_eq!(rt; status, Status::ReadFault),
         }
@@ -237,14 +237,57 @@ fn a_failing_call_of_the_shelf_puts_nothing(rt: HostRuntime) -> Result<(), Fail>
     Ok(())
 }
 
+/// The answer to a play over a shelf that gives 50 bytes in one call and fails in the call of this
+/// number.
+fn answer_over_failing_shelf(
+    alloc: Global,
+    image: &[u8],
+    script: &[u8],
+    key: &[u8],
+    call: u64,
+) -> Result<Status, AllocError> {
+    let files = files(alloc, image, script, key)?;
+    let mut shelf = MemShelf::new(files, 50, [call].to_vec(alloc)?);
+    let mut sink = MemSink::new(Vec::new(alloc), 99, 99, Vec::new(alloc))?;
+    let arguments = arguments(alloc, &["play", "i", "s", "k", "5"])?;
+    Ok(run(alloc, arguments.as_slice(), &mut shelf, &mut sink))
+}
+
+// A key takes calls 1 to 4 of the shelf, the image without an end 5 and 6.
+#[test]
+fn a_failing_read_hides_no_fault_of_an_earlier_file(rt: HostRuntime) -> Result<(), Fail> {
+    let alloc = rt.alloc();
+    let bad_key = Status::BadKey(FaultAt {
+        line: 1,
+        kind: FaultKind::Missing,
+    });
+    let short = &KEY[1..];
+    let no_end = &LETTER_A[..43];
+    let rows: [(&[u8], &[u8], u64, Status); 6] = [
+        (LETTER_A, short, 4, Status::ReadFault),
+        (LETTER_A, short, 5, bad_key),
+        (LETTER_A, short, 8, bad_key),
+        (no_end, KEY, 6, Status::ReadFault),
+        (no_end, KEY, 7, bad_image(2, FaultKind::NoEnd)),
+        (no_end, KEY, 8, bad_image(2, FaultKind::NoEnd)),
+    ];
+    for (image, key, call, status) in rows {
+        assert_eq!(rt;
+            answer_over_failing_shelf(alloc, image, b"", key, call)?,
+            status
+        );
+    }
+    Ok(())
+}
+
 // The faults can't come: their arm is proved to be out of reach.
 #[test]
 fn over_those_that_never_fail_no_fault_is_answered(rt: HostRuntime) -> Result<(), Fail> {
     let alloc = rt.alloc();
-    let words = words(alloc, &["play", "i", "s", "k", "5"])?;
+    let arguments = arguments(alloc, &["play", "i", "s", "k", "5"])?;
     let mut shelf = NeverFailShelf::new(files(alloc, LETTER_A, b"", KEY)?, 7);
     let mut sink = NeverFailSink::new();
-    match run(alloc, words.as_slice(), &mut shelf, &mut sink) {
+    match run(alloc, arguments.as_slice(), &mut shelf, &mut sink) {
         Status::ReadFault | Status::WriteFault => unreachable!(),
         status => assert_eq!(rt; status, Status::Done),
     }

@@ -1,0 +1,14 @@
+-- The limits of the program, each once. Sizes are in bytes.
+use Rattle.std.specs.Prelude.{ℕ}
+
+-- the most steps that one run plays
+abbrev pub most_steps : ℕ
+most_steps = 10000000
+
+-- the longest file of a key
+abbrev pub key_limit : ℕ
+key_limit = 256
+
+-- the longest file of an image and of a script
+abbrev pub text_limit : ℕ
+text_limit = 1048576
