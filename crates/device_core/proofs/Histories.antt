@@ -1,14 +1,16 @@
 -- The last record of a play, and how many there are.
-use Rattle.std.proofs.Common.{◌≡◌, List, [], ◌∷◌, length, Some, None, All, refl, arith}
+use Rattle.std.proofs.Common.{ap, ◌-◌, ◌≡◌, List, [], ◌∷◌, length, Some, None, All, refl, arith}
 use Rattle.bus_signals.specs.declared.bus_record.BusRecord.{BusRecord}
 use Rattle.bus_signals.specs.declared.event.Event.{Event}
 use Rattle.device_trace.specs.Formed.{AccessesAreFormed}
 use Rattle.device_trace.specs.Logs.{with_events, with_record}
 use Rattle.device_trace.specs.Start.{Start}
-use Rattle.device_trace.specs.Text.{byte_sent_in, last_byte_sent}
+use Rattle.device_trace.specs.Text.{byte_sent_in, last_byte_sent, report_in}
 use Rattle.device_trace.specs.Trace.{trace, last_record, logs_after}
 use Rattle.device_trace.proofs.Formed.{trace-formed}
+use Rattle.device_trace.specs.Step.{next_record}
 use Rattle.device_core.specs.Bus.{last_seen}
+use Rattle.device_core.specs.Report.{last_report}
 
 pub last_seen-last_record :
     (start : Start) (play : List (List Event))
@@ -46,3 +48,21 @@ pub last_byte_sent-None :
     (history : List BusRecord) → last_record history ≡ None → last_byte_sent history ≡ None
 last_byte_sent-None [] last = refl
 last_byte_sent-None (newest ∷ history) last = absurd cc
+
+pub last_report-Some :
+    (start : Start) (play : List (List Event)) (entry : BusRecord)
+    → last_record (trace start play) ≡ Some entry
+    → last_report start play ≡ report_in start (logs_after start play) (length play - 1) entry
+unfolding trace
+last_report-Some start [] entry last = absurd cc
+last_report-Some start (events ∷ play) entry last =
+    let same : next_record start (logs_after start play) events ≡ entry = cc in
+    let step : length play ≡ length (events ∷ play) - 1 = omega arith in
+    rw same (ap (λ number. report_in start (logs_after start (events ∷ play)) number entry) step)
+
+pub last_report-None :
+    (start : Start) (play : List (List Event))
+    → last_record (trace start play) ≡ None → last_report start play ≡ None
+unfolding trace
+last_report-None start [] last = refl
+last_report-None start (events ∷ play) last = absurd cc

@@ -4,5 +4,6 @@ pub mod Histories
 pub mod Lives
 pub mod NextProgress
 pub mod Registers
+pub mod Reports
 pub mod Steps
 pub mod Turns

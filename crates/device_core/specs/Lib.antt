@@ -4,4 +4,5 @@ pub mod Machine
 pub mod Monitors
 pub mod Past
 pub mod Peripherals
+pub mod Report
 pub mod Turn

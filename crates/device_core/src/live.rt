@@ -1,19 +1,22 @@
-ghost use Rattle.std.specs.Prelude.{◌≡◌, ◌==◌, ◌<◌, ◌+◌, ◌^◌, ◌∷◌, ℕ, List, Some, length};
+ghost use Rattle.std.specs.Prelude.{◌≡◌, ◌<◌, ◌+◌, ◌^◌, ◌∷◌, ℕ, List, Some, length, option_map};
 ghost use Rattle.bus_signals.specs.declared.event.Event.{Event};
+ghost use Rattle.bus_signals.specs.Report.{fields_of};
 ghost use Rattle.mem_map.specs.Memory.{MemoryStandsFor};
 ghost use Rattle.device_trace.specs.Formed.{AccessesAreFormed};
 ghost use Rattle.device_trace.specs.Logs.{Logs, exec_of};
 ghost use Rattle.device_trace.specs.Progress.{next_pc_of};
 ghost use Rattle.device_trace.specs.Start.{Start, with_key};
-ghost use Rattle.device_trace.specs.Text.{byte_sent_in, last_byte_sent, finishes_call};
+ghost use Rattle.device_trace.specs.Text.{byte_sent_in, last_byte_sent};
 ghost use Rattle.device_trace.specs.Trace.{trace, last_record, logs_after};
 ghost use Rattle.device_core.specs.Device.{LiveStandsAt, LiveStandsFor, machine_of, steps_made, HasStepped};
 ghost use Rattle.device_core.specs.Machine.{MachineStandsFor};
+ghost use Rattle.device_core.specs.Report.{last_report};
 
 use crate::device::{Device, Held, InRom, Running};
 use crate::machine::Machine;
+use crate::report::report_in;
 use crate::stage::Stage;
-use bus_signals::{Access, BusRecord, Event};
+use bus_signals::{Access, BusRecord, Event, ReportView};
 use hmac_core::Digest32;
 use mem_map::Memory;
 use peripheral_register::covers_byte;
@@ -110,6 +113,22 @@ impl<D: Digest32> Live<D> {
     {
         match &self.machine().bus.past.last {
             Some(entry) => byte_sent_in(entry),
+            None => None,
+        }
+    }
+
+    /// The report of the call that the last step finished, as memory tells it after that step.
+    pub fn report(&self) -> Option<ReportView<'_>>
+        ensures { (start : Start) (play : List (List Event))
+            → LiveStandsFor D.has_taken D.digest_of self.now start play
+            → option_map fields_of result ≡ last_report start play }
+    {
+        let bus = &self.machine().bus;
+        match &bus.past.last {
+            Some(entry) => {
+                let step = bus.past.steps.saturating_sub(1);
+                report_in(&bus.memory, step, entry, bus.monitors.exec())
+            }
             None => None,
         }
     }
