@@ -58,6 +58,13 @@ abbrev pub report_in : Start → Logs → ℕ → BusRecord → Option ReportFie
 report_in start logs step entry =
     if finishes_call entry then Some (report_of start logs step) else None
 
+-- the report that the last step of a play made
+abbrev pub last_report : Start → List (List Event) → Option ReportFields
+last_report start [] = None
+last_report start (events ∷ play) =
+    report_in start (logs_after start (events ∷ play)) (length play)
+    (next_record start (logs_after start play) events)
+
 -- the lines of one step
 abbrev pub sent_lines : ℕ → Option ℕ → List ℕ
 sent_lines step None = []

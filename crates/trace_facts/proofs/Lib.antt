@@ -3,3 +3,5 @@ pub mod Sound
 pub mod SoundPlay
 pub mod CallPlaces
 pub mod NeverBroken
+pub mod Fresh
+pub mod BoundsStay

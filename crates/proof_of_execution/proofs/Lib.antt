@@ -1,0 +1,5 @@
+pub mod Kept
+pub mod Regions
+pub mod Runs
+pub mod Entries
+pub mod Plays

@@ -1,0 +1,9 @@
+//! Proof of execution: EXEC 1 in a report means that the executable region ran whole.
+//!
+//! There is no code here but laws, over the trace's definitions alone (APEX, USENIX Security 2020).
+//! A caller that needs a law calls its function.
+#![tactic(auto)]
+
+mod law;
+
+pub use law::exec_in_report_means_whole_run;
