@@ -10,7 +10,7 @@ use Rattle.device_trace.specs.Trace.{trace, last_record, logs_after}
 use Rattle.device_trace.proofs.Formed.{trace-formed}
 use Rattle.device_trace.specs.Step.{next_record}
 use Rattle.device_core.specs.Bus.{last_seen}
-use Rattle.device_core.specs.Report.{last_report}
+use Rattle.device_trace.specs.Text.{last_report}
 
 pub last_seen-last_record :
     (start : Start) (play : List (List Event))

@@ -4,5 +4,4 @@ pub mod Machine
 pub mod Monitors
 pub mod Past
 pub mod Peripherals
-pub mod Report
 pub mod Turn

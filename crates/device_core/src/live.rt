@@ -10,7 +10,7 @@ ghost use Rattle.device_trace.specs.Text.{byte_sent_in, last_byte_sent};
 ghost use Rattle.device_trace.specs.Trace.{trace, last_record, logs_after};
 ghost use Rattle.device_core.specs.Device.{LiveStandsAt, LiveStandsFor, machine_of, steps_made, HasStepped};
 ghost use Rattle.device_core.specs.Machine.{MachineStandsFor};
-ghost use Rattle.device_core.specs.Report.{last_report};
+ghost use Rattle.device_trace.specs.Text.{last_report};
 
 use crate::device::{Device, Held, InRom, Running};
 use crate::machine::Machine;
