@@ -4,8 +4,8 @@ use Rattle.part_definitions.specs.CpuRegisters.{with_pc, with_sp, sp_of, after_p
 use Rattle.part_definitions.specs.CpuState.{Boundary}
 use Rattle.part_definitions.specs.Words.{even, plus}
 use Rattle.msp_exec.specs.Course.{CpuStandsFor}
-use Rattle.swatt_rom.specs.Call.{NoCall, InCall as RomInCall, Returned}
-use Rattle.swatt_rom.specs.Standing.{RomStandsFor}
+use Rattle.swatt_rom.specs.RomCall.{NoCall, InCall as RomInCall, AfterCall}
+use Rattle.swatt_rom.specs.Rom.{RomStandsFor}
 use Rattle.device_trace.specs.Logs.{Logs}
 use Rattle.device_trace.specs.Progress.{InCall, after_return}
 use Rattle.device_trace.specs.Start.{Start}
@@ -24,10 +24,11 @@ pub after-call :
     → BusStandsFor new.bus start logs
     → logs.progress ≡ (if ends then after_return regs word else InCall regs (words ++ word ∷ []))
     → CpuStandsFor old.processor (Boundary regs)
-    → RomStandsFor taken digest old.call (if ends then Returned (sp_of regs) value else RomInCall (sp_of regs) (words ++ word ∷ []))
+    → RomStandsFor taken digest old.call
+    (if ends then AfterCall (sp_of regs) value else RomInCall (sp_of regs) (words ++ word ∷ []))
     → ((regs : List ℕ) (sp word : ℕ)
     → CpuStandsFor old.processor (Boundary regs)
-    → RomStandsFor taken digest old.call (Returned sp word)
+    → RomStandsFor taken digest old.call (AfterCall sp word)
     → (stage ≡ Running)
     × CpuStandsFor new.processor (Boundary (with_sp (with_pc regs (even word)) (plus sp 2)))
     × RomStandsFor taken digest new.call NoCall)
@@ -35,7 +36,8 @@ pub after-call :
     → RomStandsFor taken digest old.call (RomInCall sp words)
     → (stage ≡ InRom) × (new ≡ old))
     → MachineStandsFor taken digest stage new start logs
-after-call taken digest old new stage start logs regs words word value true passed bus progress cpu rom returned goes =
+after-call taken digest old new stage start logs regs words word value true passed bus progress cpu
+    rom returned goes =
     let ends = returned regs (sp_of regs) value cpu rom in
     rw ends.0 (record {
       state = Boundary (with_pc (after_pop regs) value);
@@ -46,7 +48,8 @@ after-call taken digest old new stage start logs regs words word value true pass
         same_call = ends.2;
       };
     })
-after-call taken digest old new stage start logs regs words word value false passed bus progress cpu rom returned goes =
+after-call taken digest old new stage start logs regs words word value false passed bus progress cpu
+    rom returned goes =
     let stays = goes (sp_of regs) (words ++ word ∷ []) rom in
     rw stays.0 (record {
       regs = regs;

@@ -25,18 +25,18 @@ unfolding logs_after with_record with_events
 length-seen start [] = refl
 length-seen start (events ∷ play) = rw (length-seen start play) refl
 
-last_of-formed :
-    (history : List BusRecord) (entry : BusRecord)
-    → All AccessesAreFormed history → last_record history ≡ Some entry → AccessesAreFormed entry
-last_of-formed [] entry all last = absurd cc
-last_of-formed (newest ∷ history) entry all last =
+pub last_record-All :
+    (P : BusRecord → Type 0) (history : List BusRecord) (entry : BusRecord)
+    → All P history → last_record history ≡ Some entry → P entry
+last_record-All P [] entry all last = absurd cc
+last_record-All P (newest ∷ history) entry all last =
     let same : newest ≡ entry = cc in rw same at (all 0 newest (omega arith))
 
 pub last_record-formed :
     (start : Start) (play : List (List Event)) (entry : BusRecord)
     → last_record (trace start play) ≡ Some entry → AccessesAreFormed entry
 last_record-formed start play entry last =
-    last_of-formed (trace start play) entry (trace-formed start play) last
+    last_record-All AccessesAreFormed (trace start play) entry (trace-formed start play) last
 
 pub last_byte_sent-Some :
     (history : List BusRecord) (entry : BusRecord)

@@ -17,7 +17,8 @@ use Rattle.device_trace.specs.Step.{access_recorded, value_recorded, record_of}
 use Rattle.device_core.specs.Bus.{value_unless, answer_in}
 
 progress_after-Some :
-    (rule : Option Rule) (kind : Kind) (before : Progress) (access : Option Access) (number value : ℕ)
+    (rule : Option Rule) (kind : Kind) (before : Progress) (access : Option Access)
+    (number value : ℕ)
     → value_unless rule (value_recorded rule number) ≡ Some value
     → progress_after rule kind before (access_recorded rule access) (value_recorded rule number)
     ≡ next_progress kind before access value
@@ -28,7 +29,8 @@ progress_after-Some (Some rule) kind before access number value same = absurd cc
 progress_after-None :
     (rule : Option Rule) (kind : Kind) (before : Progress) (access : Option Access) (number : ℕ)
     → value_unless rule (value_recorded rule number) ≡ None
-    → progress_after rule kind before (access_recorded rule access) (value_recorded rule number) ≡ Held
+    → progress_after rule kind before (access_recorded rule access) (value_recorded rule number) ≡
+    Held
 progress_after-None None kind before access number same = absurd cc
 progress_after-None (Some rule) kind before access number same = refl
 
@@ -109,7 +111,8 @@ unbroken-legal start logs reset unbroken =
     (atomicity_rule (last_pc logs.seen) (signals_of start logs reset))
     (key_rule (signals_of start logs reset)) (breaks_i1 (signals_of start logs reset)) unbroken
 
-illegal-along : (opcode illegal : Bool) → opcode ≡ true → (opcode && illegal) ≡ false → illegal ≡ false
+illegal-along : (opcode illegal : Bool) → opcode ≡ true → (opcode && illegal) ≡ false → illegal ≡
+    false
 illegal-along true illegal fetches legal = legal
 illegal-along false illegal fetches legal = absurd cc
 

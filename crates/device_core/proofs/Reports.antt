@@ -18,7 +18,8 @@ length-bytes_from bytes place zero = refl
 length-bytes_from bytes place (suc count) = rw (length-bytes_from bytes (place + 1) count) refl
 
 span-ram :
-    (first last : ℕ) → 0x0200 ≤ first → first ≤ last → last + 1 ≤ 0x21FF → is_span first (last + 1) ≡ true
+    (first last : ℕ) → 0x0200 ≤ first → first ≤ last → last + 1 ≤ 0x21FF → is_span first (last + 1)
+    ≡ true
 span-ram first last low ordered high =
     rw (
       le-leb first (last + 1) (omega arith),
@@ -34,7 +35,8 @@ or_true true = refl
 or_true false = refl
 
 span-program :
-    (first last : ℕ) → 0xC000 ≤ first → first ≤ last → last + 1 ≤ 0xFFDF → is_span first (last + 1) ≡ true
+    (first last : ℕ) → 0xC000 ≤ first → first ≤ last → last + 1 ≤ 0xFFDF → is_span first (last + 1)
+    ≡ true
 span-program first last low ordered high =
     rw (
       le-leb first (last + 1) (omega arith),
@@ -69,22 +71,37 @@ free-within :
     → IsWithin first last
 free-within first last ordered (inl ram) =
     let limits = part_bounds (unwrapped_region first last) ram_region ram in
-    record { span = span-ram first last limits.0 ordered limits.1; fits = omega (arith, limits.1); ordered = ordered }
+    record {
+      span = span-ram first last limits.0 ordered limits.1;
+      fits = omega (arith, limits.1);
+      ordered = ordered;
+    }
 free-within first last ordered (inr program) =
     let limits = part_bounds (unwrapped_region first last) program_region program in
-    record { span = span-program first last limits.0 ordered limits.1; fits = omega (arith, limits.1); ordered = ordered }
+    record {
+      span = span-program first last limits.0 ordered limits.1;
+      fits = omega
+          (arith, limits.1);
+      ordered = ordered;
+    }
 
 region-within : (first last : ℕ) → is_valid_region first last ≡ true → IsWithin first last
 region-within first last valid =
     let region : Region = unwrapped_region first last in
-    let parts = and_parts ((is_even first && is_even last) && nat_le first last) (is_free_region region) valid in
-    let ordered = leb-true first last (and_parts (is_even first && is_even last) (nat_le first last) parts.0).1 in
-    let free = and_parts ((is_part_of region ram_region || is_part_of region program_region) && is_disjoint region mac_region) (is_disjoint region metadata_region) parts.1 in
-    let place = and_parts (is_part_of region ram_region || is_part_of region program_region) (is_disjoint region mac_region) free.0 in
-    free-within first last ordered (or_cases (is_part_of region ram_region) (is_part_of region program_region) place.0)
+    let parts = and_parts ((is_even first && is_even last) && nat_le first last)
+    (is_free_region region) valid in
+    let ordered = leb-true first last
+    (and_parts (is_even first && is_even last) (nat_le first last) parts.0).1 in
+    let free = and_parts ((is_part_of region ram_region || is_part_of region program_region) &&
+    is_disjoint region mac_region) (is_disjoint region metadata_region) parts.1 in
+    let place = and_parts (is_part_of region ram_region || is_part_of region program_region)
+    (is_disjoint region mac_region) free.0 in
+    free-within first last ordered
+    (or_cases (is_part_of region ram_region) (is_part_of region program_region) place.0)
 
 -- the output region of valid bounds
-pub output-within : (bounds : Bounds) → are_valid bounds ≡ true → IsWithin bounds.or_min bounds.or_max
+pub output-within : (bounds : Bounds) → are_valid bounds ≡ true → IsWithin bounds.or_min
+    bounds.or_max
 output-within bounds valid =
     region-within bounds.or_min bounds.or_max (and_parts _ _ (and_parts _ _ valid).0).1
 

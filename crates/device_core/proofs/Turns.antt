@@ -22,7 +22,8 @@ use Rattle.device_core.specs.declared.turn.Turn.{Turn}
 use Rattle.device_core.proofs.NextProgress.{fetch-legal}
 
 pub boot-turn :
-    (start : Start) (logs : Logs) → logs.progress ≡ Held → TurnStandsFor clear_registers boot_turn start logs
+    (start : Start) (logs : Logs) → logs.progress ≡ Held → TurnStandsFor clear_registers boot_turn
+    start logs
 boot-turn start logs held =
     record {
       same_regs = rw held refl;
@@ -69,7 +70,8 @@ calling-within logs regs words calls = rw calls refl
 -- at a boundary
 pub boundary-kind :
     (logs : Logs) (regs : List ℕ) (kind : Kind)
-    → logs.progress ≡ Runs (Boundary regs) → boundary_kind regs (vector_of logs) ≡ kind → kind ≡ step_kind logs
+    → logs.progress ≡ Runs (Boundary regs) → boundary_kind regs (vector_of logs) ≡ kind → kind ≡
+    step_kind logs
 boundary-kind logs regs kind runs same = sym same ∙ rw runs refl
 
 pub begun-turn :
@@ -196,7 +198,8 @@ begun-within logs regs runs rom =
 
 kind_of-boundary :
     (entry inside asleep : Bool) (vector : Option ℕ)
-    → (if entry then Rom else if inside then Cpu else if is_some vector then Irq else if asleep then Idle else Cpu) ≡ Boot → ⊥
+    → (if entry then Rom else if inside then Cpu else if is_some vector then Irq else if asleep then
+    Idle else Cpu) ≡ Boot → ⊥
 kind_of-boundary true inside asleep vector same = cc
 kind_of-boundary false true asleep vector same = cc
 kind_of-boundary false false asleep (Some vector) same = cc
@@ -205,7 +208,8 @@ kind_of-boundary false false false None same = cc
 
 kind_of-irq :
     (entry inside asleep : Bool) (vector : Option ℕ)
-    → (if entry then Rom else if inside then Cpu else if is_some vector then Irq else if asleep then Idle else Cpu) ≡ Irq
+    → (if entry then Rom else if inside then Cpu else if is_some vector then Irq else if asleep then
+    Idle else Cpu) ≡ Irq
     → is_some vector ≡ true
 kind_of-irq true inside asleep vector same = absurd cc
 kind_of-irq false true asleep vector same = absurd cc
@@ -309,12 +313,15 @@ pub takes-value :
     → (turn.kind ≡ Idle) ⊎ (cpu_takes state value ≡ true)
 takes-value start logs reset turn (Boundary regs) value same within (inl asleep) answer = inl asleep
 takes-value start logs reset turn (Boundary regs) value same within (inr opcode) answer =
-    let fetches : fetches_opcode (step_kind logs) logs.progress ≡ true = sym same.same_opcode ∙ opcode in
+    let fetches : fetches_opcode (step_kind logs) logs.progress ≡ true = sym same.same_opcode ∙
+    opcode in
     inr (ap not
     (fetch-legal start logs reset value (even (pc_of regs)) fetches
     (boundary-access start logs regs fetches within) answer))
-takes-value start logs reset turn (Executing regs values) value same within fetches answer = inr refl
-takes-value start logs reset turn (Entering regs vector values) value same within fetches answer = inr refl
+takes-value start logs reset turn (Executing regs values) value same within fetches answer = inr
+    refl
+takes-value start logs reset turn (Entering regs vector values) value same within fetches answer =
+    inr refl
 
 -- the return read passes its value
 pub word_passed-return :
@@ -328,6 +335,7 @@ word_passed-return sp bounds (RegionRead i) number value return = absurd cc
 word_passed-return sp bounds (InnerDigestWrite i) number value return = absurd cc
 word_passed-return sp bounds (MacWrite i) number value return = absurd cc
 
-pub unwrap_or-Some : (vector : Option ℕ) → is_some vector ≡ true → vector ≡ Some (unwrap_or vector 0)
+pub unwrap_or-Some : (vector : Option ℕ) → is_some vector ≡ true → vector ≡ Some
+    (unwrap_or vector 0)
 unwrap_or-Some (Some vector) some = refl
 unwrap_or-Some None some = absurd cc

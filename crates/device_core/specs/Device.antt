@@ -16,9 +16,12 @@ use Rattle.device_core.specs.declared.machine.Machine.{Machine}
 -- what it is powered on with, and what happened to each of its parts
 abbrev pub LiveStandsAt :
     {D : Type 0} → (D → List ℕ → Type 0) → (List ℕ → List ℕ) → Live D → Start → Logs → Type 0
-LiveStandsAt taken digest (Held device) start logs = HeldMachine taken digest device.machine.value start logs
-LiveStandsAt taken digest (Running device) start logs = RunningMachine taken digest device.machine.value start logs
-LiveStandsAt taken digest (InRom device) start logs = CallingMachine taken digest device.machine.value start logs
+LiveStandsAt taken digest (Held device) start logs =
+    HeldMachine taken digest device.machine.value start logs
+LiveStandsAt taken digest (Running device) start logs =
+    RunningMachine taken digest device.machine.value start logs
+LiveStandsAt taken digest (InRom device) start logs =
+    CallingMachine taken digest device.machine.value start logs
 
 -- what it is powered on with, and a play
 abbrev pub HeldStandsFor :
@@ -42,7 +45,8 @@ InRomStandsFor taken digest device start play =
 abbrev pub LiveStandsFor :
     {D : Type 0} → (D → List ℕ → Type 0) → (List ℕ → List ℕ)
     → Live D → Start → List (List Event) → Type 0
-LiveStandsFor taken digest live start play = LiveStandsAt taken digest live start (logs_after start play)
+LiveStandsFor taken digest live start play =
+    LiveStandsAt taken digest live start (logs_after start play)
 
 -- what it is made of
 abbrev pub machine_of : {D : Type 0} → Live D → Machine D

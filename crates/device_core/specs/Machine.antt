@@ -3,8 +3,8 @@ use Rattle.std.specs.Prelude.{◌≡◌, ◌⊎◌, ℕ, Bool, true, List}
 use Rattle.part_definitions.specs.CpuRegisters.{sp_of}
 use Rattle.part_definitions.specs.CpuState.{CpuState, Boundary, Executing, Entering, clear_cpu, registers_of}
 use Rattle.msp_exec.specs.Course.{CpuStandsFor}
-use Rattle.swatt_rom.specs.Call.{NoCall, InCall as RomInCall}
-use Rattle.swatt_rom.specs.Standing.{RomStandsFor}
+use Rattle.swatt_rom.specs.RomCall.{NoCall, InCall as RomInCall}
+use Rattle.swatt_rom.specs.Rom.{RomStandsFor}
 use Rattle.bus_signals.specs.declared.kind.Kind.{Kind}
 use Rattle.bus_signals.specs.declared.kind.Kind.TheVariants.{Idle}
 use Rattle.device_trace.specs.Logs.{Logs, step_progress}
@@ -53,9 +53,12 @@ pub record CallingMachine {D : Type 0} (taken : D → List ℕ → Type 0) (dige
 abbrev pub MachineStandsFor :
     {D : Type 0} → (D → List ℕ → Type 0) → (List ℕ → List ℕ)
     → Stage → Machine D → Start → Logs → Type 0
-MachineStandsFor taken digest HeldStage machine start logs = HeldMachine taken digest machine start logs
-MachineStandsFor taken digest RunningStage machine start logs = RunningMachine taken digest machine start logs
-MachineStandsFor taken digest InRomStage machine start logs = CallingMachine taken digest machine start logs
+MachineStandsFor taken digest HeldStage machine start logs = HeldMachine taken digest machine start
+    logs
+MachineStandsFor taken digest RunningStage machine start logs = RunningMachine taken digest machine
+    start logs
+MachineStandsFor taken digest InRomStage machine start logs = CallingMachine taken digest machine
+    start logs
 
 -- at a boundary the processor fetches an opcode, or sleeps
 abbrev pub FetchesOpcode : Kind → Bool → CpuState → Type 0
@@ -65,19 +68,21 @@ FetchesOpcode kind opcode (Entering regs vector values) = Unit {0}
 
 -- within a step of the processor, or of its sleep: it is the processor's turn, from this state
 pub record RunsWithin {D : Type 0} (taken : D → List ℕ → Type 0) (digest : List ℕ → List ℕ)
-    (machine : Machine D) (turn : Turn) (start : Start) (logs : Logs) (state : CpuState) : Type 0 where
-  pub same_bus : BusStandsFor machine.bus start logs
-  pub same_turn : TurnStandsFor (registers_of state) turn start logs
-  pub same_within : step_progress logs (step_kind logs) ≡ Runs state
-  pub fetches : FetchesOpcode turn.kind turn.opcode state
-  pub same_processor : CpuStandsFor machine.processor state
-  pub same_call : RomStandsFor taken digest machine.call NoCall
+    (machine : Machine D) (turn : Turn) (start : Start) (logs : Logs) (state : CpuState) : Type 0
+  where
+    pub same_bus : BusStandsFor machine.bus start logs
+    pub same_turn : TurnStandsFor (registers_of state) turn start logs
+    pub same_within : step_progress logs (step_kind logs) ≡ Runs state
+    pub fetches : FetchesOpcode turn.kind turn.opcode state
+    pub same_processor : CpuStandsFor machine.processor state
+    pub same_call : RomStandsFor taken digest machine.call NoCall
 
 -- within a step of a call, which began with these registers and in which these words passed
 pub record CallsWithin {D : Type 0} (taken : D → List ℕ → Type 0) (digest : List ℕ → List ℕ)
-    (machine : Machine D) (turn : Turn) (start : Start) (logs : Logs) (regs words : List ℕ) : Type 0 where
-  pub same_bus : BusStandsFor machine.bus start logs
-  pub same_turn : TurnStandsFor regs turn start logs
-  pub same_within : step_progress logs (step_kind logs) ≡ InCall regs words
-  pub same_processor : CpuStandsFor machine.processor (Boundary regs)
-  pub same_call : RomStandsFor taken digest machine.call (RomInCall (sp_of regs) words)
+    (machine : Machine D) (turn : Turn) (start : Start) (logs : Logs) (regs words : List ℕ) : Type 0
+  where
+    pub same_bus : BusStandsFor machine.bus start logs
+    pub same_turn : TurnStandsFor regs turn start logs
+    pub same_within : step_progress logs (step_kind logs) ≡ InCall regs words
+    pub same_processor : CpuStandsFor machine.processor (Boundary regs)
+    pub same_call : RomStandsFor taken digest machine.call (RomInCall (sp_of regs) words)

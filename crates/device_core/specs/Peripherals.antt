@@ -17,7 +17,8 @@ pub record PeripheralsStandFor (parts : Peripherals) (logs : PeripheralLogs) : T
 
 -- after a step: which rule it broke, whether the entry of the timer's interrupt began in it, the
 -- accesses of processor and DMA, and what the DMA read
-abbrev pub peripherals_served : Option Rule → Bool → Option Access → Option Access → ℕ → PeripheralLogs → PeripheralLogs
+abbrev pub peripherals_served : Option Rule → Bool → Option Access → Option Access → ℕ →
+    PeripheralLogs → PeripheralLogs
 peripherals_served rule accepted cpu dma dma_value logs =
     record {
       timer = timer_after rule accepted cpu logs.timer;

@@ -75,7 +75,7 @@ fn exchange(memory: &mut Memory, peripherals: &Peripherals, now: &Signals) -> Va
 }
 
 impl Bus {
-    ghost use Rattle.device_core.specs.Bus.{BusStandsFor, TurnStandsFor, PastStandsFor, answer_in};
+    ghost use Rattle.device_core.specs.Bus.{BusStandsFor, TurnStandsFor, PastStandsFor, answer_in, logs_after_step};
     ghost use Rattle.device_core.specs.Past.{StepsFrom};
     ghost use Rattle.device_core.specs.Monitors.{MonitorsStandFor};
 
@@ -141,14 +141,16 @@ impl Bus {
         requires dma { IfSome entry.dma IsFormed }
         ensures past_steps { StepsFrom self.old.past self.new.past }
         ensures peripherals { self.new.peripherals ≡ self.old.peripherals }
-        ensures memory { (start : PowerOn) (flag : Bool) (writes : List MemoryWrite) (seen : List Seen)
+        ensures memory { (start : PowerOn) (flag : Bool) (writes : List MemoryWrite)
+            (seen : List Seen)
             → MemoryStandsFor self.old.memory start flag writes
             → MonitorsStandFor self.old.monitors seen
             → MemoryStandsFor self.new.memory start
             (exec (record { entry = entry; bounds = bounds.now } ∷ seen)) writes }
         ensures monitors { (seen : List Seen)
             → MonitorsStandFor self.old.monitors seen
-            → MonitorsStandFor self.new.monitors (record { entry = entry; bounds = bounds.now } ∷ seen) }
+            → MonitorsStandFor self.new.monitors
+            (record { entry = entry; bounds = bounds.now } ∷ seen) }
         ensures past { (seen : List Seen)
             → PastStandsFor self.old.past seen
             → PastStandsFor self.new.past (record { entry = entry; bounds = bounds.now } ∷ seen) }
@@ -218,7 +220,7 @@ impl Bus {
         ensures stands { (start : Start) (logs : Logs)
             → BusStandsFor self.old start logs
             → TurnStandsFor regs turn.now start logs
-            → BusStandsFor self.new start (with_record start logs (record_of start logs script_reset)) }
+            → BusStandsFor self.new start (logs_after_step start logs script_reset) }
     {
         let now = self.signals(turn, script_reset);
         match self.monitors.first_rule(&now) {

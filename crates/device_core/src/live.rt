@@ -8,6 +8,7 @@ ghost use Rattle.device_trace.specs.Progress.{next_pc_of};
 ghost use Rattle.device_trace.specs.Start.{Start, with_key};
 ghost use Rattle.device_trace.specs.Text.{byte_sent_in, last_byte_sent};
 ghost use Rattle.device_trace.specs.Trace.{trace, last_record, logs_after};
+ghost use Rattle.trace_facts.specs.Naming.{NamesNeitherA1NorK3};
 ghost use Rattle.device_core.specs.Device.{LiveStandsAt, LiveStandsFor, machine_of, steps_made, HasStepped};
 ghost use Rattle.device_core.specs.Machine.{MachineStandsFor};
 ghost use Rattle.device_trace.specs.Text.{last_report};
@@ -20,6 +21,7 @@ use bus_signals::{Access, BusRecord, Event, ReportView};
 use hmac_core::Digest32;
 use mem_map::Memory;
 use peripheral_register::covers_byte;
+use trace_facts::a1_and_k3_never_hold;
 
 /// The register that sends a byte.
 const STXD: u16 = 0x0076;
@@ -98,7 +100,11 @@ impl<D: Digest32> Live<D> {
         ensures last { (start : Start) (play : List (List Event))
             → LiveStandsFor D.has_taken D.digest_of self.now start play
             → last_record (trace start play) ≡ Some result }
+        ensures rules { (start : Start) (play : List (List Event))
+            → LiveStandsFor D.has_taken D.digest_of self.now start play
+            → NamesNeitherA1NorK3 result }
     {
+        a1_and_k3_never_hold();
         match self.machine().bus.past.last {
             Some(entry) => entry,
             None => unreachable!(),

@@ -5,12 +5,11 @@ ghost use Rattle.part_definitions.specs.CpuRegisters.{with_pc, with_sp, is_aslee
 ghost use Rattle.part_definitions.specs.CpuState.{CpuState, Boundary, clear_cpu, registers_of, is_at_boundary, is_entering, cpu_takes};
 ghost use Rattle.part_definitions.specs.Words.{even, plus};
 ghost use Rattle.msp_exec.specs.Course.{CpuStandsFor};
-ghost use Rattle.swatt_rom.specs.Call.{NoCall, InCall, Returned};
-ghost use Rattle.swatt_rom.specs.Standing.{RomStandsFor};
+ghost use Rattle.swatt_rom.specs.RomCall.{NoCall, InCall, AfterCall};
+ghost use Rattle.swatt_rom.specs.Rom.{RomStandsFor};
 ghost use Rattle.device_trace.specs.Start.{Start, with_key};
-ghost use Rattle.device_trace.specs.Logs.{Logs, power_on_logs, vector_of, with_record};
+ghost use Rattle.device_trace.specs.Logs.{Logs, power_on_logs, vector_of};
 ghost use Rattle.device_trace.specs.Progress.{last_registers, boundary_kind, running_after};
-ghost use Rattle.device_trace.specs.Step.{record_of};
 ghost use Rattle.device_trace.specs.Trace.{next_logs};
 ghost use Rattle.mem_map.specs.Image.{powered_on};
 
@@ -55,7 +54,8 @@ fn boundary_kind(processor: &Cpu, vector: Option<u16>) -> Kind
 fn kind_outside_rom(processor: &Cpu, vector: Option<u16>) -> Kind
     ensures { (state : CpuState)
         → CpuStandsFor processor.now state
-        → result ≡ (if is_some vector then Kind.Irq else if is_asleep (registers_of state) then Kind.Idle else Kind.Cpu) }
+        → result ≡ (if is_some vector then Kind.Irq else if is_asleep (registers_of state) then
+        Kind.Idle else Kind.Cpu) }
 {
     if vector.is_some() {
         Kind::Irq
@@ -73,7 +73,7 @@ fn is_rom_entry(pc: u16) -> bool
 }
 
 impl<D: Digest32> Machine<D> {
-    ghost use Rattle.device_core.specs.Bus.{BusStandsFor};
+    ghost use Rattle.device_core.specs.Bus.{BusStandsFor, logs_after_step};
     ghost use Rattle.device_core.specs.Past.{StepsFrom};
     ghost use Rattle.device_core.specs.Machine.{HeldMachine, RunningMachine, RunsFrom, CallingMachine, RunsWithin, CallsWithin, MachineStandsFor};
 
@@ -81,7 +81,8 @@ impl<D: Digest32> Machine<D> {
     pub fn new(alloc: Global, key: &[u8; 64], image: &Image) -> Result<Machine<D>, AllocError>
         ensures stands { (start : Start)
             → start.power ≡ powered_on key.now image.now
-            → IfOk result (λ machine. HeldMachine D.has_taken D.digest_of machine start power_on_logs) }
+            → IfOk result (λ machine. HeldMachine D.has_taken D.digest_of machine start
+            power_on_logs) }
         ensures steps { IfOk result (λ machine. machine.bus.past.steps ≡ 0) }
     {
         Ok(Machine {
@@ -123,7 +124,7 @@ impl<D: Digest32> Machine<D> {
         ensures stands { (start : Start) (logs : Logs)
             → HeldMachine D.has_taken D.digest_of self.old start logs
             → MachineStandsFor D.has_taken D.digest_of result self.new start
-            (with_record start logs (record_of start logs script_reset)) }
+            (logs_after_step start logs script_reset) }
     {
         let turn = Turn::boot();
         match self.bus.act(self.processor.regs(), &turn, script_reset) {
@@ -143,7 +144,7 @@ impl<D: Digest32> Machine<D> {
         ensures stands { (start : Start) (logs : Logs) (state : CpuState)
             → RunsWithin D.has_taken D.digest_of self.old turn.now start logs state
             → MachineStandsFor D.has_taken D.digest_of result self.new start
-            (with_record start logs (record_of start logs script_reset)) }
+            (logs_after_step start logs script_reset) }
     {
         match self.bus.act(self.processor.regs(), turn, script_reset) {
             Some(value) => {
@@ -162,9 +163,9 @@ impl<D: Digest32> Machine<D> {
         ensures stands { (key : List ℕ) (image : ℕ → ℕ) (logs : Logs) (regs words : List ℕ)
             → CallsWithin D.has_taken D.digest_of self.old turn.now
             (with_key D.digest_of key image) logs regs words
-            → MachineStandsFor D.has_taken D.digest_of result self.new (with_key D.digest_of key image)
-            (with_record (with_key D.digest_of key image) logs
-            (record_of (with_key D.digest_of key image) logs script_reset)) }
+            → MachineStandsFor D.has_taken D.digest_of result self.new
+            (with_key D.digest_of key image)
+            (logs_after_step (with_key D.digest_of key image) logs script_reset) }
     {
         match self.bus.act(self.processor.regs(), turn, script_reset) {
             Some(value) => {
@@ -180,9 +181,10 @@ impl<D: Digest32> Machine<D> {
         ensures bus { self.new.bus ≡ self.old.bus }
         ensures returned { (regs : List ℕ) (sp word : ℕ)
             → CpuStandsFor self.old.processor (Boundary regs)
-            → RomStandsFor D.has_taken D.digest_of self.old.call (Returned sp word)
+            → RomStandsFor D.has_taken D.digest_of self.old.call (AfterCall sp word)
             → (result ≡ Stage.Running)
-            × CpuStandsFor self.new.processor (Boundary (with_sp (with_pc regs (even word)) (plus sp 2)))
+            × CpuStandsFor self.new.processor
+            (Boundary (with_sp (with_pc regs (even word)) (plus sp 2)))
             × RomStandsFor D.has_taken D.digest_of self.new.call NoCall }
         ensures goes_on { (sp : ℕ) (words : List ℕ)
             → RomStandsFor D.has_taken D.digest_of self.old.call (InCall sp words)
@@ -204,9 +206,9 @@ impl<D: Digest32> Machine<D> {
         ensures past { StepsFrom self.old.bus.past self.new.bus.past }
         ensures stands { (key : List ℕ) (image : ℕ → ℕ) (logs : Logs)
             → CallingMachine D.has_taken D.digest_of self.old (with_key D.digest_of key image) logs
-            → MachineStandsFor D.has_taken D.digest_of result self.new (with_key D.digest_of key image)
-            (with_record (with_key D.digest_of key image) logs
-            (record_of (with_key D.digest_of key image) logs script_reset)) }
+            → MachineStandsFor D.has_taken D.digest_of result self.new
+            (with_key D.digest_of key image)
+            (logs_after_step (with_key D.digest_of key image) logs script_reset) }
     {
         let irq = self.vector().is_some();
         let turn = Turn::of_call(&self.call, irq);
@@ -218,12 +220,13 @@ impl<D: Digest32> Machine<D> {
         requires { self.old.bus.past.steps < 2 ^ 63 }
         ensures past { StepsFrom self.old.bus.past self.new.bus.past }
         ensures stands { (key : List ℕ) (image : ℕ → ℕ) (logs : Logs) (regs : List ℕ)
-            → RunsFrom D.has_taken D.digest_of self.old (with_key D.digest_of key image) logs (Boundary regs)
+            → RunsFrom D.has_taken D.digest_of self.old (with_key D.digest_of key image) logs
+            (Boundary regs)
             → boundary_kind regs (vector_of logs) ≡ Kind.Rom
             → irq ≡ is_some (vector_of logs)
-            → MachineStandsFor D.has_taken D.digest_of result self.new (with_key D.digest_of key image)
-            (with_record (with_key D.digest_of key image) logs
-            (record_of (with_key D.digest_of key image) logs script_reset)) }
+            → MachineStandsFor D.has_taken D.digest_of result self.new
+            (with_key D.digest_of key image)
+            (logs_after_step (with_key D.digest_of key image) logs script_reset) }
     {
         self.call.begin(self.processor.sp());
         let turn = Turn::of_call(&self.call, irq);
@@ -239,7 +242,7 @@ impl<D: Digest32> Machine<D> {
             → boundary_kind regs (vector_of logs) ≡ Kind.Irq
             → vector_of logs ≡ Some vector
             → MachineStandsFor D.has_taken D.digest_of result self.new start
-            (with_record start logs (record_of start logs script_reset)) }
+            (logs_after_step start logs script_reset) }
     {
         self.processor.begin_irq(vector);
         let accepts_timer = vector == TIMER_VECTOR;
@@ -256,7 +259,7 @@ impl<D: Digest32> Machine<D> {
             → boundary_kind regs (vector_of logs) ≡ Kind.Cpu
             → irq ≡ is_some (vector_of logs)
             → MachineStandsFor D.has_taken D.digest_of result self.new start
-            (with_record start logs (record_of start logs script_reset)) }
+            (logs_after_step start logs script_reset) }
     {
         let turn = Turn::of_processor(&self.processor, Kind::Cpu, irq, true, false);
         self.run(&turn, script_reset)
@@ -271,7 +274,7 @@ impl<D: Digest32> Machine<D> {
             → boundary_kind regs (vector_of logs) ≡ Kind.Idle
             → irq ≡ is_some (vector_of logs)
             → MachineStandsFor D.has_taken D.digest_of result self.new start
-            (with_record start logs (record_of start logs script_reset)) }
+            (logs_after_step start logs script_reset) }
     {
         let turn = Turn::of_processor(&self.processor, Kind::Idle, irq, false, false);
         self.run(&turn, script_reset)
@@ -285,7 +288,7 @@ impl<D: Digest32> Machine<D> {
             → RunsFrom D.has_taken D.digest_of self.old start logs state
             → is_at_boundary state ≡ false
             → MachineStandsFor D.has_taken D.digest_of result self.new start
-            (with_record start logs (record_of start logs script_reset)) }
+            (logs_after_step start logs script_reset) }
     {
         let kind = kind_within(&self.processor);
         let turn = Turn::of_processor(&self.processor, kind, false, false, false);
@@ -297,10 +300,11 @@ impl<D: Digest32> Machine<D> {
         requires { self.old.bus.past.steps < 2 ^ 63 }
         ensures past { StepsFrom self.old.bus.past self.new.bus.past }
         ensures stands { (key : List ℕ) (image : ℕ → ℕ) (logs : Logs) (regs : List ℕ)
-            → RunsFrom D.has_taken D.digest_of self.old (with_key D.digest_of key image) logs (Boundary regs)
-            → MachineStandsFor D.has_taken D.digest_of result self.new (with_key D.digest_of key image)
-            (with_record (with_key D.digest_of key image) logs
-            (record_of (with_key D.digest_of key image) logs script_reset)) }
+            → RunsFrom D.has_taken D.digest_of self.old (with_key D.digest_of key image) logs
+            (Boundary regs)
+            → MachineStandsFor D.has_taken D.digest_of result self.new
+            (with_key D.digest_of key image)
+            (logs_after_step (with_key D.digest_of key image) logs script_reset) }
     {
         let vector = self.vector();
         let irq = vector.is_some();
@@ -319,9 +323,9 @@ impl<D: Digest32> Machine<D> {
         ensures past { StepsFrom self.old.bus.past self.new.bus.past }
         ensures stands { (key : List ℕ) (image : ℕ → ℕ) (logs : Logs)
             → RunningMachine D.has_taken D.digest_of self.old (with_key D.digest_of key image) logs
-            → MachineStandsFor D.has_taken D.digest_of result self.new (with_key D.digest_of key image)
-            (with_record (with_key D.digest_of key image) logs
-            (record_of (with_key D.digest_of key image) logs script_reset)) }
+            → MachineStandsFor D.has_taken D.digest_of result self.new
+            (with_key D.digest_of key image)
+            (logs_after_step (with_key D.digest_of key image) logs script_reset) }
     {
         if self.processor.at_boundary() {
             self.begin(script_reset)
@@ -336,7 +340,8 @@ impl<D: Digest32> Machine<D> {
         ensures past { StepsFrom self.old.bus.past self.new.bus.past }
         ensures stands { (key : List ℕ) (image : ℕ → ℕ) (logs : Logs)
             → HeldMachine D.has_taken D.digest_of self.old (with_key D.digest_of key image) logs
-            → MachineStandsFor D.has_taken D.digest_of result self.new (with_key D.digest_of key image)
+            → MachineStandsFor D.has_taken D.digest_of result self.new
+            (with_key D.digest_of key image)
             (next_logs (with_key D.digest_of key image) logs events.now) }
     {
         let script_reset = self.bus.hear(events);
@@ -349,7 +354,8 @@ impl<D: Digest32> Machine<D> {
         ensures past { StepsFrom self.old.bus.past self.new.bus.past }
         ensures stands { (key : List ℕ) (image : ℕ → ℕ) (logs : Logs)
             → RunningMachine D.has_taken D.digest_of self.old (with_key D.digest_of key image) logs
-            → MachineStandsFor D.has_taken D.digest_of result self.new (with_key D.digest_of key image)
+            → MachineStandsFor D.has_taken D.digest_of result self.new
+            (with_key D.digest_of key image)
             (next_logs (with_key D.digest_of key image) logs events.now) }
     {
         let script_reset = self.bus.hear(events);
@@ -362,7 +368,8 @@ impl<D: Digest32> Machine<D> {
         ensures past { StepsFrom self.old.bus.past self.new.bus.past }
         ensures stands { (key : List ℕ) (image : ℕ → ℕ) (logs : Logs)
             → CallingMachine D.has_taken D.digest_of self.old (with_key D.digest_of key image) logs
-            → MachineStandsFor D.has_taken D.digest_of result self.new (with_key D.digest_of key image)
+            → MachineStandsFor D.has_taken D.digest_of result self.new
+            (with_key D.digest_of key image)
             (next_logs (with_key D.digest_of key image) logs events.now) }
     {
         let script_reset = self.bus.hear(events);

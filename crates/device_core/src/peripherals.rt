@@ -143,7 +143,8 @@ impl Peripherals {
     pub fn vector(&self, is_allowed: bool) -> Option<u16>
         ensures { (logs : PeripheralLogs)
             → PeripheralsStandFor self.now logs
-            → result ≡ accepted_vector is_allowed (serial_requests logs.serial) (timer_requests logs.timer) }
+            → result ≡ accepted_vector is_allowed (serial_requests logs.serial)
+            (timer_requests logs.timer) }
     {
         let pending = Pending {
             serial: self.serial.request(),
@@ -173,9 +174,11 @@ impl Peripherals {
 
     /// A refused step. The pins stay.
     pub fn clear(&mut self)
-        ensures { (rule : Rule) (accepted : Bool) (cpu dma : Option Access) (value : ℕ) (logs : PeripheralLogs)
+        ensures { (rule : Rule) (accepted : Bool) (cpu dma : Option Access) (value : ℕ)
+            (logs : PeripheralLogs)
             → PeripheralsStandFor self.old logs
-            → PeripheralsStandFor self.new (peripherals_served (Some rule) accepted cpu dma value logs) }
+            → PeripheralsStandFor self.new
+            (peripherals_served (Some rule) accepted cpu dma value logs) }
     {
         self.timer.clear();
         self.serial.clear();

@@ -4,8 +4,8 @@ ghost use Rattle.bus_signals.specs.declared.kind.Kind.TheVariants.{Rom as RomKin
 ghost use Rattle.part_definitions.specs.Attestation.{call_item, item_pc};
 ghost use Rattle.part_definitions.specs.CpuState.{CpuState, cpu_pc};
 ghost use Rattle.msp_exec.specs.Course.{CpuStandsFor};
-ghost use Rattle.swatt_rom.specs.Call.{InCall, call_access};
-ghost use Rattle.swatt_rom.specs.Standing.{RomStandsFor};
+ghost use Rattle.swatt_rom.specs.RomCall.{InCall, call_access};
+ghost use Rattle.swatt_rom.specs.Rom.{RomStandsFor};
 ghost use Rattle.device_trace.specs.Progress.{running_access};
 
 use bus_signals::{Access, BusMaster, Kind};

@@ -8,5 +8,6 @@ pub returns-clause-stands : goal.returns-clause-stands
 unfolding logs_after
 returns-clause-stands g c =
     let start : Start =
-    with_key g.D.Digest32.digest_of c.args.key.now (powered_on c.args.key.now c.args.image.now).image in
+    with_key g.D.Digest32.digest_of c.args.key.now
+    (powered_on c.args.key.now c.args.image.now).image in
     rw (c.of.ensures, c.in_ok-new.ensures.ok) (c.in_ok-machine.ensures.stands start refl)

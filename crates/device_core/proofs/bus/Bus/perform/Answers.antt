@@ -5,21 +5,26 @@ use Rattle.device_core.proofs.bus.Bus.perform.Goals as goal
 pub returns-clause-stands : goal.returns-clause-stands
 unfolding with_record
 returns-clause-stands c = λ start logs stands word accepted.
-    let value = c.exchange-values.ensures.cpu start logs stands.same_memory stands.same_peripherals word in
+    let value = c.exchange-values.ensures.cpu start logs stands.same_memory stands.same_peripherals
+    word in
     let dma = c.exchange-values.ensures.dma start logs stands.same_memory in
-    let bounds = c.bounds-bounds.ensures start.power (exec_of logs) logs.memory stands.same_memory in
+    let bounds = c.bounds-bounds.ensures start.power (exec_of logs) logs.memory stands.same_memory
+    in
     let entry = c.performed.ensures.value in
     let memory =
     c.exchange-values.ensures.memory start.power (exec_of logs) logs.memory stands.same_memory in
     record {
       same_memory =
           rw (entry, value, dma, bounds) at
-          (c.record.ensures.memory start.power (exec_of logs) (memory_after None c.args.now.now.cpu c.args.now.now.dma logs.memory) logs.seen memory stands.same_monitors);
+          (c.record.ensures.memory start.power (exec_of logs)
+          (memory_after None c.args.now.now.cpu c.args.now.now.dma logs.memory) logs.seen memory
+          stands.same_monitors);
       same_peripherals =
           rw c.record.ensures.peripherals
           (rw (accepted, dma) at (c.serve.ensures logs.peripherals stands.same_peripherals));
       same_monitors =
-          rw (entry, value, dma, bounds) at (c.record.ensures.monitors logs.seen stands.same_monitors);
+          rw (entry, value, dma, bounds) at
+          (c.record.ensures.monitors logs.seen stands.same_monitors);
       same_past =
           rw (entry, value, dma, bounds) at (c.record.ensures.past logs.seen stands.same_past);
     }

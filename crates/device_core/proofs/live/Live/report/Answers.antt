@@ -7,10 +7,12 @@ use Rattle.device_core.proofs.live.Live.report.Goals as goal
 pub returns-in-Some : goal.returns-in-Some
 returns-in-Some g c = λ start play stands.
     let bus =
-    live-bus g.D.Digest32.has_taken g.D.Digest32.digest_of c.args.self.now start (logs_after start play) stands in
+    live-bus g.D.Digest32.has_taken g.D.Digest32.digest_of c.args.self.now start
+    (logs_after start play) stands in
     let steps : c.saturating_sub-step.result ≡ length play - 1 =
     c.saturating_sub-step.ensures
-    ∙ ap (λ number. number - 1) (rw c.machine.ensures (bus.same_past.same_steps ∙ length-seen start play)) in
+    ∙ ap (λ number. number - 1)
+    (rw c.machine.ensures (bus.same_past.same_steps ∙ length-seen start play)) in
     let last : last_record (trace start play) ≡ Some c.in-Some.entry =
     sym (live-last g.D.Digest32.has_taken g.D.Digest32.digest_of c.args.self.now start play stands)
     ∙ rw c.machine.ensures at c.in-Some.is in

@@ -7,5 +7,6 @@ use Rattle.device_core.proofs.live.Live.steps.Goals as goal
 pub returns-clause-stands : goal.returns-clause-stands
 returns-clause-stands g c = λ start play stands.
     rw c.machine.ensures
-    ((live-bus g.D.Digest32.has_taken g.D.Digest32.digest_of c.args.self.now start (logs_after start play) stands).same_past.same_steps
+    ((live-bus g.D.Digest32.has_taken g.D.Digest32.digest_of c.args.self.now start
+    (logs_after start play) stands).same_past.same_steps
     ∙ length-seen start play)

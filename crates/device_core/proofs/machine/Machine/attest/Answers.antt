@@ -2,7 +2,7 @@ use Rattle.std.proofs.Common.{◌≡◌, ◌∙◌, length, Some, None, sym, ref
 use Rattle.part_definitions.specs.Attestation.{call_item, bounds_read, is_return, written_word}
 use Rattle.part_definitions.specs.CpuRegisters.{sp_of}
 use Rattle.part_definitions.specs.CpuState.{Boundary}
-use Rattle.swatt_rom.specs.Call.{InCall}
+use Rattle.swatt_rom.specs.RomCall.{InCall}
 use Rattle.device_trace.specs.Logs.{with_record}
 use Rattle.device_trace.specs.Progress.{call_access, word_passed}
 use Rattle.device_trace.specs.Start.{Start, with_key}
@@ -29,7 +29,8 @@ returns-in-Some-clause-stands g c = λ key image logs regs words within.
     (λ ends. word_passed-return (sp_of regs) (bounds_read words) (call_item words)
     (written_word g.D.Digest32.digest_of words (call_item words)) c.in-Some.value ends)
     (rw c.leave_call.ensures.bus (c.act.ensures.stands start logs within.same_bus same))
-    (progress-performed start logs c.args.script_reset c.in-Some.value answer ∙ rw within.same_within refl)
+    (progress-performed start logs c.args.script_reset c.in-Some.value answer ∙ rw
+    within.same_within refl)
     within.same_processor
     (c.take.ensures (InCall (sp_of regs) words) within.same_call)
     c.leave_call.ensures.returned c.leave_call.ensures.goes_on

@@ -14,8 +14,10 @@ returns-in-Rom-clause-stands g c = λ key image logs regs from.
     c.vector-vector.ensures start logs (Boundary regs) from.same_bus from.same_processor
     (rw from.same_progress refl) in
     let kind : boundary_kind regs (vector_of logs) ≡ RomKind =
-    rw (sym vector) (sym (c.boundary_kind.ensures (Boundary regs) from.same_processor) ∙ c.in-Rom.is) in
-    c.begin_call.ensures.stands key image logs regs from kind (c.is_some-irq.ensures ∙ ap is_some vector)
+    rw (sym vector) (sym (c.boundary_kind.ensures (Boundary regs) from.same_processor) ∙
+    c.in-Rom.is) in
+    c.begin_call.ensures.stands key image logs regs from kind
+    (c.is_some-irq.ensures ∙ ap is_some vector)
 
 pub returns-in-Irq-clause-stands : goal.returns-in-Irq-clause-stands
 returns-in-Irq-clause-stands g c = λ key image logs regs from.
@@ -24,7 +26,8 @@ returns-in-Irq-clause-stands g c = λ key image logs regs from.
     c.vector-vector.ensures start logs (Boundary regs) from.same_bus from.same_processor
     (rw from.same_progress refl) in
     let kind : boundary_kind regs (vector_of logs) ≡ Irq =
-    rw (sym vector) (sym (c.boundary_kind.ensures (Boundary regs) from.same_processor) ∙ c.in-Irq.is) in
+    rw (sym vector) (sym (c.boundary_kind.ensures (Boundary regs) from.same_processor) ∙
+    c.in-Irq.is) in
     let some = unwrap_or-Some (vector_of logs) (boundary_kind-Irq regs (vector_of logs) kind) in
     let same : c.unwrap_or.result ≡ unwrap_or (vector_of logs) 0 =
     c.unwrap_or.ensures ∙ ap (λ one. unwrap_or one 0) vector in
@@ -37,7 +40,8 @@ returns-in-Idle-clause-stands g c = λ key image logs regs from.
     c.vector-vector.ensures start logs (Boundary regs) from.same_bus from.same_processor
     (rw from.same_progress refl) in
     let kind : boundary_kind regs (vector_of logs) ≡ Idle =
-    rw (sym vector) (sym (c.boundary_kind.ensures (Boundary regs) from.same_processor) ∙ c.in-Idle.is) in
+    rw (sym vector) (sym (c.boundary_kind.ensures (Boundary regs) from.same_processor) ∙
+    c.in-Idle.is) in
     c.sleep.ensures.stands start logs regs from kind (c.is_some-irq.ensures ∙ ap is_some vector)
 
 pub returns-in-Cpu-clause-stands : goal.returns-in-Cpu-clause-stands
@@ -47,7 +51,8 @@ returns-in-Cpu-clause-stands g c = λ key image logs regs from.
     c.vector-vector.ensures start logs (Boundary regs) from.same_bus from.same_processor
     (rw from.same_progress refl) in
     let kind : boundary_kind regs (vector_of logs) ≡ Cpu =
-    rw (sym vector) (sym (c.boundary_kind.ensures (Boundary regs) from.same_processor) ∙ c.in-Cpu.is) in
+    rw (sym vector) (sym (c.boundary_kind.ensures (Boundary regs) from.same_processor) ∙
+    c.in-Cpu.is) in
     c.fetch.ensures.stands start logs regs from kind (c.is_some-irq.ensures ∙ ap is_some vector)
 
 pub returns-in-Boot-clause-stands : goal.returns-in-Boot-clause-stands

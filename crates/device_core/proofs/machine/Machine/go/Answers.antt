@@ -15,5 +15,6 @@ pub returns-else-at_boundary-clause-stands : goal.returns-else-at_boundary-claus
 returns-else-at_boundary-clause-stands g c = λ key image logs running.
     let start : Start = with_key g.D.Digest32.digest_of key image in
     let middle : is_at_boundary running.state ≡ false =
-    sym (c.at_boundary.ensures running.state running.same.same_processor) ∙ c.if-at_boundary.false in
+    sym (c.at_boundary.ensures running.state running.same.same_processor) ∙ c.if-at_boundary.false
+    in
     c.go_on.ensures.stands start logs running.state running.same middle

@@ -17,7 +17,10 @@ returns-clause-stands g c = λ key image logs calling.
     c.attest.ensures.stands key image logs calling.regs calling.words (record {
       same_bus = calling.same_bus;
       same_turn =
-          rw (c.of_call-turn.ensures.value (sp_of calling.regs) calling.words calling.same_call, irq)
+          rw (
+            c.of_call-turn.ensures.value (sp_of calling.regs) calling.words calling.same_call,
+            irq,
+          )
           (calling-turn start logs calling.regs calling.words calling.same_progress);
       same_within = calling-within logs calling.regs calling.words calling.same_progress;
       same_processor = calling.same_processor;
