@@ -46,7 +46,8 @@ write_at-formed Byte place number = omega arith
 write_at-formed Word place number = mul-mod_left (place / 2) 2
 
 -- the accesses of an instruction
-bus_access-formed : (head : Head) (access : CpuAccess) (working : Working) → IsFormed (bus_access head access working)
+bus_access-formed : (head : Head) (access : CpuAccess) (working : Working)
+    → IsFormed (bus_access head access working)
 bus_access-formed head FetchImmediate working = fetch_at-formed _
 bus_access-formed head (FetchSourceIndex register) working = fetch_at-formed _
 bus_access-formed head ReadSource working = read_at-formed (size_of head) _
@@ -68,19 +69,22 @@ walk-formed head (access ∷ accesses) working (value ∷ values) =
     walk-formed head accesses (after_value head access value working) values
 
 walk_head-formed :
-    (head : Option Head) (regs values : List ℕ) → IfSome (asked_access (walk_head head regs values)) IsFormed
+    (head : Option Head) (regs values : List ℕ)
+    → IfSome (asked_access (walk_head head regs values)) IsFormed
 walk_head-formed None regs values = tt
 walk_head-formed (Some head) regs values =
     walk-formed head (accesses_of head) (working_at_start head regs) values
 
-next_access-formed : (regs values : List ℕ) → IfSome (asked_access (next_access regs values)) IsFormed
+next_access-formed : (regs values : List ℕ)
+    → IfSome (asked_access (next_access regs values)) IsFormed
 unfolding next_access
 next_access-formed regs [] = fetch_at-formed _
 next_access-formed regs (word ∷ values) = walk_head-formed (head_of word) regs values
 
 -- the accesses of an interrupt entry
 entry_access-formed :
-    (regs : List ℕ) (vector : ℕ) (values : List ℕ) → IfSome (asked_access (entry_access regs vector values)) IsFormed
+    (regs : List ℕ) (vector : ℕ) (values : List ℕ)
+    → IfSome (asked_access (entry_access regs vector values)) IsFormed
 unfolding entry_access
 entry_access-formed regs vector [] = write_at-formed Word _ 0
 entry_access-formed regs vector (first ∷ []) = write_at-formed Word _ 0
@@ -101,7 +105,8 @@ running_access-formed Rom cpu = cpu_access-formed cpu
 
 -- the accesses of a call
 item_access-formed :
-    (sp : ℕ) (bounds : Bounds) (item : CallItem) (number : ℕ) → IsFormed (item_access sp bounds item number)
+    (sp : ℕ) (bounds : Bounds) (item : CallItem) (number : ℕ)
+    → IsFormed (item_access sp bounds item number)
 item_access-formed sp bounds (KeyRead i) number = read_at-formed Word _
 item_access-formed sp bounds (MetadataRead i) number = read_at-formed Word _
 item_access-formed sp bounds (DerivedKeyWrite i) number = write_at-formed Word _ 0
@@ -125,7 +130,8 @@ place_of_word-even address i = omega arith
 access_at-formed : (transfer : Transfer) (distance : ℕ) → IsFormed (access_at transfer distance)
 access_at-formed transfer distance =
     cond_both (distance % 2 == 0) (Read (place_of_word transfer.source (distance / 2)) Word)
-    (Write (place_of_word transfer.destination (distance / 2)) Word (latch transfer.values)) IsFormed
+    (Write (place_of_word transfer.destination (distance / 2)) Word
+    (latch transfer.values)) IsFormed
     (λ even. place_of_word-even transfer.source (distance / 2))
     (λ odd. place_of_word-even transfer.destination (distance / 2))
 
@@ -136,7 +142,8 @@ transfer_access-formed transfer =
     (λ active. access_at-formed transfer (length transfer.values))
     (λ idle. tt)
 
-without_number-formed : (access : Option Access) → IfSome access IsFormed → IfSome (without_number access) IsFormed
+without_number-formed : (access : Option Access) → IfSome access IsFormed
+    → IfSome (without_number access) IsFormed
 without_number-formed None formed = tt
 without_number-formed (Some (Fetch place)) formed = formed
 without_number-formed (Some (Read place size)) formed = formed
@@ -144,28 +151,33 @@ without_number-formed (Some (Write place Byte number)) formed = omega arith
 without_number-formed (Some (Write place Word number)) formed = formed
 
 access_recorded-formed :
-    (rule : Option Rule) (access : Option Access) → IfSome access IsFormed → IfSome (access_recorded rule access) IsFormed
+    (rule : Option Rule) (access : Option Access) → IfSome access IsFormed
+    → IfSome (access_recorded rule access) IsFormed
 access_recorded-formed None access formed = formed
 access_recorded-formed (Some rule) access formed = without_number-formed access formed
 
-pub record_of-formed : (start : Start) (logs : Logs) (reset : Bool) → AccessesAreFormed (record_of start logs reset)
+pub record_of-formed : (start : Start) (logs : Logs) (reset : Bool)
+    → AccessesAreFormed (record_of start logs reset)
 unfolding record_of signals_at
 record_of-formed start logs reset =
     record {
       cpu = access_recorded-formed _ (proposed_access start logs (step_kind logs))
-          (access_of-formed start (length logs.released_words) (step_kind logs) (step_progress logs (step_kind logs)));
+          (access_of-formed start (length logs.released_words) (step_kind logs)
+          (step_progress logs (step_kind logs)));
       dma =
           access_recorded-formed _ (dma_access logs.peripherals.dma)
           (transfer_access-formed (transfer_of logs.peripherals.dma));
     }
 
 pub next_record-formed :
-    (start : Start) (logs : Logs) (events : List Event) → AccessesAreFormed (next_record start logs events)
+    (start : Start) (logs : Logs) (events : List Event)
+    → AccessesAreFormed (next_record start logs events)
 unfolding next_record
 next_record-formed start logs events = record_of-formed start _ _
 
 -- each record of a play
-pub trace-formed : (start : Start) (play : List (List Event)) → All AccessesAreFormed (trace start play)
+pub trace-formed : (start : Start) (play : List (List Event))
+    → All AccessesAreFormed (trace start play)
 unfolding trace
 trace-formed start [] place default within = absurd (omega (arith, within))
 trace-formed start (events ∷ play) zero default within = next_record-formed start _ events

@@ -9,14 +9,19 @@ use Rattle.device_trace.specs.Blank.{is_secret}
 
 -- two choices by one test
 pub same_if : {A : Type 0} (test : Bool) (x x' y y' : A)
-    → (test ≡ true → x ≡ x') → (test ≡ false → y ≡ y') → (if test then x else y) ≡ (if test then x' else y')
+    → (test ≡ true → x ≡ x') → (test ≡ false → y ≡ y')
+    → (if test then x else y) ≡ (if test then x' else y')
 same_if true x x' y y' left right = left refl
 same_if false x x' y y' left right = right refl
 
 -- a write, with 0 in place of a byte of the exclusive stack
 abbrev pub hide_write : MemoryWrite → MemoryWrite
 hide_write write =
-    record { place = write.place; byte = if lies_in stack_region write.place then 0 else write.byte }
+    record {
+      place = write.place;
+      byte =
+          if lies_in stack_region write.place then 0 else write.byte;
+    }
 
 -- a key that is all 0
 abbrev pub keyless : PowerOn → PowerOn
@@ -27,7 +32,8 @@ pub last_written-hide : (writes : List MemoryWrite) (place before : ℕ)
     → last_written (map hide_write writes) place before ≡ last_written writes place before
 last_written-hide [] place before off = refl
 last_written-hide (write ∷ writes) place before off =
-    same_if (write.place == place) (if lies_in stack_region write.place then 0 else write.byte) write.byte
+    same_if (write.place == place)
+    (if lies_in stack_region write.place then 0 else write.byte) write.byte
     (last_written (map hide_write writes) place before) (last_written writes place before)
     (λ here.
     cond-false (lies_in stack_region write.place) 0 write.byte
@@ -40,7 +46,8 @@ pub byte_at-hide : (power : PowerOn) (exec : Bool) (writes : List MemoryWrite) (
     → byte_at (keyless power) exec (map hide_write writes) place ≡ byte_at power exec writes place
 byte_at-hide power exec writes place off =
     let parts = or_parts (lies_in key_region place) (lies_in stack_region place) off in
-    same_if (takes_write place) (last_written (map hide_write writes) place (first_byte power place))
+    same_if (takes_write place)
+    (last_written (map hide_write writes) place (first_byte power place))
     (last_written writes place (first_byte power place)) (fixed_byte (keyless power) exec place)
     (fixed_byte power exec place)
     (λ taken. last_written-hide writes place (first_byte power place) parts.1)

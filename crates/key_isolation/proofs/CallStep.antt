@@ -22,14 +22,16 @@ use Rattle.key_isolation.proofs.Reading.{value_read-hide}
 use Rattle.trace_facts.proofs.CallPlaces.{ItemFits, metadata_off, region_off}
 
 -- a read of no secret
-pub record ReadsOpenly (start : Start) (released : List ℕ) (logs : Logs) (access : Access) : Type 0 where
+pub record ReadsOpenly (start : Start) (released : List ℕ) (logs : Logs)
+    (access : Access) : Type 0 where
   pub same : blank_access (Some access) ≡ Some access
   pub value :
       blank_value (Some access) (value_read start logs (Some access))
       ≡ value_read (opened released start) (hide logs) (Some access)
 
 -- the real access of a call and the one without the key, after so many words
-pub record SameItem (start : Start) (released : List ℕ) (logs : Logs) (passed : ℕ) (real seen : Access) : Type 0 where
+pub record SameItem (start : Start) (released : List ℕ) (logs : Logs) (passed : ℕ)
+    (real seen : Access) : Type 0 where
   pub access : blank_access (Some real) ≡ Some seen
   pub value :
       blank_value (Some real) (value_read start logs (Some real))
@@ -48,7 +50,8 @@ read_off start released logs passed place past off =
     record {
       access = refl;
       value =
-          cond-false (touches_secrets (Read place Word)) 0 (value_read start logs (Some (Read place Word))) off ∙ sym same;
+          cond-false (touches_secrets (Read place Word)) 0
+          (value_read start logs (Some (Read place Word))) off ∙ sym same;
       hidden = λ fewer. absurd (omega arith);
       kept = λ past. same;
     }
@@ -57,22 +60,28 @@ read_off start released logs passed place past off =
 key_touched : (i : ℕ) → i < 32 → touches_secrets (Read ((0x6A00 + 2 * i) / 2 * 2) Word) ≡ true
 key_touched i within = grind (arith, nat_tests)
 
-key_off_peripherals : (i : ℕ) → i < 32 → lies_in peripheral_region ((0x6A00 + 2 * i) / 2 * 2) ≡ false
+key_off_peripherals : (i : ℕ) → i < 32
+    → lies_in peripheral_region ((0x6A00 + 2 * i) / 2 * 2) ≡ false
 key_off_peripherals i within = grind (arith, nat_tests)
 
 read_key : (start : Start) (released : List ℕ) (logs : Logs) (passed i : ℕ)
     → i < 32 → passed < 32
-    → SameItem start released logs passed (Read ((0x6A00 + 2 * i) / 2 * 2) Word) (Read ((0x6A00 + 2 * i) / 2 * 2) Word)
+    → SameItem start released logs passed (Read ((0x6A00 + 2 * i) / 2 * 2) Word)
+    (Read ((0x6A00 + 2 * i) / 2 * 2) Word)
 read_key start released logs passed i within fewer =
-    let zero_word : value_read (opened released start) (hide logs) (Some (Read ((0x6A00 + 2 * i) / 2 * 2) Word)) ≡ 0 =
-    cond-false (lies_in peripheral_region ((0x6A00 + 2 * i) / 2 * 2)) _ _ (key_off_peripherals i within)
+    let zero_word : value_read (opened released start) (hide logs)
+    (Some (Read ((0x6A00 + 2 * i) / 2 * 2) Word)) ≡ 0 =
+    cond-false (lies_in peripheral_region ((0x6A00 + 2 * i) / 2 * 2)) _ _
+    (key_off_peripherals i within)
     ∙ key_word-zero (logged_byte (opened released start) (hide logs))
-    (λ place key. key_byte-hide start.power (exec_of (hide logs)) (hide logs).memory place key) i within in
+    (λ place key. key_byte-hide start.power (exec_of (hide logs))
+    (hide logs).memory place key) i within in
     record {
       access = refl;
       value =
           cond-true (touches_secrets (Read ((0x6A00 + 2 * i) / 2 * 2) Word)) 0
-          (value_read start logs (Some (Read ((0x6A00 + 2 * i) / 2 * 2) Word))) (key_touched i within)
+          (value_read start logs (Some (Read ((0x6A00 + 2 * i) / 2 * 2) Word)))
+          (key_touched i within)
           ∙ sym zero_word;
       hidden = λ fewer. zero_word;
       kept = λ past. absurd (omega arith);
@@ -91,11 +100,13 @@ write_stack : (start : Start) (released : List ℕ) (logs : Logs) (passed place 
 write_stack start released logs passed place number past stack off_mac =
     record {
       access =
-          ap (λ (n : ℕ). Some (Write place Word n)) (cond-true (touches (Read place Word) stack_region) 0 number stack);
+          ap (λ (n : ℕ). Some (Write place Word n))
+          (cond-true (touches (Read place Word) stack_region) 0 number stack);
       value = cond_zero (touches_secrets (Read place Word));
       hidden = λ fewer. cond-false (lies_in mac_region place) 0 0 off_mac;
       kept = λ past.
-          cond-false (lies_in mac_region place) 0 0 off_mac ∙ sym (cond-false (lies_in mac_region place) number 0 off_mac);
+          cond-false (lies_in mac_region place) 0 0 off_mac
+          ∙ sym (cond-false (lies_in mac_region place) number 0 off_mac);
     }
 
 -- a word of the MAC
@@ -114,23 +125,27 @@ write_mac start released logs passed place number given past off same =
       kept = λ past. ap (λ (n : ℕ). if lies_in mac_region place then n else 0) same;
     }
 
-derived_in_stack : (i : ℕ) → i < 16 → touches (Read ((0x4000 + 2 * i) / 2 * 2) Word) stack_region ≡ true
+derived_in_stack : (i : ℕ) → i < 16
+    → touches (Read ((0x4000 + 2 * i) / 2 * 2) Word) stack_region ≡ true
 derived_in_stack i within = grind (arith, nat_tests)
 
-inner_in_stack : (i : ℕ) → i < 16 → touches (Read ((0x4020 + 2 * i) / 2 * 2) Word) stack_region ≡ true
+inner_in_stack : (i : ℕ) → i < 16
+    → touches (Read ((0x4020 + 2 * i) / 2 * 2) Word) stack_region ≡ true
 inner_in_stack i within = grind (arith, nat_tests)
 
 above_mac : (place : ℕ) → 0x4000 ≤ place → lies_in mac_region (place / 2 * 2) ≡ false
 above_mac place above = grind (arith, nat_tests)
 
-mac_off_stack : (i : ℕ) → i < 16 → touches (Read ((0x200 + 2 * i) / 2 * 2) Word) stack_region ≡ false
+mac_off_stack : (i : ℕ) → i < 16
+    → touches (Read ((0x200 + 2 * i) / 2 * 2) Word) stack_region ≡ false
 mac_off_stack i within = grind (arith, nat_tests)
 
 mac_place : (i : ℕ) → i < 16 → lies_in mac_region ((0x200 + 2 * i) / 2 * 2) ≡ true
 mac_place i within = grind (arith, nat_tests)
 
 -- the word that comes next is the one that is released
-next_given : (old : List ℕ) (number : ℕ) (more : List ℕ) → slice_index ((old ++ number ∷ []) ++ more) (length old) ≡ number
+next_given : (old : List ℕ) (number : ℕ) (more : List ℕ)
+    → slice_index ((old ++ number ∷ []) ++ more) (length old) ≡ number
 next_given [] number more = refl
 next_given (first ∷ old) number more = next_given old number more
 
@@ -140,21 +155,25 @@ next_released : (old released more : List ℕ) (place number : ℕ)
     → slice_index released (length old) ≡ number
 next_released old released more place number mac split =
     ap (λ (words : List ℕ). slice_index words (length old))
-    (split ∙ ap (λ (words : List ℕ). words ++ more) (cond-true (lies_in mac_region place) (old ++ number ∷ []) old mac))
+    (split ∙ ap (λ (words : List ℕ). words ++ more)
+    (cond-true (lies_in mac_region place) (old ++ number ∷ []) old mac))
     ∙ next_given old number more
 
 -- the return read touches no secret where rule A4 is not broken
 return_off : (place : ℕ)
-    → (some_touches (Some (Read place Word)) key_region || some_touches (Some (Read place Word)) stack_region) ≡ false
+    → (some_touches (Some (Read place Word)) key_region
+    || some_touches (Some (Read place Word)) stack_region) ≡ false
     → touches_secrets (Read place Word) ≡ false
 return_off place off = off
 
-pub same_item : (start : Start) (released more : List ℕ) (logs : Logs) (sp passed number : ℕ) (bounds : Bounds) (item : CallItem)
+pub same_item : (start : Start) (released more : List ℕ) (logs : Logs) (sp passed number : ℕ)
+    (bounds : Bounds) (item : CallItem)
     → ItemFits (region_words bounds) passed item
     → ((item_pc item == ROM_EXIT) && some_reads (Some (item_access sp bounds item number))
     && (some_touches (Some (item_access sp bounds item number)) key_region
     || some_touches (Some (item_access sp bounds item number)) stack_region)) ≡ false
-    → released ≡ with_released_word (Some (item_access sp bounds item number)) logs.released_words ++ more
+    → released ≡ with_released_word (Some (item_access sp bounds item number)) logs.released_words
+    ++ more
     → SameItem start released logs passed (item_access sp bounds item number)
     (item_access sp bounds item (given_word released (length logs.released_words) item))
 same_item start released more logs sp passed number bounds (KeyRead i) fits a4 split =
@@ -162,13 +181,16 @@ same_item start released more logs sp passed number bounds (KeyRead i) fits a4 s
 same_item start released more logs sp passed number bounds (MetadataRead i) fits a4 split =
     read_off start released logs passed _ fits.1 (metadata_off i fits.0)
 same_item start released more logs sp passed number bounds (DerivedKeyWrite i) fits a4 split =
-    write_stack start released logs passed _ number fits.1 (derived_in_stack i fits.0) (above_mac (0x4000 + 2 * i) (omega arith))
+    write_stack start released logs passed _ number fits.1 (derived_in_stack i fits.0)
+    (above_mac (0x4000 + 2 * i) (omega arith))
 same_item start released more logs sp passed number bounds (RegionRead i) fits a4 split =
     read_off start released logs passed _ fits.1 (region_off bounds i fits.0)
 same_item start released more logs sp passed number bounds (InnerDigestWrite i) fits a4 split =
-    write_stack start released logs passed _ number fits.1 (inner_in_stack i fits.0) (above_mac (0x4020 + 2 * i) (omega arith))
+    write_stack start released logs passed _ number fits.1 (inner_in_stack i fits.0)
+    (above_mac (0x4020 + 2 * i) (omega arith))
 same_item start released more logs sp passed number bounds (MacWrite i) fits a4 split =
     write_mac start released logs passed _ number _ fits.1 (mac_off_stack i fits.0)
-    (next_released logs.released_words released more ((0x200 + 2 * i) / 2 * 2) number (mac_place i fits.0) split)
+    (next_released logs.released_words released more ((0x200 + 2 * i) / 2 * 2) number
+    (mac_place i fits.0) split)
 same_item start released more logs sp passed number bounds ReturnRead fits a4 split =
     read_off start released logs passed _ fits (return_off (sp / 2 * 2) a4)

@@ -41,11 +41,14 @@ pub dma_same : (left right : ℕ → ℕ) → SameOutside left right → (access
     → SameDma left right access
 dma_same left right same None key stack = record { same = refl; value = refl; kept = refl }
 dma_same left right same (Some (Fetch place)) key stack =
-    let off = or_from (touches (Fetch place) key_region) (touches (Fetch place) stack_region) key stack in
+    let off = or_from (touches (Fetch place) key_region)
+    (touches (Fetch place) stack_region) key stack in
     reads_same left right (Fetch place) refl off (number_at-outside left right same place Word off)
 dma_same left right same (Some (Read place size)) key stack =
-    let off = or_from (touches (Read place size) key_region) (touches (Read place size) stack_region) key stack in
-    reads_same left right (Read place size) refl off (number_at-outside left right same place size off)
+    let off = or_from (touches (Read place size) key_region)
+    (touches (Read place size) stack_region) key stack in
+    reads_same left right (Read place size) refl off
+    (number_at-outside left right same place size off)
 dma_same left right same (Some (Write place size number)) key stack =
     record {
       same =
@@ -58,10 +61,13 @@ dma_same left right same (Some (Write place size number)) key stack =
 -- memory with the processor's write of the step
 pub written-outside : (start : Start) (logs : Logs) (real seen : Option Access)
     → IfSome real IsFormed → blank_access real ≡ seen
-    → SameOutside (byte_at (keyless start.power) (exec_of (hide logs)) (with_access seen (map hide_write logs.memory)))
+    → SameOutside
+    (byte_at (keyless start.power) (exec_of (hide logs))
+    (with_access seen (map hide_write logs.memory)))
     (byte_at start.power (exec_of logs) (with_access real logs.memory))
 written-outside start logs real seen formed same place off =
-    ap (λ (exec : Bool). byte_at (keyless start.power) exec (with_access seen (map hide_write logs.memory)) place)
+    ap (λ (exec : Bool). byte_at (keyless start.power) exec
+    (with_access seen (map hide_write logs.memory)) place)
     (exec-blank logs.seen)
     ∙ (ap (λ (writes : List MemoryWrite). byte_at (keyless start.power) (exec_of logs) writes place)
     (ap (λ (access : Option Access). with_access access (map hide_write logs.memory)) (sym same)

@@ -20,19 +20,23 @@ with_accesses now cpu dma value dma_value =
       bounds = now.bounds;
     }
 
-clears-values : (last : Option ℕ) (now : Seen) (cpu dma : Option Access) (value value' dma_value dma_value' : ℕ)
-    → clears last (with_accesses now cpu dma value dma_value) ≡ clears last (with_accesses now cpu dma value' dma_value')
+clears-values : (last : Option ℕ) (now : Seen) (cpu dma : Option Access)
+    (value value' dma_value dma_value' : ℕ)
+    → clears last (with_accesses now cpu dma value dma_value)
+    ≡ clears last (with_accesses now cpu dma value' dma_value')
 clears-values last now cpu dma value value' dma_value dma_value' = refl
 
 clears-cpu : (last : Option ℕ) (now : Seen) (cpu dma : Option Access)
-    → clears last (with_accesses now (blank_access cpu) dma 0 0) ≡ clears last (with_accesses now cpu dma 0 0)
+    → clears last (with_accesses now (blank_access cpu) dma 0 0)
+    ≡ clears last (with_accesses now cpu dma 0 0)
 clears-cpu last now None dma = refl
 clears-cpu last now (Some (Fetch place)) dma = refl
 clears-cpu last now (Some (Read place size)) dma = refl
 clears-cpu last now (Some (Write place size number)) dma = refl
 
 clears-dma : (last : Option ℕ) (now : Seen) (cpu dma : Option Access)
-    → clears last (with_accesses now cpu (blank_access dma) 0 0) ≡ clears last (with_accesses now cpu dma 0 0)
+    → clears last (with_accesses now cpu (blank_access dma) 0 0)
+    ≡ clears last (with_accesses now cpu dma 0 0)
 clears-dma last now None None = refl
 clears-dma last now None (Some (Fetch place)) = refl
 clears-dma last now None (Some (Read place size)) = refl
@@ -48,7 +52,8 @@ clears-blank last now =
     ∙ clears-dma last now now.entry.cpu now.entry.dma
 
 starts_run-cpu : (now : Seen) (cpu dma : Option Access)
-    → starts_run (with_accesses now (blank_access cpu) dma 0 0) ≡ starts_run (with_accesses now cpu dma 0 0)
+    → starts_run (with_accesses now (blank_access cpu) dma 0 0)
+    ≡ starts_run (with_accesses now cpu dma 0 0)
 starts_run-cpu now None dma = refl
 starts_run-cpu now (Some (Fetch place)) dma = refl
 starts_run-cpu now (Some (Read place size)) dma = refl
@@ -63,27 +68,34 @@ last_pc-blank (now ∷ before) = refl
 
 goes_on : (test test' : Bool) (now : Seen) (kept kept' : List Seen)
     → test' ≡ test → kept' ≡ map blank_seen kept
-    → (if test' then [] else blank_seen now ∷ kept') ≡ map blank_seen (if test then [] else now ∷ kept)
+    → (if test' then [] else blank_seen now ∷ kept')
+    ≡ map blank_seen (if test then [] else now ∷ kept)
 goes_on true test' now kept kept' same rest =
     ap (λ (t : Bool). if t then [] else blank_seen now ∷ kept') same
 goes_on false test' now kept kept' same rest =
-    ap (λ (t : Bool). if t then [] else blank_seen now ∷ kept') same ∙ ap (λ (xs : List Seen). blank_seen now ∷ xs) rest
+    ap (λ (t : Bool). if t then [] else blank_seen now ∷ kept') same
+    ∙ ap (λ (xs : List Seen). blank_seen now ∷ xs) rest
 
-since_cleared-blank : (seen : List Seen) → since_cleared (map blank_seen seen) ≡ map blank_seen (since_cleared seen)
+since_cleared-blank : (seen : List Seen)
+    → since_cleared (map blank_seen seen) ≡ map blank_seen (since_cleared seen)
 since_cleared-blank [] = refl
 since_cleared-blank (now ∷ before) =
-    goes_on (clears (last_pc before) now) (clears (last_pc (map blank_seen before)) (blank_seen now)) now
+    goes_on (clears (last_pc before) now)
+    (clears (last_pc (map blank_seen before)) (blank_seen now)) now
     (since_cleared before) (since_cleared (map blank_seen before))
     (clears-blank (last_pc (map blank_seen before)) now
     ∙ ap (λ (last : Option ℕ). clears last now) (last_pc-blank before))
     (since_cleared-blank before)
 
-any_start-blank : (seen : List Seen) → list_any starts_run (map blank_seen seen) ≡ list_any starts_run seen
+any_start-blank : (seen : List Seen)
+    → list_any starts_run (map blank_seen seen) ≡ list_any starts_run seen
 any_start-blank [] = refl
 any_start-blank (now ∷ before) =
-    ap (λ (first : Bool). first || list_any starts_run (map blank_seen before)) (starts_run-blank now)
+    ap (λ (first : Bool). first || list_any starts_run (map blank_seen before))
+    (starts_run-blank now)
     ∙ ap (λ (rest : Bool). starts_run now || rest) (any_start-blank before)
 
 pub exec-blank : (seen : List Seen) → exec (map blank_seen seen) ≡ exec seen
 unfolding exec
-exec-blank seen = ap (list_any starts_run) (since_cleared-blank seen) ∙ any_start-blank (since_cleared seen)
+exec-blank seen =
+    ap (list_any starts_run) (since_cleared-blank seen) ∙ any_start-blank (since_cleared seen)

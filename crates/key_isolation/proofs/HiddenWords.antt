@@ -15,7 +15,8 @@ unfolding hide_first
 hide_first-none zero = refl
 hide_first-none (suc count) = refl
 
-pub length-hide_first : (count : ℕ) (words : List ℕ) → length (hide_first count words) ≡ length words
+pub length-hide_first : (count : ℕ) (words : List ℕ)
+    → length (hide_first count words) ≡ length words
 unfolding hide_first
 length-hide_first zero words = refl
 length-hide_first (suc count) [] = refl
@@ -28,11 +29,13 @@ unfolding hide_first
 word-hide_first zero words place past = refl
 word-hide_first (suc count) [] place past = refl
 word-hide_first (suc count) (word ∷ words) zero past = absurd (omega (arith, past))
-word-hide_first (suc count) (word ∷ words) (suc place) past = word-hide_first count words place (omega (arith, past))
+word-hide_first (suc count) (word ∷ words) (suc place) past =
+    word-hide_first count words place (omega (arith, past))
 
 -- a word more: hidden while there are fewer
 pub hide_first-hidden : (count : ℕ) (words : List ℕ) (word : ℕ)
-    → length words < count → hide_first count (words ++ word ∷ []) ≡ hide_first count words ++ 0 ∷ []
+    → length words < count
+    → hide_first count (words ++ word ∷ []) ≡ hide_first count words ++ 0 ∷ []
 unfolding hide_first
 hide_first-hidden zero words word fewer = absurd (omega (arith, fewer))
 hide_first-hidden (suc count) [] word fewer = ap (λ (ws : List ℕ). 0 ∷ ws) (hide_first-none count)
@@ -40,7 +43,8 @@ hide_first-hidden (suc count) (first ∷ words) word fewer =
     ap (λ (ws : List ℕ). 0 ∷ ws) (hide_first-hidden count words word (omega (arith, fewer)))
 
 pub hide_first-kept : (count : ℕ) (words : List ℕ) (word : ℕ)
-    → count ≤ length words → hide_first count (words ++ word ∷ []) ≡ hide_first count words ++ word ∷ []
+    → count ≤ length words
+    → hide_first count (words ++ word ∷ []) ≡ hide_first count words ++ word ∷ []
 unfolding hide_first
 hide_first-kept zero words word past = refl
 hide_first-kept (suc count) [] word past = absurd (omega (arith, past))
@@ -59,5 +63,7 @@ bounds_read-hide words =
 
 pub call_item-hide : (words : List ℕ) → call_item (hide_first 32 words) ≡ call_item words
 call_item-hide words =
-    ap (λ (bounds : Bounds). item_after (region_words bounds) (length (hide_first 32 words))) (bounds_read-hide words)
-    ∙ ap (λ (passed : ℕ). item_after (region_words (bounds_read words)) passed) (length-hide_first 32 words)
+    ap (λ (bounds : Bounds). item_after (region_words bounds) (length (hide_first 32 words)))
+    (bounds_read-hide words)
+    ∙ ap (λ (passed : ℕ). item_after (region_words (bounds_read words)) passed)
+    (length-hide_first 32 words)

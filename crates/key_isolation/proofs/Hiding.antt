@@ -39,17 +39,20 @@ hide logs =
     }
 
 -- readers of the progress
-pub last_registers-hide : (progress : Progress) → last_registers (hide_progress progress) ≡ last_registers progress
+pub last_registers-hide : (progress : Progress)
+    → last_registers (hide_progress progress) ≡ last_registers progress
 last_registers-hide Held = refl
 last_registers-hide (Runs cpu) = refl
 last_registers-hide (InCall regs words) = refl
 
-pub next_pc_of-hide : (progress : Progress) → next_pc_of (hide_progress progress) ≡ next_pc_of progress
+pub next_pc_of-hide : (progress : Progress)
+    → next_pc_of (hide_progress progress) ≡ next_pc_of progress
 next_pc_of-hide Held = refl
 next_pc_of-hide (Runs cpu) = refl
 next_pc_of-hide (InCall regs words) = ap item_pc (call_item-hide words)
 
-kind_of-hide : (progress : Progress) (vector : Option ℕ) → kind_of (hide_progress progress) vector ≡ kind_of progress vector
+kind_of-hide : (progress : Progress) (vector : Option ℕ)
+    → kind_of (hide_progress progress) vector ≡ kind_of progress vector
 kind_of-hide Held vector = refl
 kind_of-hide (Runs cpu) vector = refl
 kind_of-hide (InCall regs words) vector = refl
@@ -76,16 +79,19 @@ accepts_timer-hide (Runs cpu) kind vector = refl
 accepts_timer-hide (InCall regs words) kind vector = refl
 
 from_boundary-hide : (regs : List ℕ) (kind : Kind) (vector : Option ℕ)
-    → progress_from_boundary regs kind vector ≡ hide_progress (progress_from_boundary regs kind vector)
+    → progress_from_boundary regs kind vector
+    ≡ hide_progress (progress_from_boundary regs kind vector)
 from_boundary-hide regs Boot vector = refl
 from_boundary-hide regs Cpu vector = refl
 from_boundary-hide regs Idle vector = refl
 from_boundary-hide regs Irq None = refl
 from_boundary-hide regs Irq (Some vector) = refl
-from_boundary-hide regs Rom vector = ap (λ (words : List ℕ). InCall regs words) (sym (hide_first-none 32))
+from_boundary-hide regs Rom vector =
+    ap (λ (words : List ℕ). InCall regs words) (sym (hide_first-none 32))
 
 progress_within-hide : (progress : Progress) (kind : Kind) (vector : Option ℕ)
-    → progress_within (hide_progress progress) kind vector ≡ hide_progress (progress_within progress kind vector)
+    → progress_within (hide_progress progress) kind vector
+    ≡ hide_progress (progress_within progress kind vector)
 progress_within-hide Held kind vector = refl
 progress_within-hide (Runs (Boundary regs)) kind vector = from_boundary-hide regs kind vector
 progress_within-hide (Runs (Executing regs values)) kind vector = refl
@@ -96,7 +102,8 @@ progress_within-hide (InCall regs words) kind vector = refl
 pub vector_of-hide : (logs : Logs) → vector_of (hide logs) ≡ vector_of logs
 vector_of-hide logs =
     ap
-    (λ (regs : List ℕ). accepted_vector (allows_interrupts regs) (serial_requests logs.peripherals.serial)
+    (λ (regs : List ℕ). accepted_vector (allows_interrupts regs)
+    (serial_requests logs.peripherals.serial)
     (timer_requests logs.peripherals.timer))
     (last_registers-hide logs.progress)
 
@@ -105,16 +112,20 @@ step_kind-hide logs =
     ap (λ (vector : Option ℕ). kind_of (hide_progress logs.progress) vector) (vector_of-hide logs)
     ∙ kind_of-hide logs.progress (vector_of logs)
 
-pub step_progress-hide : (logs : Logs) (kind : Kind) → step_progress (hide logs) kind ≡ hide_progress (step_progress logs kind)
+pub step_progress-hide : (logs : Logs) (kind : Kind)
+    → step_progress (hide logs) kind ≡ hide_progress (step_progress logs kind)
 step_progress-hide logs kind =
-    ap (λ (vector : Option ℕ). progress_within (hide_progress logs.progress) kind vector) (vector_of-hide logs)
+    ap (λ (vector : Option ℕ). progress_within (hide_progress logs.progress) kind vector)
+    (vector_of-hide logs)
     ∙ progress_within-hide logs.progress kind (vector_of logs)
 
 -- bytes
 pub logged_byte-hide : (start : Start) (words : List ℕ) (logs : Logs) (place : ℕ)
-    → is_secret place ≡ false → logged_byte (opened words start) (hide logs) place ≡ logged_byte start logs place
+    → is_secret place ≡ false
+    → logged_byte (opened words start) (hide logs) place ≡ logged_byte start logs place
 logged_byte-hide start words logs place off =
-    ap (λ (exec : Bool). byte_at (keyless start.power) exec (map hide_write logs.memory) place) (exec-blank logs.seen)
+    ap (λ (exec : Bool). byte_at (keyless start.power) exec (map hide_write logs.memory) place)
+    (exec-blank logs.seen)
     ∙ byte_at-hide start.power (exec_of logs) logs.memory place off
 
 pub logged_bounds-hide : (start : Start) (words : List ℕ) (logs : Logs)

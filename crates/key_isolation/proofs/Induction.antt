@@ -21,7 +21,8 @@ pub next_released : (start : Start) (logs : Logs) (events : List Event)
     → (more : List ℕ) × ((next_logs start logs events).released_words ≡ logs.released_words ++ more)
 unfolding with_record with_events
 next_released start logs events =
-    released_words_after-more (next_record start logs events).reset (next_record start logs events).kind
+    released_words_after-more (next_record start logs events).reset
+    (next_record start logs events).kind
     (next_record start logs events).cpu logs.released_words
 
 pub play_hides : (start : Start) (released : List ℕ) (play : List (List Event)) (more : List ℕ)
@@ -32,13 +33,17 @@ play_hides start released (events ∷ play) more split =
     let logs : Logs = logs_after start play in
     let added = next_released start logs events in
     let earlier : released ≡ logs.released_words ++ (added.0 ++ more) =
-    split ∙ (ap (λ (words : List ℕ). words ++ more) added.1 ∙ append_assoc logs.released_words added.0 more) in
+    split ∙ (ap (λ (words : List ℕ). words ++ more) added.1
+    ∙ append_assoc logs.released_words added.0 more) in
     let before = play_hides start released play (added.0 ++ more) earlier in
     let step = step_hides start released more logs events (logs_after-sound start play) split in
     record {
       history =
           ap (λ (entry : BusRecord). entry ∷ blank (trace start play)) (sym step.entry)
-          ∙ (ap (λ (ls : Logs). next_record (opened released start) ls events ∷ blank (trace start play)) before.logs
-          ∙ ap (λ (history : List BusRecord). next_record (opened released start) (logs_after (opened released start) play) events ∷ history) before.history);
-      logs = sym step.after ∙ ap (λ (ls : Logs). next_logs (opened released start) ls events) before.logs;
+          ∙ (ap (λ (ls : Logs). next_record (opened released start) ls events ∷ blank
+          (trace start play)) before.logs
+          ∙ ap (λ (history : List BusRecord). next_record (opened released start)
+          (logs_after (opened released start) play) events ∷ history) before.history);
+      logs = sym step.after
+          ∙ ap (λ (ls : Logs). next_logs (opened released start) ls events) before.logs;
     }

@@ -28,25 +28,35 @@ use Rattle.key_isolation.proofs.RecordBlank.{SameUnrefused, unrefused_same, reco
 pub record FollowsBlank (logs : Logs) (entry : BusRecord) : Type 0 where
   pub dma_kept : entry.reset ≡ None → blank_value entry.dma entry.dma_value ≡ entry.dma_value
   pub progress :
-      progress_after entry.reset entry.kind (step_progress (hide logs) entry.kind) (blank_access entry.cpu)
+      progress_after entry.reset entry.kind (step_progress (hide logs) entry.kind)
+      (blank_access entry.cpu)
       (blank_value entry.cpu entry.value)
-      ≡ hide_progress (progress_after entry.reset entry.kind (step_progress logs entry.kind) entry.cpu entry.value)
+      ≡ hide_progress
+      (progress_after entry.reset entry.kind
+      (step_progress logs entry.kind) entry.cpu entry.value)
 
 timer-hide : (logs : Logs) (entry : BusRecord)
-    → timer_after entry.reset (accepts_timer (hide_progress logs.progress) entry.kind (vector_of (hide logs))) (blank_access entry.cpu) logs.peripherals.timer
-    ≡ timer_after entry.reset (accepts_timer logs.progress entry.kind (vector_of logs)) entry.cpu logs.peripherals.timer
+    → timer_after entry.reset
+    (accepts_timer (hide_progress logs.progress) entry.kind (vector_of (hide logs)))
+    (blank_access entry.cpu) logs.peripherals.timer
+    ≡ timer_after entry.reset
+    (accepts_timer logs.progress entry.kind (vector_of logs)) entry.cpu logs.peripherals.timer
 timer-hide logs entry =
     ap
-    (λ (vector : Option ℕ). timer_after entry.reset (accepts_timer (hide_progress logs.progress) entry.kind vector)
+    (λ (vector : Option ℕ). timer_after entry.reset
+    (accepts_timer (hide_progress logs.progress) entry.kind vector)
     (blank_access entry.cpu) logs.peripherals.timer)
     (vector_of-hide logs)
-    ∙ (ap (λ (accepted : Bool). timer_after entry.reset accepted (blank_access entry.cpu) logs.peripherals.timer)
+    ∙ (ap (λ (accepted : Bool). timer_after entry.reset accepted
+    (blank_access entry.cpu) logs.peripherals.timer)
     (accepts_timer-hide logs.progress entry.kind (vector_of logs))
-    ∙ timer_after-blank entry.reset (accepts_timer logs.progress entry.kind (vector_of logs)) entry.cpu logs.peripherals.timer)
+    ∙ timer_after-blank entry.reset
+    (accepts_timer logs.progress entry.kind (vector_of logs)) entry.cpu logs.peripherals.timer)
 
 with_record-blank : (start : Start) (released : List ℕ) (logs : Logs) (entry : BusRecord)
     → AccessesAreFormed entry → FollowsBlank logs entry
-    → with_record (opened released start) (hide logs) (blank_record entry) ≡ hide (with_record start logs entry)
+    → with_record (opened released start) (hide logs) (blank_record entry)
+    ≡ hide (with_record start logs entry)
 unfolding with_record
 with_record-blank start released logs entry formed follows =
     λ i. record {
@@ -57,14 +67,16 @@ with_record-blank start released logs entry formed follows =
             timer = timer-hide logs entry i;
             serial = serial_after-blank entry.reset entry.cpu logs.peripherals.serial i;
             dma =
-                dma_after-blank entry.reset entry.cpu entry.dma entry.dma_value (blank_value entry.dma entry.dma_value)
+                dma_after-blank entry.reset entry.cpu entry.dma entry.dma_value
+                (blank_value entry.dma entry.dma_value)
                 logs.peripherals.dma follows.dma_kept i;
             pins = logs.peripherals.pins;
           };
       seen =
           record { entry = blank_record entry; bounds = logged_bounds-hide start released logs i }
           ∷ map blank_seen logs.seen;
-      released_words = released_words_after-blank entry.reset entry.kind entry.cpu logs.released_words i;
+      released_words =
+          released_words_after-blank entry.reset entry.kind entry.cpu logs.released_words i;
     }
 
 -- the record of a step has it
@@ -91,49 +103,63 @@ follows_at start released logs reset (Some rule) unrefused =
     record { dma_kept = λ none. absurd (cc); progress = refl }
 
 follows_record : (start : Start) (released : List ℕ) (logs : Logs) (reset : Bool)
-    → (first_rule (last_pc logs.seen) (signals_of start logs reset) ≡ None → SameUnrefused start released logs reset)
+    → (first_rule (last_pc logs.seen) (signals_of start logs reset) ≡ None
+    → SameUnrefused start released logs reset)
     → FollowsBlank logs (record_of start logs reset)
 unfolding record_of
 follows_record start released logs reset unrefused =
-    follows_at start released logs reset (first_rule (last_pc logs.seen) (signals_of start logs reset)) unrefused
+    follows_at start released logs reset
+    (first_rule (last_pc logs.seen) (signals_of start logs reset)) unrefused
 
 -- a step that is not refused releases what its proposed access carries
 split_unrefused : (start : Start) (released more : List ℕ) (logs : Logs) (reset : Bool)
     → released
-    ≡ released_words_after (record_of start logs reset).reset (record_of start logs reset).kind (record_of start logs reset).cpu logs.released_words ++ more
+    ≡ released_words_after (record_of start logs reset).reset (record_of start logs reset).kind
+    (record_of start logs reset).cpu logs.released_words ++ more
     → first_rule (last_pc logs.seen) (signals_of start logs reset) ≡ None
-    → released ≡ released_words_after None (step_kind logs) (proposed_access start logs (step_kind logs)) logs.released_words ++ more
+    → released ≡ released_words_after None (step_kind logs)
+    (proposed_access start logs (step_kind logs)) logs.released_words ++ more
 unfolding record_of signals_at
 split_unrefused start released more logs reset split none =
     split
     ∙ ap
     (λ (rule : Option Rule). released_words_after rule (step_kind logs)
-    (access_recorded rule (proposed_access start logs (step_kind logs))) logs.released_words ++ more)
+    (access_recorded rule (proposed_access start logs (step_kind logs))) logs.released_words
+    ++ more)
     none
 
 -- record and logs of a step
-pub record StepHides (start : Start) (released : List ℕ) (logs : Logs) (events : List Event) : Type 0 where
-  pub entry : next_record (opened released start) (hide logs) events ≡ blank_record (next_record start logs events)
-  pub after : next_logs (opened released start) (hide logs) events ≡ hide (next_logs start logs events)
+pub record StepHides (start : Start) (released : List ℕ) (logs : Logs)
+    (events : List Event) : Type 0 where
+  pub entry : next_record (opened released start) (hide logs) events
+      ≡ blank_record (next_record start logs events)
+  pub after : next_logs (opened released start) (hide logs) events
+      ≡ hide (next_logs start logs events)
 
 step_hides_after_events : (start : Start) (released more : List ℕ) (logs : Logs) (reset : Bool)
     → IsSound logs.progress (last_pc logs.seen)
     → released
-    ≡ released_words_after (record_of start logs reset).reset (record_of start logs reset).kind (record_of start logs reset).cpu logs.released_words ++ more
-    → (record_of (opened released start) (hide logs) reset ≡ blank_record (record_of start logs reset))
+    ≡ released_words_after (record_of start logs reset).reset (record_of start logs reset).kind
+    (record_of start logs reset).cpu logs.released_words ++ more
+    → (record_of (opened released start) (hide logs) reset
+    ≡ blank_record (record_of start logs reset))
     × (with_record (opened released start) (hide logs) (blank_record (record_of start logs reset))
     ≡ hide (with_record start logs (record_of start logs reset)))
 step_hides_after_events start released more logs reset sound split =
-    let unrefused : first_rule (last_pc logs.seen) (signals_of start logs reset) ≡ None → SameUnrefused start released logs reset =
+    let unrefused : first_rule (last_pc logs.seen) (signals_of start logs reset) ≡ None
+    → SameUnrefused start released logs reset =
     λ none. unrefused_same start released more logs reset sound none
     (split_unrefused start released more logs reset split none) in (
-      record_of-hide start released more logs reset (first_rule (last_pc logs.seen) (signals_of start logs reset)) sound refl
+      record_of-hide start released more logs reset
+          (first_rule (last_pc logs.seen) (signals_of start logs reset)) sound refl
           unrefused,
-      with_record-blank start released logs (record_of start logs reset) (record_of-formed start logs reset)
+      with_record-blank start released logs (record_of start logs reset)
+          (record_of-formed start logs reset)
           (follows_record start released logs reset unrefused),
     )
 
-with_events-hide : (logs : Logs) (events : List Event) → with_events (hide logs) events ≡ hide (with_events logs events)
+with_events-hide : (logs : Logs) (events : List Event)
+    → with_events (hide logs) events ≡ hide (with_events logs events)
 unfolding with_events
 with_events-hide logs events = refl
 
@@ -145,15 +171,19 @@ unfolding next_record with_record
 step_hides start released more logs events sound split =
     let after : Logs = with_events logs events in
     let both =
-    step_hides_after_events start released more after (asks_reset events) (with_events-sound logs events sound) split in
-    let entry : next_record (opened released start) (hide logs) events ≡ blank_record (next_record start logs events) =
-    ap (λ (ls : Logs). record_of (opened released start) ls (asks_reset events)) (with_events-hide logs events)
+    step_hides_after_events start released more after (asks_reset events)
+    (with_events-sound logs events sound) split in
+    let entry : next_record (opened released start) (hide logs) events
+    ≡ blank_record (next_record start logs events) =
+    ap (λ (ls : Logs). record_of (opened released start) ls (asks_reset events))
+    (with_events-hide logs events)
     ∙ both.0 in
     record {
       entry = entry;
       after =
           ap
-          (λ (ls : Logs). with_record (opened released start) ls (next_record (opened released start) (hide logs) events))
+          (λ (ls : Logs). with_record (opened released start) ls
+          (next_record (opened released start) (hide logs) events))
           (with_events-hide logs events)
           ∙ (ap (with_record (opened released start) (hide after)) entry ∙ both.1);
     }

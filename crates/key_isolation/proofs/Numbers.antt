@@ -13,27 +13,34 @@ use Rattle.device_trace.specs.Blank.{touches_secrets, is_secret, SameOutside}
 byte_off : (place : ℕ) → touches_secrets (Read place Byte) ≡ false → is_secret place ≡ false
 byte_off place off = grind (arith, nat_tests)
 
-low_byte_off : (place : ℕ) → touches_secrets (Read place Word) ≡ false → is_secret (place / 2 * 2) ≡ false
+low_byte_off : (place : ℕ) → touches_secrets (Read place Word) ≡ false
+    → is_secret (place / 2 * 2) ≡ false
 low_byte_off place off = grind (arith, nat_tests)
 
-high_byte_off : (place : ℕ) → touches_secrets (Read place Word) ≡ false → is_secret (place / 2 * 2 + 1) ≡ false
+high_byte_off : (place : ℕ) → touches_secrets (Read place Word) ≡ false
+    → is_secret (place / 2 * 2 + 1) ≡ false
 high_byte_off place off = grind (arith, nat_tests)
 
 pub number_at-outside : (left right : ℕ → ℕ) → SameOutside left right → (place : ℕ) (size : Size)
-    → touches_secrets (Read place size) ≡ false → number_at left place size ≡ number_at right place size
+    → touches_secrets (Read place size) ≡ false
+    → number_at left place size ≡ number_at right place size
 number_at-outside left right same place Byte off = same place (byte_off place off)
 number_at-outside left right same place Word off =
-    ap (λ (low : ℕ). low + 256 * left (place / 2 * 2 + 1)) (same (place / 2 * 2) (low_byte_off place off))
-    ∙ ap (λ (high : ℕ). right (place / 2 * 2) + 256 * high) (same (place / 2 * 2 + 1) (high_byte_off place off))
+    ap (λ (low : ℕ). low + 256 * left (place / 2 * 2 + 1))
+    (same (place / 2 * 2) (low_byte_off place off))
+    ∙ ap (λ (high : ℕ). right (place / 2 * 2) + 256 * high)
+    (same (place / 2 * 2 + 1) (high_byte_off place off))
 
 number_from-outside : (left right : ℕ → ℕ) → SameOutside left right → (place : ℕ)
-    → is_secret place ≡ false → is_secret (place + 1) ≡ false → number_from Word left place ≡ number_from Word right place
+    → is_secret place ≡ false → is_secret (place + 1) ≡ false
+    → number_from Word left place ≡ number_from Word right place
 number_from-outside left right same place low high =
     ap (λ (byte : ℕ). byte + 256 * left (place + 1)) (same place low)
     ∙ ap (λ (byte : ℕ). right place + 256 * byte) (same (place + 1) high)
 
 -- the metadata is no secret
-pub bounds_in-outside : (left right : ℕ → ℕ) → SameOutside left right → bounds_in left ≡ bounds_in right
+pub bounds_in-outside : (left right : ℕ → ℕ) → SameOutside left right
+    → bounds_in left ≡ bounds_in right
 bounds_in-outside left right same =
     λ i. record {
       er_min = number_from-outside left right same ER_MIN refl refl i;
@@ -49,8 +56,10 @@ key_place i within = grind (arith, nat_tests)
 key_place_next : (i : ℕ) → i < 32 → lies_in key_region ((0x6A00 + 2 * i) / 2 * 2 / 2 * 2 + 1) ≡ true
 key_place_next i within = grind (arith, nat_tests)
 
-pub key_word-zero : (bytes : ℕ → ℕ) → ((place : ℕ) → lies_in key_region place ≡ true → bytes place ≡ 0)
+pub key_word-zero : (bytes : ℕ → ℕ)
+    → ((place : ℕ) → lies_in key_region place ≡ true → bytes place ≡ 0)
     → (i : ℕ) → i < 32 → number_at bytes ((0x6A00 + 2 * i) / 2 * 2) Word ≡ 0
 key_word-zero bytes zero_key i within =
-    ap (λ (low : ℕ). low + 256 * bytes ((0x6A00 + 2 * i) / 2 * 2 / 2 * 2 + 1)) (zero_key _ (key_place i within))
+    ap (λ (low : ℕ). low + 256 * bytes ((0x6A00 + 2 * i) / 2 * 2 / 2 * 2 + 1))
+    (zero_key _ (key_place i within))
     ∙ ap (λ (high : ℕ). 0 + 256 * high) (zero_key _ (key_place_next i within))

@@ -36,17 +36,22 @@ pub record KeepsSecrets (access : Option Access) (pc : ℕ) : Type 0 where
       && (some_touches access key_region || some_touches access stack_region)) ≡ false
 
 -- access and value of a step, real and without the key, and where they lead
-pub record SameStep (start : Start) (released : List ℕ) (logs : Logs) (kind : Kind) (progress : Progress) (real seen : Option Access) : Type 0 where
+pub record SameStep (start : Start) (released : List ℕ) (logs : Logs) (kind : Kind)
+    (progress : Progress) (real seen : Option Access) : Type 0 where
   pub access : blank_access real ≡ seen
-  pub value : blank_value real (value_read start logs real) ≡ value_read (opened released start) (hide logs) seen
+  pub value : blank_value real (value_read start logs real)
+      ≡ value_read (opened released start) (hide logs) seen
   pub next :
-      next_progress kind (hide_progress progress) seen (value_read (opened released start) (hide logs) seen)
+      next_progress kind (hide_progress progress) seen
+      (value_read (opened released start) (hide logs) seen)
       ≡ hide_progress (next_progress kind progress real (value_read start logs real))
 
 -- an access outside the ROM
-record SameAccess (start : Start) (released : List ℕ) (logs : Logs) (access : Option Access) : Type 0 where
+record SameAccess (start : Start) (released : List ℕ) (logs : Logs)
+    (access : Option Access) : Type 0 where
   same : blank_access access ≡ access
-  blanked : blank_value access (value_read start logs access) ≡ value_read (opened released start) (hide logs) access
+  blanked : blank_value access (value_read start logs access)
+      ≡ value_read (opened released start) (hide logs) access
   value : value_read (opened released start) (hide logs) access ≡ value_read start logs access
 
 unwritten : (key stack : Bool) → (key && true) ≡ false → stack ≡ false → (key || stack) ≡ false
@@ -64,7 +69,8 @@ reads_same start released logs access same off =
     let value = value_read-hide start released logs access off in
     record {
       same = same;
-      blanked = cond-false (touches_secrets access) 0 (value_read start logs (Some access)) off ∙ sym value;
+      blanked = cond-false (touches_secrets access) 0 (value_read start logs (Some access)) off
+          ∙ sym value;
       value = value;
     }
 
@@ -72,7 +78,8 @@ access_same : (start : Start) (released : List ℕ) (logs : Logs) (access : Opti
     → (some_touches access key_region && not (some_writes access)) ≡ false
     → some_touches access stack_region ≡ false
     → SameAccess start released logs access
-access_same start released logs None key stack = record { same = refl; blanked = refl; value = refl }
+access_same start released logs None key stack =
+    record { same = refl; blanked = refl; value = refl }
 access_same start released logs (Some (Fetch place)) key stack =
     reads_same start released logs (Fetch place) refl (unwritten _ _ key stack)
 access_same start released logs (Some (Read place size)) key stack =
@@ -95,11 +102,13 @@ outside_ROM false rom outside off = refl
 runs_same : (start : Start) (released : List ℕ) (logs : Logs) (kind : Kind) (cpu : CpuState)
     → in_rom (cpu_pc cpu) ≡ false
     → KeepsSecrets (running_access kind cpu) (cpu_pc cpu)
-    → SameStep start released logs kind (Runs cpu) (running_access kind cpu) (running_access kind cpu)
+    → SameStep start released logs kind (Runs cpu) (running_access kind cpu)
+    (running_access kind cpu)
 runs_same start released logs kind cpu outside keeps =
     let access : Option Access = running_access kind cpu in
     let same = access_same start released logs access
-    (outside_ROM (some_touches access key_region && not (some_writes access)) (in_rom (cpu_pc cpu)) outside keeps.k1)
+    (outside_ROM (some_touches access key_region && not (some_writes access))
+    (in_rom (cpu_pc cpu)) outside keeps.k1)
     (outside_ROM (some_touches access stack_region) (in_rom (cpu_pc cpu)) outside keeps.k2) in
     record {
       access = same.same;
@@ -131,32 +140,47 @@ call_after-hide regs words word word' hidden kept =
     ∙ (elim (cases_lt (length words) 32) [
       | inl fewer ↦
           goes_either (is_return (call_item words)) regs words (hide_first 32 words) word word'
-          (λ returns. absurd (let no = call_item-first (region_words (bounds_read words)) (length words) fewer in let clash : true ≡ false = sym returns ∙ no in cc))
-          (ap (λ (w : ℕ). hide_first 32 words ++ w ∷ []) (hidden fewer) ∙ sym (hide_first-hidden 32 words word fewer))
+          (λ returns. absurd
+          (let no = call_item-first (region_words (bounds_read words))
+          (length words) fewer in let clash : true ≡ false = sym returns ∙ no in cc))
+          (ap (λ (w : ℕ). hide_first 32 words ++ w ∷ []) (hidden fewer)
+          ∙ sym (hide_first-hidden 32 words word fewer))
       | inr past ↦
-          goes_either (is_return (call_item words)) regs words (hide_first 32 words) word word' (λ returns. kept past)
-          (ap (λ (w : ℕ). hide_first 32 words ++ w ∷ []) (kept past) ∙ sym (hide_first-kept 32 words word past))
+          goes_either (is_return (call_item words)) regs words (hide_first 32 words) word word'
+          (λ returns. kept past)
+          (ap (λ (w : ℕ). hide_first 32 words ++ w ∷ []) (kept past)
+          ∙ sym (hide_first-kept 32 words word past))
     ])
 
 call_same : (start : Start) (released more : List ℕ) (logs : Logs) (regs words : List ℕ)
-    → KeepsSecrets (access_of start (length logs.released_words) Rom (InCall regs words)) (item_pc (call_item words))
-    → released ≡ with_released_word (access_of start (length logs.released_words) Rom (InCall regs words)) logs.released_words ++ more
-    → SameStep start released logs Rom (InCall regs words) (access_of start (length logs.released_words) Rom (InCall regs words))
-    (access_of (opened released start) (length logs.released_words) Rom (hide_progress (InCall regs words)))
+    → KeepsSecrets (access_of start (length logs.released_words) Rom (InCall regs words))
+    (item_pc (call_item words))
+    → released ≡ with_released_word
+    (access_of start (length logs.released_words) Rom (InCall regs words)) logs.released_words
+    ++ more
+    → SameStep start released logs Rom (InCall regs words)
+    (access_of start (length logs.released_words) Rom (InCall regs words))
+    (access_of (opened released start) (length logs.released_words) Rom
+    (hide_progress (InCall regs words)))
 call_same start released more logs regs words keeps split =
     let given : Access =
     item_access (sp_of regs) (bounds_read words) (call_item words)
     (given_word released (length logs.released_words) (call_item words)) in
-    let seen : access_of (opened released start) (length logs.released_words) Rom (hide_progress (InCall regs words)) ≡ Some given =
+    let seen : access_of (opened released start) (length logs.released_words) Rom
+    (hide_progress (InCall regs words)) ≡ Some given =
     ap (λ (access : Access). Some access) (item_access-hide (sp_of regs) words _)
-    ∙ ap (λ (item : CallItem). Some (item_access (sp_of regs) (bounds_read words) (call_item words) (given_word released (length logs.released_words) item)))
+    ∙ ap (λ (item : CallItem). Some
+    (item_access (sp_of regs) (bounds_read words) (call_item words)
+    (given_word released (length logs.released_words) item)))
     (call_item-hide words) in
     let same =
     same_item start released more logs (sp_of regs) (length words)
-    (start.call_word (length logs.released_words) (call_item words) words) (bounds_read words) (call_item words)
+    (start.call_word (length logs.released_words) (call_item words) words) (bounds_read words)
+    (call_item words)
     (item_after-fits (region_words (bounds_read words)) (length words)) keeps.a4 split in
     let claim : Option Access → Type 0 =
-    λ access. SameStep start released logs Rom (InCall regs words) (access_of start (length logs.released_words) Rom (InCall regs words)) access in
+    λ access. SameStep start released logs Rom (InCall regs words)
+    (access_of start (length logs.released_words) Rom (InCall regs words)) access in
     let at_given : claim (Some given) =
     record {
       access = same.access;
@@ -165,12 +189,16 @@ call_same start released more logs regs words keeps split =
     } in
     subst claim (sym seen) at_given
 
-pub step_same : (start : Start) (released more : List ℕ) (logs : Logs) (kind : Kind) (progress : Progress)
+pub step_same : (start : Start) (released more : List ℕ) (logs : Logs) (kind : Kind)
+    (progress : Progress)
     → IsWithin kind progress
-    → KeepsSecrets (access_of start (length logs.released_words) kind progress) (next_pc_of progress)
+    → KeepsSecrets (access_of start (length logs.released_words) kind progress)
+    (next_pc_of progress)
     → released
-    ≡ released_words_after None kind (access_of start (length logs.released_words) kind progress) logs.released_words ++ more
-    → SameStep start released logs kind progress (access_of start (length logs.released_words) kind progress)
+    ≡ released_words_after None kind
+    (access_of start (length logs.released_words) kind progress) logs.released_words ++ more
+    → SameStep start released logs kind progress
+    (access_of start (length logs.released_words) kind progress)
     (access_of (opened released start) (length logs.released_words) kind (hide_progress progress))
 step_same start released more logs kind Held within keeps split =
     let same = reads_same start released logs (Read 0xFFFE Word) refl refl in
@@ -179,12 +207,18 @@ step_same start released more logs kind Held within keeps split =
       value = same.blanked;
       next = ap (λ (value : ℕ). next_progress kind Held None value) same.value;
     }
-step_same start released more logs kind (Runs cpu) within keeps split = runs_same start released logs kind cpu within keeps
+step_same start released more logs kind (Runs cpu) within keeps split =
+    runs_same start released logs kind cpu within keeps
 step_same start released more logs kind (InCall regs words) within keeps split =
     subst
-    (λ (k : Kind). released ≡ released_words_after None k (access_of start (length logs.released_words) k (InCall regs words)) logs.released_words ++ more
-    → SameStep start released logs k (InCall regs words) (access_of start (length logs.released_words) k (InCall regs words))
-    (access_of (opened released start) (length logs.released_words) k (hide_progress (InCall regs words))))
+    (λ (k : Kind). released
+    ≡ released_words_after None k
+    (access_of start (length logs.released_words) k (InCall regs words)) logs.released_words
+    ++ more
+    → SameStep start released logs k (InCall regs words)
+    (access_of start (length logs.released_words) k (InCall regs words))
+    (access_of (opened released start) (length logs.released_words) k
+    (hide_progress (InCall regs words))))
     (sym within)
     (λ rom_split. call_same start released more logs regs words keeps rom_split)
     split

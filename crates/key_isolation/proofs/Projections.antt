@@ -31,13 +31,16 @@ below_stack : (place : ℕ) (size : Size) → place ≤ 0x2200
 below_stack place Byte below = grind (arith, nat_tests)
 below_stack place Word below = grind (arith, nat_tests)
 
-in_low_region : (region : Region) (place : ℕ) → region.last ≤ 0x2200 → lies_in region place ≡ true → place ≤ 0x2200
+in_low_region : (region : Region) (place : ℕ) → region.last ≤ 0x2200 → lies_in region place ≡ true
+    → place ≤ 0x2200
 in_low_region region place low within = grind (arith, nat_tests)
 
 -- what a place of such a region takes
-taken_same : {A : Type 0} (region : Region) (place : ℕ) (size : Size) (number : ℕ) (put : ℕ → A) (otherwise : A)
+taken_same : {A : Type 0} (region : Region) (place : ℕ) (size : Size) (number : ℕ) (put : ℕ → A)
+    (otherwise : A)
     → region.last ≤ 0x2200
-    → (if lies_in region place then put (if touches (Read place size) stack_region then 0 else number) else otherwise)
+    → (if lies_in region place then put
+    (if touches (Read place size) stack_region then 0 else number) else otherwise)
     ≡ (if lies_in region place then put number else otherwise)
 taken_same region place size number put otherwise low =
     elim (cases_Bool (lies_in region place)) [
@@ -45,7 +48,9 @@ taken_same region place size number put otherwise low =
           ap (λ (n : ℕ). if lies_in region place then put n else otherwise)
           (cond-false (touches (Read place size) stack_region) 0 number
           (below_stack place size (in_low_region region place low within)))
-      | inr outside ↦ cond-false (lies_in region place) _ otherwise outside ∙ sym (cond-false (lies_in region place) (put number) otherwise outside)
+      | inr outside ↦
+          cond-false (lies_in region place) _ otherwise outside
+          ∙ sym (cond-false (lies_in region place) (put number) otherwise outside)
     ]
 
 with_timer_access-blank : (access : Option Access) (events : List TimerEvent)
@@ -54,14 +59,19 @@ with_timer_access-blank None events = refl
 with_timer_access-blank (Some (Fetch place)) events = refl
 with_timer_access-blank (Some (Read place size)) events = refl
 with_timer_access-blank (Some (Write place Byte number)) events =
-    taken_same timer_region place Byte number (λ n. IntervalTimer.Written place Byte n ∷ events) events (lit≤ tt)
+    taken_same timer_region place Byte number
+    (λ n. IntervalTimer.Written place Byte n ∷ events) events (lit≤ tt)
 with_timer_access-blank (Some (Write place Word number)) events =
-    taken_same timer_region place Word number (λ n. IntervalTimer.Written place Word n ∷ events) events (lit≤ tt)
+    taken_same timer_region place Word number
+    (λ n. IntervalTimer.Written place Word n ∷ events) events (lit≤ tt)
 
-pub timer_after-blank : (rule : Option Rule) (accepted : Bool) (access : Option Access) (events : List TimerEvent)
-    → timer_after rule accepted (blank_access access) events ≡ timer_after rule accepted access events
+pub timer_after-blank : (rule : Option Rule) (accepted : Bool) (access : Option Access)
+    (events : List TimerEvent)
+    → timer_after rule accepted (blank_access access) events
+    ≡ timer_after rule accepted access events
 timer_after-blank None accepted access events =
-    ap (λ (es : List TimerEvent). Ticked ∷ with_acceptance accepted es) (with_timer_access-blank access events)
+    ap (λ (es : List TimerEvent). Ticked ∷ with_acceptance accepted es)
+    (with_timer_access-blank access events)
 timer_after-blank (Some rule) accepted access events = refl
 
 pub serial_after-blank : (rule : Option Rule) (access : Option Access) (events : List SerialEvent)
@@ -70,9 +80,11 @@ serial_after-blank None None events = refl
 serial_after-blank None (Some (Fetch place)) events = refl
 serial_after-blank None (Some (Read place size)) events = refl
 serial_after-blank None (Some (Write place Byte number)) events =
-    taken_same serial_region place Byte number (λ n. SerialPort.Written place Byte n ∷ events) events (lit≤ tt)
+    taken_same serial_region place Byte number
+    (λ n. SerialPort.Written place Byte n ∷ events) events (lit≤ tt)
 serial_after-blank None (Some (Write place Word number)) events =
-    taken_same serial_region place Word number (λ n. SerialPort.Written place Word n ∷ events) events (lit≤ tt)
+    taken_same serial_region place Word number
+    (λ n. SerialPort.Written place Word n ∷ events) events (lit≤ tt)
 serial_after-blank (Some rule) access events = refl
 
 with_dma_access-blank : (access : Option Access) (events : List DmaEvent)
@@ -81,9 +93,11 @@ with_dma_access-blank None events = refl
 with_dma_access-blank (Some (Fetch place)) events = refl
 with_dma_access-blank (Some (Read place size)) events = refl
 with_dma_access-blank (Some (Write place Byte number)) events =
-    taken_same dma_region place Byte number (λ n. DmaEngine.Written place Byte n ∷ events) events (lit≤ tt)
+    taken_same dma_region place Byte number (λ n. DmaEngine.Written place Byte n ∷ events) events
+    (lit≤ tt)
 with_dma_access-blank (Some (Write place Word number)) events =
-    taken_same dma_region place Word number (λ n. DmaEngine.Written place Word n ∷ events) events (lit≤ tt)
+    taken_same dma_region place Word number (λ n. DmaEngine.Written place Word n ∷ events) events
+    (lit≤ tt)
 
 with_dma_value-blank : (access : Option Access) (value : ℕ) (events : List DmaEvent)
     → with_dma_value (blank_access access) value events ≡ with_dma_value access value events
@@ -93,9 +107,11 @@ with_dma_value-blank (Some (Read place size)) value events = refl
 with_dma_value-blank (Some (Write place size number)) value events = refl
 
 -- where the value that the engine takes is no secret
-pub dma_after-blank : (rule : Option Rule) (cpu dma : Option Access) (value value' : ℕ) (events : List DmaEvent)
+pub dma_after-blank : (rule : Option Rule) (cpu dma : Option Access) (value value' : ℕ)
+    (events : List DmaEvent)
     → (rule ≡ None → value' ≡ value)
-    → dma_after rule (blank_access cpu) (blank_access dma) value' events ≡ dma_after rule cpu dma value events
+    → dma_after rule (blank_access cpu) (blank_access dma) value' events
+    ≡ dma_after rule cpu dma value events
 dma_after-blank None cpu dma value value' events same =
     with_dma_value-blank dma value' (with_dma_access (blank_access cpu) events)
     ∙ (ap (λ (v : ℕ). with_dma_value dma v (with_dma_access (blank_access cpu) events)) (same refl)
@@ -112,8 +128,10 @@ with_released_word-blank (Some (Write place Byte number)) words =
 with_released_word-blank (Some (Write place Word number)) words =
     taken_same mac_region place Word number (λ n. words ++ n ∷ []) words (lit≤ tt)
 
-pub released_words_after-blank : (rule : Option Rule) (kind : Kind) (access : Option Access) (words : List ℕ)
-    → released_words_after rule kind (blank_access access) words ≡ released_words_after rule kind access words
+pub released_words_after-blank : (rule : Option Rule) (kind : Kind) (access : Option Access)
+    (words : List ℕ)
+    → released_words_after rule kind (blank_access access) words
+    ≡ released_words_after rule kind access words
 released_words_after-blank None Boot access words = refl
 released_words_after-blank None Cpu access words = refl
 released_words_after-blank None Idle access words = refl
@@ -129,12 +147,17 @@ with_released_word-more (Some (Fetch place)) words = ([], sym (append-nil words)
 with_released_word-more (Some (Read place size)) words = ([], sym (append-nil words))
 with_released_word-more (Some (Write place size number)) words =
     elim (cases_Bool (lies_in mac_region place)) [
-      | inl within ↦ (number ∷ [], cond-true (lies_in mac_region place) (words ++ number ∷ []) words within)
-      | inr outside ↦
-          ([], cond-false (lies_in mac_region place) (words ++ number ∷ []) words outside ∙ sym (append-nil words))
+      | inl within ↦
+          (number ∷ [], cond-true (lies_in mac_region place) (words ++ number ∷ []) words within)
+      | inr outside ↦ (
+        [],
+        cond-false (lies_in mac_region place) (words ++ number ∷ []) words outside
+            ∙ sym (append-nil words),
+      )
     ]
 
-pub released_words_after-more : (rule : Option Rule) (kind : Kind) (access : Option Access) (words : List ℕ)
+pub released_words_after-more : (rule : Option Rule) (kind : Kind) (access : Option Access)
+    (words : List ℕ)
     → (more : List ℕ) × (released_words_after rule kind access words ≡ words ++ more)
 released_words_after-more None Boot access words = ([], sym (append-nil words))
 released_words_after-more None Cpu access words = ([], sym (append-nil words))
@@ -149,7 +172,8 @@ covers_send place Byte covered = grind (arith, nat_tests)
 covers_send place Word covered = grind (arith, nat_tests)
 
 byte_sent-blank : (place : ℕ) (size : Size) (number : ℕ)
-    → byte_sent place size (if touches (Read place size) stack_region then 0 else number) ≡ byte_sent place size number
+    → byte_sent place size (if touches (Read place size) stack_region then 0 else number)
+    ≡ byte_sent place size number
 byte_sent-blank place size number =
     elim (cases_Bool (covers place size SERIAL_SEND)) [
       | inl covered ↦
@@ -161,7 +185,8 @@ byte_sent-blank place size number =
           ∙ sym (cond-false (covers place size SERIAL_SEND) (Some (number % 256)) None other)
     ]
 
-pub byte_sent_by-blank : (rule : Option Rule) (access : Option Access) → byte_sent_by rule (blank_access access) ≡ byte_sent_by rule access
+pub byte_sent_by-blank : (rule : Option Rule) (access : Option Access)
+    → byte_sent_by rule (blank_access access) ≡ byte_sent_by rule access
 byte_sent_by-blank None None = refl
 byte_sent_by-blank None (Some (Fetch place)) = refl
 byte_sent_by-blank None (Some (Read place size)) = refl

@@ -35,9 +35,12 @@ number_read-hide start words logs place size off =
 
 pub value_read-hide : (start : Start) (words : List ℕ) (logs : Logs) (access : Access)
     → touches_secrets access ≡ false
-    → value_read (opened words start) (hide logs) (Some access) ≡ value_read start logs (Some access)
-value_read-hide start words logs (Fetch place) off = number_read-hide start words logs place Word off
-value_read-hide start words logs (Read place size) off = number_read-hide start words logs place size off
+    → value_read (opened words start) (hide logs) (Some access)
+    ≡ value_read start logs (Some access)
+value_read-hide start words logs (Fetch place) off =
+    number_read-hide start words logs place Word off
+value_read-hide start words logs (Read place size) off =
+    number_read-hide start words logs place size off
 value_read-hide start words logs (Write place size number) off = refl
 
 -- an opcode fetch that breaks no key rule touches no secret
@@ -49,5 +52,6 @@ fetch_off pc key stack = grind (arith, nat_tests)
 
 pub word_fetched-hide : (start : Start) (words : List ℕ) (logs : Logs) (pc : ℕ)
     → touches_secrets (fetch_at pc) ≡ false
-    → word_fetched (opened words start) (hide logs) (Some (fetch_at pc)) ≡ word_fetched start logs (Some (fetch_at pc))
+    → word_fetched (opened words start) (hide logs) (Some (fetch_at pc))
+    ≡ word_fetched start logs (Some (fetch_at pc))
 word_fetched-hide start words logs pc off = number_read-hide start words logs (pc / 2 * 2) Word off

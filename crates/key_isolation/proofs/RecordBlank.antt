@@ -38,22 +38,26 @@ cond_zero : (test : Bool) → ◌≡◌ {A = ℕ} (if test then 0 else 0) 0
 cond_zero true = refl
 cond_zero false = refl
 
-without_number-blank : (access : Option Access) → blank_access (without_number access) ≡ without_number access
+without_number-blank : (access : Option Access)
+    → blank_access (without_number access) ≡ without_number access
 without_number-blank None = refl
 without_number-blank (Some (Fetch place)) = refl
 without_number-blank (Some (Read place size)) = refl
 without_number-blank (Some (Write place size number)) =
-    ap (λ (n : ℕ). Some (Write place size n)) (cond_zero (touches (Write place size 0) stack_region))
+    ap (λ (n : ℕ). Some (Write place size n))
+    (cond_zero (touches (Write place size 0) stack_region))
 
 pub blank_value-zero : (access : Option Access) → blank_value access 0 ≡ 0
 blank_value-zero None = refl
 blank_value-zero (Some access) = cond_zero (touches_secrets access)
 
-record_from-blank : (rule : Option Rule) (regs regs' : List ℕ) (now seen : Signals) (value value' dma_value dma_value' : ℕ)
+record_from-blank : (rule : Option Rule) (regs regs' : List ℕ) (now seen : Signals)
+    (value value' dma_value dma_value' : ℕ)
     → regs' ≡ regs
     → SameSignals seen now
     → (rule ≡ None → SameNumbers now seen value value' dma_value dma_value')
-    → record_from regs' seen rule value' dma_value' ≡ blank_record (record_from regs now rule value dma_value)
+    → record_from regs' seen rule value' dma_value'
+    ≡ blank_record (record_from regs now rule value dma_value)
 record_from-blank None regs regs' now seen value value' dma_value dma_value' registers same numbers =
     let open_numbers = numbers refl in
     λ i. record {
@@ -67,7 +71,8 @@ record_from-blank None regs regs' now seen value value' dma_value dma_value' reg
       irq = same.irq i;
       reset = None;
     }
-record_from-blank (Some rule) regs regs' now seen value value' dma_value dma_value' registers same numbers =
+record_from-blank
+    (Some rule) regs regs' now seen value value' dma_value dma_value' registers same numbers =
     λ i. record {
       kind = same.kind i;
       pc = same.pc i;
@@ -91,41 +96,51 @@ proposed-hide start released logs =
     (step_progress-hide logs (step_kind logs))
 
 -- all that a step which is not refused has in common with that without the key
-pub record SameUnrefused (start : Start) (released : List ℕ) (logs : Logs) (reset : Bool) : Type 0 where
+pub record SameUnrefused (start : Start) (released : List ℕ) (logs : Logs)
+    (reset : Bool) : Type 0 where
   pub numbers :
-      SameNumbers (signals_of start logs reset) (signals_of (opened released start) (hide logs) reset)
+      SameNumbers (signals_of start logs reset)
+      (signals_of (opened released start) (hide logs) reset)
       (value_read start logs (proposed_access start logs (step_kind logs)))
-      (value_read (opened released start) (hide logs) (proposed_access (opened released start) (hide logs) (step_kind (hide logs))))
+      (value_read (opened released start) (hide logs)
+      (proposed_access (opened released start) (hide logs) (step_kind (hide logs))))
       (dma_value_read start logs (signals_of start logs reset))
-      (dma_value_read (opened released start) (hide logs) (signals_of (opened released start) (hide logs) reset))
+      (dma_value_read (opened released start) (hide logs)
+      (signals_of (opened released start) (hide logs) reset))
   pub next :
       next_progress (step_kind logs) (hide_progress (step_progress logs (step_kind logs)))
       (blank_access (proposed_access start logs (step_kind logs)))
-      (blank_value (proposed_access start logs (step_kind logs)) (value_read start logs (proposed_access start logs (step_kind logs))))
+      (blank_value (proposed_access start logs (step_kind logs))
+      (value_read start logs (proposed_access start logs (step_kind logs))))
       ≡ hide_progress
-      (next_progress (step_kind logs) (step_progress logs (step_kind logs)) (proposed_access start logs (step_kind logs))
+      (next_progress (step_kind logs) (step_progress logs (step_kind logs))
+      (proposed_access start logs (step_kind logs))
       (value_read start logs (proposed_access start logs (step_kind logs))))
 
 pub unrefused_same : (start : Start) (released more : List ℕ) (logs : Logs) (reset : Bool)
     → IsSound logs.progress (last_pc logs.seen)
     → first_rule (last_pc logs.seen) (signals_of start logs reset) ≡ None
-    → released ≡ released_words_after None (step_kind logs) (proposed_access start logs (step_kind logs)) logs.released_words ++ more
+    → released ≡ released_words_after None (step_kind logs)
+    (proposed_access start logs (step_kind logs)) logs.released_words ++ more
     → SameUnrefused start released logs reset
 unfolding signals_at
 unrefused_same start released more logs reset sound none split =
     let now : Signals = signals_of start logs reset in
-    let unbroken : BreaksNoRule (last_pc logs.seen) now = first_rule-none (last_pc logs.seen) now none in
+    let unbroken : BreaksNoRule (last_pc logs.seen) now =
+    first_rule-none (last_pc logs.seen) now none in
     let kind : Kind = step_kind logs in
     let progress : Progress = step_progress logs kind in
     let real : Option Access = proposed_access start logs kind in
-    let seen : Option Access = proposed_access (opened released start) (hide logs) (step_kind (hide logs)) in
+    let seen : Option Access =
+    proposed_access (opened released start) (hide logs) (step_kind (hide logs)) in
     let keeps : KeepsSecrets real (next_pc_of progress) =
     record { k1 = unbroken.key.k1; k2 = unbroken.key.k2; a4 = unbroken.atomicity.a4 } in
     let step : SameStep start released logs kind progress real seen =
     subst (λ (access : Option Access). SameStep start released logs kind progress real access)
     (sym (proposed-hide start released logs))
     (step_same start released more logs kind progress
-    (progress_within-right logs.progress (vector_of logs) (last_pc logs.seen) sound unbroken.atomicity.a2) keeps split) in
+    (progress_within-right logs.progress (vector_of logs)
+    (last_pc logs.seen) sound unbroken.atomicity.a2) keeps split) in
     let dma =
     dma_same _ _
     (written-outside start logs real seen
@@ -141,27 +156,33 @@ unrefused_same start released more logs reset sound none split =
             dma_kept = dma.kept;
           };
       next =
-          ap (λ (access : Option Access). next_progress kind (hide_progress progress) access (blank_value real (value_read start logs real))) step.access
+          ap (λ (access : Option Access). next_progress kind (hide_progress progress) access
+          (blank_value real (value_read start logs real))) step.access
           ∙ (ap (next_progress kind (hide_progress progress) seen) step.value ∙ step.next);
     }
 
 -- the values are those of the signals' accesses
 numbers_at : (start : Start) (released : List ℕ) (logs : Logs) (reset : Bool)
     → SameUnrefused start released logs reset
-    → SameNumbers (signals_of start logs reset) (signals_of (opened released start) (hide logs) reset)
+    → SameNumbers (signals_of start logs reset)
+    (signals_of (opened released start) (hide logs) reset)
     (value_read start logs (signals_of start logs reset).cpu)
-    (value_read (opened released start) (hide logs) (signals_of (opened released start) (hide logs) reset).cpu)
+    (value_read (opened released start) (hide logs)
+    (signals_of (opened released start) (hide logs) reset).cpu)
     (dma_value_read start logs (signals_of start logs reset))
-    (dma_value_read (opened released start) (hide logs) (signals_of (opened released start) (hide logs) reset))
+    (dma_value_read (opened released start) (hide logs)
+    (signals_of (opened released start) (hide logs) reset))
 unfolding signals_at
 numbers_at start released logs reset same = same.numbers
 
 -- the record of the next step
-pub record_of-hide : (start : Start) (released more : List ℕ) (logs : Logs) (reset : Bool) (rule : Option Rule)
+pub record_of-hide : (start : Start) (released more : List ℕ) (logs : Logs) (reset : Bool)
+    (rule : Option Rule)
     → IsSound logs.progress (last_pc logs.seen)
     → first_rule (last_pc logs.seen) (signals_of start logs reset) ≡ rule
     → (rule ≡ None → SameUnrefused start released logs reset)
-    → record_of (opened released start) (hide logs) reset ≡ blank_record (record_of start logs reset)
+    → record_of (opened released start) (hide logs) reset
+    ≡ blank_record (record_of start logs reset)
 unfolding record_of
 record_of-hide start released more logs reset rule sound is_rule unrefused =
     let now : Signals = signals_of start logs reset in
@@ -175,11 +196,14 @@ record_of-hide start released more logs reset rule sound is_rule unrefused =
     (value_read (opened released start) (hide logs) seen.cpu)
     (dma_value_read (opened released start) (hide logs) seen))
     seen_rule
-    ∙ (record_from-blank rule (last_registers logs.progress) (last_registers (hide logs).progress) now seen
+    ∙ (record_from-blank rule (last_registers logs.progress)
+    (last_registers (hide logs).progress) now seen
     (value_read start logs now.cpu) (value_read (opened released start) (hide logs) seen.cpu)
     (dma_value_read start logs now) (dma_value_read (opened released start) (hide logs) seen)
-    (last_registers-hide logs.progress) same (λ none. numbers_at start released logs reset (unrefused none))
+    (last_registers-hide logs.progress) same
+    (λ none. numbers_at start released logs reset (unrefused none))
     ∙ ap
     (λ (r : Option Rule). blank_record
-    (record_from (last_registers logs.progress) now r (value_read start logs now.cpu) (dma_value_read start logs now)))
+    (record_from (last_registers logs.progress) now r (value_read start logs now.cpu)
+    (dma_value_read start logs now)))
     (sym is_rule))

@@ -25,7 +25,8 @@ pub record SameSignals (seen real : Signals) : Type 0 where
 abbrev with_cpu : Signals → Option Access → Signals
 with_cpu now cpu = record now { cpu = cpu; word = 0 }
 
-key_rule-shape : (now : Signals) (cpu : Option Access) → key_rule (with_cpu now (without_number cpu)) ≡ key_rule (with_cpu now cpu)
+key_rule-shape : (now : Signals) (cpu : Option Access)
+    → key_rule (with_cpu now (without_number cpu)) ≡ key_rule (with_cpu now cpu)
 unfolding key_rule
 key_rule-shape now None = refl
 key_rule-shape now (Some (Fetch place)) = refl
@@ -33,7 +34,8 @@ key_rule-shape now (Some (Read place size)) = refl
 key_rule-shape now (Some (Write place size number)) = refl
 
 atomicity_rule-shape : (last : Option ℕ) (now : Signals) (cpu : Option Access)
-    → atomicity_rule last (with_cpu now (without_number cpu)) ≡ atomicity_rule last (with_cpu now cpu)
+    → atomicity_rule last (with_cpu now (without_number cpu))
+    ≡ atomicity_rule last (with_cpu now cpu)
 unfolding atomicity_rule
 atomicity_rule-shape last now None = refl
 atomicity_rule-shape last now (Some (Fetch place)) = refl
@@ -44,7 +46,8 @@ key_rule-word : (now : Signals) → key_rule (with_cpu now now.cpu) ≡ key_rule
 unfolding key_rule
 key_rule-word now = refl
 
-atomicity_rule-word : (last : Option ℕ) (now : Signals) → atomicity_rule last (with_cpu now now.cpu) ≡ atomicity_rule last now
+atomicity_rule-word : (last : Option ℕ) (now : Signals)
+    → atomicity_rule last (with_cpu now now.cpu) ≡ atomicity_rule last now
 unfolding atomicity_rule
 atomicity_rule-word last now = refl
 
@@ -68,7 +71,8 @@ same_shape seen real same =
 pub key_rule-same : (seen real : Signals) → SameSignals seen real → key_rule seen ≡ key_rule real
 key_rule-same seen real same =
     sym (key_rule-shape seen seen.cpu ∙ key_rule-word seen)
-    ∙ (ap key_rule (same_shape seen real same) ∙ (key_rule-shape real real.cpu ∙ key_rule-word real))
+    ∙ (ap key_rule (same_shape seen real same)
+    ∙ (key_rule-shape real real.cpu ∙ key_rule-word real))
 
 atomicity_rule-same : (last : Option ℕ) (seen real : Signals)
     → SameSignals seen real → atomicity_rule last seen ≡ atomicity_rule last real
@@ -80,8 +84,10 @@ atomicity_rule-same last seen real same =
 -- an illegal word counts where no key rule is broken
 illegal-same : (rule : Option Rule) (opcode : Bool) (word word' : ℕ)
     → (rule ≡ None → opcode ≡ true → word' ≡ word)
-    → or_else rule (rule_where (opcode && is_illegal word') I1) ≡ or_else rule (rule_where (opcode && is_illegal word) I1)
-illegal-same None true word word' same = ap (λ (w : ℕ). rule_where (is_illegal w) I1) (same refl refl)
+    → or_else rule (rule_where (opcode && is_illegal word') I1)
+    ≡ or_else rule (rule_where (opcode && is_illegal word) I1)
+illegal-same None true word word' same =
+    ap (λ (w : ℕ). rule_where (is_illegal w) I1) (same refl refl)
 illegal-same None false word word' same = refl
 illegal-same (Some rule) opcode word word' same = refl
 
@@ -97,7 +103,10 @@ first_rule-same last seen real same =
     (λ (rule : Option Rule). or_else (rule_where (breaks_x0 real) X0)
     (or_else rule (or_else (key_rule seen) (rule_where (breaks_i1 seen) I1))))
     (atomicity_rule-same last seen real same)
-    ∙ ap (λ (rule : Option Rule). or_else (rule_where (breaks_x0 real) X0) (or_else (atomicity_rule last real) rule))
-    (ap (λ (rule : Option Rule). or_else rule (rule_where (breaks_i1 seen) I1)) (key_rule-same seen real same)
-    ∙ (ap (λ (opcode : Bool). or_else (key_rule real) (rule_where (opcode && is_illegal seen.word) I1)) same.opcode
+    ∙ ap (λ (rule : Option Rule). or_else (rule_where (breaks_x0 real) X0)
+    (or_else (atomicity_rule last real) rule))
+    (ap (λ (rule : Option Rule). or_else rule (rule_where (breaks_i1 seen) I1))
+    (key_rule-same seen real same)
+    ∙ (ap (λ (opcode : Bool). or_else (key_rule real)
+    (rule_where (opcode && is_illegal seen.word) I1)) same.opcode
     ∙ illegal-same (key_rule real) real.opcode real.word seen.word same.word)))

@@ -27,7 +27,8 @@ use Rattle.key_isolation.proofs.SameRule.{SameSignals}
 
 -- the accesses differ in the number of a write alone
 item_access-shape : (sp : ℕ) (bounds : Bounds) (item : CallItem) (number number' : ℕ)
-    → without_number (Some (item_access sp bounds item number')) ≡ without_number (Some (item_access sp bounds item number))
+    → without_number (Some (item_access sp bounds item number'))
+    ≡ without_number (Some (item_access sp bounds item number))
 item_access-shape sp bounds (KeyRead i) number number' = refl
 item_access-shape sp bounds (MetadataRead i) number number' = refl
 item_access-shape sp bounds (DerivedKeyWrite i) number number' = refl
@@ -41,10 +42,13 @@ pub item_access-hide : (sp : ℕ) (words : List ℕ) (number : ℕ)
     → item_access sp (bounds_read (hide_first 32 words)) (call_item (hide_first 32 words)) number
     ≡ item_access sp (bounds_read words) (call_item words) number
 item_access-hide sp words number =
-    ap (λ (bounds : Bounds). item_access sp bounds (call_item (hide_first 32 words)) number) (bounds_read-hide words)
-    ∙ ap (λ (item : CallItem). item_access sp (bounds_read words) item number) (call_item-hide words)
+    ap (λ (bounds : Bounds). item_access sp bounds (call_item (hide_first 32 words)) number)
+    (bounds_read-hide words)
+    ∙ ap (λ (item : CallItem). item_access sp (bounds_read words) item number)
+    (call_item-hide words)
 
-access_of-shape : (start : Start) (released : List ℕ) (releases : ℕ) (kind : Kind) (progress : Progress)
+access_of-shape : (start : Start) (released : List ℕ) (releases : ℕ) (kind : Kind)
+    (progress : Progress)
     → without_number (access_of (opened released start) releases kind (hide_progress progress))
     ≡ without_number (access_of start releases kind progress)
 access_of-shape start released releases kind Held = refl
@@ -54,7 +58,8 @@ access_of-shape start released releases kind (InCall regs words) =
     ∙ item_access-shape (sp_of regs) (bounds_read words) (call_item words) _ _
 
 -- an opcode fetch is at the `pc` of its step
-opcode_fetch : (start : Start) (releases : ℕ) (kind : Kind) (progress : Progress) (vector : Option ℕ)
+opcode_fetch : (start : Start) (releases : ℕ) (kind : Kind) (progress : Progress)
+    (vector : Option ℕ)
     → fetches_opcode kind progress ≡ true
     → access_of start releases kind (progress_within progress kind vector)
     ≡ Some (fetch_at (next_pc_of (progress_within progress kind vector)))
@@ -76,13 +81,16 @@ opcode_off : (cpu : Option Access) (pc : ℕ)
     → touches_secrets (fetch_at pc) ≡ false
 opcode_off cpu pc fetch k1 k2 =
     fetch_off pc
-    (subst (λ (c : Option Access). (some_touches c key_region && not (some_writes c) && not (in_rom pc)) ≡ false) fetch k1)
-    (subst (λ (c : Option Access). (some_touches c stack_region && not (in_rom pc)) ≡ false) fetch k2)
+    (subst (λ (c : Option Access).
+    (some_touches c key_region && not (some_writes c) && not (in_rom pc)) ≡ false) fetch k1)
+    (subst (λ (c : Option Access). (some_touches c stack_region && not (in_rom pc))
+    ≡ false) fetch k2)
 
 word-hide : (start : Start) (released : List ℕ) (logs : Logs) (kind : Kind) (reset : Bool)
     → key_rule (signals_at start logs kind reset) ≡ None
     → fetches_opcode kind logs.progress ≡ true
-    → word_fetched (opened released start) (hide logs) (proposed_access (opened released start) (hide logs) kind)
+    → word_fetched (opened released start) (hide logs)
+    (proposed_access (opened released start) (hide logs) kind)
     ≡ word_fetched start logs (proposed_access start logs kind)
 unfolding signals_at
 word-hide start released logs kind reset unbroken fetches =
@@ -91,17 +99,21 @@ word-hide start released logs kind reset unbroken fetches =
     let key : BreaksNoKeyRule (signals_at start logs kind reset) = key_rule-none _ unbroken in
     let real : proposed_access start logs kind ≡ Some (fetch_at pc) =
     opcode_fetch start (length logs.released_words) kind logs.progress (vector_of logs) fetches in
-    let seen : proposed_access open_start (hide logs) kind ≡ Some (fetch_at (next_pc_of (step_progress (hide logs) kind))) =
-    opcode_fetch open_start (length logs.released_words) kind (hide_progress logs.progress) (vector_of (hide logs))
+    let seen : proposed_access open_start (hide logs) kind
+    ≡ Some (fetch_at (next_pc_of (step_progress (hide logs) kind))) =
+    opcode_fetch open_start (length logs.released_words) kind (hide_progress logs.progress)
+    (vector_of (hide logs))
     (fetches_opcode-hide kind logs.progress ∙ fetches) in
     let same_pc : next_pc_of (step_progress (hide logs) kind) ≡ pc =
     ap next_pc_of (step_progress-hide logs kind) ∙ next_pc_of-hide (step_progress logs kind) in
     ap (word_fetched open_start (hide logs)) (seen ∙ ap (λ (p : ℕ). Some (fetch_at p)) same_pc)
-    ∙ (word_fetched-hide start released logs pc (opcode_off (proposed_access start logs kind) pc real key.k1 key.k2)
+    ∙ (word_fetched-hide start released logs pc
+    (opcode_off (proposed_access start logs kind) pc real key.k1 key.k2)
     ∙ ap (word_fetched start logs) (sym real))
 
 signals_at-hide : (start : Start) (released : List ℕ) (logs : Logs) (kind : Kind) (reset : Bool)
-    → SameSignals (signals_at (opened released start) (hide logs) kind reset) (signals_at start logs kind reset)
+    → SameSignals (signals_at (opened released start) (hide logs) kind reset)
+    (signals_at start logs kind reset)
 unfolding signals_at
 signals_at-hide start released logs kind reset =
     record {
@@ -112,19 +124,24 @@ signals_at-hide start released logs kind reset =
           (λ (progress : Progress). without_number
           (access_of (opened released start) (length logs.released_words) kind progress))
           (step_progress-hide logs kind)
-          ∙ access_of-shape start released (length logs.released_words) kind (step_progress logs kind);
+          ∙ access_of-shape start released (length logs.released_words) kind
+          (step_progress logs kind);
       dma = refl;
       irq =
-          ap (λ (tells : Bool). tells && is_some (vector_of (hide logs))) (tells_irq-hide logs.progress)
-          ∙ ap (λ (vector : Option ℕ). tells_irq logs.progress && is_some vector) (vector_of-hide logs);
+          ap (λ (tells : Bool). tells && is_some (vector_of (hide logs)))
+          (tells_irq-hide logs.progress)
+          ∙ ap (λ (vector : Option ℕ). tells_irq logs.progress && is_some vector)
+          (vector_of-hide logs);
       opcode = fetches_opcode-hide kind logs.progress;
       script_reset = refl;
       word = word-hide start released logs kind reset;
     }
 
 pub signals_of-hide : (start : Start) (released : List ℕ) (logs : Logs) (reset : Bool)
-    → SameSignals (signals_of (opened released start) (hide logs) reset) (signals_of start logs reset)
+    → SameSignals (signals_of (opened released start) (hide logs) reset)
+    (signals_of start logs reset)
 signals_of-hide start released logs reset =
     subst
-    (λ (kind : Kind). SameSignals (signals_at (opened released start) (hide logs) kind reset) (signals_of start logs reset))
+    (λ (kind : Kind). SameSignals (signals_at (opened released start) (hide logs) kind reset)
+    (signals_of start logs reset))
     (sym (step_kind-hide logs)) (signals_at-hide start released logs (step_kind logs) reset)

@@ -33,7 +33,8 @@ bytes_from-outside : (left right : ℕ → ℕ) → SameOutside left right → (
     → bytes_from left place count ≡ bytes_from right place count
 bytes_from-outside left right same place zero off = refl
 bytes_from-outside left right same place (suc count) off =
-    ap (λ (byte : ℕ). byte ∷ bytes_from left (place + 1) count) (same place (off place (omega arith) (omega arith)))
+    ap (λ (byte : ℕ). byte ∷ bytes_from left (place + 1) count)
+    (same place (off place (omega arith) (omega arith)))
     ∙ ap (λ (bytes : List ℕ). right place ∷ bytes)
     (bytes_from-outside left right same (place + 1) count
     (λ p low high. off p (omega (arith, low)) (omega (arith, high))))
@@ -45,13 +46,15 @@ program_open : (place : ℕ) → 0xC000 ≤ place → place ≤ 0xFFDF → is_se
 program_open place low high = grind (arith, nat_tests)
 
 ram_bytes : (left right : ℕ → ℕ) → SameOutside left right → (place count : ℕ)
-    → 0x200 ≤ place → place + count ≤ 0x2200 → bytes_from left place count ≡ bytes_from right place count
+    → 0x200 ≤ place → place + count ≤ 0x2200
+    → bytes_from left place count ≡ bytes_from right place count
 ram_bytes left right same place count low high =
     bytes_from-outside left right same place count
     (λ p above below. ram_open p (omega (arith, low, above)) (omega (arith, high, below)))
 
 program_bytes : (left right : ℕ → ℕ) → SameOutside left right → (place count : ℕ)
-    → 0xC000 ≤ place → place + count ≤ 0xFFE0 → bytes_from left place count ≡ bytes_from right place count
+    → 0xC000 ≤ place → place + count ≤ 0xFFE0
+    → bytes_from left place count ≡ bytes_from right place count
 program_bytes left right same place count low high =
     bytes_from-outside left right same place count
     (λ p above below. program_open p (omega (arith, low, above)) (omega (arith, high, below)))
@@ -76,11 +79,16 @@ valid_bytes left right same first last valid =
 output-outside : (left right : ℕ → ℕ) → SameOutside left right → (bounds : Bounds)
     → reported_output left bounds ≡ reported_output right bounds
 output-outside left right same bounds =
-    same_if (are_valid bounds) (Some (output_bytes left bounds)) (Some (output_bytes right bounds)) None None
+    same_if (are_valid bounds) (Some (output_bytes left bounds))
+    (Some (output_bytes right bounds)) None None
     (λ valid.
-    let both = and_parts (is_valid_region bounds.er_min bounds.er_max && is_valid_region bounds.or_min bounds.or_max) _ valid in
-    let each = and_parts (is_valid_region bounds.er_min bounds.er_max) (is_valid_region bounds.or_min bounds.or_max) both.0 in
-    ap (λ (bytes : List ℕ). Some bytes) (valid_bytes left right same bounds.or_min bounds.or_max each.1))
+    let both = and_parts
+    (is_valid_region bounds.er_min bounds.er_max
+    && is_valid_region bounds.or_min bounds.or_max) _ valid in
+    let each = and_parts (is_valid_region bounds.er_min bounds.er_max)
+    (is_valid_region bounds.or_min bounds.or_max) both.0 in
+    ap (λ (bytes : List ℕ). Some bytes)
+    (valid_bytes left right same bounds.or_min bounds.or_max each.1))
     (λ invalid. refl)
 
 -- the report
@@ -103,7 +111,8 @@ report_of-hide start released logs step =
 
 -- the lines of a step
 step_lines-hide : (start : Start) (released : List ℕ) (step : ℕ) (entry : BusRecord) (logs : Logs)
-    → step_lines (opened released start) step (blank_record entry) (hide logs) ≡ step_lines start step entry logs
+    → step_lines (opened released start) step (blank_record entry) (hide logs)
+    ≡ step_lines start step entry logs
 step_lines-hide start released step entry logs =
     ap
     (λ (byte : Option ℕ). sent_lines step byte ++ reset_lines step entry.reset
@@ -129,21 +138,30 @@ lines_of-hide start released (events ∷ play) more split =
     let open_start : Start = opened released start in
     let added = next_released start logs events in
     let earlier : released ≡ logs.released_words ++ (added.0 ++ more) =
-    split ∙ (ap (λ (words : List ℕ). words ++ more) added.1 ∙ append_assoc logs.released_words added.0 more) in
+    split ∙ (ap (λ (words : List ℕ). words ++ more) added.1
+    ∙ append_assoc logs.released_words added.0 more) in
     let before = play_hides start released play (added.0 ++ more) earlier in
     let step = step_hides start released more logs events (logs_after-sound start play) split in
-    let lines : step_lines start (length play) (next_record start logs events) (next_logs start logs events)
-    ≡ step_lines open_start (length play) (next_record open_start (hide logs) events) (next_logs open_start (hide logs) events) =
+    let lines : step_lines start (length play) (next_record start logs events)
+    (next_logs start logs events)
+    ≡ step_lines open_start (length play) (next_record open_start (hide logs) events)
+    (next_logs open_start (hide logs) events) =
     sym
-    (ap (λ (entry : BusRecord). step_lines open_start (length play) entry (next_logs open_start (hide logs) events)) step.entry
-    ∙ (ap (step_lines open_start (length play) (blank_record (next_record start logs events))) step.after
-    ∙ step_lines-hide start released (length play) (next_record start logs events) (next_logs start logs events))) in
-    ap (λ (text : List ℕ). text ++ step_lines start (length play) (next_record start logs events) (next_logs start logs events))
+    (ap (λ (entry : BusRecord). step_lines open_start (length play) entry
+    (next_logs open_start (hide logs) events)) step.entry
+    ∙ (ap (step_lines open_start (length play)
+    (blank_record (next_record start logs events))) step.after
+    ∙ step_lines-hide start released (length play) (next_record start logs events)
+    (next_logs start logs events))) in
+    ap (λ (text : List ℕ). text
+    ++ step_lines start (length play) (next_record start logs events)
+    (next_logs start logs events))
     (lines_of-hide start released play (added.0 ++ more) earlier)
     ∙ (ap (λ (text : List ℕ). lines_of open_start play ++ text) lines
     ∙ ap
     (λ (ls : Logs). lines_of open_start play
-    ++ step_lines open_start (length play) (next_record open_start ls events) (next_logs open_start ls events))
+    ++ step_lines open_start (length play) (next_record open_start ls events)
+    (next_logs open_start ls events))
     before.logs)
 
 pub play_text-hide : (start : Start) (released : List ℕ) (play : List (List Event)) (more : List ℕ)
@@ -152,6 +170,7 @@ pub play_text-hide : (start : Start) (released : List ℕ) (play : List (List Ev
 unfolding play_text
 play_text-hide start released play more split =
     let hides = play_hides start released play more split in
-    ap (λ (text : List ℕ). text ++ end_of (length play) (logs_after start play)) (lines_of-hide start released play more split)
+    ap (λ (text : List ℕ). text ++ end_of (length play) (logs_after start play))
+    (lines_of-hide start released play more split)
     ∙ ap (λ (text : List ℕ). lines_of (opened released start) play ++ text)
     (sym (end_of-hide (length play) (logs_after start play)) ∙ ap (end_of (length play)) hides.logs)

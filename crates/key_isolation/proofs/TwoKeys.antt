@@ -21,7 +21,14 @@ pub record BeginsWithBoth (left right : List ℕ) : Type 0 where
 
 agree_begin : (left right : List ℕ) → Agree left right → BeginsWithBoth left right
 agree_begin [] right agree =
-    record { whole = right; after_left = right; after_right = []; is_left = refl; is_right = sym (append-nil right) }
+    record {
+      whole = right;
+      after_left = right;
+      after_right = [];
+      is_left = refl;
+      is_right =
+          sym (append-nil right);
+    }
 agree_begin (word ∷ left) [] agree =
     record {
       whole = word ∷ left;
@@ -31,7 +38,8 @@ agree_begin (word ∷ left) [] agree =
       is_right = refl;
     }
 agree_begin (word ∷ left) (word' ∷ right) agree =
-    let rest = agree_begin left right (λ i in_left in_right. agree (suc i) (omega (arith, in_left)) (omega (arith, in_right))) in
+    let rest = agree_begin left right
+    (λ i in_left in_right. agree (suc i) (omega (arith, in_left)) (omega (arith, in_right))) in
     let same : word ≡ word' = agree 0 (omega arith) (omega arith) in
     record {
       whole = word ∷ rest.whole;
@@ -39,14 +47,16 @@ agree_begin (word ∷ left) (word' ∷ right) agree =
       after_right = rest.after_right;
       is_left = ap (λ (words : List ℕ). word ∷ words) rest.is_left;
       is_right =
-          ap (λ (w : ℕ). w ∷ rest.whole) same ∙ ap (λ (words : List ℕ). word' ∷ words) rest.is_right;
+          ap (λ (w : ℕ). w ∷ rest.whole) same
+          ∙ ap (λ (words : List ℕ). word' ∷ words) rest.is_right;
     }
 
 -- of two starts with one image
 abbrev SameImage : Start → Start → Type 0
 SameImage left right = left.power.image ≡ right.power.image
 
-opened-same : (words : List ℕ) (left right : Start) → SameImage left right → opened words left ≡ opened words right
+opened-same : (words : List ℕ) (left right : Start) → SameImage left right
+    → opened words left ≡ opened words right
 opened-same words left right same = ap (λ (image : ℕ → ℕ). without_key words image) same
 
 text_of_two : (left right : Start) (play : List (List Event)) → SameImage left right
@@ -62,7 +72,8 @@ byte-hide : (start : Start) (released : List ℕ) (play : List (List Event)) (mo
     → SameOutside (byte_after start play) (byte_after (opened released start) play)
 byte-hide start released play more split place off =
     sym (logged_byte-hide start released (logs_after start play) place off)
-    ∙ ap (λ (logs : Logs). logged_byte (opened released start) logs place) (play_hides start released play more split).logs
+    ∙ ap (λ (logs : Logs). logged_byte (opened released start) logs place)
+    (play_hides start released play more split).logs
 
 memory_of_two : (left right : Start) (play : List (List Event)) → SameImage left right
     → BeginsWithBoth (released_words left play) (released_words right play)
@@ -76,10 +87,12 @@ pub same_text : (left right : Start) (play : List (List Event)) → SameImage le
     → Agree (released_words left play) (released_words right play)
     → play_text left play ≡ play_text right play
 same_text left right play image agree =
-    text_of_two left right play image (agree_begin (released_words left play) (released_words right play) agree)
+    text_of_two left right play image
+    (agree_begin (released_words left play) (released_words right play) agree)
 
 pub same_memory : (left right : Start) (play : List (List Event)) → SameImage left right
     → Agree (released_words left play) (released_words right play)
     → SameOutside (byte_after left play) (byte_after right play)
 same_memory left right play image agree =
-    memory_of_two left right play image (agree_begin (released_words left play) (released_words right play) agree)
+    memory_of_two left right play image
+    (agree_begin (released_words left play) (released_words right play) agree)

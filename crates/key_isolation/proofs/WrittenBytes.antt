@@ -14,10 +14,12 @@ use Rattle.device_trace.specs.Logs.{memory_after}
 use Rattle.key_isolation.proofs.Bytes.{hide_write}
 
 -- both bytes of a word lie on one side of the stack's edges
-low_side : (place : ℕ) → place % 2 ≡ 0 → touches (Read place Word) stack_region ≡ lies_in stack_region (place / 2 * 2)
+low_side : (place : ℕ) → place % 2 ≡ 0
+    → touches (Read place Word) stack_region ≡ lies_in stack_region (place / 2 * 2)
 low_side place even = grind (arith, nat_tests)
 
-high_side : (place : ℕ) → place % 2 ≡ 0 → touches (Read place Word) stack_region ≡ lies_in stack_region (place / 2 * 2 + 1)
+high_side : (place : ℕ) → place % 2 ≡ 0
+    → touches (Read place Word) stack_region ≡ lies_in stack_region (place / 2 * 2 + 1)
 high_side place even = grind (arith, nat_tests)
 
 byte-blank : (test : Bool) (number : ℕ)
@@ -31,22 +33,29 @@ low-blank true side number same = ap (λ (t : Bool). if t then 0 else number % 2
 low-blank false side number same = ap (λ (t : Bool). if t then 0 else number % 256) same
 
 high-blank : (test side : Bool) (number : ℕ)
-    → test ≡ side → (if test then 0 else number) / 256 % 256 ≡ (if side then 0 else number / 256 % 256)
+    → test ≡ side
+    → (if test then 0 else number) / 256 % 256 ≡ (if side then 0 else number / 256 % 256)
 high-blank true side number same = ap (λ (t : Bool). if t then 0 else number / 256 % 256) same
 high-blank false side number same = ap (λ (t : Bool). if t then 0 else number / 256 % 256) same
 
 pub with_access-hide : (access : Option Access) (writes : List MemoryWrite)
     → IfSome access IsFormed
-    → with_access (blank_access access) (map hide_write writes) ≡ map hide_write (with_access access writes)
+    → with_access (blank_access access) (map hide_write writes)
+    ≡ map hide_write (with_access access writes)
 with_access-hide None writes formed = refl
 with_access-hide (Some (Fetch place)) writes formed = refl
 with_access-hide (Some (Read place size)) writes formed = refl
 with_access-hide (Some (Write place Byte number)) writes formed =
-    λ i. record { place = place; byte = byte-blank (lies_in stack_region place) number i } ∷ map hide_write writes
+    λ i. record {
+      place = place;
+      byte =
+          byte-blank (lies_in stack_region place) number i;
+    } ∷ map hide_write writes
 with_access-hide (Some (Write place Word number)) writes formed =
     λ i. record {
       place = place / 2 * 2 + 1;
-      byte = high-blank _ (lies_in stack_region (place / 2 * 2 + 1)) number (high_side place formed) i;
+      byte = high-blank _ (lies_in stack_region (place / 2 * 2 + 1)) number
+          (high_side place formed) i;
     }
     ∷ record {
       place = place / 2 * 2;

@@ -1,17 +1,17 @@
 -- How the executable region is entered: by an opcode fetch, or asleep, and then sleep lasts.
-use Rattle.std.proofs.Common.{◌≡◌, ℕ, ◌*◌, ◌/◌, ◌<◌, Bool, true, false, List, [], ◌∷◌, ◌⊎◌, inl, inr, Option, Some, None, refl, ap, sym, ◌∙◌, arith, subst}
-use Rattle.std.specs.Prelude.{◌==◌, ◌&&◌, is_some, if◌then◌else◌}
-use Rattle.std.proofs.lemmas.Bool.{cond_both, cond-true, cond-false, and_from, eqb-true, false_from_ne_true}
+use Rattle.std.proofs.Common.{◌≡◌, ℕ, ◌*◌, ◌/◌, ◌<◌, true, false, List, ◌⊎◌, inl, inr, Option, Some, None, refl, ap, sym, ◌∙◌, arith, subst}
+use Rattle.std.specs.Prelude.{◌==◌, ◌&&◌, is_some}
+use Rattle.std.proofs.lemmas.Bool.{cond_both, cond-true, cond-false, eqb-true, false_from_ne_true}
 use Rattle.bus_signals.specs.declared.access.Access.{Access}
 use Rattle.bus_signals.specs.declared.bounds.Bounds.{Bounds}
 use Rattle.bus_signals.specs.declared.kind.Kind.{Kind}
-use Rattle.bus_signals.specs.declared.kind.Kind.TheVariants.{Boot, Cpu, Idle, Irq, Rom}
+use Rattle.bus_signals.specs.declared.kind.Kind.TheVariants.{Cpu, Idle, Irq, Rom}
 use Rattle.bus_signals.specs.Bounds.{are_valid, executable_region}
 use Rattle.bus_signals.specs.Kind.{is_cpu}
 use Rattle.bus_signals.specs.Map.{lies_in, ROM_ENTRY}
 use Rattle.part_definitions.specs.Attestation.{call_item, item_pc}
 use Rattle.part_definitions.specs.CpuRegisters.{pc_of, is_asleep}
-use Rattle.part_definitions.specs.CpuState.{CpuState, Boundary, Executing, Entering}
+use Rattle.part_definitions.specs.CpuState.{Boundary, Executing, Entering}
 use Rattle.part_definitions.specs.Flag.{fetches_at, ran_inside}
 use Rattle.part_definitions.specs.Monitors.{in_rom}
 use Rattle.part_definitions.specs.NextAccess.{next_access}
@@ -31,8 +31,10 @@ pub record Sleeps (bounds : Bounds) (progress : Progress) : Type 0 where
 -- a step of this kind into the region fetches an opcode, or sleeps there
 abbrev Enters : Start → ℕ → Bounds → Kind → Progress → Type 0
 Enters start releases bounds kind progress =
-    ((is_cpu kind && fetches_at (access_of start releases kind progress) (next_pc_of progress)) ≡ true)
-    ⊎ ((access : Option Access) (value : ℕ) → Sleeps bounds (next_progress kind progress access value))
+    ((is_cpu kind && fetches_at (access_of start releases kind progress) (next_pc_of progress))
+    ≡ true)
+    ⊎ ((access : Option Access) (value : ℕ)
+    → Sleeps bounds (next_progress kind progress access value))
 
 rom_apart : {P : Type 0} (bounds : Bounds) (pc : ℕ) → are_valid bounds ≡ true
     → lies_in (executable_region bounds) pc ≡ true → in_rom pc ≡ true → P
@@ -43,13 +45,17 @@ rom_apart bounds pc valid within rom =
 
 boundary_enters : (start : Start) (releases : ℕ) (bounds : Bounds) (regs : List ℕ)
     → are_valid bounds ≡ true
-    → lies_in (executable_region bounds) (next_pc_of (progress_from_boundary regs (boundary_kind regs None) None)) ≡ true
-    → (next_pc_of (progress_from_boundary regs (boundary_kind regs None) None) == bounds.er_min) ≡ true
-    → Enters start releases bounds (boundary_kind regs None) (progress_from_boundary regs (boundary_kind regs None) None)
+    → lies_in (executable_region bounds)
+    (next_pc_of (progress_from_boundary regs (boundary_kind regs None) None)) ≡ true
+    → (next_pc_of (progress_from_boundary regs (boundary_kind regs None) None) == bounds.er_min)
+    ≡ true
+    → Enters start releases bounds (boundary_kind regs None)
+    (progress_from_boundary regs (boundary_kind regs None) None)
 unfolding next_access
 boundary_enters start releases bounds regs valid =
     let Claim : Kind → Type 0 =
-    λ kind. lies_in (executable_region bounds) (next_pc_of (progress_from_boundary regs kind None)) ≡ true
+    λ kind. lies_in (executable_region bounds) (next_pc_of (progress_from_boundary regs kind None))
+    ≡ true
     → (next_pc_of (progress_from_boundary regs kind None) == bounds.er_min) ≡ true
     → Enters start releases bounds kind (progress_from_boundary regs kind None) in
     cond_both (pc_of regs == ROM_ENTRY) Rom _ Claim
@@ -78,28 +84,38 @@ last_inside bounds pc last is_last within outside =
     let clash : true ≡ false = sym inside ∙ outside in
     absurd (cc)
 
-pub region_entered : (start : Start) (releases : ℕ) (bounds : Bounds) (progress : Progress) (vector last : Option ℕ)
+pub region_entered : (start : Start) (releases : ℕ) (bounds : Bounds) (progress : Progress)
+    (vector last : Option ℕ)
     → are_valid bounds ≡ true → IsFresh progress last
-    → lies_in (executable_region bounds) (next_pc_of (progress_within progress (kind_of progress vector) vector)) ≡ true
-    → (next_pc_of (progress_within progress (kind_of progress vector) vector) == bounds.er_min) ≡ true
+    → lies_in (executable_region bounds)
+    (next_pc_of (progress_within progress (kind_of progress vector) vector)) ≡ true
+    → (next_pc_of (progress_within progress (kind_of progress vector) vector) == bounds.er_min)
+    ≡ true
     → ran_inside last (executable_region bounds) ≡ false
     → (tells_irq progress && is_some vector) ≡ false
-    → Enters start releases bounds (kind_of progress vector) (progress_within progress (kind_of progress vector) vector)
+    → Enters start releases bounds (kind_of progress vector)
+    (progress_within progress (kind_of progress vector) vector)
 region_entered start releases bounds Held vector last valid fresh within place outside quiet =
     absurd (let above : 0 < 0 = (inside-open bounds 0 valid within).1 in omega arith)
-region_entered start releases bounds (Runs (Boundary regs)) None last valid fresh within place outside quiet =
+region_entered start releases bounds
+    (Runs (Boundary regs)) None last valid fresh within place outside quiet =
     boundary_enters start releases bounds regs valid within place
-region_entered start releases bounds (Runs (Boundary regs)) (Some vector) last valid fresh within place outside quiet =
+region_entered start releases bounds (Runs (Boundary regs))
+    (Some vector) last valid fresh within place outside quiet =
     absurd (cc)
-region_entered start releases bounds (Runs (Executing regs values)) vector last valid fresh within place outside quiet =
+region_entered start releases bounds
+    (Runs (Executing regs values)) vector last valid fresh within place outside quiet =
     last_inside bounds (pc_of regs) last fresh within outside
-region_entered start releases bounds (Runs (Entering regs chosen values)) vector last valid fresh within place outside quiet =
+region_entered start releases bounds
+    (Runs (Entering regs chosen values)) vector last valid fresh within place outside quiet =
     last_inside bounds (pc_of regs) last fresh within outside
-region_entered start releases bounds (InCall regs words) vector last valid fresh within place outside quiet =
+region_entered start releases bounds
+    (InCall regs words) vector last valid fresh within place outside quiet =
     rom_apart bounds (item_pc (call_item words)) valid within (item_pc-in_rom (call_item words))
 
 -- a step of one who sleeps there
-asleep_kind : (regs : List ℕ) → in_rom (pc_of regs) ≡ false → is_asleep regs ≡ true → boundary_kind regs None ≡ Idle
+asleep_kind : (regs : List ℕ) → in_rom (pc_of regs) ≡ false → is_asleep regs ≡ true
+    → boundary_kind regs None ≡ Idle
 asleep_kind regs outside asleep =
     cond-false (pc_of regs == ROM_ENTRY) Rom _ (not_entry (pc_of regs) outside)
     ∙ (cond-false (in_rom (pc_of regs)) Cpu _ outside ∙ cond-true (is_asleep regs) Idle Cpu asleep)
@@ -108,12 +124,17 @@ asleep_kind regs outside asleep =
     entry_inside pc entry = ap in_rom (eqb-true pc ROM_ENTRY entry)
 
     not_entry : (pc : ℕ) → in_rom pc ≡ false → (pc == ROM_ENTRY) ≡ false
-    not_entry pc outside = false_from_ne_true (pc == ROM_ENTRY) (λ entry. let clash : true ≡ false = sym (entry_inside pc entry) ∙ outside in cc)
+    not_entry pc outside =
+        false_from_ne_true (pc == ROM_ENTRY)
+        (λ entry. let clash : true ≡ false = sym (entry_inside pc entry) ∙ outside in cc)
 
 pub record SleepsOn (bounds : Bounds) (progress : Progress) (vector : Option ℕ) : Type 0 where
-  pub inside : lies_in (executable_region bounds) (next_pc_of (progress_within progress (kind_of progress vector) vector)) ≡ true
+  pub inside : lies_in (executable_region bounds)
+      (next_pc_of (progress_within progress (kind_of progress vector) vector)) ≡ true
   pub next : (access : Option Access) (value : ℕ)
-      → Sleeps bounds (next_progress (kind_of progress vector) (progress_within progress (kind_of progress vector) vector) access value)
+      → Sleeps bounds
+      (next_progress (kind_of progress vector)
+      (progress_within progress (kind_of progress vector) vector) access value)
 
 irq_inside : (bounds : Bounds) (regs : List ℕ) (vector : ℕ)
     → in_rom (pc_of regs) ≡ false → lies_in (executable_region bounds) (pc_of regs) ≡ true
@@ -122,7 +143,8 @@ irq_inside : (bounds : Bounds) (regs : List ℕ) (vector : ℕ)
     ≡ true
 irq_inside bounds regs vector outside within =
     let Claim : Kind → Type 0 =
-    λ kind. lies_in (executable_region bounds) (next_pc_of (progress_from_boundary regs kind (Some vector))) ≡ true in
+    λ kind. lies_in (executable_region bounds)
+    (next_pc_of (progress_from_boundary regs kind (Some vector))) ≡ true in
     cond_both (pc_of regs == ROM_ENTRY) Rom _ Claim
     (λ entry.
     let rom : in_rom (pc_of regs) ≡ true = ap in_rom (eqb-true (pc_of regs) ROM_ENTRY entry) in
@@ -135,7 +157,8 @@ sleeper : (bounds : Bounds) (regs : List ℕ) (vector : Option ℕ)
     → lies_in (executable_region bounds) (pc_of regs) ≡ true
     → in_rom (pc_of regs) ≡ false
     → (is_some vector
-    && lies_in (executable_region bounds) (next_pc_of (progress_from_boundary regs (boundary_kind regs vector) vector)))
+    && lies_in (executable_region bounds)
+    (next_pc_of (progress_from_boundary regs (boundary_kind regs vector) vector)))
     ≡ false
     → SleepsOn bounds (Runs (Boundary regs)) vector
 sleeper bounds regs (Some vector) asleep at_start within outside quiet =
@@ -149,11 +172,13 @@ sleeper bounds regs None asleep at_start within outside quiet =
     record {
       inside =
           subst
-          (λ (kind : Kind). lies_in (executable_region bounds) (next_pc_of (progress_from_boundary regs kind None)) ≡ true)
+          (λ (kind : Kind). lies_in (executable_region bounds)
+          (next_pc_of (progress_from_boundary regs kind None)) ≡ true)
           (sym idle) within;
       next = λ access value.
           subst
-          (λ (kind : Kind). Sleeps bounds (next_progress kind (progress_from_boundary regs kind None) access value))
+          (λ (kind : Kind). Sleeps bounds
+          (next_progress kind (progress_from_boundary regs kind None) access value))
           (sym idle) same;
     }
 
@@ -161,14 +186,16 @@ pub sleep_lasts : (bounds : Bounds) (progress : Progress) (vector : Option ℕ)
     → are_valid bounds ≡ true
     → Sleeps bounds progress
     → ((tells_irq progress && is_some vector)
-    && lies_in (executable_region bounds) (next_pc_of (progress_within progress (kind_of progress vector) vector)))
+    && lies_in (executable_region bounds)
+    (next_pc_of (progress_within progress (kind_of progress vector) vector)))
     ≡ false
     → SleepsOn bounds progress vector
 sleep_lasts bounds progress vector valid sleeps quiet =
     let within = min-inside bounds valid in
     subst
     (λ (p : Progress). ((tells_irq p && is_some vector)
-    && lies_in (executable_region bounds) (next_pc_of (progress_within p (kind_of p vector) vector))) ≡ false
+    && lies_in (executable_region bounds)
+    (next_pc_of (progress_within p (kind_of p vector) vector))) ≡ false
     → SleepsOn bounds p vector)
     (sym sleeps.is_runs)
     (λ silent.

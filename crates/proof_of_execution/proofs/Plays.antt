@@ -3,7 +3,6 @@ use Rattle.std.proofs.Common.{◌≡◌, ℕ, Bool, true, false, List, [], ◌�
 use Rattle.std.specs.Prelude.{◌==◌, ◌&&◌, is_some, IsTrue, if◌then◌else◌}
 use Rattle.std.specs.List.{list_any}
 use Rattle.std.proofs.lemmas.Bool.{cases_Bool, and_from, and_parts, or_parts, eqb-true}
-use Rattle.bus_signals.specs.declared.access.Access.{Access}
 use Rattle.bus_signals.specs.declared.bounds.Bounds.{Bounds}
 use Rattle.bus_signals.specs.declared.bus_record.BusRecord.{BusRecord}
 use Rattle.bus_signals.specs.declared.event.Event.{Event}
@@ -13,11 +12,11 @@ use Rattle.bus_signals.specs.Kind.{is_rom}
 use Rattle.bus_signals.specs.Map.{lies_in, metadata_region, ROM_EXIT}
 use Rattle.bus_signals.specs.Report.{ReportFields}
 use Rattle.bus_signals.specs.Seen.{Seen}
-use Rattle.part_definitions.specs.Flag.{accesses_in, writes_to, is_opcode_fetch, starts_run, runs_inside, ran_inside, last_pc, exec}
+use Rattle.part_definitions.specs.Flag.{accesses_in, writes_to, is_opcode_fetch, starts_run, runs_inside, ran_inside, last_pc}
 use Rattle.part_definitions.specs.Monitors.{in_rom}
 use Rattle.device_trace.specs.FirstRule.{first_rule}
 use Rattle.device_trace.specs.Logs.{Logs, exec_of, logged_bounds, vector_of, step_progress, progress_after, with_events, with_record}
-use Rattle.device_trace.specs.Progress.{Progress, last_registers, next_pc_of}
+use Rattle.device_trace.specs.Progress.{Progress, last_registers}
 use Rattle.device_trace.specs.Signals.{value_read, step_kind, proposed_access, signals_at, signals_of}
 use Rattle.device_trace.specs.Start.{Start}
 use Rattle.device_trace.specs.Step.{dma_value_read, record_from, record_of, asks_reset, next_record}
@@ -26,13 +25,14 @@ use Rattle.device_trace.specs.Trace.{logs_after, trace}
 use Rattle.device_trace.specs.WholeRun.{WholeRun}
 use Rattle.trace_facts.proofs.BoundsStay.{logged_bounds-stay}
 use Rattle.trace_facts.proofs.Fresh.{LogsAreFresh, logs_after-fresh}
-use Rattle.proof_of_execution.proofs.Entries.{Sleeps, SleepsOn, region_entered, sleep_lasts}
+use Rattle.proof_of_execution.proofs.Entries.{Sleeps, region_entered, sleep_lasts}
 use Rattle.proof_of_execution.proofs.Kept.{Kept, clears-kept, exec-more, exec-none, reset_none, entered_at_start, other_false}
 use Rattle.proof_of_execution.proofs.Regions.{inside-open}
 use Rattle.proof_of_execution.proofs.Runs.{Inside, Outside, run_starts, run_goes_on, run_ends, stays_outside}
 
 -- in the region, after a whole run, or asleep at the region's first place
-pub record RunState (bounds : Bounds) (history : List BusRecord) (progress : Progress) (last : Option ℕ) : Type 0 where
+pub record RunState (bounds : Bounds) (history : List BusRecord) (progress : Progress)
+    (last : Option ℕ) : Type 0 where
   pub valid : are_valid bounds ≡ true
   pub run :
       Inside bounds history last
@@ -45,14 +45,16 @@ record Arrives (now : Seen) (last : Option ℕ) (before after : Progress) : Type
       → ran_inside last (executable_region now.bounds) ≡ false
       → (now.entry.pc == now.bounds.er_min) ≡ true → now.entry.irq ≡ false
       → (is_opcode_fetch now.entry ≡ true) ⊎ Sleeps now.bounds after
-  sleeps : are_valid now.bounds ≡ true → Sleeps now.bounds before → (now.entry.irq && runs_inside now) ≡ false
+  sleeps : are_valid now.bounds ≡ true → Sleeps now.bounds before
+      → (now.entry.irq && runs_inside now) ≡ false
       → (runs_inside now ≡ true) × Sleeps now.bounds after
 
 starts_inside : (last : Option ℕ) (now : Seen) (history : List BusRecord) (progress : Progress)
     → Kept last now → starts_run now ≡ true
     → RunState now.bounds (now.entry ∷ history) progress (Some now.entry.pc)
 starts_inside last now history progress kept starts =
-    let valid = and_parts (is_opcode_fetch now.entry && (now.entry.pc == now.bounds.er_min)) (are_valid now.bounds) starts in
+    let valid = and_parts (is_opcode_fetch now.entry && (now.entry.pc == now.bounds.er_min))
+    (are_valid now.bounds) starts in
     record { valid = valid.1; run = inl (run_starts last now history kept starts) }
 
 -- one record more
@@ -61,12 +63,15 @@ from_inside : (last : Option ℕ) (now : Seen) (history : List BusRecord) (progr
     → RunState now.bounds (now.entry ∷ history) progress (Some now.entry.pc)
 from_inside last now history progress kept valid run =
     elim (cases_Bool (runs_inside now)) [
-      | inl inside ↦ record { valid = valid; run = inl (run_goes_on last now history kept inside run) }
-      | inr outside ↦ record { valid = valid; run = inr (inl (run_ends last now history kept outside run)) }
+      | inl inside ↦
+          record { valid = valid; run = inl (run_goes_on last now history kept inside run) }
+      | inr outside ↦
+          record { valid = valid; run = inr (inl (run_ends last now history kept outside run)) }
     ]
 
 from_outside : (last : Option ℕ) (now : Seen) (history : List BusRecord) (before after : Progress)
-    → Kept last now → Arrives now last before after → are_valid now.bounds ≡ true → Outside now.bounds history last
+    → Kept last now → Arrives now last before after → are_valid now.bounds ≡ true
+    → Outside now.bounds history last
     → RunState now.bounds (now.entry ∷ history) after (Some now.entry.pc)
 from_outside last now history before after kept arrives valid run =
     elim (cases_Bool (runs_inside now)) [
@@ -76,11 +81,18 @@ from_outside last now history before after kept arrives valid run =
           elim (arrives.enters valid inside run.outside place quiet) [
             | inl opcode ↦
                 starts_inside last now history after kept
-                (and_from (is_opcode_fetch now.entry && (now.entry.pc == now.bounds.er_min)) (are_valid now.bounds)
-                (and_from (is_opcode_fetch now.entry) (now.entry.pc == now.bounds.er_min) opcode place) valid)
+                (and_from (is_opcode_fetch now.entry && (now.entry.pc == now.bounds.er_min))
+                (are_valid now.bounds)
+                (and_from (is_opcode_fetch now.entry)
+                (now.entry.pc == now.bounds.er_min) opcode place) valid)
             | inr sleeps ↦ record { valid = valid; run = inr (inr (sleeps, inside)) }
           ]
-      | inr outside ↦ record { valid = valid; run = inr (inl (stays_outside last now history kept outside run)) }
+      | inr outside ↦
+          record {
+            valid = valid;
+            run =
+                inr (inl (stays_outside last now history kept outside run));
+          }
     ]
 
 state_after : (last : Option ℕ) (now : Seen) (history : List BusRecord) (before after : Progress)
@@ -92,7 +104,8 @@ state_after last now history before after kept arrives state =
       | inl inside ↦ from_inside last now history after kept state.valid inside
       | inr rest ↦
           elim rest [
-            | inl outside ↦ from_outside last now history before after kept arrives state.valid outside
+            | inl outside ↦
+                from_outside last now history before after kept arrives state.valid outside
             | inr sleeps ↦
                 let on = arrives.sleeps state.valid sleeps.0 kept.e4 in
                 record { valid = state.valid; run = inr (inr (on.1, on.0)) }
@@ -108,9 +121,11 @@ record_at start logs reset rule =
 
 arrives_at : (start : Start) (logs : Logs) (reset : Bool) (rule : Option Rule) (bounds : Bounds)
     → rule ≡ None → LogsAreFresh logs
-    → Arrives (record { entry = record_at start logs reset rule; bounds = bounds }) (last_pc logs.seen) logs.progress
+    → Arrives (record { entry = record_at start logs reset rule; bounds = bounds })
+    (last_pc logs.seen) logs.progress
     (progress_after (record_at start logs reset rule).reset (record_at start logs reset rule).kind
-    (step_progress logs (record_at start logs reset rule).kind) (record_at start logs reset rule).cpu
+    (step_progress logs (record_at start logs reset rule).kind)
+    (record_at start logs reset rule).cpu
     (record_at start logs reset rule).value)
 unfolding signals_at
 arrives_at start logs reset (Some rule) bounds none fresh = absurd (cc)
@@ -118,43 +133,52 @@ arrives_at start logs reset None bounds none fresh =
     record {
       enters = λ valid inside outside place quiet.
           elim
-          (region_entered start (length logs.released_words) bounds logs.progress (vector_of logs) (last_pc logs.seen)
+          (region_entered start (length logs.released_words) bounds logs.progress (vector_of logs)
+          (last_pc logs.seen)
           valid fresh inside place outside quiet) [
             | inl opcode ↦ inl opcode
-            | inr sleeps ↦ inr (sleeps (proposed_access start logs (step_kind logs)) (value_read start logs (proposed_access start logs (step_kind logs))))
+            | inr sleeps ↦
+                inr (sleeps (proposed_access start logs (step_kind logs))
+                (value_read start logs (proposed_access start logs (step_kind logs))))
           ];
       sleeps = λ valid asleep quiet.
           let on = sleep_lasts bounds logs.progress (vector_of logs) valid asleep quiet in (
             on.inside,
-            on.next (proposed_access start logs (step_kind logs)) (value_read start logs (proposed_access start logs (step_kind logs))),
+            on.next (proposed_access start logs (step_kind logs))
+                (value_read start logs (proposed_access start logs (step_kind logs))),
           );
     }
 
 record_arrives : (start : Start) (logs : Logs) (reset : Bool) (bounds : Bounds)
     → (record_of start logs reset).reset ≡ None → LogsAreFresh logs
-    → Arrives (record { entry = record_of start logs reset; bounds = bounds }) (last_pc logs.seen) logs.progress
+    → Arrives (record { entry = record_of start logs reset; bounds = bounds })
+    (last_pc logs.seen) logs.progress
     (progress_after (record_of start logs reset).reset (record_of start logs reset).kind
     (step_progress logs (record_of start logs reset).kind) (record_of start logs reset).cpu
     (record_of start logs reset).value)
 unfolding record_of
 record_arrives start logs reset bounds none fresh =
-    arrives_at start logs reset (first_rule (last_pc logs.seen) (signals_of start logs reset)) bounds none fresh
+    arrives_at start logs reset
+    (first_rule (last_pc logs.seen) (signals_of start logs reset)) bounds none fresh
 
 -- of the logs of a play
 abbrev LogsState : Start → Logs → List BusRecord → Type 0
 LogsState start logs history =
-    exec_of logs ≡ true → RunState (logged_bounds start logs) history logs.progress (last_pc logs.seen)
+    exec_of logs ≡ true
+    → RunState (logged_bounds start logs) history logs.progress (last_pc logs.seen)
 
 record_state : (start : Start) (logs : Logs) (reset : Bool) (history : List BusRecord)
     → LogsAreFresh logs → LogsState start logs history
-    → LogsState start (with_record start logs (record_of start logs reset)) (record_of start logs reset ∷ history)
+    → LogsState start (with_record start logs (record_of start logs reset))
+    (record_of start logs reset ∷ history)
 unfolding with_record
 record_state start logs reset history fresh before set =
     let entry : BusRecord = record_of start logs reset in
     let now : Seen = record { entry = entry; bounds = logged_bounds start logs } in
     let more = exec-more now logs.seen set in
     let kept : Kept (last_pc logs.seen) now = clears-kept (last_pc logs.seen) now more.0 in
-    let clean = or_parts (list_any (writes_to metadata_region) (accesses_in entry)) (is_some entry.reset) kept.e9 in
+    let clean = or_parts (list_any (writes_to metadata_region) (accesses_in entry))
+    (is_some entry.reset) kept.e9 in
     let none : entry.reset ≡ None = reset_none entry.reset clean.1 in
     let after : Progress =
     progress_after entry.reset entry.kind (step_progress logs entry.kind) entry.cpu entry.value in
@@ -167,7 +191,8 @@ record_state start logs reset history fresh before set =
           state_after (last_pc logs.seen) now history logs.progress after kept
           (record_arrives start logs reset (logged_bounds start logs) none fresh) (before was_set)
     ] in
-    subst (λ (bounds : Bounds). RunState bounds (entry ∷ history) after (Some entry.pc)) (sym stays) state
+    subst (λ (bounds : Bounds). RunState bounds (entry ∷ history) after (Some entry.pc))
+    (sym stays) state
 
 step_state : (start : Start) (logs : Logs) (events : List Event) (history : List BusRecord)
     → LogsAreFresh logs → LogsState start logs history
@@ -177,24 +202,28 @@ unfolding next_record with_events
 step_state start logs events history fresh before =
     record_state start (with_events logs events) (asks_reset events) history fresh before
 
-play_state : (start : Start) (play : List (List Event)) → LogsState start (logs_after start play) (trace start play)
+play_state : (start : Start) (play : List (List Event))
+    → LogsState start (logs_after start play) (trace start play)
 unfolding logs_after trace
 play_state start [] set = absurd (exec-none set)
 play_state start (events ∷ play) set =
-    step_state start (logs_after start play) events (trace start play) (logs_after-fresh start play) (play_state start play) set
+    step_state start (logs_after start play) events (trace start play) (logs_after-fresh start play)
+    (play_state start play) set
 
 -- after a finished call the last record is in the ROM, so the region has run whole
 whole_at_exit : (bounds : Bounds) (history : List BusRecord) (progress : Progress) (pc : ℕ)
     → pc ≡ ROM_EXIT → RunState bounds history progress (Some pc) → WholeRun bounds history
 whole_at_exit bounds history progress pc at_exit state =
-    let apart : (place : ℕ) → place ≡ ROM_EXIT → lies_in (executable_region bounds) place ≡ true → WholeRun bounds history =
+    let apart : (place : ℕ) → place ≡ ROM_EXIT → lies_in (executable_region bounds) place ≡ true
+    → WholeRun bounds history =
     λ place here within.
     let outside : in_rom place ≡ false = (inside-open bounds place state.valid within).0 in
     let inside : in_rom place ≡ true = ap in_rom here in
     let clash : true ≡ false = sym inside ∙ outside in
     absurd (cc) in
     elim state.run [
-      | inl run ↦ apart run.newest.pc (let same : pc ≡ run.newest.pc = cc in sym same ∙ at_exit) run.inside
+      | inl run ↦ apart run.newest.pc
+          (let same : pc ≡ run.newest.pc = cc in sym same ∙ at_exit) run.inside
       | inr rest ↦ elim rest [ inl run ↦ run.whole | inr sleeps ↦ apart pc at_exit sleeps.1 ]
     ]
 
@@ -208,14 +237,17 @@ last_state : (start : Start) (logs : Logs) (events : List Event) (history : List
     → LogsState start (with_record start (with_events logs events) (next_record start logs events))
     (next_record start logs events ∷ history)
     → exec_of (with_record start (with_events logs events) (next_record start logs events)) ≡ true
-    → WholeRun (logged_bounds start (with_record start (with_events logs events) (next_record start logs events)))
+    → WholeRun (logged_bounds start
+    (with_record start (with_events logs events) (next_record start logs events)))
     (next_record start logs events ∷ history)
 unfolding with_record
 last_state start logs events history at_exit state set =
-    whole_at_exit _ (next_record start logs events ∷ history) _ (next_record start logs events).pc at_exit (state set)
+    whole_at_exit _ (next_record start logs events ∷ history) _
+    (next_record start logs events).pc at_exit (state set)
 
 pub report-whole_run : (start : Start) (play : List (List Event)) (report : ReportFields)
-    → last_report start play ≡ Some report → IsTrue report.exec → WholeRun report.bounds (trace start play)
+    → last_report start play ≡ Some report → IsTrue report.exec
+    → WholeRun report.bounds (trace start play)
 unfolding logs_after trace
 report-whole_run start [] report is set = absurd (cc)
 report-whole_run start (events ∷ play) report is set =
@@ -227,6 +259,8 @@ report-whole_run start (events ∷ play) report is set =
     let call = and_parts (is_rom entry.kind && (entry.pc == ROM_EXIT)) _ both.0 in
     let place = and_parts (is_rom entry.kind) (entry.pc == ROM_EXIT) call.0 in
     let set_after : exec_of after ≡ true = ap (λ (r : ReportFields). r.exec) both.1 ∙ set in
-    subst (λ (bounds : Bounds). WholeRun bounds (entry ∷ trace start play)) (ap (λ (r : ReportFields). r.bounds) both.1)
+    subst (λ (bounds : Bounds). WholeRun bounds (entry ∷ trace start play))
+    (ap (λ (r : ReportFields). r.bounds) both.1)
     (last_state start logs events (trace start play) (eqb-true entry.pc ROM_EXIT place.1)
-    (step_state start logs events (trace start play) (logs_after-fresh start play) (play_state start play)) set_after)
+    (step_state start logs events (trace start play) (logs_after-fresh start play)
+    (play_state start play)) set_after)

@@ -1,5 +1,5 @@
 -- A run of the executable region over a history, one record more at a time.
-use Rattle.std.proofs.Common.{◌≡◌, ℕ, Bool, true, false, not, List, [], ◌∷◌, ◌++◌, ◌⊎◌, inl, inr, Option, Some, None, refl, ap, sym, ◌∙◌}
+use Rattle.std.proofs.Common.{◌≡◌, ℕ, true, false, not, List, [], ◌∷◌, ◌++◌, Option, Some, refl, ap, sym, ◌∙◌}
 use Rattle.std.specs.Prelude.{◌==◌, ◌&&◌}
 use Rattle.std.specs.List.{list_all}
 use Rattle.std.proofs.lemmas.Bool.{and_from, and_parts, not_from_false, eqb-true}
@@ -9,7 +9,7 @@ use Rattle.bus_signals.specs.Bounds.{are_valid, executable_region}
 use Rattle.bus_signals.specs.Map.{lies_in}
 use Rattle.bus_signals.specs.Seen.{Seen}
 use Rattle.part_definitions.specs.Flag.{is_opcode_fetch, starts_run, ran_inside, ran_at, runs_inside}
-use Rattle.device_trace.specs.WholeRun.{is_inside, runs_undisturbed, keeps_code, keeps_output, begins_run, ends_run, has_left, WholeRun}
+use Rattle.device_trace.specs.WholeRun.{is_inside, runs_undisturbed, keeps_code, keeps_output, begins_run, has_left, WholeRun}
 use Rattle.proof_of_execution.proofs.Kept.{Kept, undisturbed-kept, code-kept, output-kept, left_at_end}
 use Rattle.proof_of_execution.proofs.Regions.{min-inside}
 
@@ -32,9 +32,11 @@ pub record Outside (bounds : Bounds) (history : List BusRecord) (last : Option �
 
 -- the run begins
 pub run_starts : (last : Option ℕ) (now : Seen) (history : List BusRecord)
-    → Kept last now → starts_run now ≡ true → Inside now.bounds (now.entry ∷ history) (Some now.entry.pc)
+    → Kept last now → starts_run now ≡ true
+    → Inside now.bounds (now.entry ∷ history) (Some now.entry.pc)
 run_starts last now history kept starts =
-    let valid = and_parts (is_opcode_fetch now.entry && (now.entry.pc == now.bounds.er_min)) (are_valid now.bounds) starts in
+    let valid = and_parts (is_opcode_fetch now.entry && (now.entry.pc == now.bounds.er_min))
+    (are_valid now.bounds) starts in
     let place = and_parts (is_opcode_fetch now.entry) (now.entry.pc == now.bounds.er_min) valid.0 in
     let inside : runs_inside now ≡ true =
     ap (lies_in (executable_region now.bounds)) (eqb-true now.entry.pc now.bounds.er_min place.1)
@@ -45,7 +47,9 @@ run_starts last now history kept starts =
       before = history;
       parts = refl;
       begins = valid.0;
-      undisturbed = and_from (runs_undisturbed now.bounds now.entry) true (undisturbed-kept last now kept inside) refl;
+      undisturbed =
+          and_from (runs_undisturbed now.bounds now.entry) true
+          (undisturbed-kept last now kept inside) refl;
       code = and_from (keeps_code now.bounds now.entry) true (code-kept last now kept) refl;
       is_last = refl;
       inside = inside;
@@ -63,7 +67,8 @@ run_goes_on last now history kept inside run =
       parts = ap (λ (entries : List BusRecord). now.entry ∷ entries) run.parts;
       begins = run.begins;
       undisturbed =
-          and_from (runs_undisturbed now.bounds now.entry) _ (undisturbed-kept last now kept inside) run.undisturbed;
+          and_from (runs_undisturbed now.bounds now.entry) _
+          (undisturbed-kept last now kept inside) run.undisturbed;
       code = and_from (keeps_code now.bounds now.entry) _ (code-kept last now kept) run.code;
       is_last = refl;
       inside = inside;
@@ -77,7 +82,8 @@ run_ends last now history kept outside run =
     let was_inside : ran_inside last (executable_region now.bounds) ≡ true =
     ap (λ (pc : Option ℕ). ran_inside pc (executable_region now.bounds)) run.is_last ∙ run.inside in
     let at_end : (run.newest.pc == now.bounds.er_max) ≡ true =
-    ap (λ (pc : Option ℕ). ran_at pc now.bounds.er_max) (sym run.is_last) ∙ left_at_end last now kept was_inside outside in
+    ap (λ (pc : Option ℕ). ran_at pc now.bounds.er_max) (sym run.is_last)
+    ∙ left_at_end last now kept was_inside outside in
     let whole : WholeRun now.bounds (now.entry ∷ history) =
     record {
       after = now.entry ∷ [];
@@ -89,7 +95,8 @@ run_ends last now history kept outside run =
       undisturbed = run.undisturbed;
       left = and_from (not (is_inside now.bounds now.entry)) true (not_from_false _ outside) refl;
       code = and_from (keeps_code now.bounds now.entry) _ (code-kept last now kept) run.code;
-      output = and_from (keeps_output now.bounds now.entry) true (output-kept last now kept outside) refl;
+      output = and_from (keeps_output now.bounds now.entry) true
+          (output-kept last now kept outside) refl;
     } in
     record { whole = whole; outside = outside }
 
@@ -116,6 +123,7 @@ stays_outside last now history kept outside run =
           and_from (not (is_inside now.bounds now.entry)) _ (not_from_false _ outside)
           (all_left now.bounds run.whole.after run.whole.left);
       code = and_from (keeps_code now.bounds now.entry) _ (code-kept last now kept) run.whole.code;
-      output = and_from (keeps_output now.bounds now.entry) _ (output-kept last now kept outside) run.whole.output;
+      output = and_from (keeps_output now.bounds now.entry) _
+          (output-kept last now kept outside) run.whole.output;
     } in
     record { whole = whole; outside = outside }

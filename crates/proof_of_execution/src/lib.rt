@@ -4,6 +4,8 @@
 //! A caller that needs a law calls its function.
 #![tactic(auto)]
 
+mod example;
 mod law;
 
+pub use example::{interrupted_run_is_reported, quiet_run_is_reported};
 pub use law::exec_in_report_means_whole_run;

@@ -1,6 +1,6 @@
 -- The bounds stay as they are where no write touches the metadata.
-use Rattle.std.proofs.Common.{◌≡◌, ℕ, ◌+◌, ◌*◌, ◌/◌, ◌%◌, Bool, true, false, List, [], ◌∷◌, ◌++◌, Option, Some, None, refl, ap, sym, ◌∙◌, arith}
-use Rattle.std.specs.Prelude.{◌==◌, ◌&&◌, ◌||◌, option_to_list, if◌then◌else◌}
+use Rattle.std.proofs.Common.{◌≡◌, ℕ, ◌+◌, ◌*◌, ◌/◌, ◌%◌, true, false, List, ◌++◌, Option, Some, None, refl, sym, ◌∙◌, arith}
+use Rattle.std.specs.Prelude.{◌==◌, ◌||◌, option_to_list}
 use Rattle.std.specs.List.{list_any}
 use Rattle.std.proofs.lemmas.Bool.{cond-false, or_parts}
 use Rattle.std.proofs.lemmas.Bool.Decides.{nat_tests}
@@ -17,18 +17,21 @@ use Rattle.device_trace.specs.Logs.{Logs, logged_bounds, memory_after, with_reco
 use Rattle.device_trace.specs.Start.{Start}
 
 byte_elsewhere : (place p : ℕ)
-    → lies_in metadata_region p ≡ true → ((lies_in metadata_region place || false) || false) ≡ false → (place == p) ≡ false
+    → lies_in metadata_region p ≡ true → ((lies_in metadata_region place || false) || false) ≡ false
+    → (place == p) ≡ false
 byte_elsewhere place p within off = grind (arith, nat_tests)
 
 low_elsewhere : (place p : ℕ)
     → lies_in metadata_region p ≡ true
-    → ((lies_in metadata_region place || (lies_in metadata_region (place + 1) || false)) || false) ≡ false
+    → ((lies_in metadata_region place || (lies_in metadata_region (place + 1) || false)) || false)
+    ≡ false
     → (place / 2 * 2 == p) ≡ false
 low_elsewhere place p within off = grind (arith, nat_tests)
 
 high_elsewhere : (place p : ℕ)
     → lies_in metadata_region p ≡ true
-    → ((lies_in metadata_region place || (lies_in metadata_region (place + 1) || false)) || false) ≡ false
+    → ((lies_in metadata_region place || (lies_in metadata_region (place + 1) || false)) || false)
+    ≡ false
     → (place / 2 * 2 + 1 == p) ≡ false
 high_elsewhere place p within off = grind (arith, nat_tests)
 
@@ -41,10 +44,12 @@ last_written-elsewhere None writes p before within off = refl
 last_written-elsewhere (Some (Fetch place)) writes p before within off = refl
 last_written-elsewhere (Some (Read place size)) writes p before within off = refl
 last_written-elsewhere (Some (Write place Byte number)) writes p before within off =
-    cond-false (place == p) (number % 256) (last_written writes p before) (byte_elsewhere place p within off)
+    cond-false (place == p) (number % 256) (last_written writes p before)
+    (byte_elsewhere place p within off)
 last_written-elsewhere (Some (Write place Word number)) writes p before within off =
     cond-false (place / 2 * 2 + 1 == p) (number / 256 % 256) _ (high_elsewhere place p within off)
-    ∙ cond-false (place / 2 * 2 == p) (number % 256) (last_written writes p before) (low_elsewhere place p within off)
+    ∙ cond-false (place / 2 * 2 == p) (number % 256) (last_written writes p before)
+    (low_elsewhere place p within off)
 
 pub memory_after-elsewhere : (cpu dma : Option Access) (writes : List MemoryWrite) (p before : ℕ)
     → lies_in metadata_region p ≡ true
@@ -54,21 +59,24 @@ memory_after-elsewhere cpu dma writes p before within off =
     let parts =
     or_parts (list_any (writes_to metadata_region) (option_to_list cpu))
     (list_any (writes_to metadata_region) (option_to_list dma))
-    (sym (list_any-append (writes_to metadata_region) (option_to_list cpu) (option_to_list dma)) ∙ off) in
+    (sym (list_any-append (writes_to metadata_region) (option_to_list cpu) (option_to_list dma))
+    ∙ off) in
     last_written-elsewhere dma (with_access cpu writes) p before within parts.1
     ∙ last_written-elsewhere cpu writes p before within parts.0
 
 bounds_after : (start : Start) (logs : Logs) (entry : BusRecord) (rule : Option Rule)
     → rule ≡ None
     → list_any (writes_to metadata_region) (accesses_in entry) ≡ false
-    → logged_bounds start (with_record start logs (record entry { reset = rule })) ≡ logged_bounds start logs
+    → logged_bounds start (with_record start logs (record entry { reset = rule }))
+    ≡ logged_bounds start logs
 unfolding with_record
 bounds_after start logs entry (Some rule) none off = absurd (cc)
 bounds_after start logs entry None none off =
     let byte : (p : ℕ) → lies_in metadata_region p ≡ true
     → last_written (memory_after None entry.cpu entry.dma logs.memory) p (start.power.image p)
     ≡ last_written logs.memory p (start.power.image p) =
-    λ p within. memory_after-elsewhere entry.cpu entry.dma logs.memory p (start.power.image p) within off in
+    λ p within. memory_after-elsewhere entry.cpu entry.dma logs.memory p
+    (start.power.image p) within off in
     λ i. record {
       er_min = byte 0x260 refl i + 256 * byte 0x261 refl i;
       er_max = byte 0x262 refl i + 256 * byte 0x263 refl i;

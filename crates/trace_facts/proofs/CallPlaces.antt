@@ -37,13 +37,25 @@ item_after-fits region passed =
     (λ past_derived.
     let start : 69 ≤ passed = ltb-false passed 69 past_derived in
     cond_both (nat_lt passed (69 + region)) (RegionRead (passed - 69)) _ Fits
-    (λ reads. (let below : passed < 69 + region = ltb-true passed (69 + region) reads in omega arith, key))
+    (λ reads. (
+      let below : passed < 69 + region =
+          ltb-true passed (69 + region) reads in omega arith,
+      key,
+    ))
     (λ past_region.
     cond_both (nat_lt passed (85 + region)) (InnerDigestWrite (passed - (69 + region))) _ Fits
-    (λ inner. (let below : passed < 85 + region = ltb-true passed (85 + region) inner in omega arith, key))
+    (λ inner. (
+      let below : passed < 85 + region =
+          ltb-true passed (85 + region) inner in omega arith,
+      key,
+    ))
     (λ past_inner.
     cond_both (nat_lt passed (101 + region)) (MacWrite (passed - (85 + region))) ReturnRead Fits
-    (λ mac. (let below : passed < 101 + region = ltb-true passed (101 + region) mac in omega arith, key))
+    (λ mac. (
+      let below : passed < 101 + region =
+          ltb-true passed (101 + region) mac in omega arith,
+      key,
+    ))
     (λ past_mac. key))))))
 
 -- words of RAM and of the program are no secrets
@@ -51,13 +63,15 @@ open_word : (place : ℕ)
     → ((0x200 ≤ place) × (place ≤ 0x21FE)) ⊎ ((0xC000 ≤ place) × (place ≤ 0xFFDE))
     → touches_secrets (Read (place / 2 * 2) Word) ≡ false
 open_word place (inl ram) = let low = ram.0 in let high = ram.1 in grind (arith, nat_tests)
-open_word place (inr program) = let low = program.0 in let high = program.1 in grind (arith, nat_tests)
+open_word place (inr program) = let low = program.0 in let high =
+    program.1 in grind (arith, nat_tests)
 
 pub metadata_off : (i : ℕ) → i < 21 → touches_secrets (Read ((0x240 + 2 * i) / 2 * 2) Word) ≡ false
 metadata_off i within = open_word (0x240 + 2 * i) (inl (omega arith, omega arith))
 
 -- a valid region lies in RAM or in the program
-part_of : (inner outer : Region) → is_part_of inner outer ≡ true → (outer.first ≤ inner.first) × (inner.last ≤ outer.last)
+part_of : (inner outer : Region) → is_part_of inner outer ≡ true
+    → (outer.first ≤ inner.first) × (inner.last ≤ outer.last)
 part_of inner outer part =
     let parts = and_parts _ _ part in
     (leb-true outer.first inner.first parts.0, leb-true inner.last outer.last parts.1)
@@ -67,12 +81,15 @@ pub valid_range : (first last : ℕ) → is_valid_region first last ≡ true
     × (((0x200 ≤ first) × (last + 1 ≤ 0x21FF)) ⊎ ((0xC000 ≤ first) × (last + 1 ≤ 0xFFDF)))
 valid_range first last valid =
     let region : Region = unwrapped_region first last in
-    let parts = and_parts (is_even first && is_even last && nat_le first last) (is_free_region region) valid in
+    let parts = and_parts (is_even first && is_even last && nat_le first last)
+    (is_free_region region) valid in
     let order = and_parts (is_even first && is_even last) (nat_le first last) parts.0 in
     let free =
-    and_parts ((is_part_of region ram_region || is_part_of region program_region) && is_disjoint region mac_region)
+    and_parts ((is_part_of region ram_region || is_part_of region program_region)
+    && is_disjoint region mac_region)
     (is_disjoint region metadata_region) parts.1 in
-    let place = and_parts (is_part_of region ram_region || is_part_of region program_region) (is_disjoint region mac_region) free.0 in (
+    let place = and_parts (is_part_of region ram_region || is_part_of region program_region)
+    (is_disjoint region mac_region) free.0 in (
       leb-true first last order.1,
       elim (or_cases (is_part_of region ram_region) (is_part_of region program_region) place.0) [
         | inl ram ↦ inl (part_of region ram_region ram)
@@ -80,7 +97,8 @@ valid_range first last valid =
       ],
     )
 
-word_of_region : (first last j : ℕ) → is_valid_region first last ≡ true → j < words_between first last
+word_of_region : (first last j : ℕ) → is_valid_region first last ≡ true
+    → j < words_between first last
     → touches_secrets (Read ((first + 2 * j) / 2 * 2) Word) ≡ false
 word_of_region first last j valid within =
     let range = valid_range first last valid in
@@ -100,20 +118,26 @@ valid_place_off : (bounds : Bounds) (i : ℕ) → are_valid bounds ≡ true
     → i < executable_words bounds + words_between bounds.or_min bounds.or_max
     → touches_secrets (Read (region_place bounds i / 2 * 2) Word) ≡ false
 valid_place_off bounds i valid within =
-    let both = and_parts (is_valid_region bounds.er_min bounds.er_max && is_valid_region bounds.or_min bounds.or_max) _ valid in
-    let each = and_parts (is_valid_region bounds.er_min bounds.er_max) (is_valid_region bounds.or_min bounds.or_max) both.0 in
+    let both = and_parts
+    (is_valid_region bounds.er_min bounds.er_max
+    && is_valid_region bounds.or_min bounds.or_max) _ valid in
+    let each = and_parts (is_valid_region bounds.er_min bounds.er_max)
+    (is_valid_region bounds.or_min bounds.or_max) both.0 in
     cond_both (nat_lt i (executable_words bounds)) (bounds.er_min + 2 * i)
     (bounds.or_min + 2 * (i - executable_words bounds))
     (λ place. touches_secrets (Read (place / 2 * 2) Word) ≡ false)
-    (λ executable. word_of_region bounds.er_min bounds.er_max i each.0 (ltb-true i (executable_words bounds) executable))
+    (λ executable. word_of_region bounds.er_min bounds.er_max i each.0
+    (ltb-true i (executable_words bounds) executable))
     (λ output.
     let past : executable_words bounds ≤ i = ltb-false i (executable_words bounds) output in
-    word_of_region bounds.or_min bounds.or_max (i - executable_words bounds) each.1 (omega (arith, past, within)))
+    word_of_region bounds.or_min bounds.or_max (i - executable_words bounds) each.1
+    (omega (arith, past, within)))
 
 pub region_off : (bounds : Bounds) (i : ℕ) → i < region_words bounds
     → touches_secrets (Read (region_place bounds i / 2 * 2) Word) ≡ false
 region_off bounds i =
-    cond_both (are_valid bounds) (executable_words bounds + words_between bounds.or_min bounds.or_max) 0
+    cond_both (are_valid bounds)
+    (executable_words bounds + words_between bounds.or_min bounds.or_max) 0
     (λ count. i < count → touches_secrets (Read (region_place bounds i / 2 * 2) Word) ≡ false)
     (λ valid within. valid_place_off bounds i valid within)
     (λ invalid within. absurd (omega (arith, within)))

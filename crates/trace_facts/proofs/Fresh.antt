@@ -1,13 +1,12 @@
 -- In the middle of an instruction or of an interrupt entry the last record is one of it.
 use Rattle.std.proofs.Common.{◌≡◌, ℕ, Bool, List, [], ◌∷◌, Option, Some, None, refl}
-use Rattle.std.specs.Prelude.{if◌then◌else◌}
 use Rattle.std.proofs.lemmas.Bool.{cond_both}
 use Rattle.bus_signals.specs.declared.access.Access.{Access}
 use Rattle.bus_signals.specs.declared.event.Event.{Event}
 use Rattle.bus_signals.specs.declared.kind.Kind.{Kind}
 use Rattle.bus_signals.specs.declared.kind.Kind.TheVariants.{Boot, Cpu, Idle, Irq, Rom}
 use Rattle.bus_signals.specs.declared.rule.Rule.{Rule}
-use Rattle.part_definitions.specs.Attestation.{call_item, item_pc, is_return}
+use Rattle.part_definitions.specs.Attestation.{call_item, is_return}
 use Rattle.part_definitions.specs.CpuRegisters.{pc_of}
 use Rattle.part_definitions.specs.CpuState.{CpuState, Boundary, Executing, Entering, cpu_pc, with_value, completed_or}
 use Rattle.part_definitions.specs.Flag.{last_pc}
@@ -36,25 +35,34 @@ own_pc (Boundary regs) = tt
 own_pc (Executing regs values) = refl
 own_pc (Entering regs vector values) = refl
 
-after_value-fresh : (cpu : CpuState) (value : ℕ) → IsOfLast (with_value cpu value) (Some (cpu_pc cpu))
+after_value-fresh : (cpu : CpuState) (value : ℕ)
+    → IsOfLast (with_value cpu value) (Some (cpu_pc cpu))
 after_value-fresh (Boundary regs) value = refl
 after_value-fresh (Executing regs values) value = refl
 after_value-fresh (Entering regs vector values) value = refl
 
-completed_or-fresh : (cpu : CpuState) (next : Next) (last : Option ℕ) → IsOfLast cpu last → IsOfLast (completed_or cpu next) last
+completed_or-fresh : (cpu : CpuState) (next : Next) (last : Option ℕ) → IsOfLast cpu last
+    → IsOfLast (completed_or cpu next) last
 completed_or-fresh cpu (Asks access) last fresh = fresh
 completed_or-fresh cpu (Ends regs) last fresh = tt
 
-running_after-fresh : (kind : Kind) (cpu : CpuState) (value : ℕ) → IsOfLast (running_after kind cpu value) (Some (cpu_pc cpu))
+running_after-fresh : (kind : Kind) (cpu : CpuState) (value : ℕ)
+    → IsOfLast (running_after kind cpu value) (Some (cpu_pc cpu))
 running_after-fresh Idle cpu value = own_pc cpu
-running_after-fresh Boot cpu value = completed_or-fresh (with_value cpu value) _ _ (after_value-fresh cpu value)
-running_after-fresh Cpu cpu value = completed_or-fresh (with_value cpu value) _ _ (after_value-fresh cpu value)
-running_after-fresh Irq cpu value = completed_or-fresh (with_value cpu value) _ _ (after_value-fresh cpu value)
-running_after-fresh Rom cpu value = completed_or-fresh (with_value cpu value) _ _ (after_value-fresh cpu value)
+running_after-fresh Boot cpu value =
+    completed_or-fresh (with_value cpu value) _ _ (after_value-fresh cpu value)
+running_after-fresh Cpu cpu value =
+    completed_or-fresh (with_value cpu value) _ _ (after_value-fresh cpu value)
+running_after-fresh Irq cpu value =
+    completed_or-fresh (with_value cpu value) _ _ (after_value-fresh cpu value)
+running_after-fresh Rom cpu value =
+    completed_or-fresh (with_value cpu value) _ _ (after_value-fresh cpu value)
 
-call_after-fresh : (regs words : List ℕ) (word : ℕ) (last : Option ℕ) → IsFresh (call_after regs words word) last
+call_after-fresh : (regs words : List ℕ) (word : ℕ) (last : Option ℕ)
+    → IsFresh (call_after regs words word) last
 call_after-fresh regs words word last =
-    cond_both (is_return (call_item words)) (after_return regs word) _ (λ progress. IsFresh progress last)
+    cond_both (is_return (call_item words)) (after_return regs word) _
+    (λ progress. IsFresh progress last)
     (λ returns. tt)
     (λ goes_on. tt)
 
@@ -62,11 +70,14 @@ next_progress-fresh : (kind : Kind) (progress : Progress) (access : Option Acces
     → IsFresh (next_progress kind progress access value) (Some (next_pc_of progress))
 next_progress-fresh kind Held access value = tt
 next_progress-fresh kind (Runs cpu) access value = running_after-fresh kind cpu value
-next_progress-fresh kind (InCall regs words) access value = call_after-fresh regs words (word_passed access value) _
+next_progress-fresh kind (InCall regs words) access value =
+    call_after-fresh regs words (word_passed access value) _
 
-progress_after-fresh : (rule : Option Rule) (kind : Kind) (progress : Progress) (access : Option Access) (value : ℕ)
+progress_after-fresh : (rule : Option Rule) (kind : Kind) (progress : Progress)
+    (access : Option Access) (value : ℕ)
     → IsFresh (progress_after rule kind progress access value) (Some (next_pc_of progress))
-progress_after-fresh None kind progress access value = next_progress-fresh kind progress access value
+progress_after-fresh None kind progress access value =
+    next_progress-fresh kind progress access value
 progress_after-fresh (Some rule) kind progress access value = tt
 
 abbrev pub LogsAreFresh : Logs → Type 0
@@ -76,14 +87,17 @@ after_record-fresh : (start : Start) (logs : Logs) (reset : Bool)
     → LogsAreFresh (with_record start logs (record_of start logs reset))
 unfolding with_record record_of signals_at
 after_record-fresh start logs reset =
-    progress_after-fresh (first_rule (last_pc logs.seen) (signals_of start logs reset)) (step_kind logs)
+    progress_after-fresh (first_rule (last_pc logs.seen) (signals_of start logs reset))
+    (step_kind logs)
     (step_progress logs (step_kind logs)) _ _
 
-next_logs-fresh : (start : Start) (logs : Logs) (events : List Event) → LogsAreFresh (next_logs start logs events)
+next_logs-fresh : (start : Start) (logs : Logs) (events : List Event)
+    → LogsAreFresh (next_logs start logs events)
 unfolding next_record
 next_logs-fresh start logs events = after_record-fresh start (with_events logs events) _
 
-pub logs_after-fresh : (start : Start) (play : List (List Event)) → LogsAreFresh (logs_after start play)
+pub logs_after-fresh : (start : Start) (play : List (List Event))
+    → LogsAreFresh (logs_after start play)
 unfolding logs_after
 logs_after-fresh start [] = tt
 logs_after-fresh start (events ∷ play) = next_logs-fresh start (logs_after start play) events

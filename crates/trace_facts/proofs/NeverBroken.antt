@@ -79,7 +79,8 @@ names_no_a1 false false false false false true named = absurd (cc)
 names_no_a1 false false false false false false named = absurd (cc)
 
 or_else-some : (first second : Option Rule) (rule : Rule)
-    → or_else first second ≡ Some rule → (first ≡ Some rule) ⊎ ((first ≡ None) × (second ≡ Some rule))
+    → or_else first second ≡ Some rule
+    → (first ≡ Some rule) ⊎ ((first ≡ None) × (second ≡ Some rule))
 or_else-some None second rule named = inr (refl, named)
 or_else-some (Some earlier) second rule named = inl named
 
@@ -88,19 +89,23 @@ other_rule true named other is = cc
 other_rule false named other is = absurd (cc)
 
 -- where the first rule is A1 or K3, its test holds, and the earlier rules of the ROM's entry do not
-first_rule-a1 : (last : Option ℕ) (now : Signals) → first_rule last now ≡ Some A1 → breaks_a1 last now ≡ true
+first_rule-a1 : (last : Option ℕ) (now : Signals) → first_rule last now ≡ Some A1
+    → breaks_a1 last now ≡ true
 unfolding first_rule atomicity_rule key_rule
 first_rule-a1 last now named =
     elim (or_else-some (rule_where (breaks_x0 now) X0) _ A1 named) [
       | inl x0 ↦ absurd (let same = other_rule (breaks_x0 now) X0 A1 x0 in cc)
       | inr later ↦
           elim (or_else-some (atomicity_rule last now) _ A1 later.1) [
-            | inl atomicity ↦ names_a1 (breaks_a3 now) (breaks_a2 last now) (breaks_a1 last now) (breaks_a4 now) atomicity
+            | inl atomicity ↦
+                names_a1 (breaks_a3 now) (breaks_a2 last now) (breaks_a1 last now)
+                (breaks_a4 now) atomicity
             | inr rest ↦
                 elim (or_else-some (key_rule now) (rule_where (breaks_i1 now) I1) A1 rest.1) [
                   | inl key ↦
                       absurd
-                      (names_no_a1 (breaks_k1 now) (breaks_k2 now) (breaks_k3 now) (breaks_k4 now) (breaks_k5 now)
+                      (names_no_a1 (breaks_k1 now) (breaks_k2 now) (breaks_k3 now) (breaks_k4 now)
+                      (breaks_k5 now)
                       (breaks_k6 now) key)
                   | inr i1 ↦ absurd (let same = other_rule (breaks_i1 now) I1 A1 i1.1 in cc)
                 ]
@@ -116,12 +121,14 @@ first_rule-k3 last now named =
       | inr later ↦
           elim (or_else-some (atomicity_rule last now) _ K3 later.1) [
             | inl atomicity ↦
-                absurd (names_no_k3 (breaks_a3 now) (breaks_a2 last now) (breaks_a1 last now) (breaks_a4 now) atomicity)
+                absurd (names_no_k3 (breaks_a3 now) (breaks_a2 last now) (breaks_a1 last now)
+                (breaks_a4 now) atomicity)
             | inr rest ↦
                 elim (or_else-some (key_rule now) (rule_where (breaks_i1 now) I1) K3 rest.1) [
                   | inl key ↦ (
                     rest.0,
-                    names_k3 (breaks_k1 now) (breaks_k2 now) (breaks_k3 now) (breaks_k4 now) (breaks_k5 now)
+                    names_k3 (breaks_k1 now) (breaks_k2 now) (breaks_k3 now) (breaks_k4 now)
+                        (breaks_k5 now)
                         (breaks_k6 now) key,
                   )
                   | inr i1 ↦ absurd (let same = other_rule (breaks_i1 now) I1 K3 i1.1 in cc)
@@ -131,7 +138,8 @@ first_rule-k3 last now named =
 
 -- A1: the ROM is left at its exit alone
 pub item_pc-in_rom : (item : CallItem) → in_rom (item_pc item) ≡ true
-item_pc-in_rom (KeyRead i) = cond_both (i == 0) ROM_ENTRY ROM_BODY (λ pc. in_rom pc ≡ true) (λ first. refl) (λ other. refl)
+item_pc-in_rom (KeyRead i) =
+    cond_both (i == 0) ROM_ENTRY ROM_BODY (λ pc. in_rom pc ≡ true) (λ first. refl) (λ other. refl)
 item_pc-in_rom (MetadataRead i) = refl
 item_pc-in_rom (DerivedKeyWrite i) = refl
 item_pc-in_rom (RegionRead i) = refl
@@ -140,38 +148,48 @@ item_pc-in_rom (MacWrite i) = refl
 item_pc-in_rom ReturnRead = refl
 
 a1_false : (progress : Progress) (vector last : Option ℕ) → IsSound progress last
-    → (was_inside last && not (in_rom (next_pc_of (progress_within progress (kind_of progress vector) vector)))
+    → (was_inside last
+    && not (in_rom (next_pc_of (progress_within progress (kind_of progress vector) vector)))
     && not (is_boot (kind_of progress vector))) ≡ false
 a1_false Held vector last sound = and_right (was_inside last && not (in_rom 0)) false refl
-a1_false (Runs cpu) vector last sound = and_left (was_inside last && _) _ (and_left (was_inside last) _ sound.0)
+a1_false (Runs cpu) vector last sound =
+    and_left (was_inside last && _) _ (and_left (was_inside last) _ sound.0)
 a1_false (InCall regs words) vector last sound =
     and_left (was_inside last && not (in_rom (item_pc (call_item words)))) _
     (and_right (was_inside last) (not (in_rom (item_pc (call_item words))))
     (not_from_true _ (item_pc-in_rom (call_item words))))
 
 -- K3: a call writes to the exclusive stack and to the MAC
-stack_word : (i : ℕ) → i < 16 → (number : ℕ) → leaves_stack_and_mac (Some (Write ((0x4000 + 2 * i) / 2 * 2) Word number)) ≡ false
+stack_word : (i : ℕ) → i < 16 → (number : ℕ)
+    → leaves_stack_and_mac (Some (Write ((0x4000 + 2 * i) / 2 * 2) Word number)) ≡ false
 stack_word i within number = grind (arith, nat_tests)
 
-inner_word : (i : ℕ) → i < 16 → (number : ℕ) → leaves_stack_and_mac (Some (Write ((0x4020 + 2 * i) / 2 * 2) Word number)) ≡ false
+inner_word : (i : ℕ) → i < 16 → (number : ℕ)
+    → leaves_stack_and_mac (Some (Write ((0x4020 + 2 * i) / 2 * 2) Word number)) ≡ false
 inner_word i within number = grind (arith, nat_tests)
 
-mac_word : (i : ℕ) → i < 16 → (number : ℕ) → leaves_stack_and_mac (Some (Write ((0x200 + 2 * i) / 2 * 2) Word number)) ≡ false
+mac_word : (i : ℕ) → i < 16 → (number : ℕ)
+    → leaves_stack_and_mac (Some (Write ((0x200 + 2 * i) / 2 * 2) Word number)) ≡ false
 mac_word i within number = grind (arith, nat_tests)
 
 pub item_writes-inside : (region passed sp number : ℕ) (bounds : Bounds) (item : CallItem)
     → ItemFits region passed item
-    → (some_writes (Some (item_access sp bounds item number)) && leaves_stack_and_mac (Some (item_access sp bounds item number))) ≡ false
+    → (some_writes (Some (item_access sp bounds item number))
+    && leaves_stack_and_mac (Some (item_access sp bounds item number))) ≡ false
 item_writes-inside region passed sp number bounds (KeyRead i) fits = refl
 item_writes-inside region passed sp number bounds (MetadataRead i) fits = refl
-item_writes-inside region passed sp number bounds (DerivedKeyWrite i) fits = stack_word i fits.0 number
+item_writes-inside region passed sp number bounds (DerivedKeyWrite i) fits =
+    stack_word i fits.0 number
 item_writes-inside region passed sp number bounds (RegionRead i) fits = refl
-item_writes-inside region passed sp number bounds (InnerDigestWrite i) fits = inner_word i fits.0 number
+item_writes-inside region passed sp number bounds (InnerDigestWrite i) fits =
+    inner_word i fits.0 number
 item_writes-inside region passed sp number bounds (MacWrite i) fits = mac_word i fits.0 number
 item_writes-inside region passed sp number bounds ReturnRead fits = refl
 
-k3_false : (start : Start) (releases : ℕ) (kind : Kind) (progress : Progress) → IsWithin kind progress
-    → (some_writes (access_of start releases kind progress) && leaves_stack_and_mac (access_of start releases kind progress)
+k3_false : (start : Start) (releases : ℕ) (kind : Kind) (progress : Progress)
+    → IsWithin kind progress
+    → (some_writes (access_of start releases kind progress)
+    && leaves_stack_and_mac (access_of start releases kind progress)
     && in_rom (next_pc_of progress)) ≡ false
 k3_false start releases kind Held within = refl
 k3_false start releases kind (Runs cpu) within = and_right _ (in_rom (cpu_pc cpu)) within
@@ -201,7 +219,8 @@ no_k3 start logs reset sound named =
     let within : IsWithin (step_kind logs) (step_progress logs (step_kind logs)) =
     progress_within-right logs.progress (vector_of logs) (last_pc logs.seen) sound atomicity.a2 in
     let fails : breaks_k3 (signals_of start logs reset) ≡ false =
-    k3_false start (length logs.released_words) (step_kind logs) (step_progress logs (step_kind logs)) within in
+    k3_false start (length logs.released_words) (step_kind logs)
+    (step_progress logs (step_kind logs)) within in
     let clash : true ≡ false = sym both.1 ∙ fails in
     cc
 
@@ -211,13 +230,16 @@ unfolding record_of
 record_of-names_neither start logs reset sound =
     record { a1 = no_a1 start logs reset sound; k3 = no_k3 start logs reset sound }
 
-pub next_record-names_neither : (start : Start) (logs : Logs) (events : List Event) → LogsAreSound logs
+pub next_record-names_neither : (start : Start) (logs : Logs) (events : List Event)
+    → LogsAreSound logs
     → NamesNeitherA1NorK3 (next_record start logs events)
 unfolding next_record
 next_record-names_neither start logs events sound =
-    record_of-names_neither start (with_events logs events) (asks_reset events) (with_events-sound logs events sound)
+    record_of-names_neither start (with_events logs events) (asks_reset events)
+    (with_events-sound logs events sound)
 
-pub trace-names_neither : (start : Start) (play : List (List Event)) → All NamesNeitherA1NorK3 (trace start play)
+pub trace-names_neither : (start : Start) (play : List (List Event))
+    → All NamesNeitherA1NorK3 (trace start play)
 unfolding trace
 trace-names_neither start [] place default within = absurd (omega (arith, within))
 trace-names_neither start (events ∷ play) zero default within =

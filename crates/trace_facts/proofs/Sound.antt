@@ -39,7 +39,8 @@ IsWithin kind (Runs cpu) = in_rom (cpu_pc cpu) ≡ false
 IsWithin kind (InCall regs words) = kind ≡ Rom
 
 rom_code_refused : (last : Option ℕ) (pc : ℕ)
-    → was_inside last ≡ false → (pc == ROM_ENTRY) ≡ false → in_rom pc ≡ true → enters_wrongly last pc ≡ false → ⊥
+    → was_inside last ≡ false → (pc == ROM_ENTRY) ≡ false → in_rom pc ≡ true
+    → enters_wrongly last pc ≡ false → ⊥
 rom_code_refused last pc before other inside right =
     let wrong : enters_wrongly last pc ≡ true =
     and_from (in_rom pc && not (pc == ROM_ENTRY)) (not (was_inside last))
@@ -53,7 +54,8 @@ StepsRightly regs vector last kind =
     enters_wrongly last (next_pc_of (progress_from_boundary regs kind vector)) ≡ false
     → IsWithin kind (progress_from_boundary regs kind vector)
 
-irq_rightly : (regs : List ℕ) (vector last : Option ℕ) → in_rom (pc_of regs) ≡ false → StepsRightly regs vector last Irq
+irq_rightly : (regs : List ℕ) (vector last : Option ℕ) → in_rom (pc_of regs) ≡ false
+    → StepsRightly regs vector last Irq
 irq_rightly regs None last outside right = outside
 irq_rightly regs (Some vector) last outside right = outside
 
@@ -73,10 +75,12 @@ boundary_rightly regs vector last before =
 
 pub progress_within-right : (progress : Progress) (vector last : Option ℕ)
     → IsSound progress last
-    → enters_wrongly last (next_pc_of (progress_within progress (kind_of progress vector) vector)) ≡ false
+    → enters_wrongly last (next_pc_of (progress_within progress (kind_of progress vector) vector))
+    ≡ false
     → IsWithin (kind_of progress vector) (progress_within progress (kind_of progress vector) vector)
 progress_within-right Held vector last sound right = refl
-progress_within-right (Runs (Boundary regs)) vector last sound right = boundary_rightly regs vector last sound.0 right
+progress_within-right (Runs (Boundary regs)) vector last sound right =
+    boundary_rightly regs vector last sound.0 right
 progress_within-right (Runs (Executing regs values)) vector last sound right = sound.1
 progress_within-right (Runs (Entering regs chosen values)) vector last sound right = sound.1
 progress_within-right (InCall regs words) vector last sound right = refl
@@ -87,22 +91,28 @@ outside_of (Boundary regs) outside = tt
 outside_of (Executing regs values) outside = outside
 outside_of (Entering regs vector values) outside = outside
 
-with_value-outside : (cpu : CpuState) (value : ℕ) → in_rom (cpu_pc cpu) ≡ false → IsOutside (with_value cpu value)
+with_value-outside : (cpu : CpuState) (value : ℕ) → in_rom (cpu_pc cpu) ≡ false
+    → IsOutside (with_value cpu value)
 with_value-outside (Boundary regs) value outside = outside
 with_value-outside (Executing regs values) value outside = outside
 with_value-outside (Entering regs vector values) value outside = outside
 
-completed_or-outside : (cpu : CpuState) (next : Next) → IsOutside cpu → IsOutside (completed_or cpu next)
+completed_or-outside : (cpu : CpuState) (next : Next) → IsOutside cpu
+    → IsOutside (completed_or cpu next)
 completed_or-outside cpu (Asks access) outside = outside
 completed_or-outside cpu (Ends regs) outside = tt
 
 running_after-outside : (kind : Kind) (cpu : CpuState) (value : ℕ)
     → in_rom (cpu_pc cpu) ≡ false → IsOutside (running_after kind cpu value)
 running_after-outside Idle cpu value outside = outside_of cpu outside
-running_after-outside Boot cpu value outside = completed_or-outside (with_value cpu value) _ (with_value-outside cpu value outside)
-running_after-outside Cpu cpu value outside = completed_or-outside (with_value cpu value) _ (with_value-outside cpu value outside)
-running_after-outside Irq cpu value outside = completed_or-outside (with_value cpu value) _ (with_value-outside cpu value outside)
-running_after-outside Rom cpu value outside = completed_or-outside (with_value cpu value) _ (with_value-outside cpu value outside)
+running_after-outside Boot cpu value outside =
+    completed_or-outside (with_value cpu value) _ (with_value-outside cpu value outside)
+running_after-outside Cpu cpu value outside =
+    completed_or-outside (with_value cpu value) _ (with_value-outside cpu value outside)
+running_after-outside Irq cpu value outside =
+    completed_or-outside (with_value cpu value) _ (with_value-outside cpu value outside)
+running_after-outside Rom cpu value outside =
+    completed_or-outside (with_value cpu value) _ (with_value-outside cpu value outside)
 
 return_pc : (item : CallItem) → is_return item ≡ true → was_inside (Some (item_pc item)) ≡ false
 return_pc (KeyRead i) returns = absurd (cc)
@@ -122,14 +132,16 @@ call_after-sound regs words word =
     (λ goes_on. tt)
 
 pub next_progress-sound : (kind : Kind) (progress : Progress) (access : Option Access) (value : ℕ)
-    → IsWithin kind progress → IsSound (next_progress kind progress access value) (Some (next_pc_of progress))
+    → IsWithin kind progress
+    → IsSound (next_progress kind progress access value) (Some (next_pc_of progress))
 next_progress-sound kind Held access value within = (refl, tt)
 next_progress-sound kind (Runs cpu) access value within =
     (and_left (in_rom (cpu_pc cpu)) _ within, running_after-outside kind cpu value within)
 next_progress-sound kind (InCall regs words) access value within =
     call_after-sound regs words (word_passed access value)
 
-pub progress_after-sound : (rule : Option Rule) (kind : Kind) (progress : Progress) (access : Option Access) (value : ℕ)
+pub progress_after-sound : (rule : Option Rule) (kind : Kind) (progress : Progress)
+    (access : Option Access) (value : ℕ)
     → (rule ≡ None → IsWithin kind progress)
     → IsSound (progress_after rule kind progress access value) (Some (next_pc_of progress))
 progress_after-sound None kind progress access value within =

@@ -28,10 +28,12 @@ after_record-sound : (start : Start) (logs : Logs) (reset : Bool)
     → LogsAreSound logs → LogsAreSound (with_record start logs (record_of start logs reset))
 unfolding with_record record_of signals_at
 after_record-sound start logs reset sound =
-    progress_after-sound (first_rule (last_pc logs.seen) (signals_of start logs reset)) (step_kind logs)
+    progress_after-sound (first_rule (last_pc logs.seen) (signals_of start logs reset))
+    (step_kind logs)
     (step_progress logs (step_kind logs)) _ _ (λ none. within_unrefused start logs reset sound none)
 
-pub with_events-sound : (logs : Logs) (events : List Event) → LogsAreSound logs → LogsAreSound (with_events logs events)
+pub with_events-sound : (logs : Logs) (events : List Event) → LogsAreSound logs
+    → LogsAreSound (with_events logs events)
 unfolding with_events
 with_events-sound logs events sound = sound
 
@@ -41,7 +43,9 @@ unfolding next_record
 next_logs-sound start logs events sound =
     after_record-sound start (with_events logs events) _ (with_events-sound logs events sound)
 
-pub logs_after-sound : (start : Start) (play : List (List Event)) → LogsAreSound (logs_after start play)
+pub logs_after-sound : (start : Start) (play : List (List Event))
+    → LogsAreSound (logs_after start play)
 unfolding logs_after
 logs_after-sound start [] = tt
-logs_after-sound start (events ∷ play) = next_logs-sound start (logs_after start play) events (logs_after-sound start play)
+logs_after-sound start (events ∷ play) =
+    next_logs-sound start (logs_after start play) events (logs_after-sound start play)

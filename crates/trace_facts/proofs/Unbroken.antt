@@ -32,7 +32,8 @@ if_none : (test : Bool) (rule : Rule) (rest : Option Rule)
 if_none true rule rest none = absurd (cc)
 if_none false rule rest none = (refl, none)
 
-or_else_none : (first second : Option Rule) → or_else first second ≡ None → (first ≡ None) × (second ≡ None)
+or_else_none : (first second : Option Rule) → or_else first second ≡ None
+    → (first ≡ None) × (second ≡ None)
 or_else_none None second none = (refl, none)
 or_else_none (Some rule) second none = absurd (cc)
 
@@ -47,7 +48,8 @@ key_rule-none now none =
     let k6 = if_none (breaks_k6 now) K6 _ k5.1 in
     record { k1 = k1.0; k2 = k2.0; k3 = k3.0; k4 = k4.0; k5 = k5.0; k6 = k6.0 }
 
-pub atomicity_rule-none : (last : Option ℕ) (now : Signals) → atomicity_rule last now ≡ None → BreaksNoAtomicity last now
+pub atomicity_rule-none : (last : Option ℕ) (now : Signals) → atomicity_rule last now ≡ None
+    → BreaksNoAtomicity last now
 unfolding atomicity_rule
 atomicity_rule-none last now none =
     let a3 = if_none (breaks_a3 now) A3 _ none in
@@ -56,7 +58,8 @@ atomicity_rule-none last now none =
     let a4 = if_none (breaks_a4 now) A4 _ a1.1 in
     record { a3 = a3.0; a2 = a2.0; a1 = a1.0; a4 = a4.0 }
 
-pub first_rule-none : (last : Option ℕ) (now : Signals) → first_rule last now ≡ None → BreaksNoRule last now
+pub first_rule-none : (last : Option ℕ) (now : Signals) → first_rule last now ≡ None
+    → BreaksNoRule last now
 unfolding first_rule
 first_rule-none last now none =
     let x0 = or_else_none (rule_where (breaks_x0 now) X0) _ none in

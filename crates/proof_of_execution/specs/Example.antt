@@ -1,0 +1,19 @@
+-- Closed plays at which the law is computed.
+use Rattle.std.specs.Prelude.{Bool, List, [], ◌∷◌, Option, Some, None}
+use Rattle.bus_signals.specs.declared.event.Event.{Event}
+use Rattle.bus_signals.specs.declared.event.Event.TheVariants.{Rx}
+use Rattle.bus_signals.specs.Report.{ReportFields}
+use Rattle.device_trace.specs.Example.{quiet_steps}
+
+-- the region is called and then attested, with no event
+abbrev pub quiet_play : List (List Event)
+quiet_play = quiet_steps 121 []
+
+-- the same, where a byte arrives while the region runs
+abbrev pub play_with_byte : List (List Event)
+play_with_byte = quiet_steps 118 ((Rx 0x55 ∷ []) ∷ quiet_steps 11 [])
+
+-- EXEC in a report
+abbrev pub reported_exec : Option ReportFields → Option Bool
+reported_exec None = None
+reported_exec (Some report) = Some report.exec
