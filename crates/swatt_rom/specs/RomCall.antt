@@ -11,11 +11,6 @@ pub data RomCall : Type 0 where
   -- after its last step: the stack pointer at its start, and the word that the return read gave
   AfterCall : ℕ → ℕ → RomCall
 
-abbrev pub IsBetweenCalls : RomCall → Type 0
-IsBetweenCalls NoCall = Unit {0}
-IsBetweenCalls (InCall sp words) = ⊥
-IsBetweenCalls (AfterCall sp word) = Unit {0}
-
 -- the access after these words
 abbrev pub call_access : (List ℕ → List ℕ) → ℕ → List ℕ → Access
 call_access digest sp words =

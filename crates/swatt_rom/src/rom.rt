@@ -1,6 +1,6 @@
 ghost use Rattle.std.specs.Prelude.{◌≡◌, [], ℕ, IfSome};
 ghost use Rattle.bus_signals.specs.Access.{IsFormed};
-ghost use Rattle.swatt_rom.specs.RomCall.{RomCall, NoCall, InCall, IsBetweenCalls, Tells, rom_access, rom_pc, registers_after, after_value};
+ghost use Rattle.swatt_rom.specs.RomCall.{RomCall, NoCall, InCall, Tells, rom_access, rom_pc, registers_after, after_value};
 
 use crate::phase::Phase;
 use crate::state::State;
@@ -28,7 +28,7 @@ impl<D: Digest32> Rom<D> {
         Rom { state: State::Idle }
     }
 
-    /// Begins a call, with the processor's stack pointer; no call may be in progress.
+    /// Begins a call, with the processor's stack pointer. What went before is forgotten.
     pub fn begin(&mut self, sp: u16)
         ensures { RomStandsFor D.has_taken D.digest_of self.new (InCall sp []) }
     {
@@ -88,7 +88,7 @@ impl<D: Digest32> BusMaster for Rom<D> {
 
     fn clear(&mut self)
         ensures stands { RomStandsFor D.has_taken D.digest_of self.new NoCall }
-        ensures wiped { self.new ≡ idle_rom }
+        ensures idle { self.new ≡ idle_rom }
     {
         *self = Rom::new();
     }

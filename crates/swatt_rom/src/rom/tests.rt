@@ -1,6 +1,3 @@
-ghost use Rattle.swatt_rom.specs.RomCall.{RomCall};
-ghost use Rattle.swatt_rom.specs.Rom.{RomStandsFor};
-
 use super::*;
 use bus_signals::{KR, MR};
 use std::test::Fail;
@@ -33,10 +30,7 @@ fn keep(mac: &mut [u8; 32], place: u16, word: u16) {
 }
 
 // A step over this memory, if there is one: its access.
-fn step<D: Digest32>(rom: &mut Rom<D>, memory: &[(u16, u16)]) -> Option<Access>
-    requires { (call : RomCall) × RomStandsFor D.has_taken D.digest_of rom.old call }
-    ensures { (call : RomCall) × RomStandsFor D.has_taken D.digest_of rom.new call }
-{
+fn step<D: Digest32>(rom: &mut Rom<D>, memory: &[(u16, u16)]) -> Option<Access> {
     let access = rom.ask()?;
     let value = match access {
         Access::Fetch(place) | Access::Read(place, _) => word_at(memory, place),
