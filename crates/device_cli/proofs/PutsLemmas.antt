@@ -30,21 +30,3 @@ prefix-append stands old mid new before piece rest text begins takes begun =
     rw begins
     (prefix_after stands old mid new before (piece ++ rest) takes
     (prefix_of_more stands mid new piece rest begun))
-
--- a call that failed after a part of the text
-pub puts-failed :
-    {S V E : Type 0} (stands : S → List ℕ → Type 0) (old new : S) (text : List ℕ)
-    (result : Result V E)
-    → IsErr result → TakesPrefix stands old new text → Puts stands old new text result
-puts-failed stands old new text (Ok value) is prefix = absurd (cc is)
-puts-failed stands old new text (Err error) is prefix = record { all = tt; prefix = prefix }
-
--- and its fault, where nothing was counted before
-pub counts-failed :
-    {S V E : Type 0} (faults : S → ℕ) (old mid new : S) (result : Result V E)
-    → IsErr result → faults mid ≡ faults old → Rose (faults mid) (faults new)
-    → faults mid ≤ faults new
-    → CountsFaults faults old new result
-counts-failed faults old mid new (Ok value) is same rose kept = absurd (cc is)
-counts-failed faults old mid new (Err error) is same rose kept =
-    record { failed = rw (← same) rose; quiet = tt; counted = rw (← same) kept }

@@ -1,26 +1,20 @@
 -- The command `play`: its files, and its text.
 use Rattle.std.specs.Prelude.{ℕ, List, [], ◌∷◌, Option, None, Result, Ok, Err, option_map}
 use Rattle.std.specs.Result.{result_ok, result_err, result_unwrap_or}
-use Rattle.text_scan.specs.declared.fault_at.FaultAt.{FaultAt}
-use Rattle.text_scan.specs.declared.fault_kind.FaultKind.TheVariants.{NotBuilt}
 use Rattle.text_scan.specs.Decimal.{decimal_of}
 use Rattle.text_scan.specs.Key.{key_of}
 use Rattle.hex_loader.specs.HexImage.{image_of}
 use Rattle.mem_map.specs.Image.{powered_with}
 use Rattle.play_script.specs.Script.{TimedEvent, events_of}
 use Rattle.play_script.specs.Grammar.{script_of}
+use Rattle.sha2.specs.Sha256.{sha256}
+use Rattle.device_trace.specs.Start.{with_key}
 use Rattle.device_trace.specs.Trace.{play_of}
 use Rattle.device_trace.specs.Text.{play_text}
 use Rattle.device_cli.specs.declared.play.Play.{Play}
 use Rattle.device_cli.specs.declared.status.Status.TheVariants.{BadKey, BadImage, BadScript}
 use Rattle.device_cli.specs.Limit.{most_steps, key_limit, text_limit}
 use Rattle.device_cli.specs.Row.{FileKind, File, Row}
-
--- no event has an effect yet, so a script that holds one is not played
-abbrev pub quiet : Result (List TimedEvent) FaultAt → Result (List TimedEvent) FaultAt
-quiet (Ok []) = Ok []
-quiet (Ok (event ∷ events)) = Err (record { line = 0; kind = NotBuilt })
-quiet (Err fault) = Err fault
 
 -- the kinds of file
 abbrev pub key_kind : FileKind
@@ -43,7 +37,7 @@ abbrev pub script_kind : FileKind
 script_kind =
     record {
       limit = text_limit;
-      grammar_fault = λ bytes. result_err (quiet (script_of bytes));
+      grammar_fault = λ bytes. result_err (script_of bytes);
       refusal = BadScript;
     }
 
@@ -60,7 +54,7 @@ script_in bytes = result_unwrap_or (script_of bytes) []
 -- the text of a play: powered on with a key and an image, so many steps of a script
 abbrev pub text_of : ℕ → List ℕ → (ℕ → Option ℕ) → List TimedEvent → List ℕ
 text_of steps key image script =
-    play_text (powered_with key image) (play_of (events_of script) steps)
+    play_text (with_key sha256 key (powered_with key image).image) (play_of (events_of script) steps)
 
 -- the same of the bytes of the three files
 abbrev pub text_of_files : ℕ → List (List ℕ) → List ℕ

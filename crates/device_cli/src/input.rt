@@ -86,17 +86,8 @@ impl Input for Script {
         TEXT_LIMIT
     }
 
-    /// No event has an effect yet, so a script that holds one is refused.
     fn parse(alloc: Global, bytes: &[u8]) -> Result<Script, TextFault> {
-        let script = read_script(alloc, bytes)?;
-        if script.is_empty() {
-            Ok(script)
-        } else {
-            Err(TextFault::At(FaultAt {
-                line: 0,
-                kind: FaultKind::NotBuilt,
-            }))
-        }
+        read_script(alloc, bytes)
     }
 
     fn refusal(fault: FaultAt) -> Status {

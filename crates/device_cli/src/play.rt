@@ -5,6 +5,7 @@ use crate::input::read_input;
 use crate::play_text::play_on;
 use crate::status::Status;
 use device_core::power_on;
+use hmac_core::Sha256Digest;
 use mem_map::Image;
 use outside_edge::{Shelf, Sink};
 use play_script::Script;
@@ -78,7 +79,7 @@ impl<'a> Play<'a> {
         let key: [u8; 64] = read_input(alloc, shelf, self.key)?;
         let image: Image = read_input(alloc, shelf, self.image)?;
         let script: Script = read_input(alloc, shelf, self.script)?;
-        let device = power_on(alloc, &key, &image)?;
+        let device = power_on::<Sha256Digest>(alloc, &key, &image)?;
         play_on(device, &script, self.steps, sink)?;
         Ok(())
     }

@@ -90,16 +90,10 @@ fn refuses_files_that_are_not_in_their_grammar(rt: HostRuntime) -> Result<(), Fa
     let bad_script = |line, kind| Status::BadScript(FaultAt { line, kind });
     let bad_key = |line, kind| Status::BadKey(FaultAt { line, kind });
     let order = b"at 5 reset\nat 4 reset\n";
-    let rows: [(&[u8], &[u8], &[u8], Status); 8] = [
+    let rows: [(&[u8], &[u8], &[u8], Status); 7] = [
         (no_end, b"", KEY, bad_image(2, FaultKind::NoEnd)),
         (check, b"", KEY, bad_image(1, FaultKind::Check)),
         (LETTER_A, order, KEY, bad_script(2, FaultKind::Order)),
-        (
-            LETTER_A,
-            b"at 5 reset\n",
-            KEY,
-            bad_script(0, FaultKind::NotBuilt),
-        ),
         (LETTER_A, b"x", KEY, bad_script(1, FaultKind::Word)),
         (LETTER_A, b"", &KEY[1..], bad_key(1, FaultKind::Missing)),
         (LETTER_A, b"", &[48; 257], bad_key(0, FaultKind::TooLong)),

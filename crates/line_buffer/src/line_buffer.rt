@@ -1,4 +1,5 @@
-ghost use Rattle.std.specs.Prelude.{◌≡◌, ◌+◌, ◌≤◌, ◌/◌, ◌%◌, ◌++◌, ◌∷◌, [], ℕ, List, length, decimal};
+ghost use Rattle.std.specs.Prelude.{◌≡◌, ◌+◌, ◌*◌, ◌≤◌, ◌/◌, ◌%◌, ◌++◌, ◌∷◌, [], ℕ, List, length, decimal};
+ghost use Rattle.hex.specs.Hex.{encode_lower};
 ghost use Rattle.printed_lines.specs.Lines.{byte_digits, word_digits};
 ghost use Rattle.line_buffer.specs.declared.line_buffer.TheConstants.{ROOM};
 
@@ -7,7 +8,7 @@ use itoa::Buffer;
 use std::marker::Model;
 
 /// How many bytes a line has room for.
-pub const ROOM: usize = 96;
+pub const ROOM: usize = 160;
 
 /// A line that is being built, seen as its bytes.
 #[derive(Drop)]
@@ -65,6 +66,21 @@ impl LineBuffer {
         let mut digits = [0; 2];
         match hex::encode_to_slice(&[byte], &mut digits) {
             Ok(()) => self.push(&digits),
+            Err(_) => unreachable!(),
+        }
+    }
+
+    /// Two digits a byte, lower case, of at most 32 bytes.
+    pub fn push_hex(&mut self, bytes: &[u8])
+        requires few { length bytes.now ≤ 32 }
+        requires fits { length self.old + 64 ≤ ROOM }
+        ensures text { self.new ≡ self.old ++ encode_lower bytes.now }
+        ensures len { length self.new ≡ length self.old + 2 * length bytes.now }
+    {
+        let mut room = [0; 64];
+        let digits = &mut room[..2 * bytes.len()];
+        match hex::encode_to_slice(bytes, digits) {
+            Ok(()) => self.push(digits),
             Err(_) => unreachable!(),
         }
     }

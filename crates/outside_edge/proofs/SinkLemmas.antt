@@ -1,7 +1,9 @@
 -- What a sink has taken after one more piece, and of several texts.
-use Rattle.std.proofs.Common.{◌+◌, ◌-◌, ◌≡◌, ℕ, List, Result, Ok, Err, ◌++◌, length, take, drop, append_assoc, arith, length-append}
+use Rattle.std.proofs.Common.{◌+◌, ◌-◌, ◌≡◌, ℕ, List, Result, Ok, Err, IsErr, ◌≤◌, ◌++◌, length, take, drop, append_assoc, arith, length-append}
 use Rattle.std.proofs.lemmas.List.{take_rest, take-append-le}
 use Rattle.std.proofs.Math.Seq.{take-add, take-append-add}
+use Rattle.std.proofs.lemmas.Bool.{false≢true}
+use Rattle.outside_edge.specs.Count.{Rose}
 use Rattle.outside_edge.specs.Sink.{Takes, TakesPrefix, Puts, CountsFaults}
 
 -- a prefix of the rest after a prefix is a longer prefix
@@ -64,3 +66,21 @@ counts_after faults old mid new result same counts = record {
   quiet = rw same at counts.quiet;
   counted = rw same at counts.counted;
 }
+
+-- a call that failed after a part of the text
+pub puts-failed :
+    {S V E : Type 0} (stands : S → List ℕ → Type 0) (old new : S) (text : List ℕ)
+    (result : Result V E)
+    → IsErr result → TakesPrefix stands old new text → Puts stands old new text result
+puts-failed stands old new text (Ok value) is prefix = absurd (false≢true is)
+puts-failed stands old new text (Err error) is prefix = record { all = tt; prefix = prefix }
+
+-- and its fault, where nothing was counted before
+pub counts-failed :
+    {S V E : Type 0} (faults : S → ℕ) (old mid new : S) (result : Result V E)
+    → IsErr result → faults mid ≡ faults old → Rose (faults mid) (faults new)
+    → faults mid ≤ faults new
+    → CountsFaults faults old new result
+counts-failed faults old mid new (Ok value) is same rose kept = absurd (false≢true is)
+counts-failed faults old mid new (Err error) is same rose kept =
+    record { failed = rw (← same) rose; quiet = tt; counted = rw (← same) kept }

@@ -51,13 +51,18 @@ abbrev pub output_word : Option (List ℕ) → List ℕ
 output_word None = codes "-"
 output_word (Some bytes) = encode_lower bytes
 
--- this step finished a call
-abbrev pub report_line : ReportFields → List ℕ
-report_line report =
+-- this step finished a call: all before the output, the output, and all after it
+abbrev pub report_head : ReportFields → List ℕ
+report_head report =
     codes "report " ++ decimal report.step ++ codes " exec " ++ flag_digit report.exec
     ++ codes " chal " ++ encode_lower report.chal ++ codes " " ++ bounds_words report.bounds
-    ++ codes " data " ++ output_word report.output
-    ++ codes " mac " ++ encode_lower report.mac ++ codes "\n"
+    ++ codes " data "
+
+abbrev pub report_tail : List ℕ → List ℕ
+report_tail mac = codes " mac " ++ encode_lower mac ++ codes "\n"
+
+abbrev pub report_line : ReportFields → List ℕ
+report_line report = report_head report ++ output_word report.output ++ report_tail report.mac
 
 -- after so many steps: the pc that the next step would have, and the EXEC flag
 abbrev pub end_line : ℕ → ℕ → Bool → List ℕ

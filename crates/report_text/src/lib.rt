@@ -1,10 +1,9 @@
 //! The lines that the program prints of a play.
 //!
-//! Each call puts exactly one line of the play's text into any sink, built in a fixed buffer but
-//! for the output of a report. After a failure the sink took a prefix of the line.
+//! Each call puts exactly one line of the play's text into any byte sink, and takes no memory. After a
+//! failure the sink took a prefix of the line.
 #![tactic(auto)]
 
-mod line;
 mod printed_line;
 mod report_line;
 

@@ -2,8 +2,8 @@ ghost use Rattle.std.specs.Prelude.{◌≡◌, length};
 ghost use Rattle.outside_edge.specs.Sink.{Puts, CountsFaults};
 ghost use Rattle.printed_lines.specs.Lines.{sent_line, reset_line, end_line, rule_name, flag_digit};
 
-use crate::line::Line;
 use bus_signals::Rule;
+use line_buffer::LineBuffer;
 use outside_edge::{Failed, Sink, put_all};
 
 /// Puts `tx S HH`: in step S this byte was sent.
@@ -11,7 +11,7 @@ pub fn print_sent<W: Sink>(step: u64, byte: u8, sink: &mut W) -> Result<(), Fail
     ensures puts { Puts W.stands sink.old sink.new (sent_line step byte) result }
     ensures counts { CountsFaults W.faults sink.old sink.new result }
 {
-    let mut line = Line::new();
+    let mut line = LineBuffer::new();
     line.push(b"tx ");
     line.push_decimal(step);
     line.push(b" ");
@@ -25,7 +25,7 @@ pub fn print_reset<W: Sink>(step: u64, rule: Rule, sink: &mut W) -> Result<(), F
     ensures puts { Puts W.stands sink.old sink.new (reset_line step rule) result }
     ensures counts { CountsFaults W.faults sink.old sink.new result }
 {
-    let mut line = Line::new();
+    let mut line = LineBuffer::new();
     line.push(b"reset ");
     line.push_decimal(step);
     line.push(b" ");
@@ -40,7 +40,7 @@ pub fn print_end<W: Sink>(steps: u64, pc: u16, exec: bool, sink: &mut W) -> Resu
     ensures puts { Puts W.stands sink.old sink.new (end_line steps pc exec) result }
     ensures counts { CountsFaults W.faults sink.old sink.new result }
 {
-    let mut line = Line::new();
+    let mut line = LineBuffer::new();
     line.push(b"end ");
     line.push_decimal(steps);
     line.push(b" pc ");

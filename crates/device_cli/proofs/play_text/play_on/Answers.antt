@@ -1,91 +1,100 @@
-use Rattle.std.proofs.Common.{◌≡◌, ◌∙◌, [], false, refl, arith, add-one, append-nil}
-use Rattle.part_definitions.specs.Memory.{PowerOn}
+use Rattle.std.proofs.Common.{◌≡◌, ◌∙◌, [], ℕ, List, refl, arith, add-one, append-nil}
+use Rattle.device_trace.specs.Start.{Start, with_key}
 use Rattle.device_trace.specs.Text.{lines_of, play_text}
 use Rattle.printed_lines.specs.Lines.{end_line}
-use Rattle.device_trace.specs.Trace.{trace, play_of}
+use Rattle.device_trace.specs.Trace.{play_of}
 use Rattle.play_script.specs.Script.{events_of}
-use Rattle.device_core.specs.States.{HeldStandsFor}
-use Rattle.device_cli.proofs.PutsLemmas.{puts-failed, counts-failed, prefix-append, takes-append, takes-nothing}
+use Rattle.device_core.specs.Device.{HeldStandsFor}
+use Rattle.device_cli.proofs.PutsLemmas.{prefix-append, takes-append, takes-nothing}
+use Rattle.outside_edge.proofs.SinkLemmas.{puts-failed, counts-failed}
 use Rattle.device_cli.proofs.Lines.{lines_of-printed, play_text-begins, play_text-ended}
 use Rattle.device_cli.proofs.play_text.play_on.Goals as goal
 
 pub loop-step-init : goal.loop-step-init
-unfolding trace lines_of
+unfolding lines_of
 loop-step-init g c = (
   c.requires.fresh,
-  λ start held. held,
-  λ start held. takes-nothing g.W.Sink.stands
-      c.args.sink.now,
+  λ key image held. held,
+  λ key image held. takes-nothing g.W.Sink.stands c.args.sink.now,
   refl,
 )
 
 pub loop-step-preserved : goal.loop-step-preserved
 loop-step-preserved g c =
-    let stands = λ (start : PowerOn) (held : HeldStandsFor c.args.device start []).
+    let taken = g.D.Digest32.has_taken in
+    let digest = g.D.Digest32.digest_of in
+    let stands = λ (key : List ℕ) (image : ℕ → ℕ)
+    (held : HeldStandsFor taken digest c.args.device (with_key digest key image) []).
     rw c.events_at.ensures
-    at (c.step-live.ensures.stands start (play_of (events_of c.args.script.now) c.loop-step.step)
-    (c.loop-step.invariant.1 start held)) in
-    let printed = λ (start : PowerOn) (held : HeldStandsFor c.args.device start []).
-    lines_of-printed start (events_of c.args.script.now) c.loop-step.step c.entry.result
-    c.sent.result
-    (c.entry.ensures.last start _ (stands start held)) (c.sent.ensures start _ (stands start held))
+    at (c.step-live.ensures.stands key image (play_of (events_of c.args.script.now) c.loop-step.step)
+    (c.loop-step.invariant.1 key image held)) in
+    let printed = λ (key : List ℕ) (image : ℕ → ℕ)
+    (held : HeldStandsFor taken digest c.args.device (with_key digest key image) []).
+    lines_of-printed (with_key digest key image) (events_of c.args.script.now) c.loop-step.step
+    c.entry.result c.sent.result _
+    (c.entry.ensures.last (with_key digest key image) _ (stands key image held))
+    (c.sent.ensures (with_key digest key image) _ (stands key image held))
+    (c.report.ensures (with_key digest key image) _ (stands key image held))
     in
     rw add-one (
       rw (c.loop-step.invariant.0, add-one) at c.step-live.ensures.steps,
       stands,
-      λ start held.
+      λ key image held.
           takes-append g.W.Sink.stands c.args.sink.now c.loop-step.sink c.print_step.new.sink
-          (lines_of (trace start (play_of (events_of c.args.script.now) c.loop-step.step))) _ _
-          (printed start held)
-          (c.loop-step.invariant.2 start held) c.in_ok-print_step.ensures.puts.all,
+          (lines_of (with_key digest key image) (play_of (events_of c.args.script.now) c.loop-step.step)) _ _
+          (printed key image held)
+          (c.loop-step.invariant.2 key image held) c.in_ok-print_step.ensures.puts.all,
       c.in_ok-print_step.ensures.counts.quiet ∙ c.loop-step.invariant.3,
     )
 
 pub returns-in_err-print_step-clause-puts : goal.returns-in_err-print_step-clause-puts
-returns-in_err-print_step-clause-puts g c = λ start held.
+returns-in_err-print_step-clause-puts g c = λ key image held.
+    let start : Start = with_key g.D.Digest32.digest_of key image in
     let live =
     rw c.events_at.ensures
-    at (c.step-live.ensures.stands start (play_of (events_of c.args.script.now) c.loop-step.step)
-    (c.loop-step.invariant.1 start held)) in
+    at (c.step-live.ensures.stands key image (play_of (events_of c.args.script.now) c.loop-step.step)
+    (c.loop-step.invariant.1 key image held)) in
     let printed = lines_of-printed start (events_of c.args.script.now) c.loop-step.step
-    c.entry.result c.sent.result
-    (c.entry.ensures.last start _ live) (c.sent.ensures start _ live) in
+    c.entry.result c.sent.result _
+    (c.entry.ensures.last start _ live) (c.sent.ensures start _ live) (c.report.ensures start _ live) in
     let begins = play_text-begins start (events_of c.args.script.now) c.loop-step.step c.args.steps
     _ (omega arith) printed in
     puts-failed g.W.Sink.stands c.args.sink.now c.print_step.new.sink
     (play_text start (play_of (events_of c.args.script.now) c.args.steps))
     c.from_residual.result c.from_residual.ensures.0
     (prefix-append g.W.Sink.stands c.args.sink.now c.loop-step.sink c.print_step.new.sink
-    (lines_of (trace start (play_of (events_of c.args.script.now) c.loop-step.step))) _ begins.0 _
+    (lines_of start (play_of (events_of c.args.script.now) c.loop-step.step)) _ begins.0 _
     begins.1
-    (c.loop-step.invariant.2 start held) c.in_err-print_step.ensures.puts.prefix)
+    (c.loop-step.invariant.2 key image held) c.in_err-print_step.ensures.puts.prefix)
 
 pub returns-in_err-print_end-clause-puts : goal.returns-in_err-print_end-clause-puts
-returns-in_err-print_end-clause-puts g c = λ start held.
+returns-in_err-print_end-clause-puts g c = λ key image held.
+    let start : Start = with_key g.D.Digest32.digest_of key image in
     let made : c.loop-step.step ≡ c.args.steps = omega arith in
+    let live = c.loop-step.invariant.1 key image held in
     let text = play_text-ended start (events_of c.args.script.now) c.loop-step.step c.args.steps
-    c.next_pc.result made
-    (c.next_pc.ensures start _ (c.loop-step.invariant.1 start held)) in
+    c.next_pc.result c.exec.result made (c.next_pc.ensures start _ live) (c.exec.ensures start _ live) in
     puts-failed g.W.Sink.stands c.args.sink.now c.print_end.new.sink
     (play_text start (play_of (events_of c.args.script.now) c.args.steps))
     c.from_residual-in_err-print_end.result c.from_residual-in_err-print_end.ensures.0
     (prefix-append g.W.Sink.stands c.args.sink.now c.loop-step.sink c.print_end.new.sink
-    (lines_of (trace start (play_of (events_of c.args.script.now) c.loop-step.step)))
-    (end_line c.args.steps c.next_pc.result false) [] _
+    (lines_of start (play_of (events_of c.args.script.now) c.loop-step.step))
+    (end_line c.args.steps c.next_pc.result c.exec.result) [] _
     (rw append-nil text)
-    (c.loop-step.invariant.2 start held) c.in_err-print_end.ensures.puts.prefix)
+    (c.loop-step.invariant.2 key image held) c.in_err-print_end.ensures.puts.prefix)
 
 pub returns-clause-puts : goal.returns-clause-puts
-returns-clause-puts g c = λ start held.
+returns-clause-puts g c = λ key image held.
+    let start : Start = with_key g.D.Digest32.digest_of key image in
     let made : c.loop-step.step ≡ c.args.steps = omega arith in
+    let live = c.loop-step.invariant.1 key image held in
     let text = play_text-ended start (events_of c.args.script.now) c.loop-step.step c.args.steps
-    c.next_pc.result made
-    (c.next_pc.ensures start _ (c.loop-step.invariant.1 start held)) in
+    c.next_pc.result c.exec.result made (c.next_pc.ensures start _ live) (c.exec.ensures start _ live) in
     record {
       all = takes-append g.W.Sink.stands c.args.sink.now c.loop-step.sink c.print_end.new.sink
-          (lines_of (trace start (play_of (events_of c.args.script.now) c.loop-step.step)))
-          (end_line c.args.steps c.next_pc.result false) _ text
-          (c.loop-step.invariant.2 start held) c.in_ok-print_end.ensures.puts.all;
+          (lines_of start (play_of (events_of c.args.script.now) c.loop-step.step))
+          (end_line c.args.steps c.next_pc.result c.exec.result) _ text
+          (c.loop-step.invariant.2 key image held) c.in_ok-print_end.ensures.puts.all;
       prefix = tt;
     }
 
