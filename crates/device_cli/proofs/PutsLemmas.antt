@@ -1,7 +1,6 @@
 -- A text that is put in pieces.
-use Rattle.std.proofs.Common.{◌≡◌, ◌≤◌, ◌++◌, [], List, ℕ, Result, Ok, Err, IsErr, append-nil}
-use Rattle.outside_edge.specs.Count.{Rose}
-use Rattle.outside_edge.specs.Sink.{Takes, TakesPrefix, Puts, CountsFaults}
+use Rattle.std.proofs.Common.{◌≡◌, ◌++◌, [], List, ℕ, append-nil}
+use Rattle.outside_edge.specs.Sink.{Takes, TakesPrefix}
 use Rattle.outside_edge.proofs.SinkLemmas.{takes_both, prefix_after, prefix_of_more}
 
 -- nothing

@@ -1,5 +1,5 @@
 -- The command `play`: its files, and its text.
-use Rattle.std.specs.Prelude.{ℕ, List, [], ◌∷◌, Option, None, Result, Ok, Err, option_map}
+use Rattle.std.specs.Prelude.{ℕ, List, [], ◌∷◌, Option, None, option_map}
 use Rattle.std.specs.Result.{result_ok, result_err, result_unwrap_or}
 use Rattle.text_scan.specs.Decimal.{decimal_of}
 use Rattle.text_scan.specs.Key.{key_of}

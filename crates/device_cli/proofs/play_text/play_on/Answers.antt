@@ -98,6 +98,11 @@ returns-clause-puts g c = λ key image held.
       prefix = tt;
     }
 
+pub returns-clause-stands : goal.returns-clause-stands
+returns-clause-stands g c = λ key image held.
+    let made : c.loop-step.step ≡ c.args.steps = omega arith in
+    rw (← made) (c.loop-step.invariant.1 key image held)
+
 pub returns-in_err-print_step-clause-counts : goal.returns-in_err-print_step-clause-counts
 returns-in_err-print_step-clause-counts g c =
     counts-failed g.W.Sink.faults c.args.sink.now c.loop-step.sink c.print_step.new.sink

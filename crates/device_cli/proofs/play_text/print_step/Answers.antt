@@ -1,6 +1,5 @@
-use Rattle.std.proofs.Common.{◌++◌, option_map}
-use Rattle.bus_signals.specs.Report.{fields_of}
-use Rattle.device_trace.specs.Text.{sent_lines, reset_lines, report_lines}
+use Rattle.std.proofs.Common.{◌++◌}
+use Rattle.device_trace.specs.Text.{sent_lines, reset_lines}
 use Rattle.outside_edge.proofs.SinkLemmas.{prefix_of_more, puts_after, counts_after, puts-failed}
 use Rattle.device_cli.proofs.play_text.print_step.Goals as goal
 

@@ -103,7 +103,7 @@ returns-in_err-play_on-clause-prefix g c =
     c.read_input.ensures.same c.in_ok-image.ensures.value)
     (HasValue-same _ _ _ script_kind (λ bytes. c.in_ok-script.script ≡ script_in bytes)
     (c.read_input-2.ensures.same ∙ c.read_input.ensures.same) c.in_ok-script.ensures.value)
-    (c.in_err-play_on.ensures.puts (powered_on c.in_ok-key.key c.in_ok-image.image)
+    (c.in_err-play_on.ensures.puts c.in_ok-key.key (powered_on c.in_ok-key.key c.in_ok-image.image).image
     c.in_ok-device.ensures.stands).prefix)
 
 pub returns-clause-text : goal.returns-clause-text
@@ -115,5 +115,5 @@ returns-clause-text g c =
     c.read_input.ensures.same c.in_ok-image.ensures.value)
     (HasValue-same _ _ _ script_kind (λ bytes. c.in_ok-script.script ≡ script_in bytes)
     (c.read_input-2.ensures.same ∙ c.read_input.ensures.same) c.in_ok-script.ensures.value)
-    (c.in_ok-play_on.ensures.puts (powered_on c.in_ok-key.key c.in_ok-image.image)
+    (c.in_ok-play_on.ensures.puts c.in_ok-key.key (powered_on c.in_ok-key.key c.in_ok-image.image).image
     c.in_ok-device.ensures.stands).all
