@@ -27,7 +27,8 @@ usage: foldgneiss play IMAGE SCRIPT KEY STEPS
 Plays STEPS bus steps (1 to 10000000) of the firmware in IMAGE (Intel HEX), with
 the events of SCRIPT and the device key in KEY (128 hexadecimal digits). Prints
 `tx S HH` for a byte sent in step S, `reset S R` where step S broke the rule R,
-and `end N pc H4 exec E` after the last step.
+`report S ..` where step S finished an attestation, and `end N pc H4 exec E`
+after the last step.
 
   --help     prints this
   --version  prints the version

@@ -1,7 +1,7 @@
 use Rattle.std.proofs.Common.{refl}
-use Rattle.word_arith.specs.TwoOperands.{alu_result}
-use Rattle.word_arith.specs.OneOperand.{shift_result}
-use Rattle.msp_decode.specs.Heads.{head_of}
+use Rattle.word_arith.specs.Op2.{alu_result}
+use Rattle.word_arith.specs.Op1.{shift_result}
+use Rattle.msp_decode.specs.Head.{head_of}
 use Rattle.part_definitions.specs.NextAccess.{next_access, entry_access}
 use Rattle.part_definitions.specs.Monitors.{key_rule, atomicity_rule}
 use Rattle.part_definitions.specs.Flag.{exec}
