@@ -39,7 +39,8 @@ unwrapped_region first last = record { first = first; last = last + 1 }
 -- two even places in order, of such a region
 abbrev pub is_valid_region : ℕ → ℕ → Bool
 is_valid_region first last =
-    is_even first && is_even last && nat_le first last && is_free_region (unwrapped_region first last)
+    is_even first && is_even last && nat_le first last
+    && is_free_region (unwrapped_region first last)
 
 -- both regions are valid, and disjoint
 abbrev pub are_valid : Bounds → Bool

@@ -1,4 +1,5 @@
--- Each access is made by a place and a size that clear bit 0 of a word's place, so it is well formed.
+-- Each access is made by a place and a size that clear bit 0 of a word's place, so it is well
+-- formed.
 use Rattle.std.proofs.Common.{◌≡◌, ◌/◌, ◌%◌, ℕ, zero, suc, List, [], ◌∷◌, length, Bool, Option, Some, None, IfSome, All, arith, ◌==◌}
 use Rattle.std.proofs.lemmas.Bool.{cond_both}
 use Rattle.std.proofs.Math.Nat.{mul-mod_left}

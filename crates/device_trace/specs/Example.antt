@@ -38,206 +38,144 @@ abbrev pub quiet_steps : ℕ → List (List Event) → List (List Event)
 quiet_steps zero play = play
 quiet_steps (suc steps) play = [] ∷ quiet_steps steps play
 
+-- an event in one step, after a play
+abbrev pub event_after : Event → List (List Event) → List (List Event)
+event_after event play = (event ∷ []) ∷ play
+
 -- bytes that arrive in one step
 abbrev pub arrivals : List ℕ → List Event
 arrivals bytes = map (λ byte. Rx byte) bytes
 
+-- a program at C000, where the reset vector points, and further words
+abbrev pub program_of : List ℕ → List (ℕ × List ℕ) → ℕ → ℕ
+program_of words parts = image_of ((0xC000, words) ∷ (0xFFFE, 0xC000 ∷ []) ∷ parts)
+
+-- the four bounds as words of the metadata
+abbrev pub bounds_part : List ℕ → ℕ × List ℕ
+bounds_part words = (0x0260, words)
+
+-- ER from C020 to C022, OR of one word at 0300
+abbrev pub two_word_bounds : List ℕ
+two_word_bounds = 0xC020 ∷ 0xC022 ∷ 0x0300 ∷ 0x0300 ∷ []
+
+-- NOP; RET
+abbrev pub two_word_region : List ℕ
+two_word_region = 0x4303 ∷ 0x4130 ∷ []
+
 -- MOV #0041,&0076 and a jump to itself
 abbrev pub letter_a : ℕ → ℕ
-letter_a =
-    image_of (
-    (0xC000, 0x40B2 ∷ 0x0041 ∷ 0x0076 ∷ 0x3FFF ∷ []) ∷
-    (0xFFFE, 0xC000 ∷ []) ∷
-    [])
+letter_a = program_of (0x40B2 ∷ 0x0041 ∷ 0x0076 ∷ 0x3FFF ∷ []) []
 
 -- MOV &6A00,R5
 abbrev pub key_reader : ℕ → ℕ
-key_reader =
-    image_of (
-    (0xC000, 0x4215 ∷ 0x6A00 ∷ 0x3FFF ∷ []) ∷
-    (0xFFFE, 0xC000 ∷ []) ∷
-    [])
+key_reader = program_of (0x4215 ∷ 0x6A00 ∷ 0x3FFF ∷ []) []
 
 -- BR #6A00
 abbrev pub key_runner : ℕ → ℕ
-key_runner =
-    image_of (
-    (0xC000, 0x4030 ∷ 0x6A00 ∷ []) ∷
-    (0xFFFE, 0xC000 ∷ []) ∷
-    [])
+key_runner = program_of (0x4030 ∷ 0x6A00 ∷ []) []
 
 -- MOV #2200,SP; DINT; CALL #A000; a jump to itself; bounds C000 to C00A and 0300
 abbrev pub attestation : ℕ → ℕ
 attestation =
-    image_of (
-    (0x0260, 0xC000 ∷ 0xC00A ∷ 0x0300 ∷ 0x0300 ∷ []) ∷
-    (0xC000, 0x4031 ∷ 0x2200 ∷ 0xC232 ∷ 0x12B0 ∷ 0xA000 ∷ 0x3FFF ∷ []) ∷
-    (0xFFFE, 0xC000 ∷ []) ∷
-    [])
+    program_of (0x4031 ∷ 0x2200 ∷ 0xC232 ∷ 0x12B0 ∷ 0xA000 ∷ 0x3FFF ∷ [])
+    (bounds_part (0xC000 ∷ 0xC00A ∷ 0x0300 ∷ 0x0300 ∷ []) ∷ [])
 
 -- MOV #6A00,SP; BR #A000
 abbrev pub return_through_key : ℕ → ℕ
-return_through_key =
-    image_of (
-    (0xC000, 0x4031 ∷ 0x6A00 ∷ 0x4030 ∷ 0xA000 ∷ []) ∷
-    (0xFFFE, 0xC000 ∷ []) ∷
-    [])
+return_through_key = program_of (0x4031 ∷ 0x6A00 ∷ 0x4030 ∷ 0xA000 ∷ []) []
 
 -- MOV #2200,SP; PUSH #A002; BR #A000
 abbrev pub return_into_rom : ℕ → ℕ
 return_into_rom =
-    image_of (
-    (0xC000, 0x4031 ∷ 0x2200 ∷ 0x1230 ∷ 0xA002 ∷ 0x4030 ∷ 0xA000 ∷ []) ∷
-    (0xFFFE, 0xC000 ∷ []) ∷
-    [])
+    program_of (0x4031 ∷ 0x2200 ∷ 0x1230 ∷ 0xA002 ∷ 0x4030 ∷ 0xA000 ∷ []) []
 
 -- MOV #2200,SP; MOV #5F,&TCMP; MOV #3,&TCTL; EINT; CALL #A000
 abbrev pub interrupted_call : ℕ → ℕ
 interrupted_call =
-    image_of ((
-      0xC000,
-      0x4031 ∷ 0x2200 ∷ 0x40B2 ∷ 0x005F ∷ 0x0164 ∷ 0x40B2 ∷ 0x0003 ∷ 0x0160 ∷ 0xD232 ∷
-          0x12B0 ∷ 0xA000 ∷ 0x3FFF ∷ [],
-    ) ∷
-    (0xFFFE, 0xC000 ∷ []) ∷
-    [])
+    program_of
+    (0x4031 ∷ 0x2200 ∷ 0x40B2 ∷ 0x005F ∷ 0x0164 ∷ 0x40B2 ∷ 0x0003 ∷ 0x0160 ∷ 0xD232 ∷ 0x12B0 ∷
+    0xA000 ∷ 0x3FFF ∷ [])
+    []
 
 -- receives a challenge, sets the bounds, calls the region at C040, which copies the pins to 0300,
 -- and attests
 abbrev pub ordinary_run : ℕ → ℕ
 ordinary_run =
-    image_of ((
-      0xC000,
-      0x4031 ∷ 0x2200 ∷ 0xC232 ∷ 0x4035 ∷ 0x0240 ∷ 0xB392 ∷ 0x0072 ∷ 0x27FD ∷ 0x42D5 ∷
-          0x0074 ∷ 0x0000 ∷ 0x5315 ∷ 0x9035 ∷ 0x0260 ∷ 0x23F6 ∷ 0x40B2 ∷ 0xC040 ∷ 0x0260 ∷ 0x40B2 ∷
-          0xC046 ∷ 0x0262 ∷ 0x40B2 ∷ 0x0300 ∷ 0x0264 ∷ 0x40B2 ∷ 0x0300 ∷ 0x0266 ∷ 0x12B0 ∷ 0xC040 ∷
-          0x12B0 ∷ 0xA000 ∷ 0x3FFF ∷ 0x4292 ∷ 0x0020 ∷ 0x0300 ∷ 0x4130 ∷ [],
-    ) ∷
-    (0xFFFE, 0xC000 ∷ []) ∷
-    [])
+    program_of
+    (0x4031 ∷ 0x2200 ∷ 0xC232 ∷ 0x4035 ∷ 0x0240 ∷ 0xB392 ∷ 0x0072 ∷ 0x27FD ∷ 0x42D5 ∷ 0x0074 ∷
+    0x0000 ∷ 0x5315 ∷ 0x9035 ∷ 0x0260 ∷ 0x23F6 ∷ 0x40B2 ∷ 0xC040 ∷ 0x0260 ∷ 0x40B2 ∷ 0xC046 ∷
+    0x0262 ∷ 0x40B2 ∷ 0x0300 ∷ 0x0264 ∷ 0x40B2 ∷ 0x0300 ∷ 0x0266 ∷ 0x12B0 ∷ 0xC040 ∷ 0x12B0 ∷
+    0xA000 ∷ 0x3FFF ∷ 0x4292 ∷ 0x0020 ∷ 0x0300 ∷ 0x4130 ∷ [])
+    []
 
--- enables the serial interrupt, calls the region C020 to C022,
--- and attests; the handler at C030 reads the byte
+-- MOV #2200,SP; MOV #1,&SCTL; EINT; CALL #C020; CALL #A000: enables the serial interrupt, calls the
+-- region at C020 and attests; the handler at C030 reads the byte; with these bounds and this region
+abbrev pub guarded_program : List ℕ → List ℕ → ℕ → ℕ
+guarded_program bounds region =
+    program_of
+    (0x4031 ∷ 0x2200 ∷ 0x4392 ∷ 0x0070 ∷ 0xD232 ∷ 0x12B0 ∷ 0xC020 ∷ 0x12B0 ∷ 0xA000 ∷ 0x3FFF ∷ [])
+    (bounds_part bounds ∷ (0xC020, region) ∷ (0xC030, 0x4256 ∷ 0x0074 ∷ 0x1300 ∷ []) ∷
+    (0xFFF4, 0xC030 ∷ []) ∷ [])
+
 abbrev pub guarded_region : ℕ → ℕ
-guarded_region =
-    image_of (
-    (0x0260, 0xC020 ∷ 0xC022 ∷ 0x0300 ∷ 0x0300 ∷ []) ∷ (
-      0xC000,
-      0x4031 ∷ 0x2200 ∷ 0x4392 ∷ 0x0070 ∷ 0xD232 ∷ 0x12B0 ∷ 0xC020 ∷ 0x12B0 ∷ 0xA000 ∷
-          0x3FFF ∷ [],
-    ) ∷
-    (0xC020, 0x4303 ∷ 0x4130 ∷ []) ∷
-    (0xC030, 0x4256 ∷ 0x0074 ∷ 0x1300 ∷ []) ∷
-    (0xFFF4, 0xC030 ∷ []) ∷
-    (0xFFFE, 0xC000 ∷ []) ∷
-    [])
+guarded_region = guarded_program two_word_bounds two_word_region
 
--- the same with BR #C00E at C020, whose second word is past the region
+-- NOP and BR #C00E, whose second word is past the region
 abbrev pub reach_outside : ℕ → ℕ
-reach_outside =
-    image_of (
-    (0x0260, 0xC020 ∷ 0xC022 ∷ 0x0300 ∷ 0x0300 ∷ []) ∷ (
-      0xC000,
-      0x4031 ∷ 0x2200 ∷ 0x4392 ∷ 0x0070 ∷ 0xD232 ∷ 0x12B0 ∷ 0xC020 ∷ 0x12B0 ∷ 0xA000 ∷
-          0x3FFF ∷ [],
-    ) ∷
-    (0xC020, 0x4303 ∷ 0x4030 ∷ 0xC00E ∷ []) ∷
-    (0xC030, 0x4256 ∷ 0x0074 ∷ 0x1300 ∷ []) ∷
-    (0xFFF4, 0xC030 ∷ []) ∷
-    (0xFFFE, 0xC000 ∷ []) ∷
-    [])
+reach_outside = guarded_program two_word_bounds (0x4303 ∷ 0x4030 ∷ 0xC00E ∷ [])
 
--- MOV #2200,SP; CALL #C020; MOV #4303,&C020; CALL #A000, with the region C020 to C022
+-- ER over the MAC
+abbrev pub region_over_mac : ℕ → ℕ
+region_over_mac = guarded_program (0x0200 ∷ 0x0202 ∷ 0x0300 ∷ 0x0300 ∷ []) two_word_region
+
+-- MOV #2200,SP; CALL #C020; MOV #4303,&C020; CALL #A000
 abbrev pub overwrite : ℕ → ℕ
 overwrite =
-    image_of (
-    (0x0260, 0xC020 ∷ 0xC022 ∷ 0x0300 ∷ 0x0300 ∷ []) ∷ (
-      0xC000,
-      0x4031 ∷ 0x2200 ∷ 0x12B0 ∷ 0xC020 ∷ 0x40B2 ∷ 0x4303 ∷ 0xC020 ∷ 0x12B0 ∷ 0xA000 ∷
-          0x3FFF ∷ [],
-    ) ∷
-    (0xC020, 0x4303 ∷ 0x4130 ∷ []) ∷
-    (0xFFFE, 0xC000 ∷ []) ∷
-    [])
+    program_of
+    (0x4031 ∷ 0x2200 ∷ 0x12B0 ∷ 0xC020 ∷ 0x40B2 ∷ 0x4303 ∷ 0xC020 ∷ 0x12B0 ∷ 0xA000 ∷ 0x3FFF ∷ [])
+    (bounds_part two_word_bounds ∷ (0xC020, two_word_region) ∷ [])
 
--- MOV #2200,SP; CALL #C020; CALL #C022; CALL #A000, with the region C020 to C022
+-- MOV #2200,SP; CALL #C020; CALL #C022; CALL #A000
 abbrev pub inner_entry : ℕ → ℕ
 inner_entry =
-    image_of (
-    (0x0260, 0xC020 ∷ 0xC022 ∷ 0x0300 ∷ 0x0300 ∷ []) ∷
-    (0xC000, 0x4031 ∷ 0x2200 ∷ 0x12B0 ∷ 0xC020 ∷ 0x12B0 ∷ 0xC022 ∷ 0x12B0 ∷ 0xA000 ∷ 0x3FFF ∷ []) ∷
-    (0xC020, 0x4303 ∷ 0x4130 ∷ []) ∷
-    (0xFFFE, 0xC000 ∷ []) ∷
-    [])
+    program_of
+    (0x4031 ∷ 0x2200 ∷ 0x12B0 ∷ 0xC020 ∷ 0x12B0 ∷ 0xC022 ∷ 0x12B0 ∷ 0xA000 ∷ 0x3FFF ∷ [])
+    (bounds_part two_word_bounds ∷ (0xC020, two_word_region) ∷ [])
 
 -- MOV #2200,SP; CALL #C020; CALL #A000, with the output region at the end of the region
 abbrev pub region_overlap : ℕ → ℕ
 region_overlap =
-    image_of (
-    (0x0260, 0xC020 ∷ 0xC022 ∷ 0xC022 ∷ 0xC022 ∷ []) ∷
-    (0xC000, 0x4031 ∷ 0x2200 ∷ 0x12B0 ∷ 0xC020 ∷ 0x12B0 ∷ 0xA000 ∷ 0x3FFF ∷ []) ∷
-    (0xC020, 0x4303 ∷ 0x4130 ∷ []) ∷
-    (0xFFFE, 0xC000 ∷ []) ∷
-    [])
-
--- as before, with a region over the MAC
-abbrev pub region_over_mac : ℕ → ℕ
-region_over_mac =
-    image_of (
-    (0x0260, 0x0200 ∷ 0x0202 ∷ 0x0300 ∷ 0x0300 ∷ []) ∷ (
-      0xC000,
-      0x4031 ∷ 0x2200 ∷ 0x4392 ∷ 0x0070 ∷ 0xD232 ∷ 0x12B0 ∷ 0xC020 ∷ 0x12B0 ∷ 0xA000 ∷
-          0x3FFF ∷ [],
-    ) ∷
-    (0xC020, 0x4303 ∷ 0x4130 ∷ []) ∷
-    (0xC030, 0x4256 ∷ 0x0074 ∷ 0x1300 ∷ []) ∷
-    (0xFFF4, 0xC030 ∷ []) ∷
-    (0xFFFE, 0xC000 ∷ []) ∷
-    [])
+    program_of (0x4031 ∷ 0x2200 ∷ 0x12B0 ∷ 0xC020 ∷ 0x12B0 ∷ 0xA000 ∷ 0x3FFF ∷ [])
+    (bounds_part (0xC020 ∷ 0xC022 ∷ 0xC022 ∷ 0xC022 ∷ []) ∷ (0xC020, two_word_region) ∷ [])
 
 -- sleeps; the handler at C030 sends the byte that arrived back
 abbrev pub echo : ℕ → ℕ
 echo =
-    image_of (
-    (0xC000, 0x4031 ∷ 0x2200 ∷ 0x4392 ∷ 0x0070 ∷ 0xD032 ∷ 0x0018 ∷ 0x3FFF ∷ []) ∷
-    (0xC030, 0x42D2 ∷ 0x0074 ∷ 0x0076 ∷ 0x1300 ∷ []) ∷
-    (0xFFF4, 0xC030 ∷ []) ∷
-    (0xFFFE, 0xC000 ∷ []) ∷
-    [])
+    program_of (0x4031 ∷ 0x2200 ∷ 0x4392 ∷ 0x0070 ∷ 0xD032 ∷ 0x0018 ∷ 0x3FFF ∷ [])
+    ((0xC030, 0x42D2 ∷ 0x0074 ∷ 0x0076 ∷ 0x1300 ∷ []) ∷ (0xFFF4, 0xC030 ∷ []) ∷ [])
 
 -- a timer of ten steps; its handler at C030 sends the letter T
 abbrev pub ticker : ℕ → ℕ
 ticker =
-    image_of ((
-      0xC000,
-      0x4031 ∷ 0x2200 ∷ 0x40B2 ∷ 0x0009 ∷ 0x0164 ∷ 0x40B2 ∷ 0x0003 ∷ 0x0160 ∷ 0xD232 ∷
-          0x3FFF ∷ [],
-    ) ∷
-    (0xC030, 0x40F2 ∷ 0x0054 ∷ 0x0076 ∷ 0x1300 ∷ []) ∷
-    (0xFFF2, 0xC030 ∷ []) ∷
-    (0xFFFE, 0xC000 ∷ []) ∷
-    [])
+    program_of
+    (0x4031 ∷ 0x2200 ∷ 0x40B2 ∷ 0x0009 ∷ 0x0164 ∷ 0x40B2 ∷ 0x0003 ∷ 0x0160 ∷ 0xD232 ∷ 0x3FFF ∷ [])
+    ((0xC030, 0x40F2 ∷ 0x0054 ∷ 0x0076 ∷ 0x1300 ∷ []) ∷ (0xFFF2, 0xC030 ∷ []) ∷ [])
 
 -- the letter, and two jumps to themselves
 abbrev pub rewritten_program : ℕ → ℕ
-rewritten_program =
-    image_of (
-    (0xC000, 0x40B2 ∷ 0x0041 ∷ 0x0076 ∷ 0x3FFF ∷ 0x3FFC ∷ []) ∷
-    (0xFFFE, 0xC000 ∷ []) ∷
-    [])
+rewritten_program = program_of (0x40B2 ∷ 0x0041 ∷ 0x0076 ∷ 0x3FFF ∷ 0x3FFC ∷ []) []
 
 -- MOV #0041,&0300; MOV &0300,&0076; a jump to itself
 abbrev pub store : ℕ → ℕ
-store =
-    image_of (
-    (0xC000, 0x40B2 ∷ 0x0041 ∷ 0x0300 ∷ 0x4292 ∷ 0x0300 ∷ 0x0076 ∷ 0x3FFF ∷ []) ∷
-    (0xFFFE, 0xC000 ∷ []) ∷
-    [])
+store = program_of (0x40B2 ∷ 0x0041 ∷ 0x0300 ∷ 0x4292 ∷ 0x0300 ∷ 0x0076 ∷ 0x3FFF ∷ []) []
+
+-- MOV &0300,&0076; MOV #0041,&0300; a jump to itself; the word at 0300 is 0042
+abbrev pub kept_word : ℕ → ℕ
+kept_word =
+    program_of
+    (0x4292 ∷ 0x0300 ∷ 0x0076 ∷ 0x40B2 ∷ 0x0041 ∷ 0x0300 ∷ 0x3FFF ∷ [])
+    ((0x0300, 0x0042 ∷ []) ∷ [])
 
 -- BR #A002
 abbrev pub jump_into_rom : ℕ → ℕ
-jump_into_rom =
-    image_of (
-    (0xC000, 0x4030 ∷ 0xA002 ∷ []) ∷
-    (0xFFFE, 0xC000 ∷ []) ∷
-    [])
+jump_into_rom = program_of (0x4030 ∷ 0xA002 ∷ []) []

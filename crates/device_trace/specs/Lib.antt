@@ -10,4 +10,7 @@ pub mod Formed
 pub mod Blank
 pub mod WholeRun
 pub mod Text
+pub mod Reports
 pub mod Example
+pub mod WorkedPlay
+pub mod WorkedRecord

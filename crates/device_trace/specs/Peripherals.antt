@@ -8,12 +8,12 @@ use Rattle.bus_signals.specs.declared.event.Event.{Event}
 use Rattle.bus_signals.specs.declared.event.Event.TheVariants.{Rx, Pins, Dma, Reset}
 use Rattle.bus_signals.specs.declared.rule.Rule.{Rule}
 use Rattle.bus_signals.specs.Map.{lies_in, pins_region, serial_region, timer_region, dma_region}
-use Rattle.part_definitions.specs.Dma.{DmaEvent, Started, Took, dma_read}
+use Rattle.part_definitions.specs.Dma.{DmaEvent, TransferStart, DmaAccess, dma_read}
 use Rattle.part_definitions.specs.Dma as DmaEngine
 use Rattle.part_definitions.specs.Pins.{pins_read}
-use Rattle.part_definitions.specs.Serial.{SerialEvent, Arrived, Taken, serial_read}
+use Rattle.part_definitions.specs.Serial.{SerialEvent, Arrival, Load, serial_read}
 use Rattle.part_definitions.specs.Serial as SerialPort
-use Rattle.part_definitions.specs.Timer.{TimerEvent, Ticked, Accepted, timer_read}
+use Rattle.part_definitions.specs.Timer.{TimerEvent, Tick, Acceptance, timer_read}
 use Rattle.part_definitions.specs.Timer as IntervalTimer
 
 pub record Peripherals : Type 0 where
@@ -27,10 +27,10 @@ power_on_peripherals = record { timer = []; serial = []; dma = []; pins = [] }
 
 -- an event from outside
 abbrev pub with_event : Peripherals → Event → Peripherals
-with_event parts (Rx byte) = record parts { serial = Arrived byte ∷ parts.serial }
+with_event parts (Rx byte) = record parts { serial = Arrival byte ∷ parts.serial }
 with_event parts (Pins word) = record parts { pins = word ∷ parts.pins }
 with_event parts (Dma source destination words) =
-    record parts { dma = Started source destination words ∷ parts.dma }
+    record parts { dma = TransferStart source destination words ∷ parts.dma }
 with_event parts Reset = parts
 
 -- the events of a step, in their order
@@ -50,44 +50,44 @@ peripheral_read parts place size =
 -- the processor's access, where it is the timer's: a write to one of its registers
 abbrev pub with_timer_access : Option Access → List TimerEvent → List TimerEvent
 with_timer_access (Some (Write place size number)) events =
-    if lies_in timer_region place then IntervalTimer.Written place size number ∷ events else events
+    if lies_in timer_region place then IntervalTimer.Store place size number ∷ events else events
 with_timer_access access events = events
 
 -- the entry of its interrupt begins in this step
 abbrev pub with_acceptance : Bool → List TimerEvent → List TimerEvent
-with_acceptance accepted events = if accepted then Accepted ∷ events else events
+with_acceptance accepted events = if accepted then Acceptance ∷ events else events
 
 -- a step ends; a refused one resets the timer
 abbrev pub timer_after : Option Rule → Bool → Option Access → List TimerEvent → List TimerEvent
 timer_after None accepted access events =
-    Ticked ∷ with_acceptance accepted (with_timer_access access events)
-timer_after (Some rule) accepted access events = IntervalTimer.Cleared ∷ events
+    Tick ∷ with_acceptance accepted (with_timer_access access events)
+timer_after (Some rule) accepted access events = IntervalTimer.DeviceReset ∷ events
 
 -- the processor's access, where it is the serial port's
 abbrev pub with_serial_read : ℕ → Size → List SerialEvent → List SerialEvent
 with_serial_read place size events =
-    if lies_in serial_region place then Taken place size ∷ events else events
+    if lies_in serial_region place then Load place size ∷ events else events
 
 abbrev pub serial_after : Option Rule → Option Access → List SerialEvent → List SerialEvent
 serial_after None None events = events
 serial_after None (Some (Fetch place)) events = with_serial_read place Word events
 serial_after None (Some (Read place size)) events = with_serial_read place size events
 serial_after None (Some (Write place size number)) events =
-    if lies_in serial_region place then SerialPort.Written place size number ∷ events else events
-serial_after (Some rule) access events = SerialPort.Cleared ∷ events
+    if lies_in serial_region place then SerialPort.Store place size number ∷ events else events
+serial_after (Some rule) access events = SerialPort.DeviceReset ∷ events
 
 -- the processor's access, where it is the engine's: a write to one of its registers
 abbrev pub with_dma_access : Option Access → List DmaEvent → List DmaEvent
 with_dma_access (Some (Write place size number)) events =
-    if lies_in dma_region place then DmaEngine.Written place size number ∷ events else events
+    if lies_in dma_region place then DmaEngine.Store place size number ∷ events else events
 with_dma_access access events = events
 
 -- the engine's own access, which takes a value
 abbrev pub with_dma_value : Option Access → ℕ → List DmaEvent → List DmaEvent
 with_dma_value None value events = events
-with_dma_value (Some access) value events = Took value ∷ events
+with_dma_value (Some access) value events = DmaAccess value ∷ events
 
 abbrev pub dma_after :
     Option Rule → Option Access → Option Access → ℕ → List DmaEvent → List DmaEvent
 dma_after None cpu dma value events = with_dma_value dma value (with_dma_access cpu events)
-dma_after (Some rule) cpu dma value events = DmaEngine.Cleared ∷ events
+dma_after (Some rule) cpu dma value events = DmaEngine.DeviceReset ∷ events

@@ -3,12 +3,11 @@
 use Rattle.std.specs.Prelude.{◌==◌, ◌++◌, ℕ, Bool, true, false, List, [], ◌∷◌, Option, Some, None, is_some, if◌then◌else◌}
 use Rattle.word_arith.specs.declared.size.Size.TheVariants.{Word}
 use Rattle.bus_signals.specs.declared.access.Access.{Access}
-use Rattle.bus_signals.specs.declared.access.Access.TheVariants.{Write}
 use Rattle.bus_signals.specs.declared.kind.Kind.{Kind}
 use Rattle.bus_signals.specs.declared.kind.Kind.TheVariants.{Boot, Cpu, Idle, Irq, Rom}
-use Rattle.bus_signals.specs.Map.{lies_in, mac_region, ROM_ENTRY, RESET_VECTOR}
+use Rattle.bus_signals.specs.Map.{ROM_ENTRY, RESET_VECTOR}
 use Rattle.part_definitions.specs.Accesses.{read_at}
-use Rattle.part_definitions.specs.Attestation.{call_item, item_access, item_pc, bounds_read, is_return}
+use Rattle.part_definitions.specs.Attestation.{call_item, item_access, item_pc, bounds_read, is_return, word_passed}
 use Rattle.part_definitions.specs.CpuRegisters.{clear_registers, pc_of, sp_of, with_pc, after_pop, is_asleep}
 use Rattle.part_definitions.specs.CpuState.{CpuState, Boundary, Executing, Entering, registers_of, cpu_pc, cpu_access, cpu_after, entry_begun}
 use Rattle.part_definitions.specs.Monitors.{in_rom}
@@ -90,12 +89,6 @@ abbrev pub fetches_opcode : Kind → Progress → Bool
 fetches_opcode Cpu (Runs (Boundary regs)) = true
 fetches_opcode kind progress = false
 
--- the word that passes in a call: what it reads, or the word that it releases; not what it writes
--- to the stack, which it does not read again
-abbrev pub word_passed : Option Access → ℕ → ℕ
-word_passed (Some (Write place size number)) value = if lies_in mac_region place then number else 0
-word_passed access value = value
-
 -- the return read gives PC, and SP is raised by 2
 abbrev pub after_return : List ℕ → ℕ → Progress
 after_return regs word = Runs (Boundary (with_pc (after_pop regs) word))
@@ -112,4 +105,5 @@ running_after kind cpu value = cpu_after cpu value
 abbrev pub next_progress : Kind → Progress → Option Access → ℕ → Progress
 next_progress kind Held access value = Runs (Boundary (with_pc clear_registers value))
 next_progress kind (Runs cpu) access value = Runs (running_after kind cpu value)
-next_progress kind (InCall regs words) access value = call_after regs words (word_passed access value)
+next_progress kind (InCall regs words) access value =
+    call_after regs words (word_passed access value)

@@ -39,7 +39,8 @@ abbrev pub step_kind : Logs → Kind
 step_kind logs = kind_of logs.progress (vector_of logs)
 
 abbrev pub proposed_access : Start → Logs → Kind → Option Access
-proposed_access start logs kind = access_of start (length logs.released_words) kind (step_progress logs kind)
+proposed_access start logs kind =
+    access_of start (length logs.released_words) kind (step_progress logs kind)
 
 -- what a step of this kind is about to do, after the events of the step
 unfoldable pub signals_at : Start → Logs → Kind → Bool → Signals

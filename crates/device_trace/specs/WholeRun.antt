@@ -4,7 +4,7 @@ use Rattle.std.specs.List.{list_any, list_all}
 use Rattle.bus_signals.specs.Map.{lies_in, some_touches, metadata_region}
 use Rattle.bus_signals.specs.declared.bus_record.BusRecord.{BusRecord}
 use Rattle.bus_signals.specs.declared.bounds.Bounds.{Bounds}
-use Rattle.bus_signals.specs.Bounds.{executable_region, output_region}
+use Rattle.bus_signals.specs.Bounds.{are_valid, executable_region, output_region}
 use Rattle.part_definitions.specs.Flag.{accesses_in, writes_to, fetches_outside, is_opcode_fetch}
 
 abbrev pub is_inside : Bounds → BusRecord → Bool
@@ -45,8 +45,10 @@ abbrev pub has_left : Bounds → List BusRecord → Bool
 has_left bounds [] = false
 has_left bounds (entry ∷ older) = list_all (λ one. not (is_inside bounds one)) (entry ∷ older)
 
--- a history, the newest record first, ends with a run of ER and what came after it
+-- a history, the newest record first, ends with a run of ER, whose bounds are valid, and what came
+-- after it
 pub record WholeRun (bounds : Bounds) (history : List BusRecord) : Type 0 where
+  pub valid : IsTrue (are_valid bounds)
   pub after : List BusRecord
   pub run : List BusRecord
   pub before : List BusRecord

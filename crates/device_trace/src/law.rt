@@ -4,7 +4,9 @@ ghost use Rattle.device_trace.specs.Start.{Start};
 ghost use Rattle.device_trace.specs.Formed.{AccessesAreFormed};
 ghost use Rattle.device_trace.specs.Trace.{trace};
 
-/// In each record of each play a word access has an even address, and a byte write carries one byte.
+/// In each record of each play a word access has an even address, and a byte write carries one
+/// byte.
 pub fn accesses_are_formed()
-    ensures { (start : Start) (play : List (List Event)) → All AccessesAreFormed (trace start play) }
+    ensures { (start : Start) (play : List (List Event))
+        → All AccessesAreFormed (trace start play) }
 {}

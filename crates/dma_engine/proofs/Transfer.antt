@@ -8,7 +8,7 @@ use Rattle.word_arith.specs.declared.size.Size.{Size}
 use Rattle.word_arith.specs.declared.size.Size.TheVariants.{Word}
 use Rattle.bus_signals.specs.declared.access.Access.{Access}
 use Rattle.bus_signals.specs.declared.access.Access.TheVariants.{Read, Write}
-use Rattle.part_definitions.specs.Dma.{DmaEvent, Started, Written, Took, Cleared, Transfer, transfer_of, transfer_access, access_at, dma_access, dma_word, DMA_CONTROL, is_active, after_start, starts, dma_writes, DMA_SOURCE, DMA_DESTINATION, DMA_LENGTH, with_value, new_transfer, place_of_word, latch}
+use Rattle.part_definitions.specs.Dma.{DmaEvent, TransferStart, Store, DmaAccess, DeviceReset, Transfer, transfer_of, transfer_access, access_at, dma_access, dma_word, DMA_CONTROL, is_active, after_start, starts, dma_writes, DMA_SOURCE, DMA_DESTINATION, DMA_LENGTH, with_value, new_transfer, place_of_word, latch}
 use Rattle.dma_engine.specs.Distance.{Start, start_of, is_reset, values_of, IsUnderWay, GoesByDistance}
 
 -- a transfer of this start, of which these values were taken
@@ -68,7 +68,7 @@ register_start before =
 -- so is a write that starts one
 transfer_of-written : (place : ℕ) (size : Size) (number : ℕ) (before : List DmaEvent)
     → is_active (transfer_of before) ≡ true
-    → transfer_of (Written place size number ∷ before) ≡ transfer_of before
+    → transfer_of (Store place size number ∷ before) ≡ transfer_of before
 transfer_of-written place size number before active = elim (cases_Bool (starts place size number)) [
   | inl is ↦ rw is
       (after_start-active (transfer_of before) (begun (register_start before) []) active)
@@ -79,28 +79,28 @@ transfer_of-written place size number before active = elim (cases_Bool (starts p
 begins : (event : DmaEvent) (before : List DmaEvent) (start : Start)
     → start_of event before ≡ Some start
     → is_active (transfer_of before) ≡ false → transfer_of (event ∷ before) ≡ begun start []
-begins (Started source destination words) before start asks idle =
+begins (TransferStart source destination words) before start asks idle =
     after_start-idle (transfer_of before) (new_transfer source destination words) idle
     ∙ ap (λ (s : Start). begun s [])
     (some_same
     (record { source = source; destination = destination; words = words }) start asks)
-begins (Written place size number) before start asks idle =
+begins (Store place size number) before start asks idle =
     elim (cases_Bool (starts place size number)) [
       | inl is ↦
-          let named : start_of (Written place size number) before ≡ Some (register_start before) =
+          let named : start_of (Store place size number) before ≡ Some (register_start before) =
           rw is refl in
           let same : register_start before ≡ start =
           some_same (register_start before) start (sym named ∙ asks) in
-          let begins : transfer_of (Written place size number ∷ before)
+          let begins : transfer_of (Store place size number ∷ before)
           ≡ begun (register_start before) [] =
           rw is (after_start-idle (transfer_of before) (begun (register_start before) []) idle) in
           begins ∙ ap (λ (s : Start). begun s []) same
       | inr is ↦
-          let none : start_of (Written place size number) before ≡ None = rw is refl in
+          let none : start_of (Store place size number) before ≡ None = rw is refl in
           absurd (none_is_no_some start (sym none ∙ asks))
     ]
-begins (Took value) before start asks idle = absurd (none_is_no_some start asks)
-begins Cleared before start asks idle = absurd (none_is_no_some start asks)
+begins (DmaAccess value) before start asks idle = absurd (none_is_no_some start asks)
+begins DeviceReset before start asks idle = absurd (none_is_no_some start asks)
 
 -- fewer steps than two a word
 begun-active : (start : Start) (values : List ℕ) → length values < 2 * start.words
@@ -119,21 +119,21 @@ transfer_of-since :
     → transfer_of (since ++ event ∷ before) ≡ begun start (values_of since)
 transfer_of-since start event before [] asks idle lasts within = begins event before start asks idle
 transfer_of-since start event before
-    (Started source destination words ∷ since) asks idle lasts within =
+    (TransferStart source destination words ∷ since) asks idle lasts within =
     let now = transfer_of-since start event before since asks idle lasts within in
     let active : is_active (transfer_of (since ++ event ∷ before)) ≡ true =
     ap is_active now ∙ begun-active start (values_of since) within in
     after_start-active (transfer_of (since ++ event ∷ before))
     (new_transfer source destination words) active ∙ now
-transfer_of-since start event before (Written place size number ∷ since) asks idle lasts within =
+transfer_of-since start event before (Store place size number ∷ since) asks idle lasts within =
     let now = transfer_of-since start event before since asks idle lasts within in
     let active : is_active (transfer_of (since ++ event ∷ before)) ≡ true =
     ap is_active now ∙ begun-active start (values_of since) within in
     transfer_of-written place size number (since ++ event ∷ before) active ∙ now
-transfer_of-since start event before (Took value ∷ since) asks idle lasts within =
+transfer_of-since start event before (DmaAccess value ∷ since) asks idle lasts within =
     ap (λ transfer. with_value transfer value)
     (transfer_of-since start event before since asks idle lasts (omega arith))
-transfer_of-since start event before (Cleared ∷ since) asks idle lasts within =
+transfer_of-since start event before (DeviceReset ∷ since) asks idle lasts within =
     absurd (true≢false lasts)
 
 -- what is under way of the events is the transfer that they make
@@ -223,45 +223,45 @@ active_before transfer value active = grind (arith, nat_tests)
 begun_where_active : (events : List DmaEvent) → is_active (transfer_of events) ≡ true
     → IsBegun events
 begun_where_active [] active = absurd (true≢false (sym active))
-begun_where_active (Started source destination words ∷ events) active =
+begun_where_active (TransferStart source destination words ∷ events) active =
     elim (cases_Bool (is_active (transfer_of events))) [
       | inl is ↦
-          still_begun (Started source destination words) events refl (λ since. refl)
+          still_begun (TransferStart source destination words) events refl (λ since. refl)
           (after_start-active (transfer_of events) (new_transfer source destination words) is)
           (begun_where_active events is)
       | inr idle ↦
-          newly_begun (Started source destination words) events
+          newly_begun (TransferStart source destination words) events
           (record { source = source; destination = destination; words = words }) refl idle active
     ]
-begun_where_active (Written place size number ∷ events) active =
+begun_where_active (Store place size number ∷ events) active =
     elim (cases_Bool (is_active (transfer_of events))) [
       | inl is ↦
-          still_begun (Written place size number) events refl (λ since. refl)
+          still_begun (Store place size number) events refl (λ since. refl)
           (transfer_of-written place size number events is)
           (begun_where_active events is)
       | inr idle ↦ elim (cases_Bool (starts place size number)) [
         | inl starting ↦
-            newly_begun (Written place size number) events (register_start events)
+            newly_begun (Store place size number) events (register_start events)
             (rw starting refl) idle active
         | inr other ↦
-            let kept : transfer_of (Written place size number ∷ events) ≡ transfer_of events =
+            let kept : transfer_of (Store place size number ∷ events) ≡ transfer_of events =
             rw other refl in
             absurd (true≢false (sym active ∙ ap is_active kept ∙ idle))
       ]
     ]
-begun_where_active (Took value ∷ events) active =
+begun_where_active (DmaAccess value ∷ events) active =
     let before : IsBegun events =
     begun_where_active events (active_before (transfer_of events) value active) in
     let way : IsUnderWay before.0 before.1 events = before.2 in
-    let now : transfer_of (Took value ∷ events) ≡ begun (before.0) (value ∷ before.1) =
+    let now : transfer_of (DmaAccess value ∷ events) ≡ begun (before.0) (value ∷ before.1) =
     ap (λ transfer. with_value transfer value) before.3 in (
       before.0,
       value ∷ before.1,
       record {
-        since = Took value ∷ way.since;
+        since = DmaAccess value ∷ way.since;
         event = way.event;
         before = way.before;
-        order = ap (λ (es : List DmaEvent). Took value ∷ es) way.order;
+        order = ap (λ (es : List DmaEvent). DmaAccess value ∷ es) way.order;
         asks = way.asks;
         counts = way.counts;
         lasts = way.lasts;
@@ -270,7 +270,7 @@ begun_where_active (Took value ∷ events) active =
       },
       now,
     )
-begun_where_active (Cleared ∷ events) active = absurd (true≢false (sym active))
+begun_where_active (DeviceReset ∷ events) active = absurd (true≢false (sym active))
 
 -- DCTL tells of the access
 control : (events : List DmaEvent)

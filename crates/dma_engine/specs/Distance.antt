@@ -5,7 +5,7 @@ use Rattle.word_arith.specs.declared.size.Size.TheVariants.{Word}
 use Rattle.bus_signals.specs.declared.access.Access.{Access}
 use Rattle.bus_signals.specs.declared.access.Access.TheVariants.{Read, Write}
 use Rattle.part_definitions.specs.PeripheralRegister.{register_word}
-use Rattle.part_definitions.specs.Dma.{DmaEvent, Started, Written, Took, Cleared, DMA_SOURCE, DMA_DESTINATION, DMA_LENGTH, starts, dma_writes, dma_access, dma_word, DMA_CONTROL, place_of_word, latch}
+use Rattle.part_definitions.specs.Dma.{DmaEvent, TransferStart, Store, DmaAccess, DeviceReset, DMA_SOURCE, DMA_DESTINATION, DMA_LENGTH, starts, dma_writes, dma_access, dma_word, DMA_CONTROL, place_of_word, latch}
 
 -- source, destination and number of words of a start
 pub record Start : Type 0 where
@@ -16,9 +16,9 @@ pub record Start : Type 0 where
 -- the start that an event asks for: one from outside names it, a write that starts takes it from
 -- the registers as they were before
 abbrev pub start_of : DmaEvent → List DmaEvent → Option Start
-start_of (Started source destination words) before =
+start_of (TransferStart source destination words) before =
     Some (record { source = source; destination = destination; words = words })
-start_of (Written place size number) before =
+start_of (Store place size number) before =
     if starts place size number
     then Some (record {
       source = register_word (dma_writes before) DMA_SOURCE;
@@ -26,22 +26,22 @@ start_of (Written place size number) before =
       words = register_word (dma_writes before) DMA_LENGTH;
     })
     else None
-start_of (Took value) before = None
-start_of Cleared before = None
+start_of (DmaAccess value) before = None
+start_of DeviceReset before = None
 
 abbrev pub is_reset : DmaEvent → Bool
-is_reset (Started source destination words) = false
-is_reset (Written place size number) = false
-is_reset (Took value) = false
-is_reset Cleared = true
+is_reset (TransferStart source destination words) = false
+is_reset (Store place size number) = false
+is_reset (DmaAccess value) = false
+is_reset DeviceReset = true
 
 -- the values that the engine took, newest first: one a step
 abbrev pub values_of : List DmaEvent → List ℕ
 values_of [] = []
-values_of (Started source destination words ∷ events) = values_of events
-values_of (Written place size number ∷ events) = values_of events
-values_of (Took value ∷ events) = value ∷ values_of events
-values_of (Cleared ∷ events) = values_of events
+values_of (TransferStart source destination words ∷ events) = values_of events
+values_of (Store place size number ∷ events) = values_of events
+values_of (DmaAccess value ∷ events) = value ∷ values_of events
+values_of (DeviceReset ∷ events) = values_of events
 
 -- a start is under way after some events: it counted, since the engine had no access before it;
 -- there was no reset since; and fewer steps were made since than two a word. Whatever else happened

@@ -1,7 +1,7 @@
 ghost use Rattle.std.specs.Prelude.{◌≡◌, false, [], ◌∷◌, List, IfSome};
 ghost use Rattle.bus_signals.specs.Access.{IsFormed};
 ghost use Rattle.part_definitions.specs.Part.{Takes, Answers};
-ghost use Rattle.part_definitions.specs.Dma.{DmaEvent, Started, Written, Took, Cleared, dma_read, dma_word, dma_access, is_free};
+ghost use Rattle.part_definitions.specs.Dma.{DmaEvent, TransferStart, Store, DmaAccess, DeviceReset, dma_read, dma_word, dma_access, is_free};
 
 use crate::activity::Activity;
 use bus_signals::{Access, BusMaster};
@@ -64,7 +64,7 @@ impl Dma {
     /// A write of the processor. One that covers the low byte of DCTL and has bit 0 set starts a
     /// transfer where none is active: its first access is for the next step.
     pub fn write(&mut self, place: u16, size: Size, value: u16)
-        ensures { Takes DmaStandsFor self.old (Written place size value) self.new }
+        ensures { Takes DmaStandsFor self.old (Store place size value) self.new }
     {
         if covers_byte(place, size, DCTL) && value % 2 == 1 {
             self.activity = self.activity.started(
@@ -83,7 +83,7 @@ impl Dma {
     pub fn start(&mut self, src: u16, dst: u16, len: u16) -> bool
         ensures starts { Answers DmaStandsFor self.old is_free result }
         ensures refused { result ≡ false → self.new ≡ self.old }
-        ensures stands { Takes DmaStandsFor self.old (Started src dst len) self.new }
+        ensures stands { Takes DmaStandsFor self.old (TransferStart src dst len) self.new }
     {
         if self.activity.is_active() {
             return false;
@@ -104,9 +104,9 @@ impl BusMaster for Dma {
 
     ghost takes = { λ events value. Unit {0} };
 
-    ghost moved = { λ events value. Took value ∷ events };
+    ghost moved = { λ events value. DmaAccess value ∷ events };
 
-    ghost cleared = { λ events. Cleared ∷ events };
+    ghost cleared = { λ events. DeviceReset ∷ events };
 
     fn ask(&self) -> Option<Access>
         ensures access { Answers DmaStandsFor self.now dma_access result }
@@ -116,7 +116,7 @@ impl BusMaster for Dma {
     }
 
     fn take(&mut self, value: u16)
-        ensures { Takes DmaStandsFor self.old (Took value) self.new }
+        ensures { Takes DmaStandsFor self.old (DmaAccess value) self.new }
     {
         self.activity = self.activity.after(value);
     }

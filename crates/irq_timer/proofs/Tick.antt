@@ -3,7 +3,7 @@ use Rattle.std.proofs.Common.{◌≡◌, ℕ, ◌<◌, ◌≤◌, ◌+◌, ◌-�
 use Rattle.std.proofs.Math.Nat.{mod-lt}
 use Rattle.std.proofs.lemmas.Bool.Decides.{nat_tests}
 use Rattle.std.specs.List.{list_any}
-use Rattle.part_definitions.specs.Timer.{TimerEvent, Ticked, timer_runs, timer_count, timer_compare, timer_period, timer_flag, steps_of_count, ends_period, distances}
+use Rattle.part_definitions.specs.Timer.{TimerEvent, Tick, timer_runs, timer_count, timer_compare, timer_period, timer_flag, steps_of_count, ends_period, distances}
 use Rattle.irq_timer.proofs.Remainder.{mod_within, mod_over}
 
 -- the count is the remainder of the distance
@@ -13,13 +13,13 @@ timer_count-running events runs = rw runs refl
 
 -- after a step more the distance is the steps so far
 timer_count-ticked : (events : List TimerEvent) → timer_runs events ≡ true
-    → timer_count (Ticked ∷ events) ≡ steps_of_count events % (timer_compare events + 1)
+    → timer_count (Tick ∷ events) ≡ steps_of_count events % (timer_compare events + 1)
 timer_count-ticked events runs =
     rw runs (ap (λ steps. steps % (timer_compare events + 1)) (omega arith))
 
 pub timer_count_within : (events : List TimerEvent) → timer_runs events ≡ true
     → 0 < steps_of_count events → timer_count events < timer_compare events
-    → timer_count (Ticked ∷ events) ≡ timer_count events + 1
+    → timer_count (Tick ∷ events) ≡ timer_count events + 1
 timer_count_within events runs some below =
     let steps : ℕ = steps_of_count events in
     let period : ℕ = timer_compare events + 1 in
@@ -29,7 +29,7 @@ timer_count_within events runs some below =
 
 pub timer_count_over : (events : List TimerEvent) → timer_runs events ≡ true
     → 0 < steps_of_count events → timer_compare events ≤ timer_count events
-    → timer_count (Ticked ∷ events) ≡ 0
+    → timer_count (Tick ∷ events) ≡ 0
 timer_count_over events runs some past =
     let steps : ℕ = steps_of_count events in
     let period : ℕ = timer_compare events + 1 in
@@ -40,7 +40,7 @@ timer_count_over events runs some past =
 
 -- the flag rises where a period ends at the steps so far
 timer_flag-ticked : (events : List TimerEvent)
-    → timer_flag (Ticked ∷ events)
+    → timer_flag (Tick ∷ events)
     ≡ (timer_runs events && (ends_period (timer_period events) (steps_of_count events)
     || list_any (ends_period (timer_period events)) (distances events)))
 timer_flag-ticked events =
@@ -49,19 +49,19 @@ timer_flag-ticked events =
 
 pub timer_flag_within : (events : List TimerEvent) → timer_runs events ≡ true
     → 0 < steps_of_count events → timer_count events < timer_compare events
-    → timer_flag (Ticked ∷ events) ≡ timer_flag events
+    → timer_flag (Tick ∷ events) ≡ timer_flag events
 timer_flag_within events runs some below =
-    let next : timer_count (Ticked ∷ events) ≡ timer_count events + 1 =
+    let next : timer_count (Tick ∷ events) ≡ timer_count events + 1 =
     timer_count_within events runs some below in
-    let count : timer_count (Ticked ∷ events) ≡ steps_of_count events % (timer_compare events + 1) =
+    let count : timer_count (Tick ∷ events) ≡ steps_of_count events % (timer_compare events + 1) =
     timer_count-ticked events runs in
     timer_flag-ticked events ∙ grind (arith, nat_tests)
 
 pub timer_flag_over : (events : List TimerEvent) → timer_runs events ≡ true
     → 0 < steps_of_count events → timer_compare events ≤ timer_count events
-    → timer_flag (Ticked ∷ events) ≡ true
+    → timer_flag (Tick ∷ events) ≡ true
 timer_flag_over events runs some past =
-    let next : timer_count (Ticked ∷ events) ≡ 0 = timer_count_over events runs some past in
-    let count : timer_count (Ticked ∷ events) ≡ steps_of_count events % (timer_compare events + 1) =
+    let next : timer_count (Tick ∷ events) ≡ 0 = timer_count_over events runs some past in
+    let count : timer_count (Tick ∷ events) ≡ steps_of_count events % (timer_compare events + 1) =
     timer_count-ticked events runs in
     timer_flag-ticked events ∙ grind (arith, nat_tests)

@@ -1,6 +1,6 @@
 ghost use Rattle.std.specs.Prelude.{◌≡◌, true, false, [], ◌∷◌, List};
 ghost use Rattle.part_definitions.specs.Part.{Takes, Answers};
-ghost use Rattle.part_definitions.specs.Timer.{TimerEvent, Ticked, Written, Accepted, Cleared, timer_runs, timer_read, timer_word, timer_requests};
+ghost use Rattle.part_definitions.specs.Timer.{TimerEvent, Tick, Store, Acceptance, DeviceReset, timer_runs, timer_read, timer_word, timer_requests};
 
 use peripheral_register::{Register, part_of_word, register_place};
 use word_arith::Size;
@@ -61,7 +61,7 @@ impl Timer {
     /// A write of the processor. One that covers a byte of TCTL or TCMP sets TCNT to 0 and lowers
     /// the flag.
     pub fn write(&mut self, place: u16, size: Size, value: u16)
-        ensures { Takes TimerStandsFor self.old (Written place size value) self.new }
+        ensures { Takes TimerStandsFor self.old (Store place size value) self.new }
     {
         self.control.write(place, size, value);
         self.compare.write(place, size, value);
@@ -77,7 +77,7 @@ impl Timer {
 
     /// The end of a step. It counts, but not in the step of a write that set TCNT to 0.
     pub fn tick(&mut self)
-        ensures { Takes TimerStandsFor self.old Ticked self.new }
+        ensures { Takes TimerStandsFor self.old Tick self.new }
     {
         if self.fresh {
             self.fresh = false;
@@ -91,7 +91,7 @@ impl Timer {
         ensures { (events : List TimerEvent)
             → TimerStandsFor self.old events
             → self.old.fresh ≡ false → timer_runs events ≡ true
-            → TimerStandsFor self.new (Ticked ∷ events) }
+            → TimerStandsFor self.new (Tick ∷ events) }
     {
         if self.count < self.compare.word() {
             self.count += 1;
@@ -116,14 +116,14 @@ impl Timer {
 
     /// The first step of the timer's interrupt entry: the flag falls.
     pub fn accept(&mut self)
-        ensures { Takes TimerStandsFor self.old Accepted self.new }
+        ensures { Takes TimerStandsFor self.old Acceptance self.new }
     {
         self.flag = false;
     }
 
     /// A reset.
     pub fn clear(&mut self)
-        ensures { Takes TimerStandsFor self.old Cleared self.new }
+        ensures { Takes TimerStandsFor self.old DeviceReset self.new }
     {
         *self = Timer::new();
     }

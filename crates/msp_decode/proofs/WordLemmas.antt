@@ -13,7 +13,7 @@ use Rattle.msp_decode.specs.declared.instr.Instr.TheVariants.{Two, One, Reti, Ju
 use Rattle.msp_decode.specs.declared.head.Head.{Head}
 use Rattle.msp_decode.specs.declared.head.Head.TheVariants.{Two as TwoHead, One as OneHead, Reti as RetiHead, Jump as JumpHead}
 use Rattle.msp_decode.specs.Spelling.{has_form, has_range, has_size, takes_write, writes_operand, is_legal, word_of}
-use Rattle.msp_decode.specs.Completion.{extension_count, completed, head_part, extension_words, words_of}
+use Rattle.msp_decode.specs.Completion.{extension_count, completion, head_part, extension_words, words_of}
 use Rattle.msp_decode.specs.EncodeFault.{first_fault}
 use Rattle.msp_decode.specs.Law.{WordsAreRead, WordsAreWritten}
 use Rattle.msp_decode.proofs.TableLemmas.{op2_number-lt, one_number-lt, cond_number-lt, size_number-lt, source_mode-lt, source_register-lt, dest_mode-lt, dest_register-lt, offset_number-lt}
@@ -101,83 +101,87 @@ length-extension_words Reti = refl
 length-extension_words (Jump condition offset) = refl
 
 -- head and extension words make up the instruction
-completed-words_of : (instr : Instr)
-    → completed (head_part instr) (slice_index (words_of instr) 1) (slice_index (words_of instr) 2)
+completion-words_of : (instr : Instr)
+    → completion (head_part instr) (slice_index (words_of instr) 1) (slice_index (words_of instr) 2)
     ≡ instr
-completed-words_of (Two op size (Reg r) (DestReg d)) = refl
-completed-words_of (Two op size (Reg r) (DestIndexed d last)) = refl
-completed-words_of (Two op size (Indexed r word) (DestReg d)) = refl
-completed-words_of (Two op size (Indexed r word) (DestIndexed d last)) = refl
-completed-words_of (Two op size (Indirect r) (DestReg d)) = refl
-completed-words_of (Two op size (Indirect r) (DestIndexed d last)) = refl
-completed-words_of (Two op size (IndirectInc r) (DestReg d)) = refl
-completed-words_of (Two op size (IndirectInc r) (DestIndexed d last)) = refl
-completed-words_of (Two op size (Immediate word) (DestReg d)) = refl
-completed-words_of (Two op size (Immediate word) (DestIndexed d last)) = refl
-completed-words_of (Two op size (Constant g) (DestReg d)) = refl
-completed-words_of (Two op size (Constant g) (DestIndexed d last)) = refl
-completed-words_of (One op size (Reg r)) = refl
-completed-words_of (One op size (Indexed r word)) = refl
-completed-words_of (One op size (Indirect r)) = refl
-completed-words_of (One op size (IndirectInc r)) = refl
-completed-words_of (One op size (Immediate word)) = refl
-completed-words_of (One op size (Constant g)) = refl
-completed-words_of Reti = refl
-completed-words_of (Jump condition offset) = refl
+completion-words_of (Two op size (Reg r) (DestReg d)) = refl
+completion-words_of (Two op size (Reg r) (DestIndexed d last)) = refl
+completion-words_of (Two op size (Indexed r word) (DestReg d)) = refl
+completion-words_of (Two op size (Indexed r word) (DestIndexed d last)) = refl
+completion-words_of (Two op size (Indirect r) (DestReg d)) = refl
+completion-words_of (Two op size (Indirect r) (DestIndexed d last)) = refl
+completion-words_of (Two op size (IndirectInc r) (DestReg d)) = refl
+completion-words_of (Two op size (IndirectInc r) (DestIndexed d last)) = refl
+completion-words_of (Two op size (Immediate word) (DestReg d)) = refl
+completion-words_of (Two op size (Immediate word) (DestIndexed d last)) = refl
+completion-words_of (Two op size (Constant g) (DestReg d)) = refl
+completion-words_of (Two op size (Constant g) (DestIndexed d last)) = refl
+completion-words_of (One op size (Reg r)) = refl
+completion-words_of (One op size (Indexed r word)) = refl
+completion-words_of (One op size (Indirect r)) = refl
+completion-words_of (One op size (IndirectInc r)) = refl
+completion-words_of (One op size (Immediate word)) = refl
+completion-words_of (One op size (Constant g)) = refl
+completion-words_of Reti = refl
+completion-words_of (Jump condition offset) = refl
 
 -- the head of an instruction that is made from a head
-head_part-completed : (head : Head) (first second : ℕ)
-    → head_part (completed head first second) ≡ head
-head_part-completed (TwoHead op size (RegisterForm r) (DestRegisterForm d)) first second = refl
-head_part-completed (TwoHead op size (RegisterForm r) (DestIndexedForm d)) first second = refl
-head_part-completed (TwoHead op size (IndexedForm r) (DestRegisterForm d)) first second = refl
-head_part-completed (TwoHead op size (IndexedForm r) (DestIndexedForm d)) first second = refl
-head_part-completed (TwoHead op size (IndirectForm r) (DestRegisterForm d)) first second = refl
-head_part-completed (TwoHead op size (IndirectForm r) (DestIndexedForm d)) first second = refl
-head_part-completed (TwoHead op size (IndirectIncForm r) (DestRegisterForm d)) first second = refl
-head_part-completed (TwoHead op size (IndirectIncForm r) (DestIndexedForm d)) first second = refl
-head_part-completed (TwoHead op size ImmediateForm (DestRegisterForm d)) first second = refl
-head_part-completed (TwoHead op size ImmediateForm (DestIndexedForm d)) first second = refl
-head_part-completed (TwoHead op size (ConstantForm g) (DestRegisterForm d)) first second = refl
-head_part-completed (TwoHead op size (ConstantForm g) (DestIndexedForm d)) first second = refl
-head_part-completed (OneHead op size (RegisterForm r)) first second = refl
-head_part-completed (OneHead op size (IndexedForm r)) first second = refl
-head_part-completed (OneHead op size (IndirectForm r)) first second = refl
-head_part-completed (OneHead op size (IndirectIncForm r)) first second = refl
-head_part-completed (OneHead op size ImmediateForm) first second = refl
-head_part-completed (OneHead op size (ConstantForm g)) first second = refl
-head_part-completed RetiHead first second = refl
-head_part-completed (JumpHead condition offset) first second = refl
+head_part-completion : (head : Head) (first second : ℕ)
+    → head_part (completion head first second) ≡ head
+head_part-completion (TwoHead op size (RegisterForm r) (DestRegisterForm d)) first second = refl
+head_part-completion (TwoHead op size (RegisterForm r) (DestIndexedForm d)) first second = refl
+head_part-completion (TwoHead op size (IndexedForm r) (DestRegisterForm d)) first second = refl
+head_part-completion (TwoHead op size (IndexedForm r) (DestIndexedForm d)) first second = refl
+head_part-completion (TwoHead op size (IndirectForm r) (DestRegisterForm d)) first second = refl
+head_part-completion (TwoHead op size (IndirectForm r) (DestIndexedForm d)) first second = refl
+head_part-completion (TwoHead op size (IndirectIncForm r) (DestRegisterForm d)) first second = refl
+head_part-completion (TwoHead op size (IndirectIncForm r) (DestIndexedForm d)) first second = refl
+head_part-completion (TwoHead op size ImmediateForm (DestRegisterForm d)) first second = refl
+head_part-completion (TwoHead op size ImmediateForm (DestIndexedForm d)) first second = refl
+head_part-completion (TwoHead op size (ConstantForm g) (DestRegisterForm d)) first second = refl
+head_part-completion (TwoHead op size (ConstantForm g) (DestIndexedForm d)) first second = refl
+head_part-completion (OneHead op size (RegisterForm r)) first second = refl
+head_part-completion (OneHead op size (IndexedForm r)) first second = refl
+head_part-completion (OneHead op size (IndirectForm r)) first second = refl
+head_part-completion (OneHead op size (IndirectIncForm r)) first second = refl
+head_part-completion (OneHead op size ImmediateForm) first second = refl
+head_part-completion (OneHead op size (ConstantForm g)) first second = refl
+head_part-completion RetiHead first second = refl
+head_part-completion (JumpHead condition offset) first second = refl
 
 -- its extension words
-extension_words-completed : (head : Head) (first second : ℕ)
-    → extension_words (completed head first second)
+extension_words-completion : (head : Head) (first second : ℕ)
+    → extension_words (completion head first second)
     ≡ take (extension_count head) (first ∷ second ∷ [])
-extension_words-completed (TwoHead op size (RegisterForm r) (DestRegisterForm d)) first second =
+extension_words-completion (TwoHead op size (RegisterForm r) (DestRegisterForm d)) first second =
     refl
-extension_words-completed (TwoHead op size (RegisterForm r) (DestIndexedForm d)) first second = refl
-extension_words-completed (TwoHead op size (IndexedForm r) (DestRegisterForm d)) first second = refl
-extension_words-completed (TwoHead op size (IndexedForm r) (DestIndexedForm d)) first second = refl
-extension_words-completed (TwoHead op size (IndirectForm r) (DestRegisterForm d)) first second =
+extension_words-completion (TwoHead op size (RegisterForm r) (DestIndexedForm d)) first second =
     refl
-extension_words-completed (TwoHead op size (IndirectForm r) (DestIndexedForm d)) first second = refl
-extension_words-completed (TwoHead op size (IndirectIncForm r) (DestRegisterForm d)) first second =
+extension_words-completion (TwoHead op size (IndexedForm r) (DestRegisterForm d)) first second =
     refl
-extension_words-completed (TwoHead op size (IndirectIncForm r) (DestIndexedForm d)) first second =
+extension_words-completion (TwoHead op size (IndexedForm r) (DestIndexedForm d)) first second = refl
+extension_words-completion (TwoHead op size (IndirectForm r) (DestRegisterForm d)) first second =
     refl
-extension_words-completed (TwoHead op size ImmediateForm (DestRegisterForm d)) first second = refl
-extension_words-completed (TwoHead op size ImmediateForm (DestIndexedForm d)) first second = refl
-extension_words-completed (TwoHead op size (ConstantForm g) (DestRegisterForm d)) first second =
+extension_words-completion (TwoHead op size (IndirectForm r) (DestIndexedForm d)) first second =
     refl
-extension_words-completed (TwoHead op size (ConstantForm g) (DestIndexedForm d)) first second = refl
-extension_words-completed (OneHead op size (RegisterForm r)) first second = refl
-extension_words-completed (OneHead op size (IndexedForm r)) first second = refl
-extension_words-completed (OneHead op size (IndirectForm r)) first second = refl
-extension_words-completed (OneHead op size (IndirectIncForm r)) first second = refl
-extension_words-completed (OneHead op size ImmediateForm) first second = refl
-extension_words-completed (OneHead op size (ConstantForm g)) first second = refl
-extension_words-completed RetiHead first second = refl
-extension_words-completed (JumpHead condition offset) first second = refl
+extension_words-completion (TwoHead op size (IndirectIncForm r) (DestRegisterForm d)) first second =
+    refl
+extension_words-completion (TwoHead op size (IndirectIncForm r) (DestIndexedForm d)) first second =
+    refl
+extension_words-completion (TwoHead op size ImmediateForm (DestRegisterForm d)) first second = refl
+extension_words-completion (TwoHead op size ImmediateForm (DestIndexedForm d)) first second = refl
+extension_words-completion (TwoHead op size (ConstantForm g) (DestRegisterForm d)) first second =
+    refl
+extension_words-completion (TwoHead op size (ConstantForm g) (DestIndexedForm d)) first second =
+    refl
+extension_words-completion (OneHead op size (RegisterForm r)) first second = refl
+extension_words-completion (OneHead op size (IndexedForm r)) first second = refl
+extension_words-completion (OneHead op size (IndirectForm r)) first second = refl
+extension_words-completion (OneHead op size (IndirectIncForm r)) first second = refl
+extension_words-completion (OneHead op size ImmediateForm) first second = refl
+extension_words-completion (OneHead op size (ConstantForm g)) first second = refl
+extension_words-completion RetiHead first second = refl
+extension_words-completion (JumpHead condition offset) first second = refl
 
 pub words_are_read : WordsAreRead
 words_are_read instr none =
@@ -187,15 +191,15 @@ words_are_read instr none =
       head = head_complete (word_of (head_part instr)) (head_part instr)
           (word_of-lt (head_part instr) legal) (legal, refl);
       count = omega (arith, length-extension_words instr);
-      back = completed-words_of instr;
+      back = completion-words_of instr;
     }
 
 pub words_are_written : WordsAreWritten
 words_are_written word first second head spelled = (
-  ap first_fault (head_part-completed head first second) ∙ faultless_where_legal head (spelled.0),
+  ap first_fault (head_part-completion head first second) ∙ faultless_where_legal head (spelled.0),
   (rw (
-    head_part-completed head first second,
-    extension_words-completed head first second,
+    head_part-completion head first second,
+    extension_words-completion head first second,
     spelled.1,
   ) refl),
 )

@@ -36,27 +36,27 @@ extension_count RetiHead = 0
 extension_count (JumpHead cond offset) = 0
 
 -- a source with its extension word
-abbrev pub completed_source : SourceForm → ℕ → Source
-completed_source (RegisterForm r) word = Reg r
-completed_source (IndexedForm r) word = Indexed r word
-completed_source (IndirectForm r) word = Indirect r
-completed_source (IndirectIncForm r) word = IndirectInc r
-completed_source ImmediateForm word = Immediate word
-completed_source (ConstantForm g) word = Constant g
+abbrev pub source_completion : SourceForm → ℕ → Source
+source_completion (RegisterForm r) word = Reg r
+source_completion (IndexedForm r) word = Indexed r word
+source_completion (IndirectForm r) word = Indirect r
+source_completion (IndirectIncForm r) word = IndirectInc r
+source_completion ImmediateForm word = Immediate word
+source_completion (ConstantForm g) word = Constant g
 
 -- a destination with its extension word
-abbrev pub completed_dest : DestForm → ℕ → Dest
-completed_dest (DestRegisterForm r) word = DestReg r
-completed_dest (DestIndexedForm r) word = DestIndexed r word
+abbrev pub dest_completion : DestForm → ℕ → Dest
+dest_completion (DestRegisterForm r) word = DestReg r
+dest_completion (DestIndexedForm r) word = DestIndexed r word
 
 -- the instruction with its extension words, the source's before the destination's
-abbrev pub completed : Head → ℕ → ℕ → Instr
-completed (TwoHead op size source dest) first second =
-    Two op size (completed_source source first)
-    (completed_dest dest (if source_extensions source == 0 then first else second))
-completed (OneHead op size source) first second = One op size (completed_source source first)
-completed RetiHead first second = Reti
-completed (JumpHead cond offset) first second = Jump cond offset
+abbrev pub completion : Head → ℕ → ℕ → Instr
+completion (TwoHead op size source dest) first second =
+    Two op size (source_completion source first)
+    (dest_completion dest (if source_extensions source == 0 then first else second))
+completion (OneHead op size source) first second = One op size (source_completion source first)
+completion RetiHead first second = Reti
+completion (JumpHead cond offset) first second = Jump cond offset
 
 -- a source without its extension word
 abbrev pub source_form : Source → SourceForm

@@ -4,7 +4,7 @@ use Rattle.msp_decode.specs.declared.head.Head.{Head}
 use Rattle.msp_decode.specs.declared.instr.Instr.{Instr}
 use Rattle.msp_decode.specs.Spelling.{Spells, IsIllegalWord}
 use Rattle.msp_decode.specs.Head.{head_of}
-use Rattle.msp_decode.specs.Completion.{completed, extension_count, head_part, words_of}
+use Rattle.msp_decode.specs.Completion.{completion, extension_count, head_part, words_of}
 use Rattle.msp_decode.specs.EncodeFault.{first_fault}
 
 -- the function that computes a head and the relation agree, both ways
@@ -17,7 +17,7 @@ HeadsAreSpelled =
 pub record AreReadAs (words : List ℕ) (instr : Instr) : Type 0 where
   pub head : head_of (slice_index words 0) ≡ Some (head_part instr)
   pub count : length words ≡ 1 + extension_count (head_part instr)
-  pub back : completed (head_part instr) (slice_index words 1) (slice_index words 2) ≡ instr
+  pub back : completion (head_part instr) (slice_index words 1) (slice_index words 2) ≡ instr
 
 -- the words of an instruction without a fault are read as that instruction
 abbrev pub WordsAreRead : Type 0
@@ -29,8 +29,8 @@ abbrev pub WordsAreWritten : Type 0
 WordsAreWritten =
     (word first second : ℕ) (head : Head)
     → Spells word head
-    → (first_fault (head_part (completed head first second)) ≡ None) ×
-    (words_of (completed head first second) ≡ word ∷ take (extension_count head)
+    → (first_fault (head_part (completion head first second)) ≡ None) ×
+    (words_of (completion head first second) ≡ word ∷ take (extension_count head)
     (first ∷ second ∷ []))
 
 -- the illegal words are those that spell nothing

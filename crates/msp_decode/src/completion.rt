@@ -1,5 +1,5 @@
 ghost use Rattle.std.specs.Prelude.{◌≡◌, ◌≤◌, ◌+◌, ℕ, [], ◌∷◌, take};
-ghost use Rattle.msp_decode.specs.Completion.{head_part, extension_words, source_extensions, dest_extensions, extension_count, completed_source, completed_dest, completed};
+ghost use Rattle.msp_decode.specs.Completion.{head_part, extension_words, source_extensions, dest_extensions, extension_count, source_completion, dest_completion, completion};
 
 use crate::dest::Dest;
 use crate::dest_form::DestForm;
@@ -41,7 +41,7 @@ pub fn extensions(head: &Head) -> u8
 }
 
 fn complete_source(source: SourceForm, word: u16) -> Source
-    ensures { result ≡ completed_source source word }
+    ensures { result ≡ source_completion source word }
 {
     match source {
         SourceForm::Register(register) => Source::Reg(register),
@@ -54,7 +54,7 @@ fn complete_source(source: SourceForm, word: u16) -> Source
 }
 
 fn complete_dest(dest: DestForm, word: u16) -> Dest
-    ensures { result ≡ completed_dest dest word }
+    ensures { result ≡ dest_completion dest word }
 {
     match dest {
         DestForm::Register(register) => Dest::Reg(register),
@@ -65,7 +65,7 @@ fn complete_dest(dest: DestForm, word: u16) -> Dest
 /// The instruction with its extension words, those of the source first. Words that are not needed
 /// are ignored.
 pub fn complete(head: &Head, first: u16, second: u16) -> Instr
-    ensures value { result ≡ completed head.now first second }
+    ensures value { result ≡ completion head.now first second }
     ensures head { head_part result ≡ head.now }
     ensures words { extension_words result ≡ take (extension_count head.now) (first ∷ second ∷ []) }
 {

@@ -131,8 +131,8 @@ written_word digest words (InnerDigestWrite i) = word_of_bytes (inner_in digest 
 written_word digest words (MacWrite i) = word_of_bytes (tag_in digest words) i
 written_word digest words item = 0
 
--- the word that passes in a step of a call, whose access read this value: what it reads, or the word
--- that it releases; not what it writes to the stack, which it does not read again
+-- the word that passes in a step of a call, whose access read this value: what it reads, or the
+-- word that it releases; not what it writes to the stack, which it does not read again
 abbrev pub word_passed : Option Access → ℕ → ℕ
 word_passed (Some (Write place size number)) value =
     if lies_in mac_region place then number else 0

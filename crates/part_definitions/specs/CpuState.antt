@@ -64,13 +64,13 @@ with_value (Executing regs values) value = Executing regs (values ++ value ∷ [
 with_value (Entering regs vector values) value = Entering regs vector (values ++ value ∷ [])
 
 -- an instruction or entry that is complete leaves its registers at a boundary
-abbrev pub completed_or : CpuState → Next → CpuState
-completed_or state (Asks access) = state
-completed_or state (Ends regs) = Boundary regs
+abbrev pub completion_or : CpuState → Next → CpuState
+completion_or state (Asks access) = state
+completion_or state (Ends regs) = Boundary regs
 
 -- after the value of its access, 0 for a write
 abbrev pub cpu_after : CpuState → ℕ → CpuState
-cpu_after state value = completed_or (with_value state value) (cpu_next (with_value state value))
+cpu_after state value = completion_or (with_value state value) (cpu_next (with_value state value))
 
 -- the values that it takes: at an opcode fetch every word that is not illegal, else every value
 abbrev pub cpu_takes : CpuState → ℕ → Bool

@@ -23,19 +23,19 @@ DMA_LENGTH = 0x01E6
 -- destination, number of words), a write of the processor, a value for the access that it asked
 -- for, a reset
 pub data DmaEvent : Type 0 where
-  Started : ℕ → ℕ → ℕ → DmaEvent
-  Written : ℕ → Size → ℕ → DmaEvent
-  Took : ℕ → DmaEvent
-  Cleared : DmaEvent
+  TransferStart : ℕ → ℕ → ℕ → DmaEvent
+  Store : ℕ → Size → ℕ → DmaEvent
+  DmaAccess : ℕ → DmaEvent
+  DeviceReset : DmaEvent
 
 -- the writes since the last reset
 abbrev pub dma_writes : List DmaEvent → List RegisterWrite
 dma_writes [] = []
-dma_writes (Started source destination words ∷ events) = dma_writes events
-dma_writes (Written place size number ∷ events) =
+dma_writes (TransferStart source destination words ∷ events) = dma_writes events
+dma_writes (Store place size number ∷ events) =
     register_write place size number ∷ dma_writes events
-dma_writes (Took value ∷ events) = dma_writes events
-dma_writes (Cleared ∷ events) = []
+dma_writes (DmaAccess value ∷ events) = dma_writes events
+dma_writes (DeviceReset ∷ events) = []
 
 -- a transfer, and the values taken since its start, newest first
 pub record Transfer : Type 0 where
@@ -74,17 +74,17 @@ starts place size number = covers place size DMA_CONTROL && (number % 2 == 1)
 -- the last transfer that was started and not ignored; none is one of no words
 abbrev pub transfer_of : List DmaEvent → Transfer
 transfer_of [] = new_transfer 0 0 0
-transfer_of (Started source destination words ∷ events) =
+transfer_of (TransferStart source destination words ∷ events) =
     after_start (transfer_of events) (new_transfer source destination words)
-transfer_of (Written place size number ∷ events) =
+transfer_of (Store place size number ∷ events) =
     if starts place size number
     then after_start (transfer_of events)
     (new_transfer (register_word (dma_writes events) DMA_SOURCE)
     (register_word (dma_writes events) DMA_DESTINATION)
     (register_word (dma_writes events) DMA_LENGTH))
     else transfer_of events
-transfer_of (Took value ∷ events) = with_value (transfer_of events) value
-transfer_of (Cleared ∷ events) = new_transfer 0 0 0
+transfer_of (DmaAccess value ∷ events) = with_value (transfer_of events) value
+transfer_of (DeviceReset ∷ events) = new_transfer 0 0 0
 
 -- a transfer is active
 abbrev pub dma_is_active : List DmaEvent → Bool

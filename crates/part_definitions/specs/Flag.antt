@@ -108,11 +108,11 @@ last_pc [] = None
 last_pc (now ∷ before) = Some now.entry.pc
 
 -- the records since the last one that clears the flag
-abbrev pub since_cleared : List Seen → List Seen
-since_cleared [] = []
-since_cleared (now ∷ before) =
-    if clears (last_pc before) now then [] else now ∷ since_cleared before
+abbrev pub records_since_clear : List Seen → List Seen
+records_since_clear [] = []
+records_since_clear (now ∷ before) =
+    if clears (last_pc before) now then [] else now ∷ records_since_clear before
 
 -- there is a record that starts a run, and neither it nor a later one clears the flag
 unfoldable pub exec : List Seen → Bool
-exec seen = list_any starts_run (since_cleared seen)
+exec seen = list_any starts_run (records_since_clear seen)

@@ -58,8 +58,10 @@ bus_access head ReadSource working = read_at (size_of head) working.place
 bus_access head (ReadIncrementing register) working = read_at (size_of head) working.place
 bus_access head (FetchDestinationIndex register) working = fetch_at (pc_of working.regs)
 bus_access head ReadDestination working = read_at (size_of head) working.place
-bus_access head WriteResult working = write_at (size_of head) working.place (result_of head working).0
-bus_access head PushSource working = write_at (size_of head) (push_place working.regs) working.source
+bus_access head WriteResult working =
+    write_at (size_of head) working.place (result_of head working).0
+bus_access head PushSource working =
+    write_at (size_of head) (push_place working.regs) working.source
 bus_access head PushPc working = write_at Word (push_place working.regs) (pc_of working.regs)
 bus_access head PopSr working = read_at Word (sp_of working.regs)
 bus_access head PopPc working = read_at Word (sp_of working.regs)
@@ -77,8 +79,10 @@ after_value head ReadDestination value working = record working { destination = 
 after_value head WriteResult value working = working
 after_value head PushSource value working = record working { regs = after_push working.regs }
 after_value head PushPc value working = record working { regs = after_push working.regs }
-after_value head PopSr value working = record working { regs = with_sr (after_pop working.regs) value }
-after_value head PopPc value working = record working { regs = with_pc (after_pop working.regs) value }
+after_value head PopSr value working =
+    record working { regs = with_sr (after_pop working.regs) value }
+after_value head PopPc value working =
+    record working { regs = with_pc (after_pop working.regs) value }
 
 -- CMP and BIT set flags alone
 abbrev pub has_result : Op2 → Bool

@@ -59,7 +59,8 @@ with_source size form regs =
 abbrev pub working_at_start : Head → List ℕ → Working
 working_at_start (Two op size source destination) regs = with_source size source (after_word regs)
 working_at_start (OneOperand op size source) regs = with_source size source (after_word regs)
-working_at_start head regs = record { regs = after_word regs; source = 0; place = 0; destination = 0 }
+working_at_start head regs =
+    record { regs = after_word regs; source = 0; place = 0; destination = 0 }
 
 -- what an index is added to: at R0 it is the address of the index itself, at R2 and R3 it is 0
 abbrev pub index_base : List ℕ → Reg → ℕ

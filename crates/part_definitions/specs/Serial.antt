@@ -23,19 +23,19 @@ QUEUE_LENGTH = 64
 -- what happened to the port, in lists the newest first: a byte arrived, the processor read or
 -- fetched, it wrote a number, a reset
 pub data SerialEvent : Type 0 where
-  Arrived : ℕ → SerialEvent
-  Taken : ℕ → Size → SerialEvent
-  Written : ℕ → Size → ℕ → SerialEvent
-  Cleared : SerialEvent
+  Arrival : ℕ → SerialEvent
+  Load : ℕ → Size → SerialEvent
+  Store : ℕ → Size → ℕ → SerialEvent
+  DeviceReset : SerialEvent
 
 -- the writes since the last reset
 abbrev pub serial_writes : List SerialEvent → List RegisterWrite
 serial_writes [] = []
-serial_writes (Arrived byte ∷ events) = serial_writes events
-serial_writes (Taken place size ∷ events) = serial_writes events
-serial_writes (Written place size number ∷ events) =
+serial_writes (Arrival byte ∷ events) = serial_writes events
+serial_writes (Load place size ∷ events) = serial_writes events
+serial_writes (Store place size number ∷ events) =
     register_write place size number ∷ serial_writes events
-serial_writes (Cleared ∷ events) = []
+serial_writes (DeviceReset ∷ events) = []
 
 -- a read that covers the low byte of SRXD takes a byte
 abbrev pub takes_byte : ℕ → Size → Bool
@@ -45,14 +45,14 @@ takes_byte place size = covers place size SERIAL_RECEIVE
 -- a read that takes a byte takes the first
 abbrev pub waiting_bytes : List SerialEvent → List ℕ
 waiting_bytes [] = []
-waiting_bytes (Arrived byte ∷ events) =
+waiting_bytes (Arrival byte ∷ events) =
     if nat_lt (length (waiting_bytes events)) QUEUE_LENGTH
     then waiting_bytes events ++ byte ∷ []
     else waiting_bytes events
-waiting_bytes (Taken place size ∷ events) =
+waiting_bytes (Load place size ∷ events) =
     if takes_byte place size then drop 1 (waiting_bytes events) else waiting_bytes events
-waiting_bytes (Written place size number ∷ events) = waiting_bytes events
-waiting_bytes (Cleared ∷ events) = []
+waiting_bytes (Store place size number ∷ events) = waiting_bytes events
+waiting_bytes (DeviceReset ∷ events) = []
 
 -- one more byte can wait
 abbrev pub has_room : List SerialEvent → Bool
@@ -62,11 +62,11 @@ has_room events = nat_lt (length (waiting_bytes events)) QUEUE_LENGTH
 -- byte of SSTAT and since the last reset
 abbrev pub has_dropped : List SerialEvent → Bool
 has_dropped [] = false
-has_dropped (Arrived byte ∷ events) = not (has_room events) || has_dropped events
-has_dropped (Taken place size ∷ events) = has_dropped events
-has_dropped (Written place size number ∷ events) =
+has_dropped (Arrival byte ∷ events) = not (has_room events) || has_dropped events
+has_dropped (Load place size ∷ events) = has_dropped events
+has_dropped (Store place size number ∷ events) =
     if covers place size SERIAL_STATUS then false else has_dropped events
-has_dropped (Cleared ∷ events) = false
+has_dropped (DeviceReset ∷ events) = false
 
 -- bit 0 of SCTL is named: the receive interrupt is enabled
 abbrev pub serial_control : List SerialEvent → ℕ

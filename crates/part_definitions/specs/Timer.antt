@@ -17,19 +17,19 @@ TIMER_COMPARE = 0x0164
 -- what happened to the timer, in lists the newest first: a step ended, the processor wrote a
 -- number, an interrupt entry accepted the request, a reset
 pub data TimerEvent : Type 0 where
-  Ticked : TimerEvent
-  Written : ℕ → Size → ℕ → TimerEvent
-  Accepted : TimerEvent
-  Cleared : TimerEvent
+  Tick : TimerEvent
+  Store : ℕ → Size → ℕ → TimerEvent
+  Acceptance : TimerEvent
+  DeviceReset : TimerEvent
 
 -- the writes since the last reset
 abbrev pub timer_writes : List TimerEvent → List RegisterWrite
 timer_writes [] = []
-timer_writes (Ticked ∷ events) = timer_writes events
-timer_writes (Written place size number ∷ events) =
+timer_writes (Tick ∷ events) = timer_writes events
+timer_writes (Store place size number ∷ events) =
     register_write place size number ∷ timer_writes events
-timer_writes (Accepted ∷ events) = timer_writes events
-timer_writes (Cleared ∷ events) = []
+timer_writes (Acceptance ∷ events) = timer_writes events
+timer_writes (DeviceReset ∷ events) = []
 
 -- bits 0 and 1 of TCTL are named: the timer runs, and its interrupt is enabled
 abbrev pub timer_control : List TimerEvent → ℕ
@@ -38,8 +38,8 @@ timer_control events = register_word (timer_writes events) TIMER_CONTROL % 4
 abbrev pub timer_runs : List TimerEvent → Bool
 timer_runs events = timer_control events % 2 == 1
 
-abbrev pub timer_enabled : List TimerEvent → Bool
-timer_enabled events = timer_control events / 2 == 1
+abbrev pub timer_may_interrupt : List TimerEvent → Bool
+timer_may_interrupt events = timer_control events / 2 == 1
 
 -- from 0 to TCMP are TCMP + 1 numbers
 abbrev pub timer_compare : List TimerEvent → ℕ
@@ -55,11 +55,11 @@ begins_count place = register_of place == TIMER_CONTROL || (register_of place ==
 -- the steps that ended since the last write that begins a count, the step of the write among them
 abbrev pub steps_of_count : List TimerEvent → ℕ
 steps_of_count [] = 0
-steps_of_count (Ticked ∷ events) = steps_of_count events + 1
-steps_of_count (Written place size number ∷ events) =
+steps_of_count (Tick ∷ events) = steps_of_count events + 1
+steps_of_count (Store place size number ∷ events) =
     if begins_count place then 0 else steps_of_count events
-steps_of_count (Accepted ∷ events) = steps_of_count events
-steps_of_count (Cleared ∷ events) = 0
+steps_of_count (Acceptance ∷ events) = steps_of_count events
+steps_of_count (DeviceReset ∷ events) = 0
 
 -- the distance from the step of that write to the last step that ended
 abbrev pub timer_distance : List TimerEvent → ℕ
@@ -73,11 +73,11 @@ timer_count events = if timer_runs events then timer_distance events % timer_per
 -- write that begins a count
 abbrev pub distances : List TimerEvent → List ℕ
 distances [] = []
-distances (Ticked ∷ events) = timer_distance (Ticked ∷ events) ∷ distances events
-distances (Written place size number ∷ events) =
+distances (Tick ∷ events) = timer_distance (Tick ∷ events) ∷ distances events
+distances (Store place size number ∷ events) =
     if begins_count place then [] else distances events
-distances (Accepted ∷ events) = []
-distances (Cleared ∷ events) = []
+distances (Acceptance ∷ events) = []
+distances (DeviceReset ∷ events) = []
 
 -- a period ends at each distance, other than 0, that is a multiple of it
 abbrev pub ends_period : ℕ → ℕ → Bool
@@ -89,7 +89,7 @@ timer_flag events =
     timer_runs events && list_any (ends_period (timer_period events)) (distances events)
 
 abbrev pub timer_requests : List TimerEvent → Bool
-timer_requests events = timer_flag events && timer_enabled events
+timer_requests events = timer_flag events && timer_may_interrupt events
 
 -- what the registers hold; no other place is a register of the timer
 abbrev pub timer_word : List TimerEvent → ℕ → ℕ

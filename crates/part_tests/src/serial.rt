@@ -120,5 +120,10 @@ fn drops_the_65th_byte(rt: HostRuntime) -> Result<(), Fail> {
         assert_eq!(rt; port.read(SRXD, Word), byte);
     }
     assert_eq!(rt; port.read(SSTAT, Word), 0);
+    for byte in 1..=65 {
+        port.arrive(byte);
+    }
+    port.clear();
+    assert_eq!(rt; port.read(SSTAT, Word), 0);
     Ok(())
 }

@@ -1,6 +1,6 @@
 ghost use Rattle.std.specs.Prelude.{◌≡◌, [], ◌∷◌, List, IfOk};
 ghost use Rattle.part_definitions.specs.Part.{Takes, Answers};
-ghost use Rattle.part_definitions.specs.Serial.{SerialEvent, Arrived, Taken, Written, Cleared, waiting_bytes, oldest_byte, QUEUE_LENGTH, has_room, serial_read, serial_word, serial_status, serial_requests, byte_sent};
+ghost use Rattle.part_definitions.specs.Serial.{SerialEvent, Arrival, Load, Store, DeviceReset, waiting_bytes, oldest_byte, QUEUE_LENGTH, has_room, serial_read, serial_word, serial_status, serial_requests, byte_sent};
 
 use circular_buffer::HeapCircularBuffer;
 use peripheral_register::{Register, covers_byte, part_of_word, register_place};
@@ -44,7 +44,7 @@ impl Serial {
     /// A byte arrives. The answer is false where there is no room: the byte is dropped.
     pub fn arrive(&mut self, byte: u8) -> bool
         ensures room { Answers SerialStandsFor self.old has_room result }
-        ensures stands { Takes SerialStandsFor self.old (Arrived byte) self.new }
+        ensures stands { Takes SerialStandsFor self.old (Arrival byte) self.new }
     {
         let room = self.queue.try_push_back(byte).is_ok();
         self.dropped = self.dropped || !room;
@@ -56,7 +56,7 @@ impl Serial {
     pub fn read(&mut self, place: u16, size: Size) -> u16
         ensures number { Answers SerialStandsFor self.old
             (λ events. serial_read events place size) result }
-        ensures stands { Takes SerialStandsFor self.old (Taken place size) self.new }
+        ensures stands { Takes SerialStandsFor self.old (Load place size) self.new }
     {
         let number = self.peek(place, size);
         if covers_byte(place, size, SRXD) {
@@ -103,7 +103,7 @@ impl Serial {
     /// forgets that a byte was dropped; one that covers the low byte of STXD sends that byte.
     pub fn write(&mut self, place: u16, size: Size, value: u16) -> Option<u8>
         ensures sent { result ≡ byte_sent place size value }
-        ensures stands { Takes SerialStandsFor self.old (Written place size value) self.new }
+        ensures stands { Takes SerialStandsFor self.old (Store place size value) self.new }
     {
         self.control.write(place, size, value);
         if covers_byte(place, size, SSTAT) {
@@ -125,7 +125,7 @@ impl Serial {
 
     /// A reset.
     pub fn clear(&mut self)
-        ensures { Takes SerialStandsFor self.old Cleared self.new }
+        ensures { Takes SerialStandsFor self.old DeviceReset self.new }
     {
         self.control = Register::new(SCTL);
         self.queue.clear();

@@ -6,14 +6,14 @@ use Rattle.bus_signals.specs.declared.event.Event.{Event}
 use Rattle.bus_signals.specs.declared.kind.Kind.{Kind}
 use Rattle.bus_signals.specs.declared.kind.Kind.TheVariants.{Boot, Cpu, Idle, Irq, Rom}
 use Rattle.bus_signals.specs.declared.rule.Rule.{Rule}
-use Rattle.part_definitions.specs.Attestation.{call_item, is_return}
+use Rattle.part_definitions.specs.Attestation.{call_item, is_return, word_passed}
 use Rattle.part_definitions.specs.CpuRegisters.{pc_of}
-use Rattle.part_definitions.specs.CpuState.{CpuState, Boundary, Executing, Entering, cpu_pc, with_value, completed_or}
+use Rattle.part_definitions.specs.CpuState.{CpuState, Boundary, Executing, Entering, cpu_pc, with_value, completion_or}
 use Rattle.part_definitions.specs.Flag.{last_pc}
 use Rattle.part_definitions.specs.NextAccess.{Next, Asks, Ends}
 use Rattle.device_trace.specs.FirstRule.{first_rule}
 use Rattle.device_trace.specs.Logs.{Logs, step_progress, progress_after, with_events, with_record}
-use Rattle.device_trace.specs.Progress.{Progress, Held, Runs, InCall, next_pc_of, word_passed, after_return, call_after, running_after, next_progress}
+use Rattle.device_trace.specs.Progress.{Progress, Held, Runs, InCall, next_pc_of, after_return, call_after, running_after, next_progress}
 use Rattle.device_trace.specs.Signals.{step_kind, signals_at, signals_of}
 use Rattle.device_trace.specs.Start.{Start}
 use Rattle.device_trace.specs.Step.{record_of, next_record}
@@ -41,22 +41,22 @@ after_value-fresh (Boundary regs) value = refl
 after_value-fresh (Executing regs values) value = refl
 after_value-fresh (Entering regs vector values) value = refl
 
-completed_or-fresh : (cpu : CpuState) (next : Next) (last : Option ℕ) → IsOfLast cpu last
-    → IsOfLast (completed_or cpu next) last
-completed_or-fresh cpu (Asks access) last fresh = fresh
-completed_or-fresh cpu (Ends regs) last fresh = tt
+completion_or-fresh : (cpu : CpuState) (next : Next) (last : Option ℕ) → IsOfLast cpu last
+    → IsOfLast (completion_or cpu next) last
+completion_or-fresh cpu (Asks access) last fresh = fresh
+completion_or-fresh cpu (Ends regs) last fresh = tt
 
 running_after-fresh : (kind : Kind) (cpu : CpuState) (value : ℕ)
     → IsOfLast (running_after kind cpu value) (Some (cpu_pc cpu))
 running_after-fresh Idle cpu value = own_pc cpu
 running_after-fresh Boot cpu value =
-    completed_or-fresh (with_value cpu value) _ _ (after_value-fresh cpu value)
+    completion_or-fresh (with_value cpu value) _ _ (after_value-fresh cpu value)
 running_after-fresh Cpu cpu value =
-    completed_or-fresh (with_value cpu value) _ _ (after_value-fresh cpu value)
+    completion_or-fresh (with_value cpu value) _ _ (after_value-fresh cpu value)
 running_after-fresh Irq cpu value =
-    completed_or-fresh (with_value cpu value) _ _ (after_value-fresh cpu value)
+    completion_or-fresh (with_value cpu value) _ _ (after_value-fresh cpu value)
 running_after-fresh Rom cpu value =
-    completed_or-fresh (with_value cpu value) _ _ (after_value-fresh cpu value)
+    completion_or-fresh (with_value cpu value) _ _ (after_value-fresh cpu value)
 
 call_after-fresh : (regs words : List ℕ) (word : ℕ) (last : Option ℕ)
     → IsFresh (call_after regs words word) last

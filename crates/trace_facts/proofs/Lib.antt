@@ -5,3 +5,4 @@ pub mod CallPlaces
 pub mod NeverBroken
 pub mod Fresh
 pub mod BoundsStay
+pub mod ExecFlag

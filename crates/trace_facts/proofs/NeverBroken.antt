@@ -34,7 +34,8 @@ use Rattle.trace_facts.proofs.Unbroken.{atomicity_rule-none}
 
 -- which rule a chain of tests names
 names_a1 : (a3 a2 a1 a4 : Bool)
-    → (if a3 then Some A3 else if a2 then Some A2 else if a1 then Some A1 else if a4 then Some A4 else None) ≡ Some A1
+    → (if a3 then Some A3 else if a2 then Some A2 else if a1 then Some A1
+    else if a4 then Some A4 else None) ≡ Some A1
     → a1 ≡ true
 names_a1 true a2 a1 a4 named = absurd (cc)
 names_a1 false true a1 a4 named = absurd (cc)
@@ -43,7 +44,8 @@ names_a1 false false false true named = absurd (cc)
 names_a1 false false false false named = absurd (cc)
 
 names_no_k3 : (a3 a2 a1 a4 : Bool)
-    → (if a3 then Some A3 else if a2 then Some A2 else if a1 then Some A1 else if a4 then Some A4 else None) ≡ Some K3 → ⊥
+    → (if a3 then Some A3 else if a2 then Some A2 else if a1 then Some A1
+    else if a4 then Some A4 else None) ≡ Some K3 → ⊥
 names_no_k3 true a2 a1 a4 named = absurd (cc)
 names_no_k3 false true a1 a4 named = absurd (cc)
 names_no_k3 false false true a4 named = absurd (cc)

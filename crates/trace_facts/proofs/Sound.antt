@@ -1,5 +1,5 @@
--- What holds of the progress between two steps: where the processor runs, the last step was not inside
--- the ROM, and an instruction or an interrupt entry that has begun is not in the ROM either.
+-- What holds of the progress between two steps: where the processor runs, the last step was not
+-- inside the ROM, and an instruction or an interrupt entry that has begun is not in the ROM either.
 use Rattle.std.proofs.Common.{◌≡◌, ℕ, Bool, true, false, List, Option, Some, None, refl, not}
 use Rattle.std.specs.Prelude.{◌==◌, ◌&&◌, is_some}
 use Rattle.std.proofs.lemmas.Bool.{cond_both, and_from, and_left, not_from_false}
@@ -8,13 +8,13 @@ use Rattle.bus_signals.specs.declared.kind.Kind.{Kind}
 use Rattle.bus_signals.specs.declared.kind.Kind.TheVariants.{Boot, Cpu, Idle, Irq, Rom}
 use Rattle.bus_signals.specs.declared.rule.Rule.{Rule}
 use Rattle.bus_signals.specs.Map.{ROM_ENTRY}
-use Rattle.part_definitions.specs.Attestation.{CallItem, KeyRead, MetadataRead, DerivedKeyWrite, RegionRead, InnerDigestWrite, MacWrite, ReturnRead, call_item, item_pc, is_return}
+use Rattle.part_definitions.specs.Attestation.{CallItem, KeyRead, MetadataRead, DerivedKeyWrite, RegionRead, InnerDigestWrite, MacWrite, ReturnRead, call_item, item_pc, is_return, word_passed}
 use Rattle.part_definitions.specs.CpuRegisters.{pc_of, is_asleep}
-use Rattle.part_definitions.specs.CpuState.{CpuState, Boundary, Executing, Entering, cpu_pc, with_value, completed_or}
+use Rattle.part_definitions.specs.CpuState.{CpuState, Boundary, Executing, Entering, cpu_pc, with_value, completion_or}
 use Rattle.part_definitions.specs.NextAccess.{Next, Asks, Ends}
 use Rattle.part_definitions.specs.Monitors.{in_rom, was_inside}
 use Rattle.device_trace.specs.Logs.{progress_after}
-use Rattle.device_trace.specs.Progress.{Progress, Held, Runs, InCall, next_pc_of, boundary_kind, kind_of, progress_from_boundary, progress_within, word_passed, after_return, call_after, running_after, next_progress}
+use Rattle.device_trace.specs.Progress.{Progress, Held, Runs, InCall, next_pc_of, boundary_kind, kind_of, progress_from_boundary, progress_within, after_return, call_after, running_after, next_progress}
 
 -- code that has begun is outside the ROM
 abbrev pub IsOutside : CpuState → Type 0
@@ -97,22 +97,22 @@ with_value-outside (Boundary regs) value outside = outside
 with_value-outside (Executing regs values) value outside = outside
 with_value-outside (Entering regs vector values) value outside = outside
 
-completed_or-outside : (cpu : CpuState) (next : Next) → IsOutside cpu
-    → IsOutside (completed_or cpu next)
-completed_or-outside cpu (Asks access) outside = outside
-completed_or-outside cpu (Ends regs) outside = tt
+completion_or-outside : (cpu : CpuState) (next : Next) → IsOutside cpu
+    → IsOutside (completion_or cpu next)
+completion_or-outside cpu (Asks access) outside = outside
+completion_or-outside cpu (Ends regs) outside = tt
 
 running_after-outside : (kind : Kind) (cpu : CpuState) (value : ℕ)
     → in_rom (cpu_pc cpu) ≡ false → IsOutside (running_after kind cpu value)
 running_after-outside Idle cpu value outside = outside_of cpu outside
 running_after-outside Boot cpu value outside =
-    completed_or-outside (with_value cpu value) _ (with_value-outside cpu value outside)
+    completion_or-outside (with_value cpu value) _ (with_value-outside cpu value outside)
 running_after-outside Cpu cpu value outside =
-    completed_or-outside (with_value cpu value) _ (with_value-outside cpu value outside)
+    completion_or-outside (with_value cpu value) _ (with_value-outside cpu value outside)
 running_after-outside Irq cpu value outside =
-    completed_or-outside (with_value cpu value) _ (with_value-outside cpu value outside)
+    completion_or-outside (with_value cpu value) _ (with_value-outside cpu value outside)
 running_after-outside Rom cpu value outside =
-    completed_or-outside (with_value cpu value) _ (with_value-outside cpu value outside)
+    completion_or-outside (with_value cpu value) _ (with_value-outside cpu value outside)
 
 return_pc : (item : CallItem) → is_return item ≡ true → was_inside (Some (item_pc item)) ≡ false
 return_pc (KeyRead i) returns = absurd (cc)

@@ -1,5 +1,5 @@
-//! Facts on the trace that its laws share: what holds between two steps, and where the accesses of a
-//! call lie.
+//! Facts on the trace that its laws share: what holds between two steps, and where the accesses of
+//! a call lie.
 //!
 //! There is no code here but laws, over the trace's definitions alone.
 #![tactic(auto)]

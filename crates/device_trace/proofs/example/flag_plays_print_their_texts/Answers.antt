@@ -13,8 +13,10 @@ use Rattle.device_trace.specs.FirstRule.{first_rule}
 use Rattle.device_trace.specs.Step.{record_of, next_record}
 use Rattle.device_trace.specs.Trace.{logs_after}
 use Rattle.device_trace.specs.Text.{lines_of, play_text}
-use Rattle.device_trace.proofs.example.ordinary_use.Goals as goal
+use Rattle.device_trace.proofs.example.flag_plays_print_their_texts.Goals as goal
 
 pub returns : goal.returns
-unfolding digits encode_with alu_result shift_result head_of next_access entry_access key_rule atomicity_rule exec with_events with_record signals_at first_rule record_of next_record logs_after lines_of play_text
+unfolding digits encode_with alu_result shift_result head_of next_access entry_access key_rule
+    atomicity_rule exec with_events with_record signals_at first_rule record_of next_record
+    logs_after lines_of play_text
 returns c = refl

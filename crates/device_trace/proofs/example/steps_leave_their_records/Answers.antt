@@ -1,6 +1,4 @@
 use Rattle.std.proofs.Common.{refl}
-use Rattle.std.specs.Fmt.{digits}
-use Rattle.hex.specs.Hex.{encode_with}
 use Rattle.word_arith.specs.Op2.{alu_result}
 use Rattle.word_arith.specs.Op1.{shift_result}
 use Rattle.msp_decode.specs.Head.{head_of}
@@ -11,10 +9,10 @@ use Rattle.device_trace.specs.Logs.{with_events, with_record}
 use Rattle.device_trace.specs.Signals.{signals_at}
 use Rattle.device_trace.specs.FirstRule.{first_rule}
 use Rattle.device_trace.specs.Step.{record_of, next_record}
-use Rattle.device_trace.specs.Trace.{logs_after}
-use Rattle.device_trace.specs.Text.{lines_of, play_text}
-use Rattle.device_trace.proofs.example.dma_in_call_resets.Goals as goal
+use Rattle.device_trace.specs.Trace.{logs_after, trace}
+use Rattle.device_trace.proofs.example.steps_leave_their_records.Goals as goal
 
 pub returns : goal.returns
-unfolding digits encode_with alu_result shift_result head_of next_access entry_access key_rule atomicity_rule exec with_events with_record signals_at first_rule record_of next_record logs_after lines_of play_text
+unfolding alu_result shift_result head_of next_access entry_access key_rule atomicity_rule exec
+    with_events with_record signals_at first_rule record_of next_record logs_after trace
 returns c = refl

@@ -1,0 +1,19 @@
+-- The reports of a play.
+use Rattle.std.specs.Prelude.{◌≡◌, ◌++◌, List, Some, IsTrue}
+use Rattle.bus_signals.specs.Report.{ReportFields}
+use Rattle.bus_signals.specs.declared.event.Event.{Event}
+use Rattle.device_trace.specs.Start.{Start}
+use Rattle.device_trace.specs.Text.{last_report}
+use Rattle.device_trace.specs.Trace.{trace}
+use Rattle.device_trace.specs.WholeRun.{WholeRun}
+
+-- this holds of every report that a play makes, and of the play up to it
+abbrev pub EachReport :
+    Start → List (List Event) → (ReportFields → List (List Event) → Type 0) → Type 0
+EachReport start play holds =
+    (later earlier : List (List Event)) (report : ReportFields)
+    → play ≡ later ++ earlier → last_report start earlier ≡ Some report → holds report earlier
+
+-- a report whose EXEC is 1 comes after a whole run of the region that it names
+abbrev pub ExecMeansWholeRun : Start → ReportFields → List (List Event) → Type 0
+ExecMeansWholeRun start report play = IsTrue report.exec → WholeRun report.bounds (trace start play)

@@ -1,0 +1,78 @@
+-- Where EXEC is set, the bounds are valid.
+use Rattle.std.proofs.Common.{◌≡◌, Bool, true, false, List, [], ◌∷◌, ◌⊎◌, inl, inr, Option, Some, None, refl, ap, ◌∙◌}
+use Rattle.std.specs.Prelude.{◌==◌, ◌&&◌, is_some, if◌then◌else◌}
+use Rattle.std.specs.List.{list_any}
+use Rattle.std.proofs.lemmas.Bool.{and_parts, or_cases, or_parts}
+use Rattle.bus_signals.specs.declared.bus_record.BusRecord.{BusRecord}
+use Rattle.bus_signals.specs.declared.event.Event.{Event}
+use Rattle.bus_signals.specs.declared.rule.Rule.{Rule}
+use Rattle.bus_signals.specs.Bounds.{are_valid}
+use Rattle.bus_signals.specs.Map.{metadata_region}
+use Rattle.bus_signals.specs.Seen.{Seen}
+use Rattle.part_definitions.specs.Flag.{accesses_in, writes_to, is_opcode_fetch, clears_e9, clears, starts_run, last_pc, records_since_clear, exec}
+use Rattle.device_trace.specs.Logs.{Logs, exec_of, logged_bounds, with_events, with_record}
+use Rattle.device_trace.specs.Start.{Start}
+use Rattle.device_trace.specs.Step.{next_record}
+use Rattle.device_trace.specs.Trace.{logs_after}
+use Rattle.trace_facts.proofs.BoundsStay.{logged_bounds-stay}
+
+-- where the flag is set after a record, this does not clear it, and it starts a run or the flag was
+-- set before
+set_after : (cleared : Bool) (now : Seen) (kept : List Seen)
+    → list_any starts_run (if cleared then [] else now ∷ kept) ≡ true
+    → (cleared ≡ false) × ((starts_run now ≡ true) ⊎ (list_any starts_run kept ≡ true))
+set_after true now kept set = absurd (cc)
+set_after false now kept set = (refl, or_cases (starts_run now) (list_any starts_run kept) set)
+
+pub exec-more : (now : Seen) (before : List Seen) → exec (now ∷ before) ≡ true
+    → (clears (last_pc before) now ≡ false) × ((starts_run now ≡ true) ⊎ (exec before ≡ true))
+unfolding exec
+exec-more now before set =
+    set_after (clears (last_pc before) now) now (records_since_clear before) set
+
+pub exec-none : exec [] ≡ true → ⊥
+unfolding exec
+exec-none set = cc
+
+pub reset_none : (rule : Option Rule) → is_some rule ≡ false → rule ≡ None
+reset_none None off = refl
+reset_none (Some rule) off = absurd (cc)
+
+-- after a step
+abbrev pub LogsAreValid : Start → Logs → Type 0
+LogsAreValid start logs = exec_of logs ≡ true → are_valid (logged_bounds start logs) ≡ true
+
+with_record-valid : (start : Start) (logs : Logs) (entry : BusRecord)
+    → LogsAreValid start logs → LogsAreValid start (with_record start logs entry)
+unfolding with_record
+with_record-valid start logs entry before set =
+    let now : Seen = record { entry = entry; bounds = logged_bounds start logs } in
+    let more = exec-more now logs.seen set in
+    let last = or_parts _ (clears_e9 now) more.0 in
+    let clean = or_parts (list_any (writes_to metadata_region) (accesses_in entry))
+    (is_some entry.reset) last.1 in
+    let stays : logged_bounds start (with_record start logs entry) ≡ logged_bounds start logs =
+    logged_bounds-stay start logs entry (reset_none entry.reset clean.1) clean.0 in
+    let valid : are_valid (logged_bounds start logs) ≡ true =
+    elim more.1 [
+      | inl starts ↦
+          (and_parts (is_opcode_fetch entry && (entry.pc == (logged_bounds start logs).er_min))
+          (are_valid (logged_bounds start logs)) starts).1
+      | inr was_set ↦ before was_set
+    ] in
+    ap are_valid stays ∙ valid
+
+pub with_events-valid : (start : Start) (logs : Logs) (events : List Event)
+    → LogsAreValid start logs → LogsAreValid start (with_events logs events)
+unfolding with_events
+with_events-valid start logs events valid = valid
+
+-- after every play
+pub logs_after-valid : (start : Start) (play : List (List Event))
+    → LogsAreValid start (logs_after start play)
+unfolding logs_after
+logs_after-valid start [] set = absurd (exec-none set)
+logs_after-valid start (events ∷ play) set =
+    with_record-valid start (with_events (logs_after start play) events)
+    (next_record start (logs_after start play) events)
+    (with_events-valid start (logs_after start play) events (logs_after-valid start play)) set
