@@ -9,10 +9,9 @@ use Rattle.bus_signals.specs.declared.access.Access.TheVariants.{Read, Write}
 use Rattle.bus_signals.specs.declared.bounds.Bounds.{Bounds}
 use Rattle.bus_signals.specs.Access.{some_reads}
 use Rattle.bus_signals.specs.Map.{lies_in, touches, some_touches, mac_region, key_region, stack_region, peripheral_region, ROM_EXIT}
-use Rattle.part_definitions.specs.Attestation.{CallItem, KeyRead, MetadataRead, DerivedKeyWrite, RegionRead, InnerDigestWrite, MacWrite, ReturnRead, region_words, item_access, item_pc}
+use Rattle.part_definitions.specs.Attestation.{CallItem, KeyRead, MetadataRead, DerivedKeyWrite, RegionRead, InnerDigestWrite, MacWrite, ReturnRead, region_words, item_access, item_pc, word_passed}
 use Rattle.device_trace.specs.Blank.{touches_secrets, blank_access, blank_value}
 use Rattle.device_trace.specs.Logs.{Logs, exec_of, logged_byte, with_released_word}
-use Rattle.device_trace.specs.Progress.{word_passed}
 use Rattle.device_trace.specs.Signals.{value_read}
 use Rattle.device_trace.specs.Start.{Start, given_word}
 use Rattle.key_isolation.proofs.Bytes.{key_byte-hide}

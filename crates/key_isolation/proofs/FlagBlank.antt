@@ -5,7 +5,7 @@ use Rattle.std.specs.List.{list_any}
 use Rattle.bus_signals.specs.declared.access.Access.{Access}
 use Rattle.bus_signals.specs.declared.access.Access.TheVariants.{Fetch, Read, Write}
 use Rattle.bus_signals.specs.Seen.{Seen}
-use Rattle.part_definitions.specs.Flag.{clears, starts_run, last_pc, since_cleared, exec}
+use Rattle.part_definitions.specs.Flag.{clears, starts_run, last_pc, records_since_clear, exec}
 use Rattle.device_trace.specs.Blank.{blank_access, blank_record}
 
 -- a record that the flag has seen, blanked
@@ -76,16 +76,16 @@ goes_on false test' now kept kept' same rest =
     ap (λ (t : Bool). if t then [] else blank_seen now ∷ kept') same
     ∙ ap (λ (xs : List Seen). blank_seen now ∷ xs) rest
 
-since_cleared-blank : (seen : List Seen)
-    → since_cleared (map blank_seen seen) ≡ map blank_seen (since_cleared seen)
-since_cleared-blank [] = refl
-since_cleared-blank (now ∷ before) =
+records_since_clear-blank : (seen : List Seen)
+    → records_since_clear (map blank_seen seen) ≡ map blank_seen (records_since_clear seen)
+records_since_clear-blank [] = refl
+records_since_clear-blank (now ∷ before) =
     goes_on (clears (last_pc before) now)
     (clears (last_pc (map blank_seen before)) (blank_seen now)) now
-    (since_cleared before) (since_cleared (map blank_seen before))
+    (records_since_clear before) (records_since_clear (map blank_seen before))
     (clears-blank (last_pc (map blank_seen before)) now
     ∙ ap (λ (last : Option ℕ). clears last now) (last_pc-blank before))
-    (since_cleared-blank before)
+    (records_since_clear-blank before)
 
 any_start-blank : (seen : List Seen)
     → list_any starts_run (map blank_seen seen) ≡ list_any starts_run seen
@@ -98,4 +98,5 @@ any_start-blank (now ∷ before) =
 pub exec-blank : (seen : List Seen) → exec (map blank_seen seen) ≡ exec seen
 unfolding exec
 exec-blank seen =
-    ap (list_any starts_run) (since_cleared-blank seen) ∙ any_start-blank (since_cleared seen)
+    ap (list_any starts_run) (records_since_clear-blank seen)
+    ∙ any_start-blank (records_since_clear seen)

@@ -17,7 +17,7 @@ pub record PlayHides (start : Start) (released : List ℕ) (play : List (List Ev
   pub logs : hide (logs_after start play) ≡ logs_after (opened released start) play
 
 -- a step only adds to the released words
-pub next_released : (start : Start) (logs : Logs) (events : List Event)
+next_released : (start : Start) (logs : Logs) (events : List Event)
     → (more : List ℕ) × ((next_logs start logs events).released_words ≡ logs.released_words ++ more)
 unfolding with_record with_events
 next_released start logs events =
@@ -25,17 +25,25 @@ next_released start logs events =
     (next_record start logs events).kind
     (next_record start logs events).cpu logs.released_words
 
+-- so what is released after the step begins with what was released before it
+pub released_before : (start : Start) (released more : List ℕ) (logs : Logs) (events : List Event)
+    → released ≡ (next_logs start logs events).released_words ++ more
+    → (rest : List ℕ) × (released ≡ logs.released_words ++ rest)
+released_before start released more logs events split =
+    let added = next_released start logs events in (
+      added.0 ++ more,
+      split ∙ (ap (λ (words : List ℕ). words ++ more) added.1
+          ∙ append_assoc logs.released_words added.0 more),
+    )
+
 pub play_hides : (start : Start) (released : List ℕ) (play : List (List Event)) (more : List ℕ)
     → released ≡ (logs_after start play).released_words ++ more → PlayHides start released play
 unfolding trace logs_after
 play_hides start released [] more split = record { history = refl; logs = refl }
 play_hides start released (events ∷ play) more split =
     let logs : Logs = logs_after start play in
-    let added = next_released start logs events in
-    let earlier : released ≡ logs.released_words ++ (added.0 ++ more) =
-    split ∙ (ap (λ (words : List ℕ). words ++ more) added.1
-    ∙ append_assoc logs.released_words added.0 more) in
-    let before = play_hides start released play (added.0 ++ more) earlier in
+    let rest = released_before start released more logs events split in
+    let before = play_hides start released play rest.0 rest.1 in
     let step = step_hides start released more logs events (logs_after-sound start play) split in
     record {
       history =

@@ -16,3 +16,4 @@ pub mod LogsBlank
 pub mod Induction
 pub mod TextBlank
 pub mod TwoKeys
+pub mod OpenRecords

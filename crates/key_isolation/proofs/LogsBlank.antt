@@ -61,7 +61,8 @@ unfolding with_record
 with_record-blank start released logs entry formed follows =
     λ i. record {
       progress = follows.progress i;
-      memory = memory_after-hide entry.reset entry.cpu entry.dma logs.memory formed.cpu formed.dma i;
+      memory =
+          memory_after-hide entry.reset entry.cpu entry.dma logs.memory formed.cpu formed.dma i;
       peripherals =
           record {
             timer = timer-hide logs entry i;

@@ -1,4 +1,5 @@
--- A step that is not refused, with and without the key: its access, its value, and what it leads to.
+-- A step that is not refused, with and without the key: its access, its value, and what it leads
+-- to.
 use Rattle.std.proofs.Common.{◌≡◌, ℕ, ◌<◌, ◌≤◌, Bool, true, false, List, [], ◌∷◌, ◌++◌, length, Option, Some, None, refl, ap, sym, ◌∙◌, subst, not}
 use Rattle.std.specs.Prelude.{◌==◌, ◌&&◌, ◌||◌, nat_lt, if◌then◌else◌}
 use Rattle.std.proofs.lemmas.Bool.{cond-false, cond-true, cases_lt, lt-ltb}

@@ -18,7 +18,7 @@ use Rattle.part_definitions.specs.Dma as DmaEngine
 use Rattle.part_definitions.specs.PeripheralRegister.{covers}
 use Rattle.part_definitions.specs.Serial.{SerialEvent, byte_sent, SERIAL_SEND}
 use Rattle.part_definitions.specs.Serial as SerialPort
-use Rattle.part_definitions.specs.Timer.{TimerEvent, Ticked}
+use Rattle.part_definitions.specs.Timer.{TimerEvent, Tick}
 use Rattle.part_definitions.specs.Timer as IntervalTimer
 use Rattle.device_trace.specs.Blank.{blank_access}
 use Rattle.device_trace.specs.Logs.{with_released_word, released_words_after}
@@ -60,17 +60,17 @@ with_timer_access-blank (Some (Fetch place)) events = refl
 with_timer_access-blank (Some (Read place size)) events = refl
 with_timer_access-blank (Some (Write place Byte number)) events =
     taken_same timer_region place Byte number
-    (λ n. IntervalTimer.Written place Byte n ∷ events) events (lit≤ tt)
+    (λ n. IntervalTimer.Store place Byte n ∷ events) events (lit≤ tt)
 with_timer_access-blank (Some (Write place Word number)) events =
     taken_same timer_region place Word number
-    (λ n. IntervalTimer.Written place Word n ∷ events) events (lit≤ tt)
+    (λ n. IntervalTimer.Store place Word n ∷ events) events (lit≤ tt)
 
 pub timer_after-blank : (rule : Option Rule) (accepted : Bool) (access : Option Access)
     (events : List TimerEvent)
     → timer_after rule accepted (blank_access access) events
     ≡ timer_after rule accepted access events
 timer_after-blank None accepted access events =
-    ap (λ (es : List TimerEvent). Ticked ∷ with_acceptance accepted es)
+    ap (λ (es : List TimerEvent). Tick ∷ with_acceptance accepted es)
     (with_timer_access-blank access events)
 timer_after-blank (Some rule) accepted access events = refl
 
@@ -81,10 +81,10 @@ serial_after-blank None (Some (Fetch place)) events = refl
 serial_after-blank None (Some (Read place size)) events = refl
 serial_after-blank None (Some (Write place Byte number)) events =
     taken_same serial_region place Byte number
-    (λ n. SerialPort.Written place Byte n ∷ events) events (lit≤ tt)
+    (λ n. SerialPort.Store place Byte n ∷ events) events (lit≤ tt)
 serial_after-blank None (Some (Write place Word number)) events =
     taken_same serial_region place Word number
-    (λ n. SerialPort.Written place Word n ∷ events) events (lit≤ tt)
+    (λ n. SerialPort.Store place Word n ∷ events) events (lit≤ tt)
 serial_after-blank (Some rule) access events = refl
 
 with_dma_access-blank : (access : Option Access) (events : List DmaEvent)
@@ -93,10 +93,10 @@ with_dma_access-blank None events = refl
 with_dma_access-blank (Some (Fetch place)) events = refl
 with_dma_access-blank (Some (Read place size)) events = refl
 with_dma_access-blank (Some (Write place Byte number)) events =
-    taken_same dma_region place Byte number (λ n. DmaEngine.Written place Byte n ∷ events) events
+    taken_same dma_region place Byte number (λ n. DmaEngine.Store place Byte n ∷ events) events
     (lit≤ tt)
 with_dma_access-blank (Some (Write place Word number)) events =
-    taken_same dma_region place Word number (λ n. DmaEngine.Written place Word n ∷ events) events
+    taken_same dma_region place Word number (λ n. DmaEngine.Store place Word n ∷ events) events
     (lit≤ tt)
 
 with_dma_value-blank : (access : Option Access) (value : ℕ) (events : List DmaEvent)

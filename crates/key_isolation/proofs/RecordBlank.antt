@@ -58,7 +58,8 @@ record_from-blank : (rule : Option Rule) (regs regs' : List ℕ) (now seen : Sig
     → (rule ≡ None → SameNumbers now seen value value' dma_value dma_value')
     → record_from regs' seen rule value' dma_value'
     ≡ blank_record (record_from regs now rule value dma_value)
-record_from-blank None regs regs' now seen value value' dma_value dma_value' registers same numbers =
+record_from-blank None regs regs' now seen value value' dma_value dma_value' registers same
+    numbers =
     let open_numbers = numbers refl in
     λ i. record {
       kind = same.kind i;

@@ -1,5 +1,5 @@
--- The rules see what a step is about to do but for the number that a write carries, and a fetched word
--- only where no key rule is broken.
+-- The rules see what a step is about to do but for the number that a write carries, and a fetched
+-- word only where no key rule is broken.
 use Rattle.std.proofs.Common.{◌≡◌, ℕ, Bool, true, false, Option, Some, None, refl, ap, sym, ◌∙◌}
 use Rattle.std.specs.Prelude.{◌&&◌}
 use Rattle.bus_signals.specs.declared.access.Access.{Access}

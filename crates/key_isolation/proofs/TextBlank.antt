@@ -1,5 +1,5 @@
 -- The text of a play is the same without the key.
-use Rattle.std.proofs.Common.{◌≡◌, ℕ, zero, suc, ◌+◌, ◌-◌, ◌<◌, ◌≤◌, Bool, true, false, List, [], ◌∷◌, ◌++◌, length, Option, Some, None, inl, inr, refl, ap, sym, ◌∙◌, arith, lit≤, append_assoc}
+use Rattle.std.proofs.Common.{◌≡◌, ℕ, zero, suc, ◌+◌, ◌-◌, ◌<◌, ◌≤◌, Bool, true, false, List, [], ◌∷◌, ◌++◌, length, Option, Some, None, inl, inr, refl, ap, sym, ◌∙◌, arith, lit≤}
 use Rattle.std.specs.Prelude.{◌&&◌, if◌then◌else◌}
 use Rattle.std.proofs.lemmas.Bool.{and_parts}
 use Rattle.std.proofs.lemmas.Bool.Decides.{nat_tests}
@@ -23,7 +23,7 @@ use Rattle.key_isolation.proofs.Bytes.{same_if}
 use Rattle.trace_facts.proofs.CallPlaces.{valid_range}
 use Rattle.key_isolation.proofs.FlagBlank.{exec-blank}
 use Rattle.key_isolation.proofs.Hiding.{opened, hide, next_pc_of-hide, logged_byte-hide, logged_bounds-hide}
-use Rattle.key_isolation.proofs.Induction.{play_hides, next_released}
+use Rattle.key_isolation.proofs.Induction.{play_hides, released_before}
 use Rattle.key_isolation.proofs.LogsBlank.{step_hides}
 use Rattle.key_isolation.proofs.Projections.{byte_sent_by-blank}
 
@@ -136,11 +136,8 @@ lines_of-hide start released [] more split = refl
 lines_of-hide start released (events ∷ play) more split =
     let logs : Logs = logs_after start play in
     let open_start : Start = opened released start in
-    let added = next_released start logs events in
-    let earlier : released ≡ logs.released_words ++ (added.0 ++ more) =
-    split ∙ (ap (λ (words : List ℕ). words ++ more) added.1
-    ∙ append_assoc logs.released_words added.0 more) in
-    let before = play_hides start released play (added.0 ++ more) earlier in
+    let rest = released_before start released more logs events split in
+    let before = play_hides start released play rest.0 rest.1 in
     let step = step_hides start released more logs events (logs_after-sound start play) split in
     let lines : step_lines start (length play) (next_record start logs events)
     (next_logs start logs events)
@@ -156,7 +153,7 @@ lines_of-hide start released (events ∷ play) more split =
     ap (λ (text : List ℕ). text
     ++ step_lines start (length play) (next_record start logs events)
     (next_logs start logs events))
-    (lines_of-hide start released play (added.0 ++ more) earlier)
+    (lines_of-hide start released play rest.0 rest.1)
     ∙ (ap (λ (text : List ℕ). lines_of open_start play ++ text) lines
     ∙ ap
     (λ (ls : Logs). lines_of open_start play

@@ -1,11 +1,11 @@
 -- Two keys whose released words agree.
 use Rattle.std.proofs.Common.{◌≡◌, ℕ, suc, List, [], ◌∷◌, ◌++◌, refl, ap, sym, ◌∙◌, arith, append-nil}
 use Rattle.bus_signals.specs.declared.event.Event.{Event}
-use Rattle.device_trace.specs.Blank.{SameOutside}
+use Rattle.device_trace.specs.Blank.{blank, SameOutside}
 use Rattle.device_trace.specs.Logs.{Logs, logged_byte}
 use Rattle.device_trace.specs.Start.{Start, without_key}
 use Rattle.device_trace.specs.Text.{play_text}
-use Rattle.device_trace.specs.Trace.{logs_after, released_words, byte_after}
+use Rattle.device_trace.specs.Trace.{logs_after, trace, released_words, byte_after}
 use Rattle.key_isolation.specs.Agreement.{Agree}
 use Rattle.key_isolation.proofs.Hiding.{opened, logged_byte-hide}
 use Rattle.key_isolation.proofs.Induction.{play_hides}
@@ -82,6 +82,21 @@ memory_of_two left right play image both place off =
     byte-hide left both.whole play both.after_left both.is_left place off
     ∙ (ap (λ (start : Start). byte_after start play place) (opened-same both.whole left right image)
     ∙ sym (byte-hide right both.whole play both.after_right both.is_right place off))
+
+history_of_two : (left right : Start) (play : List (List Event)) → SameImage left right
+    → BeginsWithBoth (released_words left play) (released_words right play)
+    → blank (trace left play) ≡ blank (trace right play)
+history_of_two left right play image both =
+    (play_hides left both.whole play both.after_left both.is_left).history
+    ∙ (ap (λ (start : Start). trace start play) (opened-same both.whole left right image)
+    ∙ sym (play_hides right both.whole play both.after_right both.is_right).history)
+
+pub same_history : (left right : Start) (play : List (List Event)) → SameImage left right
+    → Agree (released_words left play) (released_words right play)
+    → blank (trace left play) ≡ blank (trace right play)
+same_history left right play image agree =
+    history_of_two left right play image
+    (agree_begin (released_words left play) (released_words right play) agree)
 
 pub same_text : (left right : Start) (play : List (List Event)) → SameImage left right
     → Agree (released_words left play) (released_words right play)

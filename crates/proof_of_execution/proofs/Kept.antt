@@ -11,7 +11,7 @@ use Rattle.bus_signals.specs.Access.{is_write, some_writes}
 use Rattle.bus_signals.specs.Bounds.{executable_region, output_region}
 use Rattle.bus_signals.specs.Map.{touches, some_touches, metadata_region}
 use Rattle.bus_signals.specs.Seen.{Seen}
-use Rattle.part_definitions.specs.Flag.{accesses_in, writes_to, fetches_outside, runs_inside, ran_inside, ran_at, clears_e1, clears_e2, clears_e3, clears_e4, clears_e5, clears_e6, clears_e7, clears_e8, clears_e9, clears, starts_run, last_pc, since_cleared, exec}
+use Rattle.part_definitions.specs.Flag.{accesses_in, writes_to, fetches_outside, runs_inside, ran_inside, ran_at, clears_e1, clears_e2, clears_e3, clears_e4, clears_e5, clears_e6, clears_e7, clears_e8, clears_e9, clears, starts_run, last_pc, records_since_clear, exec}
 use Rattle.device_trace.specs.WholeRun.{is_inside, runs_undisturbed, keeps_code, keeps_output}
 
 pub record Kept (last : Option ℕ) (now : Seen) : Type 0 where
@@ -96,7 +96,8 @@ pub exec-more : (now : Seen) (before : List Seen)
     → (clears (last_pc before) now ≡ false) × ((starts_run now ≡ true) ⊎ (exec before ≡ true))
 unfolding exec
 exec-more now before set =
-    set_after (clears (last_pc before) now) (starts_run now) now (since_cleared before) refl set
+    set_after (clears (last_pc before) now) (starts_run now) now
+    (records_since_clear before) refl set
 
 pub exec-none : exec [] ≡ true → ⊥
 unfolding exec

@@ -66,7 +66,10 @@ from_inside last now history progress kept valid run =
       | inl inside ↦
           record { valid = valid; run = inl (run_goes_on last now history kept inside run) }
       | inr outside ↦
-          record { valid = valid; run = inr (inl (run_ends last now history kept outside run)) }
+          record {
+            valid = valid;
+            run = inr (inl (run_ends last now history kept valid outside run));
+          }
     ]
 
 from_outside : (last : Option ℕ) (now : Seen) (history : List BusRecord) (before after : Progress)

@@ -76,9 +76,10 @@ run_goes_on last now history kept inside run =
 
 -- it is left
 pub run_ends : (last : Option ℕ) (now : Seen) (history : List BusRecord)
-    → Kept last now → runs_inside now ≡ false → Inside now.bounds history last
+    → Kept last now → are_valid now.bounds ≡ true → runs_inside now ≡ false
+    → Inside now.bounds history last
     → Outside now.bounds (now.entry ∷ history) (Some now.entry.pc)
-run_ends last now history kept outside run =
+run_ends last now history kept valid outside run =
     let was_inside : ran_inside last (executable_region now.bounds) ≡ true =
     ap (λ (pc : Option ℕ). ran_inside pc (executable_region now.bounds)) run.is_last ∙ run.inside in
     let at_end : (run.newest.pc == now.bounds.er_max) ≡ true =
@@ -86,6 +87,7 @@ run_ends last now history kept outside run =
     ∙ left_at_end last now kept was_inside outside in
     let whole : WholeRun now.bounds (now.entry ∷ history) =
     record {
+      valid = valid;
       after = now.entry ∷ [];
       run = run.newest ∷ run.older;
       before = run.before;
@@ -112,6 +114,7 @@ pub stays_outside : (last : Option ℕ) (now : Seen) (history : List BusRecord)
 stays_outside last now history kept outside run =
     let whole : WholeRun now.bounds (now.entry ∷ history) =
     record {
+      valid = run.whole.valid;
       after = now.entry ∷ run.whole.after;
       run = run.whole.run;
       before = run.whole.before;

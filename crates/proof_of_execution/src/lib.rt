@@ -8,4 +8,4 @@ mod example;
 mod law;
 
 pub use example::{interrupted_run_is_reported, quiet_run_is_reported};
-pub use law::exec_in_report_means_whole_run;
+pub use law::{each_exec_means_whole_run, exec_in_report_means_whole_run};

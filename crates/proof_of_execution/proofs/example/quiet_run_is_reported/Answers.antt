@@ -13,5 +13,6 @@ use Rattle.device_trace.specs.Trace.{logs_after}
 use Rattle.proof_of_execution.proofs.example.quiet_run_is_reported.Goals as goal
 
 pub returns : goal.returns
-unfolding alu_result shift_result head_of next_access entry_access key_rule atomicity_rule exec with_events with_record signals_at first_rule record_of next_record logs_after
+unfolding alu_result shift_result head_of next_access entry_access key_rule atomicity_rule exec
+    with_events with_record signals_at first_rule record_of next_record logs_after
 returns c = refl

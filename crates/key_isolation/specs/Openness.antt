@@ -1,0 +1,17 @@
+-- What is no secret: accesses, and steps that release a word.
+use Rattle.std.specs.Prelude.{◌&&◌, Bool, Option, is_none, IsFalse}
+use Rattle.bus_signals.specs.declared.access.Access.{Access}
+use Rattle.bus_signals.specs.declared.kind.Kind.{Kind}
+use Rattle.bus_signals.specs.declared.rule.Rule.{Rule}
+use Rattle.bus_signals.specs.Access.{some_writes}
+use Rattle.bus_signals.specs.Kind.{is_rom}
+use Rattle.bus_signals.specs.Map.{touches, some_touches, key_region, stack_region, mac_region}
+
+-- an access that touches neither the key nor the exclusive stack
+abbrev pub IsOpen : Access → Type 0
+IsOpen access = IsFalse (touches access key_region) × IsFalse (touches access stack_region)
+
+-- a step of the ROM that is not refused and writes to the MAC
+abbrev pub releases_word : Option Rule → Kind → Option Access → Bool
+releases_word rule kind access =
+    is_none rule && is_rom kind && some_writes access && some_touches access mac_region

@@ -1,0 +1,132 @@
+-- A step of the ROM after another leaves the EXEC flag.
+use Rattle.std.proofs.Common.{◌≡◌, ℕ, Bool, true, false, not, List, [], ◌∷◌, ◌++◌, Option, Some, None, refl, ap, sym, ◌∙◌}
+use Rattle.std.specs.Prelude.{◌==◌, ◌&&◌, ◌||◌, is_some, option_to_list, if◌then◌else◌}
+use Rattle.std.specs.List.{list_any}
+use Rattle.std.proofs.lemmas.Bool.{and_left, and_right, false_from_ne_true, or_from}
+use Rattle.bus_signals.specs.declared.access.Access.{Access}
+use Rattle.bus_signals.specs.declared.bus_record.BusRecord.{BusRecord}
+use Rattle.bus_signals.specs.declared.kind.Kind.TheVariants.{Rom}
+use Rattle.bus_signals.specs.declared.region.Region.{Region}
+use Rattle.bus_signals.specs.declared.rule.Rule.{Rule}
+use Rattle.bus_signals.specs.Access.{is_write, some_writes}
+use Rattle.bus_signals.specs.Bounds.{are_valid, executable_region, output_region}
+use Rattle.bus_signals.specs.Kind.{is_cpu}
+use Rattle.bus_signals.specs.Map.{some_touches, touches, metadata_region}
+use Rattle.bus_signals.specs.Seen.{Seen}
+use Rattle.part_definitions.specs.Flag.{accesses_in, writes_to, runs_inside, ran_inside, fetches_at, clears_e1, clears_e2, clears_e3, clears_e4, clears_e5, clears_e6, clears_e7, clears_e8, clears_e9, clears, starts_run, last_pc, records_since_clear, exec}
+use Rattle.part_definitions.specs.Monitors.{in_rom, leaves_stack_and_mac}
+use Rattle.mac_coverage.proofs.ValidPlaces.{AreValidRanges, are_valid-ranges, rom_outside, writes_outside, writes_off_metadata}
+
+-- a step of the ROM that was not refused: it writes to the stack and to the MAC alone, and the DMA
+-- has no access
+pub record IsRomStep (entry : BusRecord) : Type 0 where
+  pub kind : entry.kind ≡ Rom
+  pub code : in_rom entry.pc ≡ true
+  pub none : entry.reset ≡ None
+  pub no_dma : entry.dma ≡ None
+  pub within : (some_writes entry.cpu && leaves_stack_and_mac entry.cpu) ≡ false
+
+-- it writes to no place of a region that is apart
+writes_nowhere : (region : Region) (access : Option Access)
+    → ((one : Access) → leaves_stack_and_mac (Some one) ≡ false → touches one region ≡ false)
+    → (some_writes access && leaves_stack_and_mac access) ≡ false
+    → list_any (writes_to region) (option_to_list access) ≡ false
+writes_nowhere region None apart within = refl
+writes_nowhere region (Some access) apart within =
+    or_from (is_write access && touches access region) false
+    (off (is_write access) (leaves_stack_and_mac (Some access)) (touches access region) within
+    (apart access)) refl
+  where
+    off : (writes leaves touched : Bool) → (writes && leaves) ≡ false
+        → (leaves ≡ false → touched ≡ false) → (writes && touched) ≡ false
+    off true leaves touched none apart = apart none
+    off false leaves touched none apart = refl
+
+touches_nowhere : (region : Region) (access : Option Access)
+    → ((one : Access) → leaves_stack_and_mac (Some one) ≡ false → touches one region ≡ false)
+    → (some_writes access && leaves_stack_and_mac access) ≡ false
+    → (some_writes access && some_touches access region) ≡ false
+touches_nowhere region None apart within = refl
+touches_nowhere region (Some access) apart within =
+    off (is_write access) (leaves_stack_and_mac (Some access)) (touches access region) within
+    (apart access)
+  where
+    off : (writes leaves touched : Bool) → (writes && leaves) ≡ false
+        → (leaves ≡ false → touched ≡ false) → (writes && touched) ≡ false
+    off true leaves touched none apart = apart none
+    off false leaves touched none apart = refl
+
+-- after a record in the ROM it clears no flag
+rom_step-keeps : (last : ℕ) (now : Seen) → IsRomStep now.entry → in_rom last ≡ true
+    → are_valid now.bounds ≡ true → clears (Some last) now ≡ false
+rom_step-keeps last now step rom valid =
+    let ranges : AreValidRanges now.bounds = are_valid-ranges now.bounds valid in
+    let stays_out : runs_inside now ≡ false =
+    rom_outside now.bounds.er_min now.bounds.er_max now.entry.pc ranges.code step.code in
+    let was_out : ran_inside (Some last) (executable_region now.bounds) ≡ false =
+    rom_outside now.bounds.er_min now.bounds.er_max last ranges.code rom in
+    let only_cpu : accesses_in now.entry ≡ option_to_list now.entry.cpu =
+    ap (λ (dma : Option Access). option_to_list now.entry.cpu ++ option_to_list dma) step.no_dma
+    ∙ append-none (option_to_list now.entry.cpu) in
+    let no_write : (region : Region)
+    → ((one : Access) → leaves_stack_and_mac (Some one) ≡ false → touches one region ≡ false)
+    → list_any (writes_to region) (accesses_in now.entry) ≡ false =
+    λ region apart. ap (list_any (writes_to region)) only_cpu
+    ∙ writes_nowhere region now.entry.cpu apart step.within in
+    let off_code = λ (one : Access). writes_outside now.bounds.er_min now.bounds.er_max one
+    ranges.code in
+    let off_output = λ (one : Access). writes_outside now.bounds.or_min now.bounds.or_max one
+    ranges.output in
+    let no_dma : (region : Region) → some_touches now.entry.dma region ≡ false =
+    λ region. ap (λ (dma : Option Access). some_touches dma region) step.no_dma in
+    let e1 : clears_e1 now ≡ false = no_write (executable_region now.bounds) off_code in
+    let e2 : clears_e2 (Some last) now ≡ false =
+    and_left _ (not (runs_inside now))
+    (and_left (ran_inside (Some last) (executable_region now.bounds)) _ was_out) in
+    let e3 : clears_e3 (Some last) now ≡ false =
+    and_left _ _ (and_left (runs_inside now) _ stays_out) in
+    let e4 : clears_e4 now ≡ false = and_right now.entry.irq (runs_inside now) stays_out in
+    let e5 : clears_e5 now ≡ false =
+    and_left _ (not (runs_inside now))
+    (touches_nowhere (output_region now.bounds) now.entry.cpu off_output step.within) in
+    let e6 : clears_e6 now ≡ false =
+    or_from _ _ (no_dma (executable_region now.bounds)) (no_dma (output_region now.bounds)) in
+    let e7 : clears_e7 now ≡ false =
+    and_right (is_some now.entry.dma) (runs_inside now) stays_out in
+    let e8 : clears_e8 now ≡ false = and_left (runs_inside now) _ stays_out in
+    let e9 : clears_e9 now ≡ false =
+    or_from _ _ (no_write metadata_region writes_off_metadata)
+    (ap (λ (rule : Option Rule). is_some rule) step.none) in
+    or_from _ _ (or_from _ _ (or_from _ _ (or_from _ _ (or_from _ _ (or_from _ _ (or_from _ _
+    (or_from _ _ e1 e2) e3) e4) e5) e6) e7) e8) e9
+  where
+    append-none : (accesses : List Access) → accesses ++ [] ≡ accesses
+    append-none [] = refl
+    append-none (access ∷ accesses) =
+        ap (λ (rest : List Access). access ∷ rest) (append-none accesses)
+
+-- nor does it start a run
+rom_step-starts_none : (now : Seen) → IsRomStep now.entry → starts_run now ≡ false
+rom_step-starts_none now step =
+    let not_cpu : is_cpu now.entry.kind ≡ false = ap is_cpu step.kind in
+    and_left _ (are_valid now.bounds) (and_left _ (now.entry.pc == now.bounds.er_min)
+    (and_left (is_cpu now.entry.kind) (fetches_at now.entry.cpu now.entry.pc) not_cpu))
+
+kept_flag : (cleared : Bool) (now : Seen) (kept : List Seen) → starts_run now ≡ false
+    → (list_any starts_run kept ≡ true → cleared ≡ false)
+    → list_any starts_run (if cleared then [] else now ∷ kept) ≡ list_any starts_run kept
+kept_flag true now kept starts keeps =
+    sym (false_from_ne_true (list_any starts_run kept)
+    (λ set. let wrong : true ≡ false = keeps set in cc))
+kept_flag false now kept starts keeps = ap (λ (b : Bool). b || list_any starts_run kept) starts
+
+pub exec-rom_step : (last : ℕ) (now : Seen) (before : List Seen)
+    → last_pc before ≡ Some last → IsRomStep now.entry → in_rom last ≡ true
+    → (exec before ≡ true → are_valid now.bounds ≡ true)
+    → exec (now ∷ before) ≡ exec before
+unfolding exec
+exec-rom_step last now before is_last step rom valid =
+    kept_flag (clears (last_pc before) now) now (records_since_clear before)
+    (rom_step-starts_none now step)
+    (λ set. ap (λ (pc : Option ℕ). clears pc now) is_last
+    ∙ rom_step-keeps last now step rom (valid set))

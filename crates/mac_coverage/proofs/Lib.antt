@@ -1,0 +1,17 @@
+pub mod Words
+pub mod CallItems
+pub mod ValidPlaces
+pub mod MemoryKept
+pub mod MemoryBytes
+pub mod ExecKept
+pub mod Planned
+pub mod AttestedIs
+pub mod Device
+pub mod MacStored
+pub mod Passed
+pub mod Steps
+pub mod Calls
+pub mod PlaySteps
+pub mod Covers
+pub mod Outcomes
+pub mod Plays

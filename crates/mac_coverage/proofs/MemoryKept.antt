@@ -1,0 +1,167 @@
+-- A step that writes to the exclusive stack and to the MAC alone leaves what is attested.
+use Rattle.std.proofs.Common.{◌≡◌, ℕ, ◌+◌, ◌-◌, ◌*◌, ◌/◌, ◌%◌, ◌<◌, Bool, true, false, not, List, [], ◌++◌, take, inl, inr, Option, Some, None, refl, ap, sym, ◌∙◌, arith}
+use Rattle.std.specs.Prelude.{◌==◌, ◌&&◌, ◌||◌, if◌then◌else◌}
+use Rattle.std.proofs.lemmas.Bool.{cases_Bool, cond-false, eqb-true, false_from_ne_true}
+use Rattle.std.proofs.lemmas.Bool.Decides.{nat_tests}
+use Rattle.word_arith.specs.declared.size.Size.TheVariants.{Byte, Word}
+use Rattle.bus_signals.specs.declared.access.Access.{Access}
+use Rattle.bus_signals.specs.declared.access.Access.TheVariants.{Fetch, Read, Write}
+use Rattle.bus_signals.specs.declared.bounds.Bounds.{Bounds}
+use Rattle.bus_signals.specs.Access.{some_writes}
+use Rattle.bus_signals.specs.Bounds.{are_valid}
+use Rattle.bus_signals.specs.Map.{lies_in, key_region, rom_region, EXEC_WORD}
+use Rattle.part_definitions.specs.Memory.{MemoryWrite, PowerOn, byte_at, first_byte, fixed_byte, is_exec_word, last_written, rom_byte, takes_write, with_access, bytes_from}
+use Rattle.part_definitions.specs.Metadata.{bounds_in}
+use Rattle.part_definitions.specs.Monitors.{is_written_by_rom, leaves_stack_and_mac}
+use Rattle.part_definitions.specs.Region.{bounded_bytes, bytes_between, metadata_bytes, rest_bytes}
+use Rattle.mac_coverage.specs.Attested.{attested_in, without_exec_word}
+use Rattle.mac_coverage.proofs.ValidPlaces.{AreValidRanges, IsFreePlace, IsValidRange, are_valid-ranges, range-free}
+use Rattle.mac_coverage.proofs.Words.{bytes_from-same, take-bytes_from}
+
+-- the byte written last to a place where the ROM does not write
+byte_elsewhere : (place p : ℕ) → is_written_by_rom p ≡ false
+    → (not (is_written_by_rom place) || false) ≡ false → (place == p) ≡ false
+byte_elsewhere place p off within = grind (arith, nat_tests)
+
+low_elsewhere : (place p : ℕ) → is_written_by_rom p ≡ false
+    → (not (is_written_by_rom place) || (not (is_written_by_rom (place + 1)) || false)) ≡ false
+    → (place / 2 * 2 == p) ≡ false
+low_elsewhere place p off within = grind (arith, nat_tests)
+
+high_elsewhere : (place p : ℕ) → is_written_by_rom p ≡ false
+    → (not (is_written_by_rom place) || (not (is_written_by_rom (place + 1)) || false)) ≡ false
+    → (place / 2 * 2 + 1 == p) ≡ false
+high_elsewhere place p off within = grind (arith, nat_tests)
+
+last_written-kept : (access : Option Access) (writes : List MemoryWrite) (p before : ℕ)
+    → (some_writes access && leaves_stack_and_mac access) ≡ false
+    → is_written_by_rom p ≡ false
+    → last_written (with_access access writes) p before ≡ last_written writes p before
+last_written-kept None writes p before within off = refl
+last_written-kept (Some (Fetch place)) writes p before within off = refl
+last_written-kept (Some (Read place size)) writes p before within off = refl
+last_written-kept (Some (Write place Byte number)) writes p before within off =
+    cond-false (place == p) (number % 256) (last_written writes p before)
+    (byte_elsewhere place p off within)
+last_written-kept (Some (Write place Word number)) writes p before within off =
+    cond-false (place / 2 * 2 + 1 == p) (number / 256 % 256) _ (high_elsewhere place p off within)
+    ∙ cond-false (place / 2 * 2 == p) (number % 256) (last_written writes p before)
+    (low_elsewhere place p off within)
+
+-- the flag shows in the EXEC word alone
+exec_place : (p : ℕ) → is_exec_word p ≡ false → (p == EXEC_WORD) ≡ false
+exec_place p off =
+    false_from_ne_true (p == EXEC_WORD)
+    (λ here.
+    let same : p ≡ 0x268 = eqb-true p 0x268 here in
+    let inside : is_exec_word p ≡ true = ap is_exec_word same in
+    let wrong : true ≡ false = sym inside ∙ off in
+    cc)
+
+fixed_byte-off : (power : PowerOn) (before after : Bool) (p : ℕ) → is_exec_word p ≡ false
+    → fixed_byte power after p ≡ fixed_byte power before p
+fixed_byte-off power before after p off =
+    let none : (flag : Bool) → ((p == EXEC_WORD) && flag) ≡ false =
+    λ flag. ap (λ (here : Bool). here && flag) (exec_place p off) in
+    let zero_byte : (flag : Bool) → (if (p == EXEC_WORD) && flag then 1 else 0) ≡ 0 =
+    λ flag. cond-false ((p == EXEC_WORD) && flag) 1 0 (none flag) in
+    let same : (if (p == EXEC_WORD) && after then 1 else 0)
+    ≡ (if (p == EXEC_WORD) && before then 1 else 0) =
+    zero_byte after ∙ sym (zero_byte before) in
+    ap (λ (n : ℕ). if lies_in key_region p then power.key (p - key_region.first)
+    else if lies_in rom_region p then rom_byte p else n) same
+
+-- a byte where the ROM does not write
+pub byte_at-kept : (power : PowerOn) (exec : Bool) (access : Option Access)
+    (writes : List MemoryWrite) (p : ℕ)
+    → (some_writes access && leaves_stack_and_mac access) ≡ false
+    → is_written_by_rom p ≡ false
+    → byte_at power exec (with_access access writes) p ≡ byte_at power exec writes p
+byte_at-kept power exec access writes p within off =
+    ap (λ (n : ℕ). if takes_write p then n else fixed_byte power exec p)
+    (last_written-kept access writes p (first_byte power p) within off)
+
+pub byte_at-off_exec : (power : PowerOn) (before after : Bool) (writes : List MemoryWrite) (p : ℕ)
+    → is_exec_word p ≡ false → byte_at power after writes p ≡ byte_at power before writes p
+byte_at-off_exec power before after writes p off =
+    ap (λ (n : ℕ). if takes_write p then last_written writes p (first_byte power p) else n)
+    (fixed_byte-off power before after p off)
+
+-- memories that are equal where the ROM does not write and EXEC does not show
+abbrev pub AreAlike : (ℕ → ℕ) → (ℕ → ℕ) → Type 0
+AreAlike left right =
+    (p : ℕ) → is_written_by_rom p ≡ false → is_exec_word p ≡ false → left p ≡ right p
+
+bounds-alike : (left right : ℕ → ℕ) → AreAlike left right → bounds_in left ≡ bounds_in right
+bounds-alike left right alike =
+    let byte : (p : ℕ) → is_written_by_rom p ≡ false → is_exec_word p ≡ false → left p ≡ right p =
+    alike in
+    λ i. record {
+      er_min = byte 0x260 refl refl i + 256 * byte 0x261 refl refl i;
+      er_max = byte 0x262 refl refl i + 256 * byte 0x263 refl refl i;
+      or_min = byte 0x264 refl refl i + 256 * byte 0x265 refl refl i;
+      or_max = byte 0x266 refl refl i + 256 * byte 0x267 refl refl i;
+    }
+
+range-alike : (left right : ℕ → ℕ) (first last : ℕ) → AreAlike left right
+    → IsValidRange first last → bytes_between left first last ≡ bytes_between right first last
+range-alike left right first last alike range =
+    bytes_from-same left right first (last + 2 - first)
+    (λ i within.
+    let free : IsFreePlace (first + i) =
+    range-free first last (first + i) range (omega arith) (omega (arith, within)) in
+    alike (first + i) free.unwritten free.off_exec)
+
+bounded-alike : (left right : ℕ → ℕ) (bounds : Bounds) → AreAlike left right
+    → bounded_bytes left bounds ≡ bounded_bytes right bounds
+bounded-alike left right bounds alike =
+    elim (cases_Bool (are_valid bounds)) [
+      | inl valid ↦
+          let ranges : AreValidRanges bounds = are_valid-ranges bounds valid in
+          let code = range-alike left right bounds.er_min bounds.er_max alike ranges.code in
+          let output = range-alike left right bounds.or_min bounds.or_max alike ranges.output in
+          λ i. if are_valid bounds then code i ++ output i else []
+      | inr invalid ↦
+          cond-false (are_valid bounds) _ [] invalid
+          ∙ sym (cond-false (are_valid bounds) _ [] invalid)
+    ]
+
+pub rest-alike : (left right : ℕ → ℕ) → AreAlike left right → rest_bytes left ≡ rest_bytes right
+rest-alike left right alike =
+    ap (bounded_bytes left) (bounds-alike left right alike)
+    ∙ bounded-alike left right (bounds_in right) alike
+
+-- the metadata up to the EXEC word
+front-alike : (left right : ℕ → ℕ) → AreAlike left right
+    → bytes_from left 0x240 40 ≡ bytes_from right 0x240 40
+front-alike left right alike =
+    bytes_from-same left right 0x240 40
+    (λ i within. alike (0x240 + i) (unwritten i within) (off_exec i within))
+  where
+    unwritten : (i : ℕ) → i < 40 → is_written_by_rom (0x240 + i) ≡ false
+    unwritten i within = grind (arith, nat_tests)
+
+    off_exec : (i : ℕ) → i < 40 → is_exec_word (0x240 + i) ≡ false
+    off_exec i within = grind (arith, nat_tests)
+
+pub attested-but_exec : (left right : ℕ → ℕ) → AreAlike left right
+    → without_exec_word (attested_in left) ≡ without_exec_word (attested_in right)
+attested-but_exec left right alike =
+    let metadata : take 40 (metadata_bytes left) ≡ take 40 (metadata_bytes right) =
+    take-bytes_from left 0x240 40 42 (omega arith)
+    ∙ (front-alike left right alike ∙ sym (take-bytes_from right 0x240 40 42 (omega arith))) in
+    let rest = rest-alike left right alike in
+    λ i. record { metadata = metadata i; rest = rest i }
+
+-- with the EXEC word
+pub attested-same : (left right : ℕ → ℕ)
+    → ((p : ℕ) → is_written_by_rom p ≡ false → left p ≡ right p)
+    → attested_in left ≡ attested_in right
+attested-same left right same =
+    let metadata : metadata_bytes left ≡ metadata_bytes right =
+    bytes_from-same left right 0x240 42 (λ i within. same (0x240 + i) (unwritten i within)) in
+    let rest = rest-alike left right (λ p off off_exec. same p off) in
+    λ i. record { metadata = metadata i; rest = rest i }
+  where
+    unwritten : (i : ℕ) → i < 42 → is_written_by_rom (0x240 + i) ≡ false
+    unwritten i within = grind (arith, nat_tests)

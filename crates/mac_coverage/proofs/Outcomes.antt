@@ -1,0 +1,232 @@
+-- What a step of the ROM leads to.
+use Rattle.std.proofs.Common.{◌≡◌, ℕ, ◌+◌, ◌≤◌, true, false, List, [], ◌∷◌, ◌++◌, inl, inr, Option, Some, None, length, refl, ap, sym, ◌∙◌, arith, subst}
+use Rattle.std.specs.Prelude.{◌==◌, ◌&&◌, is_none, is_some}
+use Rattle.std.proofs.lemmas.Bool.{and_from, and_parts, and_right, cases_Bool, cond-false, cond-true}
+use Rattle.std.proofs.lemmas.List.{length_push}
+use Rattle.bus_signals.specs.declared.bus_record.BusRecord.{BusRecord}
+use Rattle.bus_signals.specs.declared.event.Event.{Event}
+use Rattle.bus_signals.specs.declared.kind.Kind.TheVariants.{Rom}
+use Rattle.bus_signals.specs.declared.rule.Rule.{Rule}
+use Rattle.bus_signals.specs.Kind.{is_rom}
+use Rattle.bus_signals.specs.Map.{ROM_ENTRY, ROM_EXIT}
+use Rattle.part_definitions.specs.Attestation.{bounds_read, call_item, is_return, region_words, word_passed}
+use Rattle.device_trace.specs.Logs.{Logs, progress_after, step_progress, vector_of, with_events, with_record}
+use Rattle.device_trace.specs.Progress.{InCall, after_return}
+use Rattle.device_trace.specs.Signals.{step_kind}
+use Rattle.device_trace.specs.Text.{finishes_call}
+use Rattle.device_trace.specs.Trace.{logs_after, trace}
+use Rattle.trace_facts.proofs.ExecFlag.{reset_none}
+use Rattle.mac_coverage.specs.Attested.{Attested}
+use Rattle.mac_coverage.specs.Call.{begins_call}
+use Rattle.mac_coverage.specs.Coverage.{MacCoversCall, attested_before}
+use Rattle.mac_coverage.proofs.CallItems.{exit_returns, only_first_enters}
+use Rattle.mac_coverage.proofs.Calls.{CallGoes, CallSoFar, call-goes_on, call-returns, return-is_last}
+use Rattle.mac_coverage.proofs.Covers.{covers_refused, covers_so_far}
+use Rattle.mac_coverage.proofs.Device.{Device, start_of}
+use Rattle.mac_coverage.proofs.PlaySteps.{CallGoesOn, IsTurnOfCall, PlayStands, earlier_records, after_step-alike, after_step-bytes, after_step-same, attested-is, entry-kind, entry-pc, entry-step, entry_at, first_step, heard, last-in_rom, later_step}
+use Rattle.mac_coverage.proofs.Steps.{IsCallStep, IsOfCall, OnCall, progress-call_step, rom_step-of_call}
+
+-- the MAC covers the call, and if it goes on, it is one so far
+pub record Outcome (device : Device) (play : List (List Event)) : Type 0 where
+  pub covers : MacCoversCall device.digest device.key (start_of device) play
+  pub next : PlayStands device play
+
+-- after a step that goes on, one that returns and one that is refused
+goes_on-next : (device : Device) (play : List (List Event)) (events : List Event)
+    (regs words : List ℕ)
+    → IsTurnOfCall device play events regs words
+    → IsCallStep (start_of device) (heard device play events) regs words
+    (entry_at device play events)
+    → is_return (call_item words) ≡ false
+    → CallGoesOn device (events ∷ play)
+    (words
+    ++ word_passed (entry_at device play events).cpu (entry_at device play events).value ∷ [])
+    → PlayStands device (events ∷ play)
+unfolding logs_after
+goes_on-next device play events regs words turn step goes_on call =
+    let word : ℕ = word_passed (entry_at device play events).cpu
+    (entry_at device play events).value in
+    let progress : (logs_after (start_of device) (events ∷ play)).progress
+    ≡ InCall regs (words ++ word ∷ []) =
+    progress-call_step (start_of device) (heard device play events) regs words
+    (entry_at device play events) step turn.kind turn.progress
+    ∙ cond-false (is_return (call_item words)) (after_return regs word)
+    (InCall regs (words ++ word ∷ []))
+    goes_on in
+    subst (OnCall (λ regs words. CallGoesOn device (events ∷ play) words)) (sym progress) call
+
+returns-next : (device : Device) (play : List (List Event)) (events : List Event)
+    (regs words : List ℕ)
+    → IsTurnOfCall device play events regs words
+    → IsCallStep (start_of device) (heard device play events) regs words
+    (entry_at device play events)
+    → is_return (call_item words) ≡ true
+    → PlayStands device (events ∷ play)
+unfolding logs_after
+returns-next device play events regs words turn step returns =
+    let word : ℕ = word_passed (entry_at device play events).cpu
+    (entry_at device play events).value in
+    let progress : (logs_after (start_of device) (events ∷ play)).progress
+    ≡ after_return regs word =
+    progress-call_step (start_of device) (heard device play events) regs words
+    (entry_at device play events) step turn.kind turn.progress
+    ∙ cond-true (is_return (call_item words)) (after_return regs word)
+    (InCall regs (words ++ word ∷ []))
+    returns in
+    subst (OnCall (λ regs words. CallGoesOn device (events ∷ play) words)) (sym progress) tt
+
+refused-next : (device : Device) (play : List (List Event)) (events : List Event)
+    → is_some (entry_at device play events).reset ≡ true → PlayStands device (events ∷ play)
+unfolding logs_after with_record
+refused-next device play events refused =
+    held (entry_at device play events).reset refused
+  where
+    held : (rule : Option Rule) → is_some rule ≡ true
+        → OnCall (λ regs words. CallGoesOn device (events ∷ play) words)
+        (progress_after rule (entry_at device play events).kind
+        (step_progress (heard device play events) (entry_at device play events).kind)
+        (entry_at device play events).cpu (entry_at device play events).value)
+    held None refused = absurd (cc)
+    held (Some rule) refused = tt
+
+-- a step that was not refused
+unrefused_outcome : (device : Device) (play : List (List Event)) (events : List Event)
+    (regs words : List ℕ) (attested : Attested)
+    → IsTurnOfCall device play events regs words
+    → IsCallStep (start_of device) (heard device play events) regs words
+    (entry_at device play events)
+    → CallSoFar device play (earlier_records device play events) words attested
+    → (1 ≤ length words → attested_before (start_of device) play 0 ≡ attested)
+    → attested_before (start_of device) (events ∷ play) 0 ≡ attested
+    → Outcome device (events ∷ play)
+unfolding trace with_events
+unrefused_outcome device play events regs words attested turn step so_far stands after =
+    let entry : BusRecord = entry_at device play events in
+    let goes : CallGoes device play events (heard device play events) regs words entry attested =
+    record {
+      step = step;
+      is = attested-is device (events ∷ play) attested after;
+      stands = stands;
+      after = after;
+      bytes_before = λ p. refl;
+      bytes_after = after_step-bytes device play events step.rom;
+    } in
+    let call : List BusRecord = earlier_records device play events in
+    let exit : finishes_call entry ≡ true → is_return (call_item words) ≡ true =
+    λ finished.
+    let parts = and_parts (is_rom entry.kind && (entry.pc == ROM_EXIT)) (is_none entry.reset)
+    finished in
+    let place = and_parts (is_rom entry.kind) (entry.pc == ROM_EXIT) parts.0 in
+    exit_returns (call_item words)
+    (ap (λ (pc : ℕ). pc == ROM_EXIT) (sym (entry-pc device play events regs words turn)) ∙ place.1)
+    in
+    elim (cases_Bool (is_return (call_item words))) [
+      | inl returns ↦
+          let more : CallSoFar device (events ∷ play) (entry ∷ call) words attested =
+          call-returns device play events (heard device play events) regs words entry call attested
+          goes so_far returns in
+          record {
+            covers =
+                covers_so_far device (events ∷ play) words attested more
+                (λ finished. return-is_last device play words call attested so_far returns);
+            next = returns-next device play events regs words turn step returns;
+          }
+      | inr goes_on ↦
+          let word : ℕ = word_passed entry.cpu entry.value in
+          let more : CallSoFar device (events ∷ play) (entry ∷ call) (words ++ word ∷ []) attested =
+          call-goes_on device play events (heard device play events) regs words entry call attested
+          goes so_far goes_on in
+          let size : length (words ++ word ∷ []) ≡ length words + 1 = length_push words word in
+          record {
+            covers =
+                covers_so_far device (events ∷ play) (words ++ word ∷ []) attested more
+                (λ finished.
+                let returns = exit finished in
+                let wrong : true ≡ false = sym returns ∙ goes_on in
+                absurd (cc));
+            next =
+                goes_on-next device play events regs words turn step goes_on
+                (record {
+                  attested = attested;
+                  so_far = more;
+                  stands = after;
+                  begun = omega (arith, size);
+                  last = last-in_rom device play events step.rom;
+                });
+          }
+    ]
+
+-- the first step of a call, and a later one
+first_outcome : (device : Device) (play : List (List Event)) (events : List Event) (regs : List ℕ)
+    → IsTurnOfCall device play events regs []
+    → Outcome device (events ∷ play)
+first_outcome device play events regs turn =
+    let entry : BusRecord = entry_at device play events in
+    let before : Attested = attested_before (start_of device) play 0 in
+    let begins : begins_call entry ≡ true =
+    and_from (is_rom entry.kind) (entry.pc == ROM_ENTRY)
+    (ap is_rom (entry-kind device play events ∙ turn.kind))
+    (ap (λ (pc : ℕ). pc == ROM_ENTRY) (entry-pc device play events regs [] turn)) in
+    elim (cases_Bool (is_some entry.reset)) [
+      | inl refused ↦
+          record {
+            covers =
+                covers_refused device play events [] before refused
+                (first_step device play events before begins refl);
+            next = refused-next device play events refused;
+          }
+      | inr kept ↦
+          let none = reset_none entry.reset kept in
+          let step = entry-step device play events regs [] turn none in
+          let after : Attested = attested_before (start_of device) (events ∷ play) 0 in
+          unrefused_outcome device play events regs [] after turn step
+          (first_step device play events after begins
+          (after_step-alike device play events step.rom))
+          (λ begun. absurd (omega (arith, begun))) refl
+    ]
+
+later_outcome : (device : Device) (play : List (List Event)) (events : List Event)
+    (regs words : List ℕ)
+    → IsTurnOfCall device play events regs words
+    → CallGoesOn device play words
+    → Outcome device (events ∷ play)
+later_outcome device play events regs words turn call =
+    let entry : BusRecord = entry_at device play events in
+    let apart : (entry.pc == ROM_ENTRY) ≡ false =
+    ap (λ (pc : ℕ). pc == ROM_ENTRY) (entry-pc device play events regs words turn)
+    ∙ only_first_enters (region_words (bounds_read words)) (length words) call.begun in
+    let so_far =
+    later_step device play events words call.attested
+    (and_right (is_rom entry.kind) (entry.pc == ROM_ENTRY) apart) call.so_far in
+    elim (cases_Bool (is_some entry.reset)) [
+      | inl refused ↦
+          record {
+            covers = covers_refused device play events words call.attested refused so_far;
+            next = refused-next device play events refused;
+          }
+      | inr kept ↦
+          let none = reset_none entry.reset kept in
+          let step = entry-step device play events regs words turn none in
+          unrefused_outcome device play events regs words call.attested turn step so_far
+          (λ begun. call.stands)
+          (after_step-same device play events step.rom call.last ∙ call.stands)
+    ]
+
+-- a step of the ROM
+pub rom_outcome : (device : Device) (play : List (List Event)) (events : List Event)
+    → step_kind (heard device play events) ≡ Rom → PlayStands device play
+    → Outcome device (events ∷ play)
+unfolding with_events
+rom_outcome device play events kind stands =
+    let logs : Logs = heard device play events in
+    let call : IsOfCall logs.progress (step_progress logs (step_kind logs)) =
+    rom_step-of_call logs.progress (vector_of logs) kind in
+    elim call.from [
+      | inl goes_on ↦
+          later_outcome device play events call.regs call.words
+          (record { kind = kind; progress = call.is })
+          (subst (OnCall (λ regs words. CallGoesOn device play words)) goes_on stands)
+      | inr begins ↦
+          first_outcome device play events call.regs
+          (record { kind = kind; progress = call.is ∙ ap (InCall call.regs) begins })
+    ]

@@ -1,0 +1,212 @@
+-- The word that passes in a step of a call is the planned one.
+use Rattle.std.proofs.Common.{◌≡◌, ℕ, ◌+◌, ◌-◌, ◌*◌, ◌/◌, ◌<◌, ◌≤◌, Bool, true, false, List, [], ◌∷◌, ◌++◌, Some, refl, ap, sym, subst, ◌∙◌, arith}
+use Rattle.std.proofs.lemmas.Bool.{cond-true, cond-false}
+use Rattle.std.proofs.lemmas.Bool.Decides.{nat_tests}
+use Rattle.word_arith.specs.declared.size.Size.TheVariants.{Word}
+use Rattle.bus_signals.specs.declared.access.Access.{Access}
+use Rattle.bus_signals.specs.declared.bounds.Bounds.{Bounds}
+use Rattle.bus_signals.specs.Map.{lies_in, mac_region}
+use Rattle.part_definitions.specs.Accesses.{read_at, write_at}
+use Rattle.part_definitions.specs.Attestation.{CallItem, KeyRead, MetadataRead, DerivedKeyWrite, RegionRead, InnerDigestWrite, MacWrite, ReturnRead, is_return, item_access, region_place, tag_in, word_of_bytes, written_word, word_passed}
+use Rattle.part_definitions.specs.Memory.{MemoryWrite, PowerOn, byte_at, with_access}
+use Rattle.part_definitions.specs.Metadata.{bounds_in}
+use Rattle.part_definitions.specs.Region.{bounded_bytes}
+use Rattle.device_trace.specs.Logs.{Logs, logged_byte, with_released_word}
+use Rattle.device_trace.specs.Signals.{value_read}
+use Rattle.mac_coverage.specs.Attested.{Attested, attested_in, tag_of}
+use Rattle.mac_coverage.proofs.AttestedIs.{IsWordAt, bounds-attested, rest-word}
+use Rattle.mac_coverage.proofs.CallItems.{IsItemAt}
+use Rattle.mac_coverage.proofs.Device.{Device, start_of, key_word-read, word-read}
+use Rattle.mac_coverage.proofs.MacStored.{MacStands, mac-more}
+use Rattle.mac_coverage.proofs.Planned.{attested_bounds, attested_words, first_mac_words, first_mac_words-more, planned_item}
+use Rattle.mac_coverage.proofs.Words.{AreBytes, word-bytes_from}
+
+-- how many words of the MAC are written when so many words passed
+abbrev pub mac_count : Attested → ℕ → ℕ
+mac_count attested passed = passed - (85 + attested_words attested)
+
+-- an access with the value that it read: its word is the item's, and the words of the MAC go on
+pub record Passes (digest : List ℕ → List ℕ) (key : List ℕ) (attested : Attested) (passed : ℕ)
+    (item : CallItem) (access : Access) (value : ℕ) : Type 0 where
+  pub word : word_passed (Some access) value ≡ planned_item digest key attested item
+  pub released : (written : List ℕ)
+      → written ≡ first_mac_words digest key attested (mac_count attested passed)
+      → with_released_word (Some access) written
+      ≡ first_mac_words digest key attested (mac_count attested (passed + 1))
+  pub stored : (power : PowerOn) (exec : Bool) (writes : List MemoryWrite)
+      → AreBytes (tag_of digest key attested)
+      → MacStands (byte_at power exec writes) (tag_of digest key attested)
+      (mac_count attested passed)
+      → MacStands (byte_at power exec (with_access (Some access) writes))
+      (tag_of digest key attested) (mac_count attested (passed + 1))
+
+-- where each item writes
+stack_word : (i : ℕ) → i < 16 → lies_in mac_region ((0x4000 + 2 * i) / 2 * 2) ≡ false
+stack_word i within = grind (arith, nat_tests)
+
+inner_word : (i : ℕ) → i < 16 → lies_in mac_region ((0x4020 + 2 * i) / 2 * 2) ≡ false
+inner_word i within = grind (arith, nat_tests)
+
+mac_word : (i : ℕ) → i < 16 → lies_in mac_region ((0x200 + 2 * i) / 2 * 2) ≡ true
+mac_word i within = grind (arith, nat_tests)
+
+-- before the MAC is written
+no_word_yet : (digest : List ℕ → List ℕ) (key : List ℕ) (attested : Attested) (passed : ℕ)
+    → passed < 85 + attested_words attested
+    → first_mac_words digest key attested (mac_count attested passed)
+    ≡ first_mac_words digest key attested (mac_count attested (passed + 1))
+no_word_yet digest key attested passed early =
+    let none : mac_count attested passed ≡ mac_count attested (passed + 1) =
+    omega (arith, early) in
+    ap (first_mac_words digest key attested) none
+
+no_byte_yet : (attested : Attested) (passed i : ℕ) → passed < 85 + attested_words attested
+    → i < 2 * mac_count attested (passed + 1) → ⊥
+no_byte_yet attested passed i early within = omega (arith, early, within)
+
+read-passes : (device : Device) (logs : Logs) (attested : Attested) (passed place : ℕ)
+    (item : CallItem)
+    → passed < 85 + attested_words attested
+    → value_read (start_of device) logs (Some (read_at Word place))
+    ≡ planned_item device.digest device.key attested item
+    → Passes device.digest device.key attested passed item (read_at Word place)
+    (value_read (start_of device) logs (Some (read_at Word place)))
+read-passes device logs attested passed place item early is =
+    record {
+      word = is;
+      released = λ written so_far.
+          so_far ∙ no_word_yet device.digest device.key attested passed early;
+      stored = λ power exec writes small stands i within.
+          absurd (no_byte_yet attested passed i early within);
+    }
+
+stack_write-passes : (digest : List ℕ → List ℕ) (key : List ℕ) (attested : Attested)
+    (passed place number value : ℕ) (item : CallItem)
+    → passed < 85 + attested_words attested
+    → lies_in mac_region (place / 2 * 2) ≡ false
+    → planned_item digest key attested item ≡ 0
+    → Passes digest key attested passed item (write_at Word place number) value
+stack_write-passes digest key attested passed place number value item early off none =
+    record {
+      word = cond-false (lies_in mac_region (place / 2 * 2)) number 0 off ∙ sym none;
+      released = λ written so_far.
+          cond-false (lies_in mac_region (place / 2 * 2)) (written ++ number ∷ []) written off
+          ∙ (so_far ∙ no_word_yet digest key attested passed early);
+      stored = λ power exec writes small stands i within.
+          absurd (no_byte_yet attested passed i early within);
+    }
+
+mac_write-passes : (digest : List ℕ → List ℕ) (key : List ℕ) (attested : Attested)
+    (passed number value i : ℕ)
+    → 85 + attested_words attested + i ≡ passed
+    → i < 16
+    → number ≡ word_of_bytes (tag_of digest key attested) i
+    → Passes digest key attested passed (MacWrite i) (write_at Word (0x200 + 2 * i) number) value
+mac_write-passes digest key attested passed number value i at below is =
+    let place : ℕ = (0x200 + 2 * i) / 2 * 2 in
+    let inside : lies_in mac_region place ≡ true = mac_word i below in
+    let count : mac_count attested passed ≡ i = omega (arith, at) in
+    let more : i + 1 ≡ mac_count attested (passed + 1) = omega (arith, at) in
+    record {
+      word = cond-true (lies_in mac_region place) number 0 inside ∙ is;
+      released = λ written so_far.
+          cond-true (lies_in mac_region place) (written ++ number ∷ []) written inside
+          ∙ (joined written number (so_far ∙ ap (first_mac_words digest key attested) count) is
+          ∙ (sym (first_mac_words-more digest key attested i)
+          ∙ ap (first_mac_words digest key attested) more));
+      stored = λ power exec writes small stands.
+          let before : MacStands (byte_at power exec writes) (tag_of digest key attested) i =
+          subst (MacStands (byte_at power exec writes) (tag_of digest key attested)) count stands in
+          subst
+          (MacStands
+          (byte_at power exec (with_access (Some (write_at Word (0x200 + 2 * i) number)) writes))
+          (tag_of digest key attested)) more
+          (mac-more power exec writes (tag_of digest key attested) i number below small is before);
+    }
+  where
+    joined : (written : List ℕ) (number : ℕ) {words : List ℕ} {word : ℕ}
+        → written ≡ words → number ≡ word → written ++ number ∷ [] ≡ words ++ word ∷ []
+    joined written number same same_number = λ j. same j ++ same_number j ∷ []
+
+-- a word of the metadata and one of the region, of what stands in memory
+metadata-read : (device : Device) (logs : Logs) (attested : Attested) (i : ℕ) → i < 21
+    → attested_in (logged_byte (start_of device) logs) ≡ attested
+    → value_read (start_of device) logs (Some (read_at Word (0x240 + 2 * i)))
+    ≡ word_of_bytes attested.metadata i
+metadata-read device logs attested i within stands =
+    word-read (start_of device) logs (0x240 + 2 * i) (omega arith) (omega arith)
+    ∙ (sym (word-bytes_from (logged_byte (start_of device) logs) 0x240 42 i (omega (arith, within)))
+    ∙ ap (λ (a : Attested). word_of_bytes a.metadata i) stands)
+
+region-read : (device : Device) (logs : Logs) (attested : Attested) (bounds : Bounds) (i : ℕ)
+    → i < attested_words attested
+    → attested_in (logged_byte (start_of device) logs) ≡ attested
+    → bounds ≡ attested_bounds attested
+    → value_read (start_of device) logs (Some (read_at Word (region_place bounds i)))
+    ≡ word_of_bytes attested.rest i
+region-read device logs attested bounds i within stands same =
+    let bytes : ℕ → ℕ = logged_byte (start_of device) logs in
+    let in_memory : attested_bounds attested ≡ bounds_in bytes =
+    ap attested_bounds (sym stands) ∙ bounds-attested bytes in
+    let place : region_place bounds i ≡ region_place (bounds_in bytes) i =
+    ap (λ (b : Bounds). region_place b i) (same ∙ in_memory) in
+    let count : attested_words attested ≡ attested_words (attested_in bytes) =
+    ap attested_words (sym stands) in
+    let word : IsWordAt bytes (word_of_bytes (bounded_bytes bytes (bounds_in bytes)) i)
+    (region_place (bounds_in bytes) i) =
+    rest-word bytes (bounds_in bytes) i (omega (arith, within, count)) in
+    ap (λ (p : ℕ). value_read (start_of device) logs (Some (read_at Word p))) place
+    ∙ (word-read (start_of device) logs (region_place (bounds_in bytes) i) word.even word.above
+    ∙ (sym word.is ∙ ap (λ (a : Attested). word_of_bytes a.rest i) stands))
+
+-- of each item but the return
+pub item-passes : (device : Device) (logs : Logs) (attested : Attested) (words : List ℕ)
+    (sp : ℕ) (bounds : Bounds) (passed : ℕ) (item : CallItem)
+    → IsItemAt (attested_words attested) passed item
+    → is_return item ≡ false
+    → (1 ≤ passed → attested_in (logged_byte (start_of device) logs) ≡ attested)
+    → (69 ≤ passed → bounds ≡ attested_bounds attested)
+    → (69 + attested_words attested ≤ passed
+    → tag_in device.digest words ≡ tag_of device.digest device.key attested)
+    → Passes device.digest device.key attested passed item
+    (item_access sp bounds item (written_word device.digest words item))
+    (value_read (start_of device) logs
+    (Some (item_access sp bounds item (written_word device.digest words item))))
+item-passes device logs attested words sp bounds passed (KeyRead i) at goes_on stands named tag =
+    let first = at.0 in
+    let below = at.1 in
+    read-passes device logs attested passed (0x6A00 + 2 * i) (KeyRead i)
+    (omega (arith, first, below)) (key_word-read device logs i below)
+item-passes device logs attested words sp bounds passed (MetadataRead i)
+    at goes_on stands named tag =
+    let first = at.0 in
+    let below = at.1 in
+    read-passes device logs attested passed (0x240 + 2 * i) (MetadataRead i)
+    (omega (arith, first, below))
+    (metadata-read device logs attested i below (stands (omega (arith, first))))
+item-passes device logs attested words sp bounds passed (DerivedKeyWrite i)
+    at goes_on stands named tag =
+    let first = at.0 in
+    let below = at.1 in
+    stack_write-passes device.digest device.key attested passed (0x4000 + 2 * i) _ _
+    (DerivedKeyWrite i) (omega (arith, first, below)) (stack_word i below) refl
+item-passes device logs attested words sp bounds passed (RegionRead i) at goes_on stands named tag =
+    let first = at.0 in
+    let below = at.1 in
+    read-passes device logs attested passed (region_place bounds i) (RegionRead i)
+    (omega (arith, first, below))
+    (region-read device logs attested bounds i below (stands (omega (arith, first)))
+    (named (omega (arith, first))))
+item-passes device logs attested words sp bounds passed (InnerDigestWrite i)
+    at goes_on stands named tag =
+    let first = at.0 in
+    let below = at.1 in
+    stack_write-passes device.digest device.key attested passed (0x4020 + 2 * i) _ _
+    (InnerDigestWrite i) (omega (arith, first, below)) (inner_word i below) refl
+item-passes device logs attested words sp bounds passed (MacWrite i) at goes_on stands named tag =
+    let first = at.0 in
+    let below = at.1 in
+    mac_write-passes device.digest device.key attested passed _ _ i first below
+    (ap (λ (bytes : List ℕ). word_of_bytes bytes i) (tag (omega (arith, first))))
+item-passes device logs attested words sp bounds passed ReturnRead at goes_on stands named tag =
+    absurd (cc)

@@ -1,0 +1,158 @@
+-- The next step of a play, where it is one of the ROM.
+use Rattle.std.proofs.Common.{◌≡◌, ℕ, ◌≤◌, true, false, List, [], ◌∷◌, None, length, refl, ap, sym, ◌∙◌, subst}
+use Rattle.std.specs.Prelude.{if◌then◌else◌}
+use Rattle.std.proofs.lemmas.Bool.{cond-false, cond-true}
+use Rattle.bus_signals.specs.declared.bus_record.BusRecord.{BusRecord}
+use Rattle.bus_signals.specs.declared.event.Event.{Event}
+use Rattle.bus_signals.specs.declared.kind.Kind.TheVariants.{Rom}
+use Rattle.part_definitions.specs.Attestation.{call_item, item_pc}
+use Rattle.part_definitions.specs.Flag.{last_pc}
+use Rattle.part_definitions.specs.Memory.{byte_at, is_exec_word, with_access}
+use Rattle.device_trace.specs.Logs.{Logs, exec_of, step_progress, with_events, with_record}
+use Rattle.device_trace.specs.Progress.{InCall, next_pc_of}
+use Rattle.device_trace.specs.Signals.{step_kind}
+use Rattle.device_trace.specs.Step.{asks_reset, next_record}
+use Rattle.device_trace.specs.Trace.{byte_after, logs_after, trace}
+use Rattle.trace_facts.proofs.ExecFlag.{logs_after-valid, with_events-valid}
+use Rattle.mac_coverage.specs.Attested.{Attested, without_exec_word}
+use Rattle.mac_coverage.specs.Call.{begins_call, last_call}
+use Rattle.mac_coverage.specs.Coverage.{attested_before}
+use Rattle.mac_coverage.proofs.AttestedIs.{attested_in-is}
+use Rattle.mac_coverage.proofs.Calls.{CallSoFar, call-begins}
+use Rattle.mac_coverage.proofs.Device.{Device, start_of, start_of-bytes}
+use Rattle.mac_coverage.proofs.ExecKept.{IsRomStep}
+use Rattle.mac_coverage.proofs.MemoryBytes.{byte_after-byte}
+use Rattle.mac_coverage.proofs.MemoryKept.{attested-but_exec, attested-same}
+use Rattle.mac_coverage.proofs.Planned.{IsAttested}
+use Rattle.mac_coverage.proofs.Steps.{IsCallStep, IsInRom, OnCall, bytes-after, bytes-alike, bytes-same, record_of-call, record_of-kind, record_of-pc}
+
+-- after a play that is in a call
+pub record CallGoesOn (device : Device) (play : List (List Event)) (words : List ℕ) : Type 0 where
+  pub attested : Attested
+  pub so_far : CallSoFar device play (last_call (trace (start_of device) play)) words attested
+  pub stands : attested_before (start_of device) play 0 ≡ attested
+  pub begun : 1 ≤ length words
+  pub last : IsInRom (last_pc (logs_after (start_of device) play).seen)
+
+abbrev pub PlayStands : Device → List (List Event) → Type 0
+PlayStands device play =
+    OnCall (λ regs words. CallGoesOn device play words) (logs_after (start_of device) play).progress
+
+-- the logs after the events of a step
+abbrev pub heard : Device → List (List Event) → List Event → Logs
+heard device play events = with_events (logs_after (start_of device) play) events
+
+-- what is attested in the memory after a play is of bytes
+pub attested-is : (device : Device) (play : List (List Event)) (attested : Attested)
+    → attested_before (start_of device) play 0 ≡ attested → IsAttested attested
+attested-is device play attested stands =
+    subst IsAttested stands
+    (attested_in-is (byte_after (start_of device) play)
+    (λ place. byte_after-byte (start_of device) play place (start_of-bytes device)))
+
+-- the record of the next step
+abbrev pub entry_at : Device → List (List Event) → List Event → BusRecord
+entry_at device play events =
+    next_record (start_of device) (logs_after (start_of device) play) events
+
+pub entry-kind : (device : Device) (play : List (List Event)) (events : List Event)
+    → (entry_at device play events).kind ≡ step_kind (heard device play events)
+unfolding next_record
+entry-kind device play events =
+    record_of-kind (start_of device) (heard device play events) (asks_reset events)
+
+-- the next step is one of a call in which these words passed
+pub record IsTurnOfCall (device : Device) (play : List (List Event)) (events : List Event)
+    (regs words : List ℕ) : Type 0 where
+  pub kind : step_kind (heard device play events) ≡ Rom
+  pub progress :
+      step_progress (heard device play events) (step_kind (heard device play events))
+      ≡ InCall regs words
+
+pub entry-pc : (device : Device) (play : List (List Event)) (events : List Event)
+    (regs words : List ℕ)
+    → IsTurnOfCall device play events regs words
+    → (entry_at device play events).pc ≡ item_pc (call_item words)
+unfolding next_record
+entry-pc device play events regs words turn =
+    record_of-pc (start_of device) (heard device play events) (asks_reset events)
+    ∙ ap next_pc_of turn.progress
+
+pub entry-step : (device : Device) (play : List (List Event)) (events : List Event)
+    (regs words : List ℕ)
+    → IsTurnOfCall device play events regs words
+    → (entry_at device play events).reset ≡ None
+    → IsCallStep (start_of device) (heard device play events) regs words
+    (entry_at device play events)
+unfolding next_record
+entry-step device play events regs words turn none =
+    record_of-call (start_of device) (heard device play events) (asks_reset events) regs words none
+    turn.kind turn.progress
+
+-- the records of its call before it
+abbrev pub earlier_records : Device → List (List Event) → List Event → List BusRecord
+earlier_records device play events =
+    if begins_call (entry_at device play events) then []
+    else last_call (trace (start_of device) play)
+
+pub first_step : (device : Device) (play : List (List Event)) (events : List Event)
+    (attested : Attested)
+    → begins_call (entry_at device play events) ≡ true
+    → without_exec_word (attested_before (start_of device) play 0) ≡ without_exec_word attested
+    → CallSoFar device play (earlier_records device play events) [] attested
+first_step device play events attested begins alike =
+    subst (λ (call : List BusRecord). CallSoFar device play call [] attested)
+    (sym (cond-true (begins_call (entry_at device play events)) []
+    (last_call (trace (start_of device) play)) begins))
+    (call-begins device play attested alike)
+
+pub later_step : (device : Device) (play : List (List Event)) (events : List Event)
+    (words : List ℕ) (attested : Attested)
+    → begins_call (entry_at device play events) ≡ false
+    → CallSoFar device play (last_call (trace (start_of device) play)) words attested
+    → CallSoFar device play (earlier_records device play events) words attested
+later_step device play events words attested goes_on so_far =
+    subst (λ (call : List BusRecord). CallSoFar device play call words attested)
+    (sym (cond-false (begins_call (entry_at device play events)) []
+    (last_call (trace (start_of device) play)) goes_on))
+    so_far
+
+-- what a step of the ROM leaves
+pub after_step-bytes : (device : Device) (play : List (List Event)) (events : List Event)
+    → IsRomStep (entry_at device play events)
+    → (p : ℕ) → is_exec_word p ≡ false
+    → byte_after (start_of device) (events ∷ play) p
+    ≡ byte_at (start_of device).power (exec_of (heard device play events))
+    (with_access (entry_at device play events).cpu (heard device play events).memory) p
+unfolding logs_after
+after_step-bytes device play events step =
+    bytes-after (start_of device) (heard device play events) (entry_at device play events) step
+
+pub after_step-alike : (device : Device) (play : List (List Event)) (events : List Event)
+    → IsRomStep (entry_at device play events)
+    → without_exec_word (attested_before (start_of device) play 0)
+    ≡ without_exec_word (attested_before (start_of device) (events ∷ play) 0)
+unfolding logs_after with_events
+after_step-alike device play events step =
+    sym (attested-but_exec (byte_after (start_of device) (events ∷ play))
+    (byte_after (start_of device) play)
+    (bytes-alike (start_of device) (heard device play events) (entry_at device play events) step))
+
+pub after_step-same : (device : Device) (play : List (List Event)) (events : List Event)
+    → IsRomStep (entry_at device play events)
+    → IsInRom (last_pc (logs_after (start_of device) play).seen)
+    → attested_before (start_of device) (events ∷ play) 0
+    ≡ attested_before (start_of device) play 0
+unfolding logs_after with_events
+after_step-same device play events step last =
+    attested-same (byte_after (start_of device) (events ∷ play)) (byte_after (start_of device) play)
+    (bytes-same (start_of device) (heard device play events) (entry_at device play events) step
+    (with_events-valid (start_of device) (logs_after (start_of device) play) events
+    (logs_after-valid (start_of device) play)) last)
+
+pub last-in_rom : (device : Device) (play : List (List Event)) (events : List Event)
+    → IsRomStep (entry_at device play events)
+    → IsInRom (last_pc (logs_after (start_of device) (events ∷ play)).seen)
+unfolding logs_after with_record
+last-in_rom device play events step =
+    record { pc = (entry_at device play events).pc; is = refl; code = step.code }

@@ -1,0 +1,158 @@
+-- In every play the MAC covers the last call.
+use Rattle.std.proofs.Common.{◌≡◌, ℕ, ◌<◌, Bool, true, false, List, [], ◌∷◌, inl, inr, Option, Some, None, length, refl, ap, sym, ◌∙◌, arith, subst}
+use Rattle.std.specs.Prelude.{◌==◌, ◌&&◌, is_none, is_some, IsTrue, if◌then◌else◌}
+use Rattle.std.proofs.lemmas.Bool.{and_parts, cases_Bool}
+use Rattle.bus_signals.specs.declared.bus_record.BusRecord.{BusRecord}
+use Rattle.bus_signals.specs.declared.event.Event.{Event}
+use Rattle.bus_signals.specs.declared.kind.Kind.{Kind}
+use Rattle.bus_signals.specs.declared.kind.Kind.TheVariants.{Boot, Cpu, Idle, Irq, Rom}
+use Rattle.bus_signals.specs.declared.rule.Rule.{Rule}
+use Rattle.bus_signals.specs.Kind.{is_rom}
+use Rattle.bus_signals.specs.Map.{ROM_EXIT}
+use Rattle.bus_signals.specs.Report.{ReportFields}
+use Rattle.part_definitions.specs.Region.{mac_bytes}
+use Rattle.device_trace.specs.Logs.{Logs, progress_after, step_progress, vector_of, with_record}
+use Rattle.device_trace.specs.Signals.{step_kind}
+use Rattle.device_trace.specs.Start.{Start, with_key}
+use Rattle.device_trace.specs.Step.{next_record}
+use Rattle.device_trace.specs.Text.{finishes_call, last_report, report_of}
+use Rattle.device_trace.specs.Trace.{byte_after, logs_after, trace}
+use Rattle.mac_coverage.specs.Attested.{tag_of}
+use Rattle.mac_coverage.specs.Call.{ends_finished, ends_in_call, ends_refused, last_call}
+use Rattle.mac_coverage.specs.Coverage.{Gives32Bytes, IsDeviceKey, IsOfBytes, MacCoversCall, MacCoversReport, attested_before}
+use Rattle.mac_coverage.proofs.Device.{Device, start_of}
+use Rattle.mac_coverage.proofs.Outcomes.{rom_outcome}
+use Rattle.mac_coverage.proofs.PlaySteps.{CallGoesOn, PlayStands, entry-kind, entry_at, heard}
+use Rattle.mac_coverage.proofs.Steps.{OnCall, other_step-no_call}
+use Rattle.mac_coverage.proofs.Words.{are_bytes}
+
+-- another step
+other_next : (device : Device) (play : List (List Event)) (events : List Event)
+    → is_rom (step_kind (heard device play events)) ≡ false
+    → PlayStands device (events ∷ play)
+unfolding logs_after with_record
+other_next device play events other =
+    let logs : Logs = heard device play events in
+    let entry : BusRecord = entry_at device play events in
+    subst
+    (λ (kind : Kind). OnCall (λ regs words. CallGoesOn device (events ∷ play) words)
+    (progress_after entry.reset kind (step_progress logs kind) entry.cpu entry.value))
+    (sym (entry-kind device play events))
+    (other_step-no_call (λ regs words. CallGoesOn device (events ∷ play) words) logs.progress
+    (vector_of logs) entry.reset entry.cpu entry.value other)
+
+rom_kind : (kind : Kind) → is_rom kind ≡ true → kind ≡ Rom
+rom_kind Rom rom = refl
+rom_kind Boot rom = absurd (cc)
+rom_kind Cpu rom = absurd (cc)
+rom_kind Idle rom = absurd (cc)
+rom_kind Irq rom = absurd (cc)
+
+play_stands : (device : Device) (play : List (List Event)) → PlayStands device play
+unfolding logs_after
+play_stands device [] = tt
+play_stands device (events ∷ play) =
+    elim (cases_Bool (is_rom (step_kind (heard device play events)))) [
+      | inl rom ↦
+          (rom_outcome device play events (rom_kind (step_kind (heard device play events)) rom)
+          (play_stands device play)).next
+      | inr other ↦ other_next device play events other
+    ]
+
+device_covers : (device : Device) (play : List (List Event))
+    → ends_in_call (trace (start_of device) play) ≡ true
+    → MacCoversCall device.digest device.key (start_of device) play
+unfolding trace
+device_covers device [] in_call = absurd (cc)
+device_covers device (events ∷ play) in_call =
+    let rom : step_kind (heard device play events) ≡ Rom =
+    sym (entry-kind device play events) ∙ rom_kind (entry_at device play events).kind in_call in
+    (rom_outcome device play events rom (play_stands device play)).covers
+
+-- the law
+pub mac_covers_call : (digest : List ℕ → List ℕ) (key : List ℕ) (image : ℕ → ℕ)
+    (play : List (List Event))
+    → IsDeviceKey key → IsOfBytes image
+    → IsTrue (ends_in_call (trace (with_key digest key image) play))
+    → MacCoversCall digest key (with_key digest key image) play
+mac_covers_call digest key image play device_key bytes in_call =
+    device_covers
+    (record {
+      digest = digest;
+      key = key;
+      image = image;
+      key_size = device_key.size;
+      key_bytes = are_bytes key device_key.bytes;
+      image_bytes = bytes;
+    }) play in_call
+
+-- where the last step makes a report, it finishes a call, and the report tells the MAC in memory
+record Reports (start : Start) (play : List (List Event)) (report : ReportFields) : Type 0 where
+  in_call : ends_in_call (trace start play) ≡ true
+  refused : ends_refused (trace start play) ≡ false
+  finished : ends_finished (trace start play) ≡ true
+  mac : report.mac ≡ mac_bytes (byte_after start play)
+
+report_where : (finishes : Bool) (made report : ReportFields)
+    → (if finishes then Some made else None) ≡ Some report
+    → (finishes ≡ true) × (made ≡ report)
+report_where true made report is = (refl, cc)
+report_where false made report is = absurd (cc)
+
+some_or_none : (rule : Option Rule) → is_none rule ≡ true → is_some rule ≡ false
+some_or_none None none = refl
+some_or_none (Some rule) none = absurd (cc)
+
+last_report-finishes : (start : Start) (play : List (List Event)) (report : ReportFields)
+    → last_report start play ≡ Some report → Reports start play report
+unfolding trace
+last_report-finishes start [] report is = absurd (cc)
+last_report-finishes start (events ∷ play) report is =
+    let entry : BusRecord = next_record start (logs_after start play) events in
+    let both = report_where (finishes_call entry)
+    (report_of start (logs_after start (events ∷ play)) (length play)) report is in
+    let parts = and_parts (is_rom entry.kind && (entry.pc == ROM_EXIT)) (is_none entry.reset)
+    both.0 in
+    record {
+      in_call = (and_parts (is_rom entry.kind) (entry.pc == ROM_EXIT) parts.0).0;
+      refused = some_or_none entry.reset parts.1;
+      finished = both.0;
+      mac = ap (λ (made : ReportFields). made.mac) (sym both.1);
+    }
+
+pub reported_mac-is_tag : (digest : List ℕ → List ℕ) (key : List ℕ) (image : ℕ → ℕ)
+    (play : List (List Event)) (report : ReportFields)
+    → IsDeviceKey key → IsOfBytes image → Gives32Bytes digest
+    → last_report (with_key digest key image) play ≡ Some report
+    → report.mac ≡ tag_of digest key (attested_before (with_key digest key image) play 0)
+reported_mac-is_tag digest key image play report device_key bytes gives is =
+    let start : Start = with_key digest key image in
+    let made : Reports start play report = last_report-finishes start play report is in
+    let covers : MacCoversCall digest key start play =
+    mac_covers_call digest key image play device_key bytes made.in_call in
+    let stands : attested_before start play 0 ≡ covers.attested =
+    covers.throughout 0 (record {
+      begun = call_begun (trace start play) made.in_call;
+      unrefused = λ refused.
+          (let wrong : true ≡ false = sym refused ∙ made.refused in absurd (cc));
+    }) in
+    made.mac
+    ∙ (covers.stored made.finished gives
+    ∙ ap (tag_of digest key) (sym stands))
+  where
+    call_begun : (history : List BusRecord) → ends_in_call history ≡ true
+        → 0 < length (last_call history)
+    call_begun [] in_call = absurd (cc)
+    call_begun (entry ∷ history) in_call = omega arith
+
+pub report-covered : (digest : List ℕ → List ℕ) (key : List ℕ) (image : ℕ → ℕ)
+    (play : List (List Event)) (report : ReportFields)
+    → IsDeviceKey key → IsOfBytes image
+    → last_report (with_key digest key image) play ≡ Some report
+    → MacCoversReport digest key (with_key digest key image) report play
+report-covered digest key image play report device_key bytes is =
+    let start : Start = with_key digest key image in
+    let made : Reports start play report = last_report-finishes start play report is in (
+      mac_covers_call digest key image play device_key bytes made.in_call,
+      λ gives. reported_mac-is_tag digest key image play report device_key bytes gives is,
+    )

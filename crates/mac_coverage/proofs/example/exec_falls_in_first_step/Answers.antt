@@ -1,0 +1,33 @@
+use Rattle.std.proofs.Common.{refl}
+use Rattle.word_arith.specs.Op2.{alu_result}
+use Rattle.word_arith.specs.Op1.{shift_result}
+use Rattle.msp_decode.specs.Head.{head_of}
+use Rattle.part_definitions.specs.NextAccess.{next_access, entry_access}
+use Rattle.part_definitions.specs.Monitors.{key_rule, atomicity_rule}
+use Rattle.part_definitions.specs.Flag.{exec}
+use Rattle.device_trace.specs.Logs.{with_events, with_record}
+use Rattle.device_trace.specs.Signals.{signals_at}
+use Rattle.device_trace.specs.FirstRule.{first_rule}
+use Rattle.device_trace.specs.Step.{record_of, next_record}
+use Rattle.device_trace.specs.Trace.{logs_after, trace}
+use Rattle.mac_coverage.proofs.example.exec_falls_in_first_step.Goals as goal
+
+pub returns-clause-rest_before : goal.returns-clause-rest_before
+unfolding alu_result shift_result head_of next_access entry_access key_rule atomicity_rule exec
+    with_events with_record signals_at first_rule record_of next_record logs_after trace
+returns-clause-rest_before c = refl
+
+pub returns-clause-rest_after : goal.returns-clause-rest_after
+unfolding alu_result shift_result head_of next_access entry_access key_rule atomicity_rule exec
+    with_events with_record signals_at first_rule record_of next_record logs_after trace
+returns-clause-rest_after c = refl
+
+pub returns-clause-exec_before : goal.returns-clause-exec_before
+unfolding alu_result shift_result head_of next_access entry_access key_rule atomicity_rule exec
+    with_events with_record signals_at first_rule record_of next_record logs_after trace
+returns-clause-exec_before c = refl
+
+pub returns-clause-exec_after : goal.returns-clause-exec_after
+unfolding alu_result shift_result head_of next_access entry_access key_rule atomicity_rule exec
+    with_events with_record signals_at first_rule record_of next_record logs_after trace
+returns-clause-exec_after c = refl

@@ -1,0 +1,37 @@
+-- The last call of a history, which has the newest record first.
+use Rattle.std.specs.Prelude.{◌==◌, ◌&&◌, ℕ, Bool, false, List, [], ◌∷◌, is_some, if◌then◌else◌}
+use Rattle.bus_signals.specs.declared.bus_record.BusRecord.{BusRecord}
+use Rattle.bus_signals.specs.Kind.{is_rom}
+use Rattle.bus_signals.specs.Map.{ROM_ENTRY}
+use Rattle.device_trace.specs.Logs.{released_words_after}
+use Rattle.device_trace.specs.Text.{finishes_call}
+
+-- a call begins with its access at the ROM's entry
+abbrev pub begins_call : BusRecord → Bool
+begins_call entry = is_rom entry.kind && (entry.pc == ROM_ENTRY)
+
+-- the records back to the one that begins the last call
+abbrev pub last_call : List BusRecord → List BusRecord
+last_call [] = []
+last_call (entry ∷ history) = entry ∷ (if begins_call entry then [] else last_call history)
+
+-- the words that records wrote to the MAC, oldest first; a refused one writes nothing
+abbrev pub mac_written : List BusRecord → List ℕ
+mac_written [] = []
+mac_written (entry ∷ older) =
+    released_words_after entry.reset entry.kind entry.cpu (mac_written older)
+
+-- the last record is one of a call
+abbrev pub ends_in_call : List BusRecord → Bool
+ends_in_call [] = false
+ends_in_call (entry ∷ history) = is_rom entry.kind
+
+-- it was refused
+abbrev pub ends_refused : List BusRecord → Bool
+ends_refused [] = false
+ends_refused (entry ∷ history) = is_some entry.reset
+
+-- it finished a call
+abbrev pub ends_finished : List BusRecord → Bool
+ends_finished [] = false
+ends_finished (entry ∷ history) = finishes_call entry

@@ -1,0 +1,65 @@
+-- The MAC covers what stands in memory throughout the call that writes it.
+use Rattle.std.specs.Prelude.{◌≡◌, ◌<◌, ◌≤◌, ◌++◌, ℕ, All, List, [], IsTrue, length, drop}
+use Rattle.bus_signals.specs.Report.{ReportFields}
+use Rattle.bus_signals.specs.declared.event.Event.{Event}
+use Rattle.part_definitions.specs.Region.{mac_bytes}
+use Rattle.device_trace.specs.Start.{Start}
+use Rattle.device_trace.specs.Trace.{trace, byte_after}
+use Rattle.mac_coverage.specs.Attested.{Attested, attested_in, without_exec_word, tag_of, mac_words}
+use Rattle.mac_coverage.specs.Call.{last_call, mac_written, ends_refused, ends_finished}
+
+-- 64 bytes
+pub record IsDeviceKey (key : List ℕ) : Type 0 where
+  pub size : length key ≡ 64
+  pub bytes : All (λ byte. byte < 256) key
+
+abbrev pub IsOfBytes : (ℕ → ℕ) → Type 0
+IsOfBytes image = (place : ℕ) → image place < 256
+
+-- 32 bytes of every message
+pub record Gives32Bytes (digest : List ℕ → List ℕ) : Type 0 where
+  pub size : (message : List ℕ) → length (digest message) ≡ 32
+  pub bytes : (message : List ℕ) → All (λ byte. byte < 256) (digest message)
+
+-- what stands in memory before the last steps of a play, so many
+abbrev pub attested_before : Start → List (List Event) → ℕ → Attested
+attested_before start play steps = attested_in (byte_after start (drop steps play))
+
+-- how many steps the last call of a play has made
+abbrev pub call_length : Start → List (List Event) → ℕ
+call_length start play = length (last_call (trace start play))
+
+-- so many steps before the end of a play, its last call has made its first step, and not come to a
+-- step that is refused
+pub record IsInCall (start : Start) (play : List (List Event)) (steps : ℕ) : Type 0 where
+  pub begun : steps < call_length start play
+  pub unrefused : IsTrue (ends_refused (trace start play)) → 1 ≤ steps
+
+-- what the MAC of the last call of a play covers
+pub record MacCoversCall (digest : List ℕ → List ℕ) (key : List ℕ) (start : Start)
+    (play : List (List Event)) : Type 0 where
+  pub attested : Attested
+  -- it stands in memory throughout the call
+  pub throughout : (steps : ℕ) → IsInCall start play steps
+      → attested_before start play steps ≡ attested
+  -- and before the call, but for the EXEC word
+  pub before :
+      without_exec_word (attested_before start play (call_length start play))
+      ≡ without_exec_word attested
+  -- the words that the call wrote to the MAC, and those that it has not written, are its tag
+  pub unwritten : List ℕ
+  pub words :
+      mac_written (last_call (trace start play)) ++ unwritten ≡ mac_words digest key attested
+  pub whole : IsTrue (ends_finished (trace start play)) → unwritten ≡ []
+  -- and then the tag stands in memory, where the digest gives 32 bytes
+  pub stored : IsTrue (ends_finished (trace start play)) → Gives32Bytes digest
+      → mac_bytes (byte_after start play) ≡ tag_of digest key attested
+
+-- the MAC in a report, which the last step of a play makes, covers its call, and is the tag of what
+-- stands in memory, where the digest gives 32 bytes
+abbrev pub MacCoversReport :
+    (List ℕ → List ℕ) → List ℕ → Start → ReportFields → List (List Event) → Type 0
+MacCoversReport digest key start report play =
+    MacCoversCall digest key start play
+    × (Gives32Bytes digest
+    → report.mac ≡ tag_of digest key (attested_in (byte_after start play)))

@@ -1,0 +1,4 @@
+pub mod Attested
+pub mod Call
+pub mod Coverage
+pub mod Example
