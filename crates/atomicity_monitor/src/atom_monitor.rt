@@ -32,6 +32,7 @@ impl AtomMonitor {
     }
 
     /// The first of A3, A2, A1 and A4 that a step breaks after the records seen.
+    #[inline(always)]
     #[tactic(auto, unfolding(part_definitions::specs::Monitors::atomicity_rule))]
     pub fn check(&self, now: &Signals) -> Option<Rule>
         requires { IfSome now.now.cpu IsFormed }
@@ -62,6 +63,7 @@ impl AtomMonitor {
     }
 
     // A1: the ROM is left from another place than its exit.
+    #[inline(always)]
     fn breaks_a1(&self, now: &Signals, inside: bool) -> bool
         requires { inside ≡ in_rom now.now.pc }
         ensures { (seen : List Seen) →
@@ -71,6 +73,7 @@ impl AtomMonitor {
     }
 
     // A2: the ROM is entered at another place than its entry.
+    #[inline(always)]
     fn breaks_a2(&self, now: &Signals, inside: bool) -> bool
         requires { inside ≡ in_rom now.now.pc }
         ensures { (seen : List Seen) →
@@ -81,6 +84,7 @@ impl AtomMonitor {
 }
 
 // A3: an interrupt could be accepted in the ROM.
+#[inline(always)]
 fn breaks_a3(now: &Signals, inside: bool) -> bool
     requires { inside ≡ in_rom now.now.pc }
     ensures { result ≡ breaks_a3 now.now }
@@ -89,6 +93,7 @@ fn breaks_a3(now: &Signals, inside: bool) -> bool
 }
 
 // A4: the return read touches the key or the exclusive stack.
+#[inline(always)]
 fn breaks_a4(now: &Signals) -> bool
     requires { IfSome now.now.cpu IsFormed }
     ensures { result ≡ breaks_a4 now.now }

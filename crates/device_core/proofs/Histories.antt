@@ -1,15 +1,16 @@
 -- The last record of a play, and how many there are.
-use Rattle.std.proofs.Common.{ap, ◌-◌, ◌≡◌, List, [], ◌∷◌, length, Some, None, All, refl, arith}
+use Rattle.std.proofs.Common.{ap, ◌-◌, ◌≡◌, ◌&&◌, ℕ, Bool, true, false, not, List, [], ◌∷◌, length, Some, None, is_none, All, refl, arith}
 use Rattle.bus_signals.specs.declared.bus_record.BusRecord.{BusRecord}
 use Rattle.bus_signals.specs.declared.event.Event.{Event}
 use Rattle.device_trace.specs.Formed.{AccessesAreFormed}
-use Rattle.device_trace.specs.Logs.{with_events, with_record}
+use Rattle.device_trace.specs.Logs.{Logs, with_events, with_record}
 use Rattle.device_trace.specs.Start.{Start}
-use Rattle.device_trace.specs.Text.{byte_sent_in, last_byte_sent, report_in}
+use Rattle.device_trace.specs.Text.{byte_sent_in, finishes_call, last_byte_sent, report_in}
 use Rattle.device_trace.specs.Trace.{trace, last_record, logs_after}
 use Rattle.device_trace.proofs.Formed.{trace-formed}
 use Rattle.device_trace.specs.Step.{next_record}
 use Rattle.device_core.specs.Bus.{last_seen}
+use Rattle.device_core.specs.Silence.{last_rule, is_silent}
 use Rattle.device_trace.specs.Text.{last_report}
 
 pub last_seen-last_record :
@@ -66,3 +67,48 @@ pub last_report-None :
 unfolding trace
 last_report-None start [] last = refl
 last_report-None start (events ∷ play) last = absurd cc
+
+pub last_rule-Some :
+    (history : List BusRecord) (entry : BusRecord)
+    → last_record history ≡ Some entry → last_rule history ≡ entry.reset
+last_rule-Some [] entry last = absurd cc
+last_rule-Some (newest ∷ history) entry last = let same : newest ≡ entry = cc in rw same refl
+
+pub last_rule-None :
+    (history : List BusRecord) → last_record history ≡ None → last_rule history ≡ None
+last_rule-None [] last = refl
+last_rule-None (newest ∷ history) last = absurd cc
+
+report_in-silent :
+    (start : Start) (logs : Logs) (step : ℕ) (entry : BusRecord) (finishes : Bool)
+    → finishes_call entry ≡ finishes
+    → is_none (report_in start logs step entry) ≡ not finishes
+report_in-silent start logs step entry true same = rw same refl
+report_in-silent start logs step entry false same = rw same refl
+
+-- a step puts no line where its record says nothing
+pub silent-Some :
+    (start : Start) (play : List (List Event)) (entry : BusRecord)
+    → last_record (trace start play) ≡ Some entry
+    → is_silent start play
+    ≡ (is_none (byte_sent_in entry) && is_none entry.reset && not (finishes_call entry))
+silent-Some start play entry last =
+    rw (
+      last_byte_sent-Some (trace start play) entry last,
+      last_rule-Some (trace start play) entry last,
+      last_report-Some start play entry last,
+      report_in-silent start (logs_after start play) (length play - 1) entry (finishes_call entry)
+          refl,
+    )
+    refl
+
+pub silent-None :
+    (start : Start) (play : List (List Event))
+    → last_record (trace start play) ≡ None → is_silent start play ≡ true
+silent-None start play last =
+    rw (
+      last_byte_sent-None (trace start play) last,
+      last_rule-None (trace start play) last,
+      last_report-None start play last,
+    )
+    refl

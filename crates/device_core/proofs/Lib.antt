@@ -3,7 +3,10 @@ pub mod Happenings
 pub mod Histories
 pub mod Lives
 pub mod NextProgress
+pub mod Outside
+pub mod Reaching
 pub mod Registers
+pub mod ReportLaws
 pub mod Reports
 pub mod Steps
 pub mod Turns

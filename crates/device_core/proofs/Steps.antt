@@ -1,6 +1,7 @@
 -- A step by its signals.
 use Rattle.std.proofs.Common.{◌≡◌, ℕ, Bool, List, refl}
 use Rattle.bus_signals.specs.declared.signals.Signals.{Signals}
+use Rattle.part_definitions.specs.Dma.{dma_access}
 use Rattle.part_definitions.specs.Flag.{last_pc}
 use Rattle.device_trace.specs.FirstRule.{first_rule}
 use Rattle.device_trace.specs.Logs.{Logs}
@@ -14,6 +15,12 @@ pub signals-word :
     → now ≡ signals_of start logs reset → now.word ≡ word_fetched start logs now.cpu
 unfolding signals_at
 signals-word start logs reset now same = rw same refl
+
+pub signals-dma :
+    (start : Start) (logs : Logs) (reset : Bool) (now : Signals)
+    → now ≡ signals_of start logs reset → now.dma ≡ dma_access logs.peripherals.dma
+unfolding signals_at
+signals-dma start logs reset now same = rw same refl
 
 pub signals-kind :
     (start : Start) (logs : Logs) (reset : Bool) (now : Signals)

@@ -1,22 +1,23 @@
 -- Whose turn it is, by where the device stands.
-use Rattle.std.proofs.Common.{◌≡◌, ◌∙◌, ◌==◌, ◌⊎◌, unwrap_or, ℕ, Bool, true, false, not, List, [], length, Option, None, Some, is_some, if◌then◌else◌, refl, sym, ap, inl, inr}
+use Rattle.std.proofs.Common.{◌≡◌, ◌∙◌, ◌⊎◌, ◌&&◌, ℕ, Bool, true, false, not, List, [], length, Option, None, Some, is_some, if◌then◌else◌, refl, sym, ap, inl, inr}
 use Rattle.bus_signals.specs.declared.access.Access.TheVariants.{Fetch}
+use Rattle.std.proofs.lemmas.Bool.{false≢true}
+use Rattle.bus_signals.specs.Kind.{is_cpu, is_irq, is_rom}
 use Rattle.bus_signals.specs.declared.kind.Kind.{Kind}
 use Rattle.bus_signals.specs.declared.kind.Kind.TheVariants.{Boot, Cpu, Idle, Irq, Rom}
-use Rattle.part_definitions.specs.Attestation.{CallItem, KeyRead, MetadataRead, DerivedKeyWrite, RegionRead, InnerDigestWrite, MacWrite, ReturnRead, call_item, item_access, item_pc, is_return}
+use Rattle.part_definitions.specs.Attestation.{CallItem, KeyRead, MetadataRead, DerivedKeyWrite, RegionRead, InnerDigestWrite, MacWrite, ReturnRead, call_item, item_access, item_pc, is_return, word_passed}
 use Rattle.bus_signals.specs.declared.bounds.Bounds.{Bounds}
 use Rattle.part_definitions.specs.CpuRegisters.{clear_registers, pc_of}
-use Rattle.part_definitions.specs.CpuState.{CpuState, Boundary, Executing, Entering, registers_of, cpu_pc, cpu_takes, entry_begun, is_at_boundary, is_entering}
-use Rattle.part_definitions.specs.Interrupt.{TIMER_VECTOR}
+use Rattle.part_definitions.specs.CpuState.{CpuState, Boundary, Executing, Entering, registers_of, cpu_pc, cpu_takes, is_at_boundary, is_entering}
 use Rattle.part_definitions.specs.NextAccess.{next_access}
 use Rattle.part_definitions.specs.Words.{even}
-use Rattle.device_trace.specs.Logs.{Logs, vector_of, step_progress}
-use Rattle.device_trace.specs.Progress.{Held, Runs, InCall, boundary_kind, call_access, running_access, fetches_opcode, word_passed}
+use Rattle.device_trace.specs.Logs.{Logs, vector_of, step_progress, is_timer_vector}
+use Rattle.device_trace.specs.Progress.{Held, Runs, InCall, progress_from_boundary, boundary_kind, call_access, running_access, fetches_opcode}
 use Rattle.device_trace.specs.Signals.{step_kind, proposed_access}
 use Rattle.device_trace.specs.Start.{Start}
 use Rattle.device_trace.specs.Step.{record_of}
 use Rattle.device_core.specs.Bus.{TurnStandsFor, answer_in}
-use Rattle.device_core.specs.Machine.{FetchesOpcode}
+use Rattle.device_core.specs.Machine.{FetchesOpcode, state_begun}
 use Rattle.device_core.specs.Turn.{boot_turn}
 use Rattle.device_core.specs.declared.turn.Turn.{Turn}
 use Rattle.device_core.proofs.NextProgress.{fetch-legal}
@@ -74,6 +75,13 @@ pub boundary-kind :
     step_kind logs
 boundary-kind logs regs kind runs same = sym same ∙ rw runs refl
 
+pub is_rom-Rom : (kind : Kind) → is_rom kind ≡ true → kind ≡ Rom
+is_rom-Rom Rom same = refl
+is_rom-Rom Boot same = absurd cc
+is_rom-Rom Cpu same = absurd cc
+is_rom-Rom Idle same = absurd cc
+is_rom-Rom Irq same = absurd cc
+
 pub begun-turn :
     (start : Start) (logs : Logs) (regs : List ℕ)
     → logs.progress ≡ Runs (Boundary regs) → boundary_kind regs (vector_of logs) ≡ Rom
@@ -90,103 +98,83 @@ begun-turn start logs regs runs rom =
       same_acceptance = rw (sym kind, runs) refl;
     }
 
--- the first step of an interrupt entry
-abbrev pub entry_turn : List ℕ → ℕ → Turn
-entry_turn regs vector =
-    record {
-      kind = Irq;
-      pc = pc_of regs;
-      access = running_access Irq (entry_begun regs vector);
-      irq = true;
-      opcode = false;
-      accepts_timer = vector == TIMER_VECTOR;
-    }
+-- at a boundary where no call begins
+registers-begun :
+    (regs : List ℕ) (kind : Kind) (vector : Option ℕ)
+    → registers_of (state_begun regs kind vector) ≡ regs
+registers-begun regs Boot vector = refl
+registers-begun regs Cpu vector = refl
+registers-begun regs Idle vector = refl
+registers-begun regs Irq (Some vector) = refl
+registers-begun regs Irq None = refl
+registers-begun regs Rom vector = refl
 
-pub entry-turn :
-    (start : Start) (logs : Logs) (regs : List ℕ) (vector : ℕ)
-    → logs.progress ≡ Runs (Boundary regs) → boundary_kind regs (vector_of logs) ≡ Irq
-    → vector_of logs ≡ Some vector
-    → TurnStandsFor regs (entry_turn regs vector) start logs
-entry-turn start logs regs vector runs irq some =
-    let kind : Irq ≡ step_kind logs = boundary-kind logs regs Irq runs irq in
-    record {
-      same_regs = rw runs refl;
-      same_kind = kind;
-      same_pc = rw (sym kind, some, runs) refl;
-      same_access = rw (sym kind, some, runs) refl;
-      same_irq = rw (some, runs) refl;
-      same_opcode = rw (sym kind) refl;
-      same_acceptance = rw (sym kind, some, runs) refl;
-    }
+progress-begun :
+    (regs : List ℕ) (kind : Kind) (vector : Option ℕ)
+    → is_rom kind ≡ false
+    → progress_from_boundary regs kind vector ≡ Runs (state_begun regs kind vector)
+progress-begun regs Boot vector other = refl
+progress-begun regs Cpu vector other = refl
+progress-begun regs Idle vector other = refl
+progress-begun regs Irq (Some vector) other = refl
+progress-begun regs Irq None other = refl
+progress-begun regs Rom vector other = absurd cc
 
-pub entry-within :
-    (logs : Logs) (regs : List ℕ) (vector : ℕ)
-    → logs.progress ≡ Runs (Boundary regs) → boundary_kind regs (vector_of logs) ≡ Irq
-    → vector_of logs ≡ Some vector
-    → step_progress logs (step_kind logs) ≡ Runs (entry_begun regs vector)
-entry-within logs regs vector runs irq some =
-    let kind : Irq ≡ step_kind logs = boundary-kind logs regs Irq runs irq in
-    rw (sym kind, some, runs) refl
+opcode-begun :
+    (regs : List ℕ) (kind : Kind) → is_cpu kind ≡ fetches_opcode kind (Runs (Boundary regs))
+opcode-begun regs Boot = refl
+opcode-begun regs Cpu = refl
+opcode-begun regs Idle = refl
+opcode-begun regs Irq = refl
+opcode-begun regs Rom = refl
 
--- an opcode fetch, and sleep
-abbrev pub boundary_turn : Kind → Bool → List ℕ → Bool → Turn
-boundary_turn kind opcode regs irq =
+pub turn-within :
+    (logs : Logs) (regs : List ℕ) (kind : Kind) (vector : Option ℕ)
+    → logs.progress ≡ Runs (Boundary regs)
+    → vector ≡ vector_of logs
+    → kind ≡ boundary_kind regs (vector_of logs)
+    → is_rom kind ≡ false
+    → step_progress logs (step_kind logs) ≡ Runs (state_begun regs kind vector)
+turn-within logs regs kind vector runs here same other =
+    let now : kind ≡ step_kind logs = boundary-kind logs regs kind runs (sym same) in
+    rw (sym now, sym here, runs) (progress-begun regs kind vector other)
+
+-- of what is told of a step at a boundary
+abbrev pub turn_told : Kind → CpuState → Bool → Bool → Bool → Turn
+turn_told kind state irq opcode timer =
     record {
       kind = kind;
-      pc = pc_of regs;
-      access = running_access kind (Boundary regs);
+      pc = cpu_pc state;
+      access = running_access kind state;
       irq = irq;
       opcode = opcode;
-      accepts_timer = false;
+      accepts_timer = timer;
     }
 
-pub fetch-turn :
-    (start : Start) (logs : Logs) (regs : List ℕ)
-    → logs.progress ≡ Runs (Boundary regs) → boundary_kind regs (vector_of logs) ≡ Cpu
-    → TurnStandsFor regs (boundary_turn Cpu true regs (is_some (vector_of logs))) start logs
-fetch-turn start logs regs runs cpu =
-    let kind : Cpu ≡ step_kind logs = boundary-kind logs regs Cpu runs cpu in
+pub turn-begun :
+    (start : Start) (logs : Logs) (regs : List ℕ) (kind : Kind) (vector : Option ℕ)
+    (irq opcode timer : Bool)
+    → logs.progress ≡ Runs (Boundary regs)
+    → vector ≡ vector_of logs
+    → kind ≡ boundary_kind regs (vector_of logs)
+    → is_rom kind ≡ false
+    → irq ≡ is_some vector
+    → opcode ≡ is_cpu kind
+    → timer ≡ (is_irq kind && is_timer_vector vector)
+    → TurnStandsFor (registers_of (state_begun regs kind vector))
+    (turn_told kind (state_begun regs kind vector) irq opcode timer) start logs
+turn-begun start logs regs kind vector irq opcode timer runs here same other told fetches accepts =
+    let now : kind ≡ step_kind logs = boundary-kind logs regs kind runs (sym same) in
+    let within = turn-within logs regs kind vector runs here same other in
     record {
-      same_regs = rw runs refl;
-      same_kind = kind;
-      same_pc = rw (sym kind, runs) refl;
-      same_access = rw (sym kind, runs) refl;
-      same_irq = rw runs refl;
-      same_opcode = rw (sym kind, runs) refl;
-      same_acceptance = rw (sym kind, runs) refl;
+      same_regs = rw runs (registers-begun regs kind vector);
+      same_kind = now;
+      same_pc = rw within refl;
+      same_access = rw (within, sym now) refl;
+      same_irq = told ∙ rw (sym here, runs) refl;
+      same_opcode = fetches ∙ rw (sym now, runs) (opcode-begun regs kind);
+      same_acceptance = accepts ∙ rw (sym now, sym here, runs) refl;
     }
-
-pub fetch-within :
-    (logs : Logs) (regs : List ℕ)
-    → logs.progress ≡ Runs (Boundary regs) → boundary_kind regs (vector_of logs) ≡ Cpu
-    → step_progress logs (step_kind logs) ≡ Runs (Boundary regs)
-fetch-within logs regs runs cpu =
-    let kind : Cpu ≡ step_kind logs = boundary-kind logs regs Cpu runs cpu in
-    rw (sym kind, runs) refl
-
-pub sleep-turn :
-    (start : Start) (logs : Logs) (regs : List ℕ)
-    → logs.progress ≡ Runs (Boundary regs) → boundary_kind regs (vector_of logs) ≡ Idle
-    → TurnStandsFor regs (boundary_turn Idle false regs (is_some (vector_of logs))) start logs
-sleep-turn start logs regs runs idle =
-    let kind : Idle ≡ step_kind logs = boundary-kind logs regs Idle runs idle in
-    record {
-      same_regs = rw runs refl;
-      same_kind = kind;
-      same_pc = rw (sym kind, runs) refl;
-      same_access = rw (sym kind, runs) refl;
-      same_irq = rw runs refl;
-      same_opcode = rw (sym kind) refl;
-      same_acceptance = rw (sym kind, runs) refl;
-    }
-
-pub sleep-within :
-    (logs : Logs) (regs : List ℕ)
-    → logs.progress ≡ Runs (Boundary regs) → boundary_kind regs (vector_of logs) ≡ Idle
-    → step_progress logs (step_kind logs) ≡ Runs (Boundary regs)
-sleep-within logs regs runs idle =
-    let kind : Idle ≡ step_kind logs = boundary-kind logs regs Idle runs idle in
-    rw (sym kind, runs) refl
 
 pub begun-within :
     (logs : Logs) (regs : List ℕ)
@@ -217,27 +205,35 @@ kind_of-irq false false asleep (Some vector) same = refl
 kind_of-irq false false true None same = absurd cc
 kind_of-irq false false false None same = absurd cc
 
-pub boundary_kind-Boot : (regs : List ℕ) (vector : Option ℕ) → boundary_kind regs vector ≡ Boot → ⊥
+boundary_kind-Boot : (regs : List ℕ) (vector : Option ℕ) → boundary_kind regs vector ≡ Boot → ⊥
 boundary_kind-Boot regs vector same = kind_of-boundary _ _ _ vector same
 
-pub boundary_kind-Irq :
+boundary_kind-Irq :
     (regs : List ℕ) (vector : Option ℕ) → boundary_kind regs vector ≡ Irq → is_some vector ≡ true
 boundary_kind-Irq regs vector same = kind_of-irq _ _ _ vector same
+
+-- the processor sleeps, or fetches an opcode, or enters a handler
+pub turn-fetches :
+    (regs : List ℕ) (kind : Kind) (vector : Option ℕ) (opcode : Bool)
+    → kind ≡ boundary_kind regs vector
+    → is_rom kind ≡ false
+    → opcode ≡ is_cpu kind
+    → FetchesOpcode kind opcode (state_begun regs kind vector)
+turn-fetches regs Boot vector opcode same other fetches =
+    absurd (boundary_kind-Boot regs vector (sym same))
+turn-fetches regs Cpu vector opcode same other fetches = inr fetches
+turn-fetches regs Idle vector opcode same other fetches = inl refl
+turn-fetches regs Irq (Some vector) opcode same other fetches = tt
+turn-fetches regs Irq None opcode same other fetches =
+    absurd (false≢true (boundary_kind-Irq regs None (sym same)))
+turn-fetches regs Rom vector opcode same other fetches = absurd cc
 
 -- in the middle of an instruction or an entry
 abbrev pub kind_within : CpuState → Kind
 kind_within state = if is_entering state then Irq else Cpu
 
 abbrev pub middle_turn : CpuState → Turn
-middle_turn state =
-    record {
-      kind = kind_within state;
-      pc = cpu_pc state;
-      access = running_access (kind_within state) state;
-      irq = false;
-      opcode = false;
-      accepts_timer = false;
-    }
+middle_turn state = turn_told (kind_within state) state false false false
 
 pub middle-turn :
     (start : Start) (logs : Logs) (state : CpuState)
@@ -334,8 +330,3 @@ word_passed-return sp bounds (DerivedKeyWrite i) number value return = absurd cc
 word_passed-return sp bounds (RegionRead i) number value return = absurd cc
 word_passed-return sp bounds (InnerDigestWrite i) number value return = absurd cc
 word_passed-return sp bounds (MacWrite i) number value return = absurd cc
-
-pub unwrap_or-Some : (vector : Option ℕ) → is_some vector ≡ true → vector ≡ Some
-    (unwrap_or vector 0)
-unwrap_or-Some (Some vector) some = refl
-unwrap_or-Some None some = absurd cc

@@ -1,7 +1,9 @@
 pub mod Bus
 pub mod Device
 pub mod Machine
+pub mod Outside
 pub mod Monitors
 pub mod Past
 pub mod Peripherals
+pub mod Silence
 pub mod Turn

@@ -1,14 +1,14 @@
 -- What a machine stands for, at each stage.
-use Rattle.std.specs.Prelude.{◌≡◌, ◌⊎◌, ℕ, Bool, true, List}
+use Rattle.std.specs.Prelude.{◌≡◌, ◌⊎◌, ℕ, Bool, true, List, Option, Some}
 use Rattle.part_definitions.specs.CpuRegisters.{sp_of}
-use Rattle.part_definitions.specs.CpuState.{CpuState, Boundary, Executing, Entering, clear_cpu, registers_of}
+use Rattle.part_definitions.specs.CpuState.{CpuState, Boundary, Executing, Entering, clear_cpu, registers_of, entry_begun}
 use Rattle.msp_exec.specs.Course.{CpuStandsFor}
 use Rattle.swatt_rom.specs.RomCall.{NoCall, InCall as RomInCall}
 use Rattle.swatt_rom.specs.Rom.{RomStandsFor}
 use Rattle.bus_signals.specs.declared.kind.Kind.{Kind}
-use Rattle.bus_signals.specs.declared.kind.Kind.TheVariants.{Idle}
-use Rattle.device_trace.specs.Logs.{Logs, step_progress}
-use Rattle.device_trace.specs.Progress.{Held, Runs, InCall}
+use Rattle.bus_signals.specs.declared.kind.Kind.TheVariants.{Idle, Irq, Rom}
+use Rattle.device_trace.specs.Logs.{Logs, step_progress, vector_of}
+use Rattle.device_trace.specs.Progress.{Held, Runs, InCall, boundary_kind}
 use Rattle.device_trace.specs.Signals.{step_kind}
 use Rattle.device_trace.specs.Start.{Start}
 use Rattle.device_core.specs.Bus.{BusStandsFor, TurnStandsFor}
@@ -76,6 +76,24 @@ pub record RunsWithin {D : Type 0} (taken : D → List ℕ → Type 0) (digest :
     pub fetches : FetchesOpcode turn.kind turn.opcode state
     pub same_processor : CpuStandsFor machine.processor state
     pub same_call : RomStandsFor taken digest machine.call NoCall
+
+-- the state within a step of this kind that begins at a boundary, and begins no call
+abbrev pub state_begun : List ℕ → Kind → Option ℕ → CpuState
+state_begun regs Irq (Some vector) = entry_begun regs vector
+state_begun regs kind vector = Boundary regs
+
+-- likewise, from some state
+pub record RunsSomewhere {D : Type 0} (taken : D → List ℕ → Type 0) (digest : List ℕ → List ℕ)
+    (machine : Machine D) (turn : Turn) (start : Start) (logs : Logs) : Type 0 where
+  pub state : CpuState
+  pub same : RunsWithin taken digest machine turn start logs state
+
+-- at a boundary at which a call begins, with some registers
+pub record BeginsCall {D : Type 0} (taken : D → List ℕ → Type 0) (digest : List ℕ → List ℕ)
+    (machine : Machine D) (start : Start) (logs : Logs) : Type 0 where
+  pub regs : List ℕ
+  pub same : RunsFrom taken digest machine start logs (Boundary regs)
+  pub begins : boundary_kind regs (vector_of logs) ≡ Rom
 
 -- within a step of a call, which began with these registers and in which these words passed
 pub record CallsWithin {D : Type 0} (taken : D → List ℕ → Type 0) (digest : List ℕ → List ℕ)

@@ -1,12 +1,14 @@
 -- What the peripherals stand for, and what a step leaves of what happened to them.
-use Rattle.std.specs.Prelude.{ℕ, Bool, Option}
+use Rattle.std.specs.Prelude.{ℕ, Bool, false, Option, None, Some}
 use Rattle.bus_signals.specs.declared.access.Access.{Access}
+use Rattle.bus_signals.specs.declared.access.Access.TheVariants.{Fetch, Read, Write}
 use Rattle.bus_signals.specs.declared.rule.Rule.{Rule}
+use Rattle.bus_signals.specs.Map.{lies_in, peripheral_region}
 use Rattle.irq_timer.specs.Timer.{TimerStandsFor}
 use Rattle.irq_timer.specs.Pins.{PinsStandFor}
 use Rattle.serial_port.specs.Serial.{SerialStandsFor}
 use Rattle.dma_engine.specs.Dma.{DmaStandsFor}
-use Rattle.device_trace.specs.Peripherals.{Peripherals as PeripheralLogs, timer_after, serial_after, dma_after}
+use Rattle.device_trace.specs.Peripherals.{Peripherals as PeripheralLogs, with_timer_access, with_dma_access, timer_after, serial_after, dma_after}
 use Rattle.device_core.specs.declared.peripherals.Peripherals.{Peripherals}
 
 pub record PeripheralsStandFor (parts : Peripherals) (logs : PeripheralLogs) : Type 0 where
@@ -14,6 +16,23 @@ pub record PeripheralsStandFor (parts : Peripherals) (logs : PeripheralLogs) : T
   pub same_serial : SerialStandsFor parts.serial logs.serial
   pub same_dma : DmaStandsFor parts.dma logs.dma
   pub same_pins : PinsStandFor parts.pins logs.pins
+
+-- the access is to a register of a peripheral
+abbrev pub reaches_peripherals : Option Access → Bool
+reaches_peripherals None = false
+reaches_peripherals (Some (Fetch place)) = lies_in peripheral_region place
+reaches_peripherals (Some (Read place size)) = lies_in peripheral_region place
+reaches_peripherals (Some (Write place size number)) = lies_in peripheral_region place
+
+-- after an access of the processor
+abbrev pub peripherals_reached : Option Access → PeripheralLogs → PeripheralLogs
+peripherals_reached access logs =
+    record {
+      timer = with_timer_access access logs.timer;
+      serial = serial_after None access logs.serial;
+      dma = with_dma_access access logs.dma;
+      pins = logs.pins;
+    }
 
 -- after a step: which rule it broke, whether the entry of the timer's interrupt began in it, the
 -- accesses of processor and DMA, and what the DMA read

@@ -4,23 +4,26 @@ ghost use Rattle.bus_signals.specs.declared.event.Event.{Event};
 ghost use Rattle.bus_signals.specs.declared.rule.Rule.{Rule};
 ghost use Rattle.bus_signals.specs.declared.signals.Signals.{Signals};
 ghost use Rattle.bus_signals.specs.Seen.{Seen};
+ghost use Rattle.part_definitions.specs.Dma.{dma_access};
 ghost use Rattle.part_definitions.specs.Flag.{exec, last_pc};
-ghost use Rattle.part_definitions.specs.Memory.{PowerOn, MemoryWrite, byte_at, with_access};
+ghost use Rattle.part_definitions.specs.Memory.{PowerOn, MemoryWrite};
 ghost use Rattle.mem_map.specs.Memory.{MemoryStandsFor};
 ghost use Rattle.mem_map.specs.Image.{powered_on};
 ghost use Rattle.device_trace.specs.Start.{Start};
 ghost use Rattle.device_trace.specs.Logs.{Logs, power_on_logs, accepts_timer, memory_after, with_events, with_record, exec_of, vector_of};
 ghost use Rattle.device_trace.specs.Signals.{signals_of, word_fetched, value_read};
-ghost use Rattle.device_trace.specs.Step.{is_reset, asks_reset, memory_read, dma_value_read, record_from, record_of};
+ghost use Rattle.device_trace.specs.Peripherals.{Peripherals as PeripheralLogs};
+ghost use Rattle.device_trace.specs.Step.{is_reset, asks_reset, dma_value_read, record_from, record_of};
 ghost use Rattle.device_core.specs.Peripherals.{PeripheralsStandFor};
 
-use crate::access::{memory_read, value_read, word_fetched, write_access};
+use crate::access::{value_read, word_fetched};
 use crate::monitors::Monitors;
 use crate::past::Past;
 use crate::peripherals::Peripherals;
 use crate::record::{performed, refused};
 use crate::turn::Turn;
-use bus_signals::{Bounds, BusMaster, BusRecord, Event, Rule, Signals};
+use bus_arbiter::{Proposal, exchange};
+use bus_signals::{Access, Bounds, BusMaster, BusRecord, Event, Rule, Signals};
 use mem_map::{Image, Memory};
 use std::alloc::{AllocError, Global};
 
@@ -54,7 +57,9 @@ fn asks_reset(events: &[Event]) -> bool
 }
 
 // Makes the accesses of a step: the DMA sees what the processor writes.
-fn exchange(memory: &mut Memory, peripherals: &Peripherals, now: &Signals) -> Values
+#[inline(always)]
+fn make_accesses(memory: &mut Memory, peripherals: &Peripherals, now: &Signals) -> Values
+    requires { IfSome now.now.cpu IsFormed }
     ensures cpu { (start : Start) (logs : Logs)
         → MemoryStandsFor memory.old start.power (exec_of logs) logs.memory
         → PeripheralsStandFor peripherals.now logs.peripherals
@@ -62,16 +67,22 @@ fn exchange(memory: &mut Memory, peripherals: &Peripherals, now: &Signals) -> Va
         → result.cpu ≡ value_read start logs now.now.cpu }
     ensures dma { (start : Start) (logs : Logs)
         → MemoryStandsFor memory.old start.power (exec_of logs) logs.memory
+        → PeripheralsStandFor peripherals.now logs.peripherals
+        → now.now.dma ≡ dma_access logs.peripherals.dma
         → result.dma ≡ dma_value_read start logs now.now }
     ensures memory { (start : PowerOn) (flag : Bool) (writes : List MemoryWrite)
+        (logs : PeripheralLogs)
         → MemoryStandsFor memory.old start flag writes
+        → PeripheralsStandFor peripherals.now logs
+        → now.now.dma ≡ dma_access logs.dma
         → MemoryStandsFor memory.new start flag (memory_after None now.now.cpu now.now.dma writes) }
 {
     let cpu = value_read(memory, peripherals, now.cpu, now.word);
-    write_access(memory, now.cpu);
-    let dma = memory_read(memory, now.dma);
-    write_access(memory, now.dma);
-    Values { cpu, dma }
+    let values = exchange(memory, &Proposal::new(now.cpu), &peripherals.dma);
+    Values {
+        cpu,
+        dma: values.second,
+    }
 }
 
 impl Bus {
@@ -111,22 +122,25 @@ impl Bus {
         asks_reset(events)
     }
 
-    // What the step of this turn is about to do.
+    // What the step of this turn is about to do, in which the DMA asks for this access.
+    #[inline(always)]
     #[tactic(auto, unfolding(device_trace::specs::Signals::signals_at))]
-    fn signals(&self, turn: &Turn, script_reset: bool) -> Signals
-        requires { IfSome turn.now.access IsFormed }
+    fn signals(&self, turn: &Turn, dma: Option<Access>, script_reset: bool) -> Signals
+        requires formed { IfSome turn.now.access IsFormed }
+        requires dma_formed { IfSome dma IsFormed }
         ensures cpu { IfSome result.cpu IsFormed }
         ensures dma { IfSome result.dma IsFormed }
         ensures value { (start : Start) (logs : Logs) (regs : List ℕ)
             → BusStandsFor self.now start logs
             → TurnStandsFor regs turn.now start logs
+            → dma ≡ dma_access logs.peripherals.dma
             → result ≡ signals_of start logs script_reset }
     {
         Signals {
             kind: turn.kind,
             pc: turn.pc,
             cpu: turn.access,
-            dma: self.peripherals.dma.ask(),
+            dma,
             irq: turn.irq,
             word: word_fetched(&self.memory, &self.peripherals, turn.access),
             opcode: turn.opcode,
@@ -135,6 +149,7 @@ impl Bus {
     }
 
     // The step ends with this record; the bounds are those before it.
+    #[inline(always)]
     fn record(&mut self, entry: BusRecord, bounds: &Bounds)
         requires few { self.old.past.steps < 2 ^ 63 }
         requires cpu { IfSome entry.cpu IsFormed }
@@ -164,6 +179,7 @@ impl Bus {
     }
 
     // Makes a step that breaks no rule. What the access of the processor read.
+    #[inline(always)]
     #[tactic(auto, unfolding(device_trace::specs::Logs::with_record))]
     fn perform(&mut self, regs: [u16; 16], is_accepted: bool, now: &Signals) -> u16
         requires few { self.old.past.steps < 2 ^ 63 }
@@ -177,13 +193,14 @@ impl Bus {
         ensures stands { (start : Start) (logs : Logs)
             → BusStandsFor self.old start logs
             → now.now.word ≡ word_fetched start logs now.now.cpu
+            → now.now.dma ≡ dma_access logs.peripherals.dma
             → is_accepted ≡ accepts_timer logs.progress now.now.kind (vector_of logs)
             → BusStandsFor self.new start (with_record start logs
             (record_from regs now.now None (value_read start logs now.now.cpu)
             (dma_value_read start logs now.now))) }
     {
         let bounds = self.memory.bounds();
-        let values = exchange(&mut self.memory, &self.peripherals, now);
+        let values = make_accesses(&mut self.memory, &self.peripherals, now);
         self.peripherals
             .serve(now.cpu, now.dma, values.dma, is_accepted);
         self.record(performed(regs, now, values.cpu, values.dma), &bounds);
@@ -191,6 +208,7 @@ impl Bus {
     }
 
     // Makes no access, and resets all that is reached over the bus but memory and pins.
+    #[inline(never)]
     #[tactic(auto, unfolding(device_trace::specs::Logs::with_record))]
     fn refuse(&mut self, regs: [u16; 16], rule: Rule, now: &Signals)
         requires few { self.old.past.steps < 2 ^ 63 }
@@ -207,8 +225,71 @@ impl Bus {
         self.record(refused(regs, now, rule), &bounds);
     }
 
+    // Tries the rules, and makes the step of this turn where none is broken, in which the DMA asks
+    // for this access. What the access of processor or ROM read, `None` where the step is refused.
+    #[inline(always)]
+    fn act_beside(
+        &mut self,
+        regs: [u16; 16],
+        turn: &Turn,
+        dma: Option<Access>,
+        script_reset: bool,
+    ) -> Option<u16>
+        requires few { self.old.past.steps < 2 ^ 63 }
+        requires formed { IfSome turn.now.access IsFormed }
+        requires dma_formed { IfSome dma IsFormed }
+        ensures past_steps { StepsFrom self.old.past self.new.past }
+        ensures answer { (start : Start) (logs : Logs)
+            → BusStandsFor self.old start logs
+            → TurnStandsFor regs turn.now start logs
+            → dma ≡ dma_access logs.peripherals.dma
+            → result ≡ answer_in (record_of start logs script_reset) }
+        ensures stands { (start : Start) (logs : Logs)
+            → BusStandsFor self.old start logs
+            → TurnStandsFor regs turn.now start logs
+            → dma ≡ dma_access logs.peripherals.dma
+            → BusStandsFor self.new start (logs_after_step start logs script_reset) }
+    {
+        let now = self.signals(turn, dma, script_reset);
+        match self.monitors.first_rule(&now) {
+            None => Some(self.perform(regs, turn.accepts_timer, &now)),
+            Some(rule) => {
+                self.refuse(regs, rule, &now);
+                None
+            }
+        }
+    }
+
+    // Likewise, where the DMA asks for an access.
+    #[inline(never)]
+    fn act_beside_dma(
+        &mut self,
+        regs: [u16; 16],
+        turn: &Turn,
+        access: Access,
+        script_reset: bool,
+    ) -> Option<u16>
+        requires few { self.old.past.steps < 2 ^ 63 }
+        requires formed { IfSome turn.now.access IsFormed }
+        requires dma_formed { IsFormed access }
+        ensures past_steps { StepsFrom self.old.past self.new.past }
+        ensures answer { (start : Start) (logs : Logs)
+            → BusStandsFor self.old start logs
+            → TurnStandsFor regs turn.now start logs
+            → Some access ≡ dma_access logs.peripherals.dma
+            → result ≡ answer_in (record_of start logs script_reset) }
+        ensures stands { (start : Start) (logs : Logs)
+            → BusStandsFor self.old start logs
+            → TurnStandsFor regs turn.now start logs
+            → Some access ≡ dma_access logs.peripherals.dma
+            → BusStandsFor self.new start (logs_after_step start logs script_reset) }
+    {
+        self.act_beside(regs, turn, Some(access), script_reset)
+    }
+
     /// Tries the rules, and makes the step of this turn where none is broken. What the access of
     /// processor or ROM read, `None` where the step is refused.
+    #[inline(always)]
     pub fn act(&mut self, regs: [u16; 16], turn: &Turn, script_reset: bool) -> Option<u16>
         requires few { self.old.past.steps < 2 ^ 63 }
         requires formed { IfSome turn.now.access IsFormed }
@@ -222,13 +303,9 @@ impl Bus {
             → TurnStandsFor regs turn.now start logs
             → BusStandsFor self.new start (logs_after_step start logs script_reset) }
     {
-        let now = self.signals(turn, script_reset);
-        match self.monitors.first_rule(&now) {
-            None => Some(self.perform(regs, turn.accepts_timer, &now)),
-            Some(rule) => {
-                self.refuse(regs, rule, &now);
-                None
-            }
+        match self.peripherals.dma.ask() {
+            None => self.act_beside(regs, turn, None, script_reset),
+            Some(access) => self.act_beside_dma(regs, turn, access, script_reset),
         }
     }
 }

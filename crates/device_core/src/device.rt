@@ -3,6 +3,7 @@ ghost use Rattle.bus_signals.specs.declared.event.Event.{Event};
 ghost use Rattle.mem_map.specs.Image.{powered_on};
 ghost use Rattle.device_trace.specs.Start.{with_key};
 ghost use Rattle.device_core.specs.Device.{HeldStandsFor, RunningStandsFor, InRomStandsFor, LiveStandsFor, HasStepped, steps_of, steps_made};
+ghost use Rattle.device_core.specs.Outside.{HidesKey};
 
 use crate::live::Live;
 use crate::machine::Machine;
@@ -68,6 +69,8 @@ impl<D: Digest32> Device<Held, D> {
             → HeldStandsFor D.has_taken D.digest_of self (with_key D.digest_of key image) play
             → LiveStandsFor D.has_taken D.digest_of result (with_key D.digest_of key image)
             (events.now ∷ play) }
+        ensures hides_key { HidesKey D.digest_of (HeldStandsFor D.has_taken D.digest_of self)
+            events.now result }
         ensures steps { steps_made result ≡ steps_of self + 1 }
         ensures recorded { HasStepped result }
     {
@@ -78,8 +81,8 @@ impl<D: Digest32> Device<Held, D> {
 }
 
 impl<D: Digest32> Device<Running, D> {
-    /// Makes the next step: an access of the processor, none while it sleeps, or the first of a call.
-    /// The events come at its beginning.
+    /// Makes the next step: an access of the processor, none while it sleeps, or the first of a
+    /// call. The events come at its beginning.
     #[tactic(auto, unfolding(device_trace::specs::Trace::logs_after))]
     pub fn step(self, events: &[Event]) -> Live<D>
         requires { steps_of self < 2 ^ 63 }
@@ -87,6 +90,8 @@ impl<D: Digest32> Device<Running, D> {
             → RunningStandsFor D.has_taken D.digest_of self (with_key D.digest_of key image) play
             → LiveStandsFor D.has_taken D.digest_of result (with_key D.digest_of key image)
             (events.now ∷ play) }
+        ensures hides_key { HidesKey D.digest_of (RunningStandsFor D.has_taken D.digest_of self)
+            events.now result }
         ensures steps { steps_made result ≡ steps_of self + 1 }
         ensures recorded { HasStepped result }
     {
@@ -105,6 +110,8 @@ impl<D: Digest32> Device<InRom, D> {
             → InRomStandsFor D.has_taken D.digest_of self (with_key D.digest_of key image) play
             → LiveStandsFor D.has_taken D.digest_of result (with_key D.digest_of key image)
             (events.now ∷ play) }
+        ensures hides_key { HidesKey D.digest_of (InRomStandsFor D.has_taken D.digest_of self)
+            events.now result }
         ensures steps { steps_made result ≡ steps_of self + 1 }
         ensures recorded { HasStepped result }
     {

@@ -1,21 +1,25 @@
-ghost use Rattle.std.specs.Prelude.{◌≡◌, ◌<◌, ◌+◌, ◌^◌, ◌∷◌, ℕ, List, Some, length, option_map};
+ghost use Rattle.std.specs.Prelude.{◌≡◌, ◌<◌, ◌+◌, ◌^◌, ◌&&◌, ◌∷◌, ℕ, List, Some, not, is_none, length, option_map, IfSome};
 ghost use Rattle.bus_signals.specs.declared.event.Event.{Event};
 ghost use Rattle.bus_signals.specs.Report.{fields_of};
 ghost use Rattle.mem_map.specs.Memory.{MemoryStandsFor};
 ghost use Rattle.device_trace.specs.Formed.{AccessesAreFormed};
 ghost use Rattle.device_trace.specs.Logs.{Logs, exec_of};
 ghost use Rattle.device_trace.specs.Progress.{next_pc_of};
+ghost use Rattle.device_trace.specs.Reports.{ExecMeansWholeRun};
 ghost use Rattle.device_trace.specs.Start.{Start, with_key};
-ghost use Rattle.device_trace.specs.Text.{byte_sent_in, last_byte_sent};
+ghost use Rattle.device_trace.specs.Text.{byte_sent_in, finishes_call, last_byte_sent};
 ghost use Rattle.device_trace.specs.Trace.{trace, last_record, logs_after};
 ghost use Rattle.trace_facts.specs.Naming.{NamesNeitherA1NorK3};
+ghost use Rattle.mac_coverage.specs.Coverage.{IsDeviceKey, IsOfBytes, MacCoversReport};
 ghost use Rattle.device_core.specs.Device.{LiveStandsAt, LiveStandsFor, machine_of, steps_made, HasStepped};
 ghost use Rattle.device_core.specs.Machine.{MachineStandsFor};
+ghost use Rattle.device_core.specs.Outside.{HidesKey};
+ghost use Rattle.device_core.specs.Silence.{is_silent};
 ghost use Rattle.device_trace.specs.Text.{last_report};
 
 use crate::device::{Device, Held, InRom, Running};
 use crate::machine::Machine;
-use crate::report::report_in;
+use crate::report::{finishes_call, report_in};
 use crate::stage::Stage;
 use bus_signals::{Access, BusRecord, Event, ReportView};
 use hmac_core::Digest32;
@@ -49,6 +53,16 @@ fn byte_sent_in(entry: &BusRecord) -> Option<u8>
     }
 }
 
+// The step sends no byte, is not refused and finishes no call.
+#[inline(always)]
+fn puts_nothing(entry: &BusRecord) -> bool
+    ensures { result
+        ≡ (is_none (byte_sent_in entry.now) && is_none entry.now.reset
+        && not (finishes_call entry.now)) }
+{
+    byte_sent_in(entry).is_none() && entry.reset.is_none() && !finishes_call(entry)
+}
+
 impl<D: Digest32> Live<D> {
     /// The device whose machine has come to this stage.
     pub(crate) fn at(machine: Box<Machine<D>>, stage: Stage) -> Live<D>
@@ -71,6 +85,8 @@ impl<D: Digest32> Live<D> {
             → LiveStandsFor D.has_taken D.digest_of self (with_key D.digest_of key image) play
             → LiveStandsFor D.has_taken D.digest_of result (with_key D.digest_of key image)
             (events.now ∷ play) }
+        ensures hides_key { HidesKey D.digest_of (LiveStandsFor D.has_taken D.digest_of self)
+            events.now result }
         ensures steps { steps_made result ≡ steps_made self + 1 }
         ensures recorded { HasStepped result }
     {
@@ -111,6 +127,19 @@ impl<D: Digest32> Live<D> {
         }
     }
 
+    /// Whether the last step sent no byte, was not refused and finished no call.
+    #[inline(always)]
+    pub fn is_silent(&self) -> bool
+        ensures { (start : Start) (play : List (List Event))
+            → LiveStandsFor D.has_taken D.digest_of self.now start play
+            → result ≡ is_silent start play }
+    {
+        match &self.machine().bus.past.last {
+            Some(entry) => puts_nothing(entry),
+            None => true,
+        }
+    }
+
     /// The byte that the last step sent.
     pub fn sent(&self) -> Option<u8>
         ensures { (start : Start) (play : List (List Event))
@@ -125,9 +154,18 @@ impl<D: Digest32> Live<D> {
 
     /// The report of the call that the last step finished, as memory tells it after that step.
     pub fn report(&self) -> Option<ReportView<'_>>
-        ensures { (start : Start) (play : List (List Event))
+        ensures last { (start : Start) (play : List (List Event))
             → LiveStandsFor D.has_taken D.digest_of self.now start play
             → option_map fields_of result ≡ last_report start play }
+        ensures whole_run { (start : Start) (play : List (List Event))
+            → LiveStandsFor D.has_taken D.digest_of self.now start play
+            → IfSome result (λ view. ExecMeansWholeRun start (fields_of view) play) }
+        ensures covered { (key : List ℕ) (image : ℕ → ℕ) (play : List (List Event))
+            → IsDeviceKey key
+            → IsOfBytes image
+            → LiveStandsFor D.has_taken D.digest_of self.now (with_key D.digest_of key image) play
+            → IfSome result (λ view. MacCoversReport D.digest_of key
+            (with_key D.digest_of key image) (fields_of view) play) }
     {
         let bus = &self.machine().bus;
         match &bus.past.last {

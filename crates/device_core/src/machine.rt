@@ -1,4 +1,4 @@
-ghost use Rattle.std.specs.Prelude.{◌≡◌, ◌⊎◌, ◌==◌, ◌<◌, ◌^◌, ℕ, List, IfOk, IfSome, Some, true, false, is_some, if◌then◌else◌};
+ghost use Rattle.std.specs.Prelude.{◌≡◌, ◌⊎◌, ◌==◌, ◌<◌, ◌^◌, ◌&&◌, ℕ, List, IfOk, IfSome, IfNone, true, false, is_some, if◌then◌else◌};
 ghost use Rattle.bus_signals.specs.Access.{IsFormed};
 ghost use Rattle.bus_signals.specs.Map.{ROM_ENTRY};
 ghost use Rattle.part_definitions.specs.CpuRegisters.{with_pc, with_sp, is_asleep};
@@ -8,7 +8,9 @@ ghost use Rattle.msp_exec.specs.Course.{CpuStandsFor};
 ghost use Rattle.swatt_rom.specs.RomCall.{NoCall, InCall, AfterCall};
 ghost use Rattle.swatt_rom.specs.Rom.{RomStandsFor};
 ghost use Rattle.device_trace.specs.Start.{Start, with_key};
-ghost use Rattle.device_trace.specs.Logs.{Logs, power_on_logs, vector_of};
+ghost use Rattle.device_trace.specs.Logs.{Logs, power_on_logs, vector_of, is_timer_vector};
+ghost use Rattle.bus_signals.specs.Kind.{is_cpu, is_irq, is_rom};
+ghost use Rattle.device_core.specs.Machine.{state_begun};
 ghost use Rattle.device_trace.specs.Progress.{last_registers, boundary_kind, running_after};
 ghost use Rattle.device_trace.specs.Trace.{next_logs};
 ghost use Rattle.mem_map.specs.Image.{powered_on};
@@ -33,8 +35,8 @@ pub struct Machine<D: Digest32> {
     pub bus: Bus,
 }
 
-// Whose step comes next, at a boundary: a call of the ROM, code inside the ROM, an interrupt, sleep,
-// or an instruction.
+// Whose step comes next, at a boundary: a call of the ROM, code inside the ROM, an interrupt,
+// sleep, or an instruction.
 fn boundary_kind(processor: &Cpu, vector: Option<u16>) -> Kind
     ensures { (state : CpuState)
         → CpuStandsFor processor.now state
@@ -75,7 +77,7 @@ fn is_rom_entry(pc: u16) -> bool
 impl<D: Digest32> Machine<D> {
     ghost use Rattle.device_core.specs.Bus.{BusStandsFor, logs_after_step};
     ghost use Rattle.device_core.specs.Past.{StepsFrom};
-    ghost use Rattle.device_core.specs.Machine.{HeldMachine, RunningMachine, RunsFrom, CallingMachine, RunsWithin, CallsWithin, MachineStandsFor};
+    ghost use Rattle.device_core.specs.Machine.{HeldMachine, RunningMachine, RunsFrom, CallingMachine, RunsWithin, RunsSomewhere, BeginsCall, CallsWithin, MachineStandsFor};
 
     /// The machine at power-on.
     pub fn new(alloc: Global, key: &[u8; 64], image: &Image) -> Result<Machine<D>, AllocError>
@@ -118,6 +120,7 @@ impl<D: Digest32> Machine<D> {
     }
 
     // The step of a held device, after its events.
+    #[inline(never)]
     fn boot(&mut self, script_reset: bool) -> Stage
         requires { self.old.bus.past.steps < 2 ^ 63 }
         ensures past { StepsFrom self.old.bus.past self.new.bus.past }
@@ -137,6 +140,7 @@ impl<D: Digest32> Machine<D> {
     }
 
     // A step of the processor, or of its sleep.
+    #[inline(always)]
     fn run(&mut self, turn: &Turn, script_reset: bool) -> Stage
         requires few { self.old.bus.past.steps < 2 ^ 63 }
         requires formed { IfSome turn.now.access IsFormed }
@@ -156,6 +160,7 @@ impl<D: Digest32> Machine<D> {
     }
 
     // A step of a call.
+    #[inline(never)]
     fn attest(&mut self, turn: &Turn, script_reset: bool) -> Stage
         requires few { self.old.bus.past.steps < 2 ^ 63 }
         requires formed { IfSome turn.now.access IsFormed }
@@ -201,6 +206,7 @@ impl<D: Digest32> Machine<D> {
     }
 
     // The step of a device in a call, after its events.
+    #[inline(never)]
     fn go_on_with_call(&mut self, script_reset: bool) -> Stage
         requires { self.old.bus.past.steps < 2 ^ 63 }
         ensures past { StepsFrom self.old.bus.past self.new.bus.past }
@@ -216,104 +222,95 @@ impl<D: Digest32> Machine<D> {
     }
 
     // The first step of a call.
-    fn begin_call(&mut self, irq: bool, script_reset: bool) -> Stage
+    #[inline(never)]
+    fn begin_call(&mut self, script_reset: bool) -> Stage
         requires { self.old.bus.past.steps < 2 ^ 63 }
         ensures past { StepsFrom self.old.bus.past self.new.bus.past }
-        ensures stands { (key : List ℕ) (image : ℕ → ℕ) (logs : Logs) (regs : List ℕ)
-            → RunsFrom D.has_taken D.digest_of self.old (with_key D.digest_of key image) logs
-            (Boundary regs)
-            → boundary_kind regs (vector_of logs) ≡ Kind.Rom
-            → irq ≡ is_some (vector_of logs)
+        ensures stands { (key : List ℕ) (image : ℕ → ℕ) (logs : Logs)
+            → BeginsCall D.has_taken D.digest_of self.old (with_key D.digest_of key image) logs
             → MachineStandsFor D.has_taken D.digest_of result self.new
             (with_key D.digest_of key image)
             (logs_after_step (with_key D.digest_of key image) logs script_reset) }
     {
+        let irq = self.vector().is_some();
         self.call.begin(self.processor.sp());
         let turn = Turn::of_call(&self.call, irq);
         self.attest(&turn, script_reset)
     }
 
-    // The first step of an interrupt entry.
-    fn enter(&mut self, vector: u16, script_reset: bool) -> Stage
-        requires { self.old.bus.past.steps < 2 ^ 63 }
-        ensures past { StepsFrom self.old.bus.past self.new.bus.past }
-        ensures stands { (start : Start) (logs : Logs) (regs : List ℕ)
+    // The processor's turn at a boundary, in a step of this kind: an opcode fetch, a step of sleep,
+    // or the first of the entry of this interrupt.
+    fn turn_from_boundary(&mut self, kind: Kind, vector: Option<u16>) -> Turn
+        ensures bus { self.new.bus ≡ self.old.bus }
+        ensures formed { IfSome result.access IsFormed }
+        ensures runs { (start : Start) (logs : Logs) (regs : List ℕ)
             → RunsFrom D.has_taken D.digest_of self.old start logs (Boundary regs)
-            → boundary_kind regs (vector_of logs) ≡ Kind.Irq
-            → vector_of logs ≡ Some vector
-            → MachineStandsFor D.has_taken D.digest_of result self.new start
-            (logs_after_step start logs script_reset) }
+            → vector ≡ vector_of logs
+            → kind ≡ boundary_kind regs (vector_of logs)
+            → is_rom kind ≡ false
+            → RunsWithin D.has_taken D.digest_of self.new result start logs
+            (state_begun regs kind vector) }
     {
-        self.processor.begin_irq(vector);
-        let accepts_timer = vector == TIMER_VECTOR;
-        let turn = Turn::of_processor(&self.processor, Kind::Irq, true, false, accepts_timer);
-        self.run(&turn, script_reset)
+        let accepts_timer = begin_entry(&mut self.processor, kind, vector);
+        let opcode = is_cpu(kind);
+        Turn::of_processor(
+            &self.processor,
+            kind,
+            vector.is_some(),
+            opcode,
+            accepts_timer,
+        )
     }
 
-    // An opcode fetch.
-    fn fetch(&mut self, irq: bool, script_reset: bool) -> Stage
-        requires { self.old.bus.past.steps < 2 ^ 63 }
-        ensures past { StepsFrom self.old.bus.past self.new.bus.past }
-        ensures stands { (start : Start) (logs : Logs) (regs : List ℕ)
-            → RunsFrom D.has_taken D.digest_of self.old start logs (Boundary regs)
-            → boundary_kind regs (vector_of logs) ≡ Kind.Cpu
-            → irq ≡ is_some (vector_of logs)
-            → MachineStandsFor D.has_taken D.digest_of result self.new start
-            (logs_after_step start logs script_reset) }
-    {
-        let turn = Turn::of_processor(&self.processor, Kind::Cpu, irq, true, false);
-        self.run(&turn, script_reset)
-    }
-
-    // A step of sleep.
-    fn sleep(&mut self, irq: bool, script_reset: bool) -> Stage
-        requires { self.old.bus.past.steps < 2 ^ 63 }
-        ensures past { StepsFrom self.old.bus.past self.new.bus.past }
-        ensures stands { (start : Start) (logs : Logs) (regs : List ℕ)
-            → RunsFrom D.has_taken D.digest_of self.old start logs (Boundary regs)
-            → boundary_kind regs (vector_of logs) ≡ Kind.Idle
-            → irq ≡ is_some (vector_of logs)
-            → MachineStandsFor D.has_taken D.digest_of result self.new start
-            (logs_after_step start logs script_reset) }
-    {
-        let turn = Turn::of_processor(&self.processor, Kind::Idle, irq, false, false);
-        self.run(&turn, script_reset)
-    }
-
-    // A step in the middle of an instruction or an interrupt entry.
-    fn go_on(&mut self, script_reset: bool) -> Stage
-        requires { self.old.bus.past.steps < 2 ^ 63 }
-        ensures past { StepsFrom self.old.bus.past self.new.bus.past }
-        ensures stands { (start : Start) (logs : Logs) (state : CpuState)
-            → RunsFrom D.has_taken D.digest_of self.old start logs state
+    // The processor's turn in the middle of an instruction or an interrupt entry.
+    fn turn_in_the_middle(&self) -> Turn
+        ensures formed { IfSome result.access IsFormed }
+        ensures runs { (start : Start) (logs : Logs) (state : CpuState)
+            → RunsFrom D.has_taken D.digest_of self.now start logs state
             → is_at_boundary state ≡ false
-            → MachineStandsFor D.has_taken D.digest_of result self.new start
-            (logs_after_step start logs script_reset) }
+            → RunsWithin D.has_taken D.digest_of self.now result start logs state }
     {
         let kind = kind_within(&self.processor);
-        let turn = Turn::of_processor(&self.processor, kind, false, false, false);
-        self.run(&turn, script_reset)
+        Turn::of_processor(&self.processor, kind, false, false, false)
     }
 
-    // A step at a boundary.
-    fn begin(&mut self, script_reset: bool) -> Stage
-        requires { self.old.bus.past.steps < 2 ^ 63 }
-        ensures past { StepsFrom self.old.bus.past self.new.bus.past }
-        ensures stands { (key : List ℕ) (image : ℕ → ℕ) (logs : Logs) (regs : List ℕ)
-            → RunsFrom D.has_taken D.digest_of self.old (with_key D.digest_of key image) logs
-            (Boundary regs)
-            → MachineStandsFor D.has_taken D.digest_of result self.new
-            (with_key D.digest_of key image)
-            (logs_after_step (with_key D.digest_of key image) logs script_reset) }
+    // The processor's turn at a boundary, none where a call begins.
+    fn turn_at_boundary(&mut self) -> Option<Turn>
+        ensures bus { self.new.bus ≡ self.old.bus }
+        ensures formed { IfSome result (λ turn. IfSome turn.access IsFormed) }
+        ensures runs { (start : Start) (logs : Logs) (regs : List ℕ)
+            → RunsFrom D.has_taken D.digest_of self.old start logs (Boundary regs)
+            → IfSome result (λ turn.
+            RunsSomewhere D.has_taken D.digest_of self.new turn start logs) }
+        ensures calls { (start : Start) (logs : Logs) (regs : List ℕ)
+            → RunsFrom D.has_taken D.digest_of self.old start logs (Boundary regs)
+            → IfNone result (BeginsCall D.has_taken D.digest_of self.new start logs) }
     {
         let vector = self.vector();
-        let irq = vector.is_some();
-        match boundary_kind(&self.processor, vector) {
-            Kind::Rom => self.begin_call(irq, script_reset),
-            Kind::Irq => self.enter(vector.unwrap_or(0), script_reset),
-            Kind::Idle => self.sleep(irq, script_reset),
-            Kind::Cpu => self.fetch(irq, script_reset),
-            Kind::Boot => self.fetch(irq, script_reset),
+        let kind = boundary_kind(&self.processor, vector);
+        if is_rom(kind) {
+            None
+        } else {
+            Some(self.turn_from_boundary(kind, vector))
+        }
+    }
+
+    // The processor's turn, none where a call begins.
+    fn turn(&mut self) -> Option<Turn>
+        ensures bus { self.new.bus ≡ self.old.bus }
+        ensures formed { IfSome result (λ turn. IfSome turn.access IsFormed) }
+        ensures runs { (start : Start) (logs : Logs)
+            → RunningMachine D.has_taken D.digest_of self.old start logs
+            → IfSome result (λ turn.
+            RunsSomewhere D.has_taken D.digest_of self.new turn start logs) }
+        ensures calls { (start : Start) (logs : Logs)
+            → RunningMachine D.has_taken D.digest_of self.old start logs
+            → IfNone result (BeginsCall D.has_taken D.digest_of self.new start logs) }
+    {
+        if self.processor.at_boundary() {
+            self.turn_at_boundary()
+        } else {
+            Some(self.turn_in_the_middle())
         }
     }
 
@@ -327,10 +324,9 @@ impl<D: Digest32> Machine<D> {
             (with_key D.digest_of key image)
             (logs_after_step (with_key D.digest_of key image) logs script_reset) }
     {
-        if self.processor.at_boundary() {
-            self.begin(script_reset)
-        } else {
-            self.go_on(script_reset)
+        match self.turn() {
+            Some(turn) => self.run(&turn, script_reset),
+            None => self.begin_call(script_reset),
         }
     }
 
@@ -374,6 +370,35 @@ impl<D: Digest32> Machine<D> {
     {
         let script_reset = self.bus.hear(events);
         self.go_on_with_call(script_reset)
+    }
+}
+
+fn is_rom(kind: Kind) -> bool
+    ensures { result ≡ is_rom kind }
+{
+    matches!(kind, Kind::Rom)
+}
+
+fn is_cpu(kind: Kind) -> bool
+    ensures { result ≡ is_cpu kind }
+{
+    matches!(kind, Kind::Cpu)
+}
+
+// In a step of this kind that begins at a boundary, the entry of this interrupt may begin. Whether
+// it is the timer's.
+fn begin_entry(processor: &mut Cpu, kind: Kind, vector: Option<u16>) -> bool
+    ensures processor { (regs : List ℕ)
+        → CpuStandsFor processor.old (Boundary regs)
+        → CpuStandsFor processor.new (state_begun regs kind vector) }
+    ensures timer { result ≡ (is_irq kind && is_timer_vector vector) }
+{
+    match (kind, vector) {
+        (Kind::Irq, Some(vector)) => {
+            processor.begin_irq(vector);
+            vector == TIMER_VECTOR
+        }
+        _ => false,
     }
 }
 

@@ -2,6 +2,7 @@ ghost use Rattle.std.specs.Prelude.{◌≡◌, ◌∷◌, [], List, IfSome};
 ghost use Rattle.bus_signals.specs.Access.{IsFormed};
 ghost use Rattle.bus_signals.specs.Seen.{Seen};
 ghost use Rattle.part_definitions.specs.Flag.{exec, last_pc};
+ghost use Rattle.part_definitions.specs.NextAccess.{is_illegal};
 ghost use Rattle.device_trace.specs.FirstRule.{first_rule, breaks_i1};
 
 use atomicity_monitor::AtomMonitor;
@@ -33,6 +34,7 @@ impl Monitors {
     }
 
     /// The first rule that the step breaks, in the order in which records name them.
+    #[inline(always)]
     #[tactic(auto, unfolding(device_trace::specs::FirstRule::first_rule))]
     pub fn first_rule(&self, now: &Signals) -> Option<Rule>
         requires cpu { IfSome now.now.cpu IsFormed }
@@ -55,6 +57,7 @@ impl Monitors {
     }
 
     /// The next record, with the bounds as they stood before it.
+    #[inline(always)]
     pub fn see(&mut self, entry: &BusRecord, bounds: &Bounds)
         requires cpu { IfSome entry.now.cpu IsFormed }
         requires dma { IfSome entry.now.dma IsFormed }
@@ -74,9 +77,18 @@ impl Monitors {
     }
 }
 
+// A word is illegal. Jumps and instructions of two operands, from 2000 on, never are.
+#[tactic(auto, unfolding(msp_decode::specs::Head::head_of))]
+fn is_illegal(word: u16) -> bool
+    ensures { result ≡ is_illegal word }
+{
+    word < 0x2000 && decode(word).is_none()
+}
+
 // An opcode fetch reads an illegal word.
+#[inline(always)]
 fn breaks_i1(now: &Signals) -> bool
     ensures { result ≡ breaks_i1 now.now }
 {
-    now.opcode && decode(now.word).is_none()
+    now.opcode && is_illegal(now.word)
 }

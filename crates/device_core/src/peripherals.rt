@@ -12,6 +12,7 @@ ghost use Rattle.part_definitions.specs.Timer.{timer_requests};
 ghost use Rattle.irq_timer.specs.Timer.{TimerStandsFor};
 ghost use Rattle.serial_port.specs.Serial.{SerialStandsFor};
 ghost use Rattle.dma_engine.specs.Dma.{DmaStandsFor};
+ghost use Rattle.device_core.specs.Peripherals.{reaches_peripherals};
 ghost use Rattle.device_trace.specs.Peripherals.{Peripherals as PeripheralLogs, power_on_peripherals, with_event, with_all_events, peripheral_read, with_timer_access, with_acceptance, with_serial_read, with_dma_access, with_dma_value, timer_after, serial_after, dma_after};
 
 use bus_signals::{Access, BusMaster, Event, Region};
@@ -64,7 +65,7 @@ pub struct Peripherals {
 }
 
 impl Peripherals {
-    ghost use Rattle.device_core.specs.Peripherals.{PeripheralsStandFor, peripherals_served};
+    ghost use Rattle.device_core.specs.Peripherals.{PeripheralsStandFor, peripherals_reached, peripherals_served};
 
     /// The peripherals at power-on. The receive queue is all the memory that they take.
     pub fn new(alloc: Global) -> Result<Peripherals, AllocError>
@@ -108,6 +109,7 @@ impl Peripherals {
     }
 
     /// What the processor reads at a place below 0200.
+    #[inline(never)]
     pub fn read(&self, place: u16, size: Size) -> u16
         ensures { (logs : PeripheralLogs)
             → PeripheralsStandFor self.now logs
@@ -153,8 +155,23 @@ impl Peripherals {
         best(&pending, is_allowed)
     }
 
-    /// A step that is not refused, with these accesses of processor and DMA, and what the DMA's read;
-    /// the entry of the timer's interrupt may begin in it.
+    // The access of the processor, where it is to a peripheral.
+    #[inline(always)]
+    fn reach(&mut self, access: Option<Access>)
+        ensures { (logs : PeripheralLogs)
+            → PeripheralsStandFor self.old logs
+            → PeripheralsStandFor self.new (peripherals_reached access logs) }
+    {
+        if reaches_peripherals(access) {
+            write_timer(&mut self.timer, access);
+            serve_serial(&mut self.serial, access);
+            write_dma(&mut self.dma, access);
+        }
+    }
+
+    /// A step that is not refused, with these accesses of processor and DMA, and what the DMA's
+    /// read; the entry of the timer's interrupt may begin in it.
+    #[inline(always)]
     pub fn serve(
         &mut self,
         cpu: Option<Access>,
@@ -167,9 +184,10 @@ impl Peripherals {
             → PeripheralsStandFor self.new
             (peripherals_served None is_timer_accepted cpu dma dma_value logs) }
     {
-        serve_timer(&mut self.timer, cpu, is_timer_accepted);
-        serve_serial(&mut self.serial, cpu);
-        serve_dma(&mut self.dma, cpu, dma, dma_value);
+        self.reach(cpu);
+        accept_timer(&mut self.timer, is_timer_accepted);
+        self.timer.tick();
+        take_value(&mut self.dma, dma, dma_value);
     }
 
     /// A refused step. The pins stay.
@@ -186,7 +204,21 @@ impl Peripherals {
     }
 }
 
+// The access is to a register of a peripheral.
+#[inline(always)]
+fn reaches_peripherals(access: Option<Access>) -> bool
+    ensures { result ≡ reaches_peripherals access }
+{
+    match access {
+        None => false,
+        Some(Access::Fetch(place) | Access::Read(place, _) | Access::Write(place, _, _)) => {
+            PERIPHERALS.contains(place)
+        }
+    }
+}
+
 // The access of the processor, where it is the serial port's.
+#[inline(never)]
 fn serve_serial(serial: &mut Serial, access: Option<Access>)
     ensures { (events : List SerialEvent)
         → SerialStandsFor serial.old events
@@ -215,16 +247,8 @@ fn take_byte(serial: &mut Serial, place: u16, size: Size)
     }
 }
 
-// The access of the processor, where it is a write to the DMA engine, and the engine's own.
-fn serve_dma(dma: &mut Dma, cpu: Option<Access>, access: Option<Access>, value: u16)
-    ensures { (events : List DmaEvent)
-        → DmaStandsFor dma.old events
-        → DmaStandsFor dma.new (dma_after None cpu access value events) }
-{
-    write_dma(dma, cpu);
-    take_value(dma, access, value);
-}
-
+// The access of the processor, where it is a write to the DMA engine.
+#[inline(never)]
 fn write_dma(dma: &mut Dma, access: Option<Access>)
     ensures { (events : List DmaEvent)
         → DmaStandsFor dma.old events
@@ -248,17 +272,8 @@ fn take_value(dma: &mut Dma, access: Option<Access>, value: u16)
     }
 }
 
-// The step of the timer: the access, where it is a write to it, its interrupt's entry, and a tick.
-fn serve_timer(timer: &mut Timer, access: Option<Access>, is_accepted: bool)
-    ensures { (events : List TimerEvent)
-        → TimerStandsFor timer.old events
-        → TimerStandsFor timer.new (timer_after None is_accepted access events) }
-{
-    write_timer(timer, access);
-    accept_timer(timer, is_accepted);
-    timer.tick();
-}
-
+// The access of the processor, where it is a write to the timer.
+#[inline(never)]
 fn write_timer(timer: &mut Timer, access: Option<Access>)
     ensures { (events : List TimerEvent)
         → TimerStandsFor timer.old events
@@ -271,6 +286,7 @@ fn write_timer(timer: &mut Timer, access: Option<Access>)
     }
 }
 
+// The entry of the timer's interrupt may begin.
 fn accept_timer(timer: &mut Timer, is_accepted: bool)
     ensures { (events : List TimerEvent)
         → TimerStandsFor timer.old events

@@ -17,6 +17,7 @@ fn without_number(access: Option<Access>) -> Option<Access>
 }
 
 /// The record of a step that was not refused.
+#[inline(always)]
 pub fn performed(regs: [u16; 16], now: &Signals, value: u16, dma_value: u16) -> BusRecord
     requires cpu { IfSome now.now.cpu IsFormed }
     requires dma { IfSome now.now.dma IsFormed }

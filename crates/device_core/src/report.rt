@@ -10,8 +10,8 @@ ghost use Rattle.device_trace.specs.Text.{finishes_call, report_of, report_in, r
 use bus_signals::{Bounds, BusRecord, CR, Kind, ReportView, valid};
 use mem_map::Memory;
 
-// The return read of a call that was not refused finishes the call.
-fn finishes_call(entry: &BusRecord) -> bool
+/// The return read of a call that was not refused finishes the call.
+pub fn finishes_call(entry: &BusRecord) -> bool
     ensures { result ≡ finishes_call entry.now }
 {
     entry.kind == Kind::Rom && entry.pc == CR.last - 1 && entry.reset.is_none()

@@ -50,6 +50,7 @@ impl Turn {
     }
 
     /// The processor's next access, none while it sleeps.
+    #[inline(always)]
     pub fn of_processor(
         processor: &Cpu,
         kind: Kind,
@@ -104,6 +105,7 @@ impl Turn {
     }
 }
 
+#[inline(always)]
 fn access_unless_asleep(processor: &Cpu, kind: Kind) -> Option<Access>
     ensures value { (state : CpuState)
         → CpuStandsFor processor.now state

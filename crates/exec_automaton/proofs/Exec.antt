@@ -3,17 +3,17 @@ use Rattle.std.proofs.Common.{◌≡◌, ◌&&◌, ◌||◌, Bool, true, false, 
 use Rattle.std.proofs.Math.Bool.{and-true, and-false, or_comm}
 use Rattle.std.specs.List.{list_any}
 use Rattle.bus_signals.specs.Seen.{Seen}
-use Rattle.part_definitions.specs.Flag.{exec, clears, starts_run, last_pc, since_cleared}
+use Rattle.part_definitions.specs.Flag.{exec, clears, starts_run, last_pc, records_since_clear}
 
 -- it is set where it was set before or the record starts a run, and the record does not clear it
 pub exec_cons : (now : Seen) (before : List Seen)
     → exec (now ∷ before) ≡ ((exec before || starts_run now) && not (clears (last_pc before) now))
 unfolding exec
 exec_cons now before =
-    let was_set : Bool = list_any starts_run (since_cleared before) in
+    let was_set : Bool = list_any starts_run (records_since_clear before) in
     elim (clears (last_pc before) now) as
     (λ cleared.
-    list_any starts_run (if cleared then [] else now ∷ since_cleared before)
+    list_any starts_run (if cleared then [] else now ∷ records_since_clear before)
     ≡ ((was_set || starts_run now) && not cleared)) [
       | true ↦ sym (and-false (was_set || starts_run now))
       | false ↦ or_comm (starts_run now) was_set ∙ sym (and-true (was_set || starts_run now))

@@ -8,6 +8,7 @@ ghost use Rattle.part_definitions.specs.Flag.{clears_e1, clears_e2, clears_e3, c
 use bus_signals::{Access, Bounds, BusRecord, META, Region, some_touches, some_writes};
 
 /// Whether a record, seen with these bounds after one with this `pc`, clears the flag.
+#[inline(never)]
 pub fn clears(last: Option<u16>, entry: &BusRecord, bounds: &Bounds) -> bool
     requires cpu { IfSome entry.now.cpu IsFormed }
     requires dma { IfSome entry.now.dma IsFormed }

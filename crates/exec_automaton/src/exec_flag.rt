@@ -30,6 +30,7 @@ impl ExecFlag {
     }
 
     // The flag after the next record.
+    #[inline(always)]
     #[tactic(auto, using(crate::proofs::Exec::exec_cons))]
     fn is_set_after(&self, entry: &BusRecord, bounds: &Bounds) -> bool
         requires cpu { IfSome entry.now.cpu IsFormed }
@@ -42,6 +43,7 @@ impl ExecFlag {
     }
 
     // The flag was set, or the next record starts a run.
+    #[inline(always)]
     fn may_be_set(&self, entry: &BusRecord, bounds: &Bounds) -> bool
         ensures { (seen : List Seen) →
             ExecFlagStandsFor self.now seen →
@@ -58,6 +60,7 @@ impl TraceFlag for ExecFlag {
 
     ghost has_seen = { ExecFlagStandsFor };
 
+    #[inline(always)]
     fn see(&mut self, entry: &BusRecord, bounds: &Bounds) {
         self.is_set = self.is_set_after(entry, bounds);
         self.last_pc = Some(entry.pc);

@@ -4,6 +4,7 @@ ghost use Rattle.part_definitions.specs.Flag.{is_opcode_fetch, starts_run};
 use bus_signals::{Access, Bounds, BusRecord, Kind, valid};
 
 /// Whether a record starts a run: the opcode fetch at ERmin, with valid bounds.
+#[inline(always)]
 pub fn starts_run(entry: &BusRecord, bounds: &Bounds) -> bool
     ensures { result ≡ starts_run (record { entry = entry.now; bounds = bounds.now }) }
 {
@@ -11,6 +12,7 @@ pub fn starts_run(entry: &BusRecord, bounds: &Bounds) -> bool
 }
 
 // An opcode fetch fetches at its own `pc`.
+#[inline(always)]
 fn is_opcode_fetch(entry: &BusRecord) -> bool
     ensures { result ≡ is_opcode_fetch entry.now }
 {

@@ -1,12 +1,19 @@
-ghost use Rattle.std.specs.Prelude.{◌≡◌, ℕ, List};
-ghost use Rattle.part_definitions.specs.Hmac.{key_block, outer_input};
+ghost use Rattle.std.specs.Prelude.{◌≡◌, ℕ, List, []};
+ghost use Rattle.part_definitions.specs.Hmac.{outer_input};
 
 use crate::digest32::Digest32;
-use crate::key_block::BLOCK;
+use crate::key_block::{BLOCK, key_block};
 use crate::pad::with_mask;
 
 /// The mask of the outer pad.
 const OUTER_PAD: u8 = 0x5C;
+
+/// The key's block under the outer pad: what the outer digest begins with.
+pub fn outer_pad<D: Digest32>(key: &[u8]) -> [u8; BLOCK]
+    ensures { result ≡ outer_input D.digest_of key.now [] }
+{
+    with_mask(OUTER_PAD, &key_block::<D>(key))
+}
 
 /// The outer half of an HMAC, which takes the inner digest.
 #[derive(Drop)]
@@ -17,13 +24,11 @@ pub struct Outer<D> {
 impl<D: Digest32> Outer<D> {
     ghost use Rattle.hmac_core.specs.Outer.{OuterStandsFor};
 
-    pub(crate) fn new(block: &[u8; BLOCK]) -> Outer<D>
-        ensures { (key : List ℕ)
-            → block.now ≡ key_block D.digest_of key
-            → OuterStandsFor D.has_taken D.digest_of result key }
+    pub(crate) fn new(key: &[u8]) -> Outer<D>
+        ensures { OuterStandsFor D.has_taken D.digest_of result key.now }
     {
         let mut digest = D::begin();
-        digest.update(&with_mask(OUTER_PAD, block));
+        digest.update(&outer_pad::<D>(key));
         Outer { digest }
     }
 

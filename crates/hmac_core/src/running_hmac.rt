@@ -1,13 +1,20 @@
 ghost use Rattle.std.specs.Prelude.{◌≡◌, ◌++◌, [], ℕ, List};
-ghost use Rattle.part_definitions.specs.Hmac.{inner_digest};
+ghost use Rattle.part_definitions.specs.Hmac.{inner_input, inner_digest};
 
 use crate::digest32::Digest32;
-use crate::key_block::key_block;
+use crate::key_block::{BLOCK, key_block};
 use crate::outer::Outer;
 use crate::pad::with_mask;
 
 /// The mask of the inner pad.
 const INNER_PAD: u8 = 0x36;
+
+/// The key's block under the inner pad: what the inner digest begins with.
+pub fn inner_pad<D: Digest32>(key: &[u8]) -> [u8; BLOCK]
+    ensures { result ≡ inner_input D.digest_of key.now [] }
+{
+    with_mask(INNER_PAD, &key_block::<D>(key))
+}
 
 /// An HMAC whose message is taken as it comes.
 #[derive(Drop)]
@@ -24,12 +31,11 @@ impl<D: Digest32> Hmac<D> {
     pub fn new(key: &[u8]) -> Hmac<D>
         ensures { HmacStandsFor D.has_taken D.digest_of result key.now [] }
     {
-        let block = key_block::<D>(key);
         let mut inner = D::begin();
-        inner.update(&with_mask(INNER_PAD, &block));
+        inner.update(&inner_pad::<D>(key));
         Hmac {
             inner,
-            outer: Outer::new(&block),
+            outer: Outer::new(key),
         }
     }
 

@@ -1,9 +1,10 @@
-ghost use Rattle.std.specs.Prelude.{◌≡◌, IfSome};
+ghost use Rattle.std.specs.Prelude.{◌≡◌, ◌%◌, IfSome};
+ghost use Rattle.bus_signals.specs.Map.{some_touches};
 ghost use Rattle.bus_signals.specs.Access.{IsFormed};
 ghost use Rattle.part_definitions.specs.Monitors.{in_rom, is_written_by_rom, leaves_stack_and_mac, key_rule};
 ghost use Rattle.part_definitions.specs.Monitors.{breaks_k1, breaks_k2, breaks_k3, breaks_k4, breaks_k5, breaks_k6};
 
-use bus_signals::{Access, CR, KR, MR, Rule, Signals, XS, some_touches, some_writes};
+use bus_signals::{Access, CR, KR, MR, Region, Rule, Signals, XS, some_writes};
 
 /// The rules K1 to K6. They look at one step alone, so the monitor keeps nothing.
 #[derive(Clone, Copy, Debug)]
@@ -15,6 +16,7 @@ impl KeyMonitor {
     }
 
     /// The first of the rules that a step breaks.
+    #[inline(always)]
     #[tactic(auto, unfolding(part_definitions::specs::Monitors::key_rule))]
     pub fn check(&self, now: &Signals) -> Option<Rule>
         requires cpu { IfSome now.now.cpu IsFormed }
@@ -41,24 +43,27 @@ impl KeyMonitor {
 }
 
 // K1: from outside the ROM a fetch or read touches the key.
+#[inline(always)]
 fn breaks_k1(now: &Signals, inside: bool) -> bool
     requires place { inside ≡ in_rom now.now.pc }
     requires formed { IfSome now.now.cpu IsFormed }
     ensures { result ≡ breaks_k1 now.now }
 {
-    !inside && some_touches(now.cpu, KR) && !some_writes(now.cpu)
+    !inside && touches_words(now.cpu, KR) && !some_writes(now.cpu)
 }
 
 // K2: from outside the ROM an access touches the exclusive stack.
+#[inline(always)]
 fn breaks_k2(now: &Signals, inside: bool) -> bool
     requires place { inside ≡ in_rom now.now.pc }
     requires formed { IfSome now.now.cpu IsFormed }
     ensures { result ≡ breaks_k2 now.now }
 {
-    !inside && some_touches(now.cpu, XS)
+    !inside && touches_words(now.cpu, XS)
 }
 
 // K3: the ROM writes outside the exclusive stack and the MAC.
+#[inline(always)]
 fn breaks_k3(now: &Signals, inside: bool) -> bool
     requires place { inside ≡ in_rom now.now.pc }
     requires formed { IfSome now.now.cpu IsFormed }
@@ -68,27 +73,46 @@ fn breaks_k3(now: &Signals, inside: bool) -> bool
 }
 
 // K4: the DMA touches the key.
+#[inline(always)]
 fn breaks_k4(now: &Signals) -> bool
     requires { IfSome now.now.dma IsFormed }
     ensures { result ≡ breaks_k4 now.now }
 {
-    some_touches(now.dma, KR)
+    touches_words(now.dma, KR)
 }
 
 // K5: the DMA touches the exclusive stack.
+#[inline(always)]
 fn breaks_k5(now: &Signals) -> bool
     requires { IfSome now.now.dma IsFormed }
     ensures { result ≡ breaks_k5 now.now }
 {
-    some_touches(now.dma, XS)
+    touches_words(now.dma, XS)
 }
 
 // K6: the DMA has an access while the ROM runs.
+#[inline(always)]
 fn breaks_k6(now: &Signals, inside: bool) -> bool
     requires { inside ≡ in_rom now.now.pc }
     ensures { result ≡ breaks_k6 now.now }
 {
     inside && now.dma.is_some()
+}
+
+// A byte of the access lies in a region of whole words. The first byte tells.
+#[inline(always)]
+fn touches_words(access: Option<Access>, region: Region) -> bool
+    requires formed { IfSome access IsFormed }
+    requires first { region.first % 2 ≡ 0 }
+    requires last { region.last % 2 ≡ 1 }
+    ensures { result ≡ some_touches access region }
+{
+    match access {
+        None => false,
+        Some(Access::Fetch(place) | Access::Read(place, _) | Access::Write(place, _, _)) => {
+            region.contains(place)
+        }
+    }
 }
 
 // A byte of the access lies outside the exclusive stack and the MAC. Both are made of whole words,

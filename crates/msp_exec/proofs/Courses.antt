@@ -2,7 +2,7 @@
 use Rattle.std.proofs.Common.{◌≡◌, ◌++◌, ℕ, false, List, [], ◌∷◌, Some, refl, sym, ap, ◌∙◌, append_assoc}
 use Rattle.bus_signals.specs.declared.access.Access.{Access}
 use Rattle.part_definitions.specs.NextAccess.{Next, Asks, Ends, next_access, entry_access}
-use Rattle.part_definitions.specs.CpuState.{CpuState, Boundary, Executing, Entering, registers_of, is_at_boundary, is_entering, cpu_next, asked_access, cpu_access, with_value, completed_or, cpu_after, cpu_takes}
+use Rattle.part_definitions.specs.CpuState.{CpuState, Boundary, Executing, Entering, registers_of, is_at_boundary, is_entering, cpu_next, asked_access, cpu_access, with_value, completion_or, cpu_after, cpu_takes}
 use Rattle.msp_exec.specs.declared.phase.Phase.{Phase}
 use Rattle.msp_exec.specs.declared.phase.Phase.TheVariants.{Boundary as AtBoundary, Executing as InInstruction, Entering as InEntry}
 use Rattle.msp_exec.specs.declared.cpu.Cpu.{Cpu}
@@ -69,8 +69,9 @@ takes_value_same cpu state value stands =
 
 goes_on : (before after : Cpu) (state : CpuState) (value : ℕ) (next : Next) →
     CpuStandsFor before state →
-    GoesOnAs after before.regs (is_entry before.phase) (λ values. cpu_course before (value ∷ values)) next →
-    CpuStandsFor after (completed_or (with_value state value) next)
+    GoesOnAs after before.regs (is_entry before.phase)
+    (λ values. cpu_course before (value ∷ values)) next →
+    CpuStandsFor after (completion_or (with_value state value) next)
 goes_on before after state value (Asks access) stands (regs, boundary, entry, course) =
     record {
       same_regs = regs ∙ (stands.same_regs ∙ sym (registers_of-with_value state value));
@@ -78,7 +79,8 @@ goes_on before after state value (Asks access) stands (regs, boundary, entry, co
       same_entry = entry ∙ (stands.same_entry ∙ sym (is_entering-with_value state value));
       settled = λ at_boundary. cc (boundary, at_boundary);
       same_course = λ values.
-          state_course-with_value state value values ∙ (stands.same_course (value ∷ values) ∙ course values);
+          state_course-with_value state value values
+          ∙ (stands.same_course (value ∷ values) ∙ course values);
     }
 goes_on before after state value (Ends left) stands (regs, working, phase) =
     record {
@@ -98,7 +100,9 @@ cpu_next-with_value cpu state value stands =
 -- a processor that follows its course with a value stands for the state after the value
 pub follows : (before after : Cpu) (state : CpuState) (value : ℕ) →
     CpuStandsFor before state →
-    Follows after before.regs (is_entry before.phase) (λ values. cpu_course before (value ∷ values)) →
+    Follows after before.regs (is_entry before.phase)
+    (λ values. cpu_course before (value ∷ values)) →
     CpuStandsFor after (cpu_after state value)
 follows before after state value stands goes =
-    rw (cpu_next-with_value before state value stands) (goes_on before after state value _ stands goes)
+    rw (cpu_next-with_value before state value stands)
+    (goes_on before after state value _ stands goes)

@@ -138,6 +138,7 @@ impl Cpu {
         }
     }
 
+    #[inline(always)]
     #[tactic(auto, unfolding(part_definitions::specs::NextAccess::next_access))]
     fn phase_access(&self) -> Access
         ensures value { cpu_course self.now [] ≡ Asks result }
@@ -153,6 +154,7 @@ impl Cpu {
     }
 
     /// The access that it asks for; it always asks for one.
+    #[inline(always)]
     #[tactic(auto, using(crate::proofs::Courses::cpu_access_some))]
     pub fn access(&self) -> Access
         ensures value { (state : CpuState)
@@ -288,6 +290,7 @@ impl BusMaster for Cpu {
 
     ghost cleared = { λ state. clear_cpu };
 
+    #[inline(always)]
     fn ask(&self) -> Option<Access> {
         Some(self.access())
     }

@@ -97,6 +97,15 @@ pub fn start(working: &mut Working, head: &Head) -> Option<CpuAccess>
     }
 }
 
+/// The source is known; the answer is the next access.
+fn learn_source(working: &mut Working, head: &Head, source: u16) -> Option<CpuAccess>
+    ensures working { working.new ≡ record working.old { source = source } }
+    ensures next { accesses_from head.now result ≡ after_source head.now }
+{
+    working.source = source;
+    access_after_source(head)
+}
+
 /// An access was made and gave this value, 0 for a write; the answer is the access after it.
 pub fn learn(working: &mut Working, head: &Head, access: CpuAccess, value: u16) -> Option<CpuAccess>
     ensures working { working.new ≡ after_value head.now access value working.old }
@@ -105,21 +114,16 @@ pub fn learn(working: &mut Working, head: &Head, access: CpuAccess, value: u16) 
     match access {
         CpuAccess::FetchImmediate => {
             pass_word(&mut working.regs);
-            working.source = size_of(head).low_part(value);
-            access_after_source(head)
+            learn_source(working, head, size_of(head).low_part(value))
         }
         CpuAccess::FetchSourceIndex(register) => {
             add_index(working, register, value);
             Some(CpuAccess::ReadSource)
         }
-        CpuAccess::ReadSource => {
-            working.source = value;
-            access_after_source(head)
-        }
+        CpuAccess::ReadSource => learn_source(working, head, value),
         CpuAccess::ReadIncrementing(register) => {
             add_increment(&mut working.regs, size_of(head), register);
-            working.source = value;
-            access_after_source(head)
+            learn_source(working, head, value)
         }
         CpuAccess::FetchDestinationIndex(register) => {
             add_index(working, register, value);
@@ -147,12 +151,13 @@ pub fn learn(working: &mut Working, head: &Head, access: CpuAccess, value: u16) 
     }
 }
 
-/// All operands are known: leaves the registers as they are after the instruction. The answer is the
-/// result, 0 of RETI and of jumps.
+/// All operands are known: leaves the registers as they are after the instruction. The answer is
+/// the result, 0 of RETI and of jumps.
 #[inline(never)]
 pub fn end(working: &mut Working, head: &Head) -> u16
     ensures number { result ≡ (result_of head.now working.old).0 }
-    ensures after { working.new ≡ record working.old { regs = registers_after head.now working.old } }
+    ensures after { working.new
+        ≡ record working.old { regs = registers_after head.now working.old } }
 {
     match *head {
         Head::Two(op, size, _, form) => {

@@ -50,7 +50,8 @@ other-decimal least most word =
     let value = digits_value 10 word in
     other-if (is_decimal_word word) (cond (nat_lt 10 (length word)) (Err Range)
     (value_within least most value)) (Err Digit)
-    (other-if (nat_lt 10 (length word)) (Err Range) (value_within least most value) (λ same. cc same)
+    (other-if (nat_lt 10 (length word)) (Err Range) (value_within least most value)
+    (λ same. cc same)
     (other-if (nat_lt value least) (Err Range) (cond (nat_lt most value) (Err Range) (Ok value))
     (λ same. cc same)
     (other-if (nat_lt most value) (Err Range) (Ok value) (λ same. cc same) tt)))

@@ -50,7 +50,7 @@ sorted_push steps step sorted bound =
     IsNonDecreasingBy-push (λ s. s) steps step sorted (λ d some. bound (length steps - 1) d
     (omega arith))
 
-events_of-other : (s : ℕ) (e : Event) (rest : List TimedEvent) (step : ℕ) → (s ≡ step → ⊥)
+pub events_of-other : (s : ℕ) (e : Event) (rest : List TimedEvent) (step : ℕ) → (s ≡ step → ⊥)
     → events_of ((s, e) ∷ rest) step ≡ events_of rest step
 events_of-other s e rest step other = rw (ne_eqb s step other) refl
 

@@ -9,11 +9,13 @@
 
 mod happening;
 mod law;
+mod playback;
 mod script;
 mod script_reader;
 #[cfg(test)]
 mod tests;
 
 pub use law::{events_are_of_the_lines, fault_is_of_the_first_faulty_line, script_text_reads_back};
+pub use playback::Playback;
 pub use script::Script;
 pub use script_reader::read_script;

@@ -7,6 +7,7 @@ ghost use Rattle.play_script.specs.Happening.{events_in};
 ghost use Rattle.bus_signals.specs.declared.event.Event.TheVariants.{Rx};
 
 use crate::happening::Happening;
+use crate::playback::Playback;
 use bus_signals::Event;
 use std::alloc::{AllocError, Global};
 use std::marker::Model;
@@ -29,6 +30,8 @@ impl Model for Script {
 }
 
 impl Script {
+    ghost use Rattle.play_script.specs.Playback.{events_left};
+
     pub(crate) fn new(alloc: Global) -> Script
         ensures { result ≡ [] }
     {
@@ -80,6 +83,13 @@ impl Script {
         self.steps.is_empty()
     }
 
+    /// All the events, to be passed step by step.
+    pub fn playback(&self) -> Playback<'_>
+        ensures { (step : ℕ) → events_left result step ≡ events_of self.now step }
+    {
+        Playback::new(self.steps.as_slice(), self.events.as_slice())
+    }
+
     /// The events of a step, in the order of the file.
     pub fn events_at(&self, step: u64) -> &[Event]
         ensures { result.now ≡ events_of self.now step }
@@ -92,7 +102,7 @@ impl Script {
 }
 
 // How many steps are less than a step.
-fn count_before(steps: &[u64], step: u64) -> usize
+pub(crate) fn count_before(steps: &[u64], step: u64) -> usize
     requires { IsNonDecreasing steps.now }
     ensures within { result ≤ length steps.now }
     ensures before { (k d : ℕ) → k < result → slice_index_or steps.now k d < step }
@@ -105,7 +115,7 @@ fn count_before(steps: &[u64], step: u64) -> usize
 }
 
 // How many steps are at most a step.
-fn count_through(steps: &[u64], step: u64) -> usize
+pub(crate) fn count_through(steps: &[u64], step: u64) -> usize
     requires { IsNonDecreasing steps.now }
     ensures within { result ≤ length steps.now }
     ensures through { (k d : ℕ) → k < result → slice_index_or steps.now k d ≤ step }

@@ -111,8 +111,8 @@ fn utf8_comes_before_all_else(rt: HostRuntime) {
 
 #[test]
 fn events_stand_in_file_order(rt: HostRuntime) -> Result<(), Fail> {
-    let text =
-        "# \u{e9}\nat 3 rx 41Ff\r\n\tat  3 p1 00AB\nat 3 dma 0300 0302 65535\nat 3 reset\n#at\nat 9999999 rx 00";
+    let text = "# \u{e9}\nat 3 rx 41Ff\r\n\tat  3 p1 00AB\nat 3 dma 0300 0302 65535\n\
+        at 3 reset\n#at\nat 9999999 rx 00";
     let Ok(script) = read_script(rt.alloc(), text.as_bytes()) else {
         panic!(rt; "the script is in its form");
     };

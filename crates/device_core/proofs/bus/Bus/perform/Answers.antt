@@ -4,15 +4,19 @@ use Rattle.device_core.proofs.bus.Bus.perform.Goals as goal
 
 pub returns-clause-stands : goal.returns-clause-stands
 unfolding with_record
-returns-clause-stands c = λ start logs stands word accepted.
-    let value = c.exchange-values.ensures.cpu start logs stands.same_memory stands.same_peripherals
+returns-clause-stands c = λ start logs stands word asked accepted.
+    let value =
+    c.make_accesses-values.ensures.cpu start logs stands.same_memory stands.same_peripherals
     word in
-    let dma = c.exchange-values.ensures.dma start logs stands.same_memory in
+    let dma =
+    c.make_accesses-values.ensures.dma start logs stands.same_memory stands.same_peripherals asked
+    in
     let bounds = c.bounds-bounds.ensures start.power (exec_of logs) logs.memory stands.same_memory
     in
     let entry = c.performed.ensures.value in
     let memory =
-    c.exchange-values.ensures.memory start.power (exec_of logs) logs.memory stands.same_memory in
+    c.make_accesses-values.ensures.memory start.power (exec_of logs) logs.memory logs.peripherals
+    stands.same_memory stands.same_peripherals asked in
     record {
       same_memory =
           rw (entry, value, dma, bounds) at

@@ -1,10 +1,10 @@
 use Rattle.std.proofs.Common.{◌≡◌, ◌∙◌, length, Some, None, sym, refl}
-use Rattle.part_definitions.specs.Attestation.{call_item, bounds_read, is_return, written_word}
+use Rattle.part_definitions.specs.Attestation.{call_item, bounds_read, is_return, written_word, word_passed}
 use Rattle.part_definitions.specs.CpuRegisters.{sp_of}
 use Rattle.part_definitions.specs.CpuState.{Boundary}
 use Rattle.swatt_rom.specs.RomCall.{InCall}
 use Rattle.device_trace.specs.Logs.{with_record}
-use Rattle.device_trace.specs.Progress.{call_access, word_passed}
+use Rattle.device_trace.specs.Progress.{call_access}
 use Rattle.device_trace.specs.Start.{Start, with_key}
 use Rattle.device_trace.specs.Step.{record_of}
 use Rattle.device_core.specs.Bus.{TurnStandsFor, answer_in}

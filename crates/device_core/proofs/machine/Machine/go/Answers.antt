@@ -1,20 +1,14 @@
-use Rattle.std.proofs.Common.{◌≡◌, ◌∙◌, true, false, sym}
-use Rattle.part_definitions.specs.CpuState.{registers_of, is_at_boundary}
 use Rattle.device_trace.specs.Start.{Start, with_key}
-use Rattle.device_core.proofs.Turns.{boundary-registers}
 use Rattle.device_core.proofs.machine.Machine.go.Goals as goal
 
-pub returns-then-at_boundary-clause-stands : goal.returns-then-at_boundary-clause-stands
-returns-then-at_boundary-clause-stands g c = λ key image logs running.
-    let here : is_at_boundary running.state ≡ true =
-    sym (c.at_boundary.ensures running.state running.same.same_processor) ∙ c.if-at_boundary.true in
-    c.begin.ensures.stands key image logs (registers_of running.state)
-    (rw (boundary-registers running.state here) at running.same)
-
-pub returns-else-at_boundary-clause-stands : goal.returns-else-at_boundary-clause-stands
-returns-else-at_boundary-clause-stands g c = λ key image logs running.
+pub returns-in-Some-clause-stands : goal.returns-in-Some-clause-stands
+returns-in-Some-clause-stands g c = λ key image logs running.
     let start : Start = with_key g.D.Digest32.digest_of key image in
-    let middle : is_at_boundary running.state ≡ false =
-    sym (c.at_boundary.ensures running.state running.same.same_processor) ∙ c.if-at_boundary.false
-    in
-    c.go_on.ensures.stands start logs running.state running.same middle
+    let runs = rw c.in-Some.is at (c.turn.ensures.runs start logs running) in
+    c.run.ensures.stands start logs runs.state runs.same
+
+pub returns-in-None-clause-stands : goal.returns-in-None-clause-stands
+returns-in-None-clause-stands g c = λ key image logs running.
+    let start : Start = with_key g.D.Digest32.digest_of key image in
+    c.begin_call.ensures.stands key image logs
+    (rw c.in-None.is at (c.turn.ensures.calls start logs running))
