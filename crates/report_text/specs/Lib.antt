@@ -1,0 +1,4 @@
+pub mod CollisionLine
+pub mod ReadBack
+pub mod ReportFile
+pub mod ReportLine

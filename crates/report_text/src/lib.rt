@@ -1,14 +1,25 @@
-//! The lines that the program prints of a play.
+//! The lines that the program prints of a play, and reports read from such lines.
 //!
-//! Each call puts exactly one line of the play's text into any byte sink, and takes no memory. After a
-//! failure the sink took a prefix of the line.
+//! Each print call puts exactly one line of the play's text into any byte sink, and takes no
+//! memory; after a failure the sink took a prefix of the line. [`read_reports`] gives the reports
+//! of a file in order, or its first fault; lines of the other kinds are passed over in their form.
 #![tactic(auto)]
 
+mod collision_line;
+mod law;
+mod passed_line;
 mod printed_line;
+mod report;
+mod report_entry;
 mod report_line;
+mod report_list;
 
+pub use collision_line::print_collision;
+pub use law::report_line_reads_back;
 pub use printed_line::{print_end, print_reset, print_sent};
+pub use report::Report;
 pub use report_line::print_report;
+pub use report_list::read_reports;
 
 #[cfg(test)]
 mod tests;

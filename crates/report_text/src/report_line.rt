@@ -75,8 +75,8 @@ fn print_output<W: Sink>(output: Option<&[u8]>, sink: &mut W) -> Result<(), Fail
     }
 }
 
-// Two digits a byte.
-fn print_hex<W: Sink>(bytes: &[u8], sink: &mut W) -> Result<(), Failed>
+/// Puts two digits a byte.
+pub fn print_hex<W: Sink>(bytes: &[u8], sink: &mut W) -> Result<(), Failed>
     ensures puts { Puts W.stands sink.old sink.new (encode_lower bytes.now) result }
     ensures counts { CountsFaults W.faults sink.old sink.new result }
 {

@@ -22,7 +22,8 @@ fn each_line_has_its_form(rt: HostRuntime) -> Result<(), Fail> {
         print_end(steps, pc, exec, &mut sink)?;
     }
     let text =
-        b"tx 4 41\ntx 17 5a\ntx 9999999 0b\nreset 0 X0\nreset 1 I1\nreset 106 A4\nreset 10 K6\nend 5 pc c006 exec 0\nend 560 pc c03e exec 1\nend 4 pc 0000 exec 0\n";
+        b"tx 4 41\ntx 17 5a\ntx 9999999 0b\nreset 0 X0\nreset 1 I1\nreset 106 A4\nreset 10 K6\n\
+          end 5 pc c006 exec 0\nend 560 pc c03e exec 1\nend 4 pc 0000 exec 0\n";
     assert_eq!(rt; sink.held(), text.as_slice());
     Ok(())
 }
@@ -31,11 +32,15 @@ fn each_line_has_its_form(rt: HostRuntime) -> Result<(), Fail> {
 const REPORTS: [(&[u8], &[u8]); 2] = [
     (
         b"27e7bfad39f78de2506c5878caa8f4d8d0e233ebf540788c79db5a0b4bb844c4",
-        b"report 123 exec 1 chal 0000000000000000000000000000000000000000000000000000000000000000 er 0300 0304 or d000 d000 data 0000 mac 27e7bfad39f78de2506c5878caa8f4d8d0e233ebf540788c79db5a0b4bb844c4\n",
+        b"report 123 exec 1 chal 0000000000000000000000000000000000000000000000000000000000000000 \
+          er 0300 0304 or d000 d000 data 0000 mac \
+          27e7bfad39f78de2506c5878caa8f4d8d0e233ebf540788c79db5a0b4bb844c4\n",
     ),
     (
         b"206a871ad2c0d8cbff287b7742c4d69a9767990788f73b8f9d925c6ecef04168",
-        b"report 125 exec 0 chal 0000000000000000000000000000000000000000000000000000000000000000 er fff4 edfc or 111a 0303 data - mac 206a871ad2c0d8cbff287b7742c4d69a9767990788f73b8f9d925c6ecef04168\n",
+        b"report 125 exec 0 chal 0000000000000000000000000000000000000000000000000000000000000000 \
+          er fff4 edfc or 111a 0303 data - mac \
+          206a871ad2c0d8cbff287b7742c4d69a9767990788f73b8f9d925c6ecef04168\n",
     ),
 ];
 

@@ -63,8 +63,8 @@ by_return : (line : List ℕ) (returns : Bool) → (get_or line (length line - 1
 by_return line false is = (λ h. h, λ h. h)
 by_return [] true is = absurd (false≢true is)
 by_return (byte ∷ rest) true is =
-    IsUtf8-return (byte ∷ rest) (omega arith) (eqb-true (get_or (byte ∷ rest) (length (byte ∷ rest) - 1)
-    0) 13 is)
+    IsUtf8-return (byte ∷ rest) (omega arith)
+    (eqb-true (get_or (byte ∷ rest) (length (byte ∷ rest) - 1) 0) 13 is)
 
 IsUtf8-strip : (line : List ℕ) → IsUtf8 (strip_carriage_return line) ↔ IsUtf8 line
 IsUtf8-strip line = by_return line (get_or line (length line - 1) 0 == 13) refl

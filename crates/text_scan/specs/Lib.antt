@@ -5,3 +5,5 @@ pub mod Utf8
 pub mod Decimal
 pub mod Hexadecimal
 pub mod Key
+pub mod WordValue
+pub mod LineFold

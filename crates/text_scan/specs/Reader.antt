@@ -1,5 +1,5 @@
 -- What the readers of texts have in common.
-use Rattle.std.specs.Prelude.{◌≡◌, ℕ, Result, Ok, Err}
+use Rattle.std.specs.Prelude.{◌≡◌, ℕ, List, Result, Ok, Err}
 use Rattle.text_scan.specs.declared.fault_at.FaultAt.{FaultAt}
 use Rattle.text_scan.specs.declared.fault_kind.FaultKind.{FaultKind}
 use Rattle.text_scan.specs.declared.text_fault.TextFault.{TextFault}
@@ -19,6 +19,18 @@ abbrev pub ReadsWord : {Value : Type 0} → Result Value WordFault → Result Va
 ReadsWord (Ok value) read = read ≡ Ok value
 ReadsWord (Err (words.Kind kind)) read = read ≡ Err kind
 ReadsWord (Err (words.Memory _)) read = Unit {0}
+
+-- the same of a reader that goes on to the words that are left
+abbrev pub ReadsOn : {Value : Type 0} → Result Value FaultKind → List (List ℕ) →
+    Result (Value × List (List ℕ)) FaultKind → Type 0
+ReadsOn (Ok value) rest read = read ≡ Ok (value, rest)
+ReadsOn (Err kind) rest read = read ≡ Err kind
+
+abbrev pub ReadsWordOn : {Value : Type 0} → Result Value WordFault → List (List ℕ) →
+    Result (Value × List (List ℕ)) FaultKind → Type 0
+ReadsWordOn (Ok value) rest read = read ≡ Ok (value, rest)
+ReadsWordOn (Err (words.Kind kind)) rest read = read ≡ Err kind
+ReadsWordOn (Err (words.Memory _)) rest read = Unit {0}
 
 -- a fault with its line
 abbrev pub in_line : {Value : Type 0} → ℕ → Result Value FaultKind → Result Value FaultAt

@@ -12,12 +12,14 @@ mod fault_at;
 mod fault_kind;
 mod hexadecimal;
 mod key;
+mod line_reader;
 mod lines;
 #[cfg(test)]
 mod tests;
 mod text_fault;
 mod utf8;
 mod word_fault;
+mod word_value;
 mod words;
 
 pub use bytes::Bytes;
@@ -26,7 +28,8 @@ pub use fault_at::FaultAt;
 pub use fault_kind::FaultKind;
 pub use hexadecimal::{hex_bytes, hex_word};
 pub use key::read_key;
-pub use lines::Lines;
+pub use line_reader::{LineReader, read_text};
+pub use lines::{Lines, line_count};
 pub use text_fault::TextFault;
 pub use utf8::check_utf8;
 pub use word_fault::WordFault;

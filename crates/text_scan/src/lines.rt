@@ -51,6 +51,17 @@ impl<'a> Iterator for Lines<'a> {
     }
 }
 
+/// How many lines a text has.
+pub fn line_count(text: &[u8]) -> u64
+    ensures { result ≡ length (lines text.now) }
+{
+    let mut count = 0;
+    for (number, _line) in Lines::new(text) {
+        count = number;
+    }
+    count
+}
+
 // The first line of a text without its end, and what follows it.
 fn first_line(text: &[u8]) -> (&[u8], &[u8])
     requires { 0 < length text.now }

@@ -13,9 +13,11 @@ returns-in_err-print_piece-clause-puts g c =
     let later : List ℕ = c.split_at.result.1.now in
     puts-failed g.W.Sink.stands _ _ _ c.from_residual.result c.from_residual.ensures.0
     (subst (λ all. TakesPrefix g.W.Sink.stands c.args.sink.now c.print_piece.new.sink all)
-    (ap (λ digits. done.0 ++ digits) (encode_lower-pieces 32 c.loop-rest.rest.now piece later c.split_at.ensures.front c.split_at.ensures.back) ∙ done.1)
+    (ap (λ digits. done.0 ++ digits) (encode_lower-pieces 32 c.loop-rest.rest.now piece later
+    c.split_at.ensures.front c.split_at.ensures.back) ∙ done.1)
     (prefix_after g.W.Sink.stands _ _ _ done.0 (encode_lower piece ++ encode_lower later) done.2
-    (prefix_of_more g.W.Sink.stands _ _ (encode_lower piece) (encode_lower later) c.in_err-print_piece.ensures.puts.prefix)))
+    (prefix_of_more g.W.Sink.stands _ _ (encode_lower piece) (encode_lower later)
+    c.in_err-print_piece.ensures.puts.prefix)))
 
 pub loop-rest-preserved : goal.loop-rest-preserved
 loop-rest-preserved g c =
@@ -24,9 +26,12 @@ loop-rest-preserved g c =
     let later : List ℕ = c.split_at.result.1.now in (
       done.0 ++ encode_lower piece,
       append_assoc done.0 (encode_lower piece) (encode_lower later)
-          ∙ ap (λ digits. done.0 ++ digits) (encode_lower-pieces 32 c.loop-rest.rest.now piece later c.split_at.ensures.front c.split_at.ensures.back)
+          ∙ ap (λ digits. done.0 ++ digits)
+          (encode_lower-pieces 32 c.loop-rest.rest.now piece later c.split_at.ensures.front
+          c.split_at.ensures.back)
           ∙ done.1,
-      takes_both g.W.Sink.stands _ _ _ done.0 (encode_lower piece) done.2 c.in_ok-print_piece.ensures.puts.all,
+      takes_both g.W.Sink.stands _ _ _ done.0 (encode_lower piece) done.2
+          c.in_ok-print_piece.ensures.puts.all,
       c.in_ok-print_piece.ensures.counts.quiet ∙ done.3,
     )
 
@@ -34,5 +39,6 @@ pub returns-clause-puts : goal.returns-clause-puts
 returns-clause-puts g c =
     let done = c.loop-rest.invariant in
     rw (sym done.1)
-    (puts_after g.W.Sink.stands _ _ _ done.0 (encode_lower c.loop-rest.rest.now) c.print_piece-2.result done.2
+    (puts_after g.W.Sink.stands _ _ _ done.0 (encode_lower c.loop-rest.rest.now)
+    c.print_piece-2.result done.2
     c.print_piece-2.ensures.puts)

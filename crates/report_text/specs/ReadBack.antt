@@ -1,0 +1,34 @@
+-- The line of a report is read as that report.
+use Rattle.std.specs.Prelude.{◌≡◌, ◌<◌, ◌^◌, ℕ, List, [], ◌∷◌, length, Ok, IfSome, IsTrue}
+use Rattle.hex.specs.Hex.{IsBytes}
+use Rattle.bus_signals.specs.declared.bounds.Bounds.{Bounds}
+use Rattle.bus_signals.specs.Report.{ReportFields}
+use Rattle.printed_lines.specs.Lines.{report_line}
+use Rattle.report_text.specs.ReportFile.{output_fits, reports_of}
+
+-- 32 bytes
+pub record IsBlock (bytes : List ℕ) : Type 0 where
+  pub size : length bytes ≡ 32
+  pub fits : IsBytes bytes
+
+-- the places are words
+pub record AreWords (bounds : Bounds) : Type 0 where
+  pub er_min : bounds.er_min < 2 ^ 16
+  pub er_max : bounds.er_max < 2 ^ 16
+  pub or_min : bounds.or_min < 2 ^ 16
+  pub or_max : bounds.or_max < 2 ^ 16
+
+-- a report whose numbers fit, and whose output fits its bounds
+pub record IsPrintable (report : ReportFields) : Type 0 where
+  pub step : report.step < 2 ^ 32
+  pub chal : IsBlock report.chal
+  pub bounds : AreWords report.bounds
+  pub output : IfSome report.output IsBytes
+  pub fits : IsTrue (output_fits report.bounds report.output)
+  pub mac : IsBlock report.mac
+
+-- the file of its line is the list of that one report
+abbrev pub IsReadBack : Type 0
+IsReadBack =
+    (report : ReportFields) → IsPrintable report
+    → reports_of (report_line report) ≡ Ok (report ∷ [])

@@ -1,0 +1,185 @@
+-- The lines of a report file: what each says, and its first fault.
+use Rattle.std.specs.Prelude.{ℕ, ◌==◌, ◌||◌, Bool, List, if◌then◌else◌, Option, Some, None, Result, Ok, Err, codes}
+use Rattle.std.specs.Str.{bytes_eq}
+use Rattle.bus_signals.specs.declared.bounds.Bounds.{Bounds}
+use Rattle.bus_signals.specs.Report.{ReportFields}
+use Rattle.text_scan.specs.declared.fault_kind.FaultKind.{FaultKind}
+use Rattle.text_scan.specs.declared.fault_kind.FaultKind.TheVariants.{Word}
+use Rattle.text_scan.specs.Hexadecimal.{even_bytes_of}
+use Rattle.text_scan.specs.Reader.{◌>>=◌}
+use Rattle.text_scan.specs.Word.{word_of, keyword_of, end_of}
+use Rattle.text_scan.specs.WordValue.{number_of, place_of, block_of}
+
+-- a number of a step, of steps or of a report
+abbrev pub count_of : List (List ℕ) → Result (ℕ × List (List ℕ)) FaultKind
+count_of words = number_of 0 4294967295 words
+
+-- `exec E`
+unfoldable pub exec_of : List (List ℕ) → Result (Bool × List (List ℕ)) FaultKind
+exec_of words = do
+  rest ← keyword_of (codes "exec") words
+  flag ← number_of 0 1 rest
+  Ok (flag.0 == 1, flag.1)
+
+-- a keyword and H64
+unfoldable pub digest_of : List ℕ → List (List ℕ) → Result (List ℕ × List (List ℕ)) FaultKind
+digest_of keyword words = do
+  rest ← keyword_of keyword words
+  block_of 32 rest
+
+-- a keyword and H4 H4: the first and the last word of a region
+unfoldable pub ends_of : List ℕ → List (List ℕ) → Result ((ℕ × ℕ) × List (List ℕ)) FaultKind
+ends_of keyword words = do
+  rest ← keyword_of keyword words
+  first ← place_of rest
+  last ← place_of first.1
+  Ok ((first.0, last.0), last.1)
+
+-- `er H4 H4 or H4 H4`
+unfoldable pub bounds_of : List (List ℕ) → Result (Bounds × List (List ℕ)) FaultKind
+bounds_of words = do
+  executable ← ends_of (codes "er") words
+  output ← ends_of (codes "or") executable.1
+  Ok (
+    record {
+      er_min = executable.0.0;
+      er_max = executable.0.1;
+      or_min = output.0.0;
+      or_max = output.0.1;
+    },
+    output.1,
+  )
+
+-- the bytes of an output, `-` for none
+abbrev pub output_in : List ℕ → Result (Option (List ℕ)) FaultKind
+output_in word =
+    if bytes_eq word (codes "-") then Ok None
+    else (even_bytes_of word >>= (λ bytes. Ok (Some bytes)))
+
+-- `data D`
+unfoldable pub output_of : List (List ℕ) → Result (Option (List ℕ) × List (List ℕ)) FaultKind
+output_of words = do
+  rest ← keyword_of (codes "data") words
+  word ← word_of rest
+  output ← output_in word.0
+  Ok (output, word.1)
+
+-- `report S exec E chal H64 er H4 H4 or H4 H4 data D mac H64`
+unfoldable pub report_of : List (List ℕ) → Result (ReportFields × List (List ℕ)) FaultKind
+report_of words = do
+  step ← count_of words
+  exec ← exec_of step.1
+  chal ← digest_of (codes "chal") exec.1
+  bounds ← bounds_of chal.1
+  output ← output_of bounds.1
+  mac ← digest_of (codes "mac") output.1
+  Ok (
+    record {
+      step = step.0;
+      exec = exec.0;
+      chal = chal.0;
+      bounds = bounds.0;
+      output = output.0;
+      mac = mac.0;
+    },
+    mac.1,
+  )
+
+-- `tx S HH`
+unfoldable pub sent_of : List (List ℕ) → Result (Unit × List (List ℕ)) FaultKind
+sent_of words = do
+  step ← count_of words
+  byte ← block_of 1 step.1
+  Ok (tt, byte.1)
+
+abbrev pub is_rule_name : List ℕ → Bool
+is_rule_name word =
+    bytes_eq word (codes "X0") || bytes_eq word (codes "A1") || bytes_eq word (codes "A2")
+    || bytes_eq word (codes "A3") || bytes_eq word (codes "A4") || bytes_eq word (codes "K1")
+    || bytes_eq word (codes "K2") || bytes_eq word (codes "K3") || bytes_eq word (codes "K4")
+    || bytes_eq word (codes "K5") || bytes_eq word (codes "K6") || bytes_eq word (codes "I1")
+
+abbrev pub is_verdict_name : List ℕ → Bool
+is_verdict_name word =
+    bytes_eq word (codes "accept") || bytes_eq word (codes "no-challenge")
+    || bytes_eq word (codes "chal-differs") || bytes_eq word (codes "bounds-differ")
+    || bytes_eq word (codes "exec-zero") || bytes_eq word (codes "mac-differs")
+
+-- a word that is one of some names
+unfoldable pub name_of : (List ℕ → Bool) → List (List ℕ) → Result (Unit × List (List ℕ)) FaultKind
+name_of is_name words = do
+  word ← word_of words
+  if is_name word.0 then Ok (tt, word.1) else Err Word
+
+-- `reset S R`
+unfoldable pub reset_of : List (List ℕ) → Result (Unit × List (List ℕ)) FaultKind
+reset_of words = do
+  step ← count_of words
+  name_of is_rule_name step.1
+
+-- `verdict I V`
+unfoldable pub verdict_of : List (List ℕ) → Result (Unit × List (List ℕ)) FaultKind
+verdict_of words = do
+  number ← count_of words
+  name_of is_verdict_name number.1
+
+-- the bytes of one word
+unfoldable pub bytes_of : List (List ℕ) → Result (List ℕ × List (List ℕ)) FaultKind
+bytes_of words = do
+  word ← word_of words
+  bytes ← even_bytes_of word.0
+  Ok (bytes, word.1)
+
+-- `collision HH.. HH..`
+unfoldable pub collision_of : List (List ℕ) → Result (Unit × List (List ℕ)) FaultKind
+collision_of words = do
+  first ← bytes_of words
+  second ← bytes_of first.1
+  Ok (tt, second.1)
+
+-- `end N pc H4 exec E`
+unfoldable pub end_line_of : List (List ℕ) → Result (Unit × List (List ℕ)) FaultKind
+end_line_of words = do
+  steps ← count_of words
+  rest ← keyword_of (codes "pc") steps.1
+  pc ← place_of rest
+  exec ← exec_of pc.1
+  Ok (tt, exec.1)
+
+-- the lines that are passed over in their form
+abbrev pub passed_of : List ℕ → List (List ℕ) → Result (Unit × List (List ℕ)) FaultKind
+passed_of keyword words =
+    if bytes_eq keyword (codes "tx") then sent_of words
+    else if bytes_eq keyword (codes "reset") then reset_of words
+    else if bytes_eq keyword (codes "verdict") then verdict_of words
+    else if bytes_eq keyword (codes "end") then end_line_of words
+    else Err Word
+
+abbrev pub passed_or_collision_of :
+    List ℕ → List (List ℕ) → Result (Unit × List (List ℕ)) FaultKind
+passed_or_collision_of keyword words =
+    if bytes_eq keyword (codes "collision") then collision_of words else passed_of keyword words
+
+unfoldable pub some_report_of :
+    List (List ℕ) → Result (Option ReportFields × List (List ℕ)) FaultKind
+some_report_of words = do
+  report ← report_of words
+  Ok (Some report.0, report.1)
+
+unfoldable pub no_report_of :
+    List ℕ → List (List ℕ) → Result (Option ReportFields × List (List ℕ)) FaultKind
+no_report_of keyword words = do
+  passed ← passed_or_collision_of keyword words
+  Ok (None, passed.1)
+
+abbrev pub kind_of : List ℕ → List (List ℕ) → Result (Option ReportFields × List (List ℕ)) FaultKind
+kind_of keyword words =
+    if bytes_eq keyword (codes "report") then some_report_of words else no_report_of keyword words
+
+-- the report of a line, none where the line is of another kind
+unfoldable pub line_of : List (List ℕ) → Result (Option ReportFields) FaultKind
+line_of words = do
+  keyword ← word_of words
+  report ← kind_of keyword.0 keyword.1
+  end ← end_of report.1
+  Ok report.0

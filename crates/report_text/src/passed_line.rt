@@ -1,0 +1,126 @@
+ghost use Rattle.std.specs.Prelude.{◌≡◌};
+ghost use Rattle.text_scan.specs.Reader.{ReadsOn, ReadsWordOn};
+ghost use Rattle.report_text.specs.ReportLine.{sent_of, is_rule_name, is_verdict_name, reset_of, verdict_of, bytes_of, collision_of, end_line_of, passed_of, passed_or_collision_of};
+
+use crate::report_entry::{read_count, read_exec};
+use std::alloc::Global;
+use text_scan::{Bytes, FaultKind, WordFault, Words};
+
+/// Passes a line that is no report, in its form.
+pub fn pass_line(alloc: Global, keyword: &[u8], words: &mut Words<'_>) -> Result<(), WordFault>
+    ensures { ReadsWordOn result words.new (passed_or_collision_of keyword.now words.old) }
+{
+    if keyword == b"collision".as_slice() {
+        return pass_collision(alloc, words);
+    }
+    Ok(pass_short_line(keyword, words)?)
+}
+
+fn pass_short_line(keyword: &[u8], words: &mut Words<'_>) -> Result<(), FaultKind>
+    ensures { ReadsOn result words.new (passed_of keyword.now words.old) }
+{
+    if keyword == b"tx".as_slice() {
+        return pass_sent(words);
+    }
+    if keyword == b"reset".as_slice() {
+        return pass_reset(words);
+    }
+    if keyword == b"verdict".as_slice() {
+        return pass_verdict(words);
+    }
+    if keyword == b"end".as_slice() {
+        return pass_end(words);
+    }
+    Err(FaultKind::Word)
+}
+
+#[tactic(auto, unfolding(crate::specs::ReportLine::sent_of))]
+fn pass_sent(words: &mut Words<'_>) -> Result<(), FaultKind>
+    ensures { ReadsOn result words.new (sent_of words.old) }
+{
+    read_count(words)?;
+    words.block::<1>()?;
+    Ok(())
+}
+
+#[tactic(auto, unfolding(crate::specs::ReportLine::reset_of, crate::specs::ReportLine::name_of))]
+fn pass_reset(words: &mut Words<'_>) -> Result<(), FaultKind>
+    ensures { ReadsOn result words.new (reset_of words.old) }
+{
+    read_count(words)?;
+    if is_rule_name(words.word()?) {
+        Ok(())
+    } else {
+        Err(FaultKind::Word)
+    }
+}
+
+#[tactic(auto, unfolding(crate::specs::ReportLine::verdict_of, crate::specs::ReportLine::name_of))]
+fn pass_verdict(words: &mut Words<'_>) -> Result<(), FaultKind>
+    ensures { ReadsOn result words.new (verdict_of words.old) }
+{
+    read_count(words)?;
+    if is_verdict_name(words.word()?) {
+        Ok(())
+    } else {
+        Err(FaultKind::Word)
+    }
+}
+
+#[tactic(auto, unfolding(crate::specs::ReportLine::collision_of))]
+fn pass_collision(alloc: Global, words: &mut Words<'_>) -> Result<(), WordFault>
+    ensures { ReadsWordOn result words.new (collision_of words.old) }
+{
+    let _first = read_bytes(alloc, words)?;
+    let _second = read_bytes(alloc, words)?;
+    Ok(())
+}
+
+#[tactic(auto, unfolding(crate::specs::ReportLine::bytes_of))]
+fn read_bytes(alloc: Global, words: &mut Words<'_>) -> Result<Bytes, WordFault>
+    ensures { ReadsWordOn result words.new (bytes_of words.old) }
+{
+    Bytes::from_hex(alloc, words.word()?)
+}
+
+#[tactic(auto, unfolding(crate::specs::ReportLine::end_line_of))]
+fn pass_end(words: &mut Words<'_>) -> Result<(), FaultKind>
+    ensures { ReadsOn result words.new (end_line_of words.old) }
+{
+    read_count(words)?;
+    words.keyword(b"pc")?;
+    words.place()?;
+    read_exec(words)?;
+    Ok(())
+}
+
+fn is_rule_name(word: &[u8]) -> bool
+    ensures { result ≡ is_rule_name word.now }
+{
+    matches!(
+        word,
+        b"X0"
+            | b"A1"
+            | b"A2"
+            | b"A3"
+            | b"A4"
+            | b"K1"
+            | b"K2"
+            | b"K3"
+            | b"K4"
+            | b"K5"
+            | b"K6"
+            | b"I1"
+    )
+}
+
+fn is_verdict_name(word: &[u8]) -> bool
+    ensures { result ≡ is_verdict_name word.now }
+{
+    word == b"accept".as_slice()
+        || word == b"no-challenge".as_slice()
+        || word == b"chal-differs".as_slice()
+        || word == b"bounds-differ".as_slice()
+        || word == b"exec-zero".as_slice()
+        || word == b"mac-differs".as_slice()
+}

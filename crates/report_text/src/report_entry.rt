@@ -1,0 +1,145 @@
+ghost use Rattle.std.specs.Prelude.{◌≡◌};
+ghost use Rattle.text_scan.specs.Reader.{ReadsOn, ReadsWord, ReadsWordOn};
+ghost use Rattle.text_scan.specs.Word.{words_of};
+ghost use Rattle.report_text.specs.ReportLine.{count_of, exec_of, digest_of, ends_of, bounds_of, output_in, output_of, report_of, some_report_of, no_report_of, kind_of, line_of};
+
+use crate::passed_line::pass_line;
+use crate::report::Report;
+use bus_signals::Bounds;
+use std::alloc::Global;
+use text_scan::{Bytes, FaultKind, WordFault, Words};
+
+/// The greatest number of a step, of steps or of a report.
+const GREATEST: u64 = 4_294_967_295;
+
+/// The report of a line, `None` where the line is of another kind.
+#[tactic(auto, unfolding(crate::specs::ReportLine::line_of))]
+pub fn read_report_entry(alloc: Global, line: &[u8]) -> Result<Option<Report>, WordFault>
+    ensures { ReadsWord result (line_of (words_of line.now)) }
+{
+    let mut words = Words::new(line);
+    let keyword = words.word()?;
+    let report = read_kind(alloc, keyword, &mut words)?;
+    words.end()?;
+    Ok(report)
+}
+
+fn read_kind(
+    alloc: Global,
+    keyword: &[u8],
+    words: &mut Words<'_>,
+) -> Result<Option<Report>, WordFault>
+    ensures { ReadsWordOn result words.new (kind_of keyword.now words.old) }
+{
+    if keyword == b"report".as_slice() {
+        read_some(alloc, words)
+    } else {
+        read_none(alloc, keyword, words)
+    }
+}
+
+#[tactic(auto, unfolding(crate::specs::ReportLine::some_report_of))]
+fn read_some(alloc: Global, words: &mut Words<'_>) -> Result<Option<Report>, WordFault>
+    ensures { ReadsWordOn result words.new (some_report_of words.old) }
+{
+    Ok(Some(read_report(alloc, words)?))
+}
+
+#[tactic(auto, unfolding(crate::specs::ReportLine::no_report_of))]
+fn read_none(
+    alloc: Global,
+    keyword: &[u8],
+    words: &mut Words<'_>,
+) -> Result<Option<Report>, WordFault>
+    ensures { ReadsWordOn result words.new (no_report_of keyword.now words.old) }
+{
+    pass_line(alloc, keyword, words)?;
+    Ok(None)
+}
+
+#[tactic(auto, unfolding(crate::specs::ReportLine::report_of))]
+fn read_report(alloc: Global, words: &mut Words<'_>) -> Result<Report, WordFault>
+    ensures { ReadsWordOn result words.new (report_of words.old) }
+{
+    let step = read_count(words)?;
+    let exec = read_exec(words)?;
+    let chal = read_digest(b"chal", words)?;
+    let bounds = read_bounds(words)?;
+    let output = read_output(alloc, words)?;
+    let mac = read_digest(b"mac", words)?;
+    Ok(Report {
+        step,
+        exec,
+        chal,
+        bounds,
+        output,
+        mac,
+    })
+}
+
+/// The number of a step, of steps or of a report.
+pub fn read_count(words: &mut Words<'_>) -> Result<u64, FaultKind>
+    ensures { ReadsOn result words.new (count_of words.old) }
+{
+    words.number(0, GREATEST)
+}
+
+/// `exec E`.
+#[tactic(auto, unfolding(crate::specs::ReportLine::exec_of))]
+pub fn read_exec(words: &mut Words<'_>) -> Result<bool, FaultKind>
+    ensures { ReadsOn result words.new (exec_of words.old) }
+{
+    words.keyword(b"exec")?;
+    Ok(words.number(0, 1)? == 1)
+}
+
+#[tactic(auto, unfolding(crate::specs::ReportLine::digest_of))]
+fn read_digest(keyword: &[u8], words: &mut Words<'_>) -> Result<[u8; 32], FaultKind>
+    ensures { ReadsOn result words.new (digest_of keyword.now words.old) }
+{
+    words.keyword(keyword)?;
+    words.block::<32>()
+}
+
+#[tactic(auto, unfolding(crate::specs::ReportLine::ends_of))]
+fn read_ends(keyword: &[u8], words: &mut Words<'_>) -> Result<(u16, u16), FaultKind>
+    ensures { ReadsOn result words.new (ends_of keyword.now words.old) }
+{
+    words.keyword(keyword)?;
+    let first = words.place()?;
+    let last = words.place()?;
+    Ok((first, last))
+}
+
+#[tactic(auto, unfolding(crate::specs::ReportLine::bounds_of))]
+fn read_bounds(words: &mut Words<'_>) -> Result<Bounds, FaultKind>
+    ensures { ReadsOn result words.new (bounds_of words.old) }
+{
+    let (er_min, er_max) = read_ends(b"er", words)?;
+    let (or_min, or_max) = read_ends(b"or", words)?;
+    Ok(Bounds {
+        er_min,
+        er_max,
+        or_min,
+        or_max,
+    })
+}
+
+#[tactic(auto, unfolding(crate::specs::ReportLine::output_of))]
+fn read_output(alloc: Global, words: &mut Words<'_>) -> Result<Option<Bytes>, WordFault>
+    ensures { ReadsWordOn result words.new (output_of words.old) }
+{
+    words.keyword(b"data")?;
+    let word = words.word()?;
+    output_in(alloc, word)
+}
+
+/// The bytes of an output, `None` for `-`.
+fn output_in(alloc: Global, word: &[u8]) -> Result<Option<Bytes>, WordFault>
+    ensures { ReadsWord result (output_in word.now) }
+{
+    if word == b"-".as_slice() {
+        return Ok(None);
+    }
+    Ok(Some(Bytes::from_hex(alloc, word)?))
+}

@@ -1,0 +1,6 @@
+pub mod Regrouped
+pub mod SameBytes
+pub mod CodeBytes
+pub mod Pairs
+pub mod Regions
+pub mod Pushes

@@ -1,0 +1,109 @@
+-- The pair that two messages with one HMAC give collides.
+use Rattle.std.proofs.Common.{◌≡◌, ◌∙◌, ap, sym, subst, ℕ, List, [], ◌++◌, Bool, true, false, Result, Ok, Err, IfOk, refl, append_assoc}
+use Rattle.std.proofs.lemmas.Bool.{false≢true}
+use Rattle.std.proofs.lemmas.Slice.Eq.{bytes_eq-Decides}
+use Rattle.std.specs.Str.{bytes_eq}
+use Rattle.std.proofs.lemmas.List.{append_cancel_left}
+use Rattle.part_definitions.specs.Hmac.{key_block, with_mask, inner_input, inner_digest, outer_input}
+use Rattle.report_verifier.specs.declared.evidence.Exhibit.{Exhibit}
+use Rattle.report_verifier.specs.declared.evidence.Exhibit.TheVariants.{Pair}
+use Rattle.report_verifier.specs.Collision.{HaveOneMac, Collides, Exhibits, colliding_pair}
+
+pair_shows :
+    {Fault : Type 0} (digest : List ℕ → List ℕ) (key left right first second : List ℕ)
+    (result : Result Exhibit Fault)
+    → HaveOneMac digest key left right
+    → (first, second) ≡ colliding_pair digest key left right
+    → Collides digest (first, second)
+    → IfOk result (λ exhibit. exhibit ≡ Pair first second)
+    → Exhibits digest key left right result
+pair_shows {Fault = Fault} digest key left right first second (Ok exhibit) mac pair collides is =
+    subst (λ shown. Exhibits {Fault = Fault} digest key left right (Ok shown)) (sym is)
+    (mac, pair, collides)
+pair_shows digest key left right first second (Err fault) mac pair collides is = mac
+
+bytes_eq-of :
+    (left right first second : List ℕ) (result : Bool)
+    → first ≡ left
+    → second ≡ right
+    → bytes_eq first second ≡ result
+    → bytes_eq left right ≡ result
+bytes_eq-of left right first second result is_left is_right test =
+    ap (λ l. bytes_eq l right) (sym is_left) ∙ ap (bytes_eq first) (sym is_right) ∙ test
+
+-- equal inner digests: the inner inputs collide
+pub inner_pair_shows :
+    {Fault : Type 0} (digest : List ℕ → List ℕ) (key left right first second pad : List ℕ)
+    (result : Result Exhibit Fault)
+    → HaveOneMac digest key left right
+    → first ≡ inner_digest digest key left
+    → second ≡ inner_digest digest key right
+    → bytes_eq first second ≡ true
+    → pad ≡ inner_input digest key []
+    → IfOk result (λ exhibit. exhibit ≡ Pair (pad ++ left) (pad ++ right))
+    → Exhibits digest key left right result
+inner_pair_shows digest key left right first second pad result mac is_first is_second same is_pad
+    shows =
+    let masked : List ℕ = with_mask 0x36 (key_block digest key) in
+    let tested = bytes_eq-of (inner_digest digest key left) (inner_digest digest key right) first
+    second true is_first is_second same in
+    let is_left : pad ++ left ≡ inner_input digest key left = ap (λ p. p ++ left) is_pad
+    ∙ append_assoc masked [] left in
+    let is_right : pad ++ right ≡ inner_input digest key right = ap (λ p. p ++ right) is_pad
+    ∙ append_assoc masked [] right in
+    let pair : (pad ++ left, pad ++ right) ≡ colliding_pair digest key left right =
+    ap (λ l. (l, pad ++ right)) is_left ∙ ap (λ r. (inner_input digest key left, r)) is_right
+    ∙ rw tested refl in
+    pair_shows digest key left right (pad ++ left) (pad ++ right) result mac pair
+    (record {
+      differ = λ equal. mac.0 (append_cancel_left pad left right equal);
+      same_digest = ap digest is_left ∙ (bytes_eq-Decides _ _).0 tested ∙ sym (ap digest is_right);
+    })
+    shows
+
+-- unequal inner digests: the outer inputs collide
+pub outer_pair_shows :
+    {Fault : Type 0} (digest : List ℕ → List ℕ) (key left right first second pad : List ℕ)
+    (result : Result Exhibit Fault)
+    → HaveOneMac digest key left right
+    → first ≡ inner_digest digest key left
+    → second ≡ inner_digest digest key right
+    → bytes_eq first second ≡ false
+    → pad ≡ outer_input digest key []
+    → IfOk result (λ exhibit. exhibit ≡ Pair (pad ++ first) (pad ++ second))
+    → Exhibits digest key left right result
+outer_pair_shows digest key left right first second pad result mac is_first is_second differ is_pad
+    shows =
+    let masked : List ℕ = with_mask 0x5C (key_block digest key) in
+    let tested = bytes_eq-of (inner_digest digest key left) (inner_digest digest key right) first
+    second false is_first is_second differ in
+    let is_left : pad ++ first ≡ outer_input digest key (inner_digest digest key left) =
+    ap (λ p. p ++ first) is_pad ∙ append_assoc masked [] first ∙ ap (λ f. masked ++ f) is_first in
+    let is_right : pad ++ second ≡ outer_input digest key (inner_digest digest key right) =
+    ap (λ p. p ++ second) is_pad ∙ append_assoc masked [] second
+    ∙ ap (λ f. masked ++ f) is_second in
+    let pair : (pad ++ first, pad ++ second) ≡ colliding_pair digest key left right =
+    ap (λ l. (l, pad ++ second)) is_left
+    ∙ ap (λ r. (outer_input digest key (inner_digest digest key left), r)) is_right
+    ∙ rw tested refl in
+    pair_shows digest key left right (pad ++ first) (pad ++ second) result mac pair
+    (record {
+      differ = λ equal.
+          false≢true (sym differ ∙ (bytes_eq-Decides first second).1
+          (append_cancel_left pad first second equal));
+      same_digest = ap digest is_left ∙ mac.1 ∙ sym (ap digest is_right);
+    })
+    shows
+
+-- what is shown of equal messages under one key
+pub Exhibits-same :
+    {Fault : Type 0} (digest : List ℕ → List ℕ)
+    (key same_key left same_left right same_right : List ℕ) (result : Result Exhibit Fault)
+    → key ≡ same_key
+    → left ≡ same_left
+    → right ≡ same_right
+    → Exhibits digest key left right result
+    → Exhibits digest same_key same_left same_right result
+Exhibits-same digest key same_key left same_left right same_right result is_key is_left is_right
+    shows =
+    rw (← is_key, ← is_left, ← is_right) shows

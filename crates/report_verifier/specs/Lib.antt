@@ -1,0 +1,6 @@
+pub mod Expected
+pub mod Verdict
+pub mod Collision
+pub mod Comparison
+pub mod Policy
+pub mod PolicyGrammar

@@ -1,0 +1,93 @@
+use hmac_core::{Constant, Digest32, Sha256Digest};
+use mem_map::{Image, Memory};
+use report_verifier::{Exhibit, compare, read_policy};
+use std::alloc::{AllocError, Global};
+use std::process::Abort;
+use std::test::Fail;
+use word_arith::Size;
+
+const KEY: [u8; 64] = [7; 64];
+
+const POLICY: &[u8] = b"er C040 C046\nor 0300 0300\nchal \
+    000102030405060708090a0b0c0d0e0f101112131415161718191a1b1c1d1e1f\n";
+
+// The code copies the pins to the output.
+const CODE: [u8; 8] = [0x92, 0x42, 0x20, 0x00, 0x00, 0x03, 0x30, 0x41];
+
+const OUTPUT: [u8; 2] = [0x34, 0x12];
+
+// What is compared, after the challenge: bounds, EXEC word, code and output.
+const BEHIND: [u8; 20] = [
+    0x40, 0xC0, 0x46, 0xC0, 0x00, 0x03, 0x00, 0x03, 0x01, 0x00, 0x92, 0x42, 0x20, 0x00, 0x00, 0x03,
+    0x30, 0x41, 0x34, 0x12,
+];
+
+fn image_of(alloc: Global, code: &[u8]) -> Result<Image, AllocError> {
+    let mut image = Image::new(alloc)?;
+    for (place, byte) in (0xC040..0xC048).zip(code) {
+        image.set(place, *byte);
+    }
+    Ok(image)
+}
+
+// The memory of a device that was powered on with this code, ran it, and attested.
+fn memory_of(alloc: Global, code: &[u8]) -> Result<Memory, AllocError> {
+    let mut memory = Memory::new(alloc, &KEY, &image_of(alloc, code)?)?;
+    for (place, byte) in (0x0240..0x0260).zip(0..32) {
+        memory.write(place, Size::Byte, byte);
+    }
+    for (place, word) in [
+        (0x0260, 0xC040),
+        (0x0262, 0xC046),
+        (0x0264, 0x0300),
+        (0x0266, 0x0300),
+        (0x0300, 0x1234),
+    ] {
+        memory.write(place, Size::Word, word);
+    }
+    memory.set_exec(true);
+    Ok(memory)
+}
+
+// What a report with that output shows of a device that ran this code.
+fn shown<D: Digest32>(rt: &impl Abort, alloc: Global, code: &[u8]) -> Result<Exhibit, AllocError> {
+    let Ok(policy) = read_policy(alloc, POLICY) else {
+        panic!(rt; "the policy is in its form");
+    };
+    let Some(expect) = policy.expect(0) else {
+        panic!(rt; "the policy has a challenge");
+    };
+    let image = image_of(alloc, &CODE)?;
+    let memory = memory_of(alloc, code)?;
+    compare::<D>(alloc, &KEY, &image, &expect, Some(&OUTPUT), &memory)
+}
+
+// The inner input of an HMAC of the expected bytes under 32 zero bytes, with this first byte of
+// code.
+fn padded(first: u8) -> [u8; 116] {
+    let mut all = [0x36; 116];
+    for (byte, number) in all[64..96].iter_mut().zip(0..32) {
+        *byte = number;
+    }
+    for (byte, number) in all[96..].iter_mut().zip(BEHIND) {
+        *byte = number;
+    }
+    all[106] = first;
+    all
+}
+
+#[test]
+fn own_bytes_are_compared_with_those_expected(rt: HostRuntime) -> Result<(), Fail> {
+    let alloc = rt.alloc();
+    let other = [0x93, 0x42, 0x20, 0x00, 0x00, 0x03, 0x30, 0x41];
+    let same = shown::<Sha256Digest>(&rt, alloc, &CODE)?;
+    assert!(rt; matches!(same, Exhibit::Same));
+    let told_apart = shown::<Sha256Digest>(&rt, alloc, &other)?;
+    assert!(rt; matches!(told_apart, Exhibit::MacsDiffer));
+    let Exhibit::Pair(expected, own) = shown::<Constant>(&rt, alloc, &other)? else {
+        panic!(rt; "the lists collide");
+    };
+    assert_eq!(rt; expected.as_slice(), padded(0x92).as_slice());
+    assert_eq!(rt; own.as_slice(), padded(0x93).as_slice());
+    Ok(())
+}
