@@ -1,0 +1,3 @@
+pub mod ValueSum
+pub mod Lists
+pub mod NameMap

@@ -1,0 +1,20 @@
+-- A map of names as a function.
+use Rattle.std.proofs.Common.{◌≡◌, ℕ, ℤ, List, Option}
+use Rattle.std.specs.BTreeMap as tree
+use Rattle.std.specs.BTreeMap.{BTreeMap}
+use Rattle.std.specs.Cmp.Lexicographic.{slice_cmp}
+use Rattle.std.specs.Map.{update}
+use Rattle.std.specs.Ordering.{nat_cmp}
+use Rattle.std.specs.Str.{bytes_eq}
+use Rattle.std.proofs.lemmas.Map.Text.{btree_map_updates_str}
+use denote.Ref.{Bor}
+
+abbrev pub value_of : BTreeMap (Bor (List ℕ)) ℤ → List ℕ → Option ℤ
+value_of map name = tree.get_by (λ k. slice_cmp nat_cmp name k.now) map
+
+pub updated : (name : List ℕ) (old new : BTreeMap (Bor (List ℕ)) ℤ) (value : Option ℤ)
+    → tree.UpdatesBy (λ x y. slice_cmp nat_cmp x.now y.now) (λ k. slice_cmp nat_cmp name k.now)
+    old new value
+    → value_of new ≡ update bytes_eq (value_of old) name value
+updated name old new value updates =
+    λ i. λ other. btree_map_updates_str name old new value updates other i

@@ -1,0 +1,9 @@
+pub mod Value
+pub mod Names
+pub mod Scope
+pub mod Form
+pub mod Operand
+pub mod Instruction
+pub mod Operands
+pub mod Statement
+pub mod StatementBytes

@@ -1,0 +1,20 @@
+//! The bytes that a statement of assembler source places.
+//!
+//! Mnemonics and addressing modes are those of the MSP430x1xx Family User's Guide (SLAU049, the
+//! chapter on the 16-bit RISC CPU). A statement is read in a [`Scope`]: the source, the values of
+//! its names, and the address of its first byte. An emulated instruction is the processor's that it
+//! stands for, and the words of an instruction are read as that instruction.
+#![tactic(auto)]
+
+mod form;
+mod instruction;
+mod names;
+mod number;
+mod operand;
+mod scope;
+mod statement_bytes;
+
+pub use names::Names;
+pub use number::{address_of, word_of};
+pub use scope::{Scope, characters};
+pub use statement_bytes::{is_of_words, size_of};

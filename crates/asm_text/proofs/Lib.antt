@@ -1,0 +1,9 @@
+pub mod Gathered
+pub mod Answered
+pub mod Cuts
+pub mod TokenSteps
+pub mod TermSteps
+pub mod NumberSteps
+pub mod LineStarts
+pub mod SourceSteps
+pub mod FirstFault

@@ -1,0 +1,170 @@
+-- The tokens of a line, one after another.
+use Rattle.std.proofs.Common.{◌≡◌, ◌∙◌, ap, sym, refl, subst, ℕ, zero, suc, ◌+◌, ◌-◌, ◌<◌, ◌≤◌, arith, List, [], ◌∷◌, ◌++◌, append_assoc, append-nil, length, take, length-drop, drop, IfOk, MatchResult, drop-cons, add-one, Result, Ok, Err}
+use Rattle.std.proofs.Math.ListN.{drop_of_length-le}
+use Rattle.std.proofs.lemmas.List.{drop-drop, take_rest}
+use Rattle.std.specs.Result.{is_ok}
+use Rattle.std.specs.declared.alloc.AllocError.{AllocError}
+use Rattle.text_scan.specs.declared.fault_kind.FaultKind.{FaultKind}
+use Rattle.text_scan.specs.declared.fault_kind.FaultKind.TheVariants.{Syntax}
+use Rattle.text_scan.specs.declared.word_fault.WordFault.{WordFault}
+use Rattle.asm_text.specs.declared.piece.Piece.{Piece}
+use Rattle.asm_text.specs.declared.piece.Piece.TheVariants as pieces
+use Rattle.asm_text.specs.declared.token.Token.{Token}
+use Rattle.asm_text.specs.Token.{piece_of, IsWithin, token_before, with_later, tokens_behind, tokens_of}
+use Rattle.asm_text.proofs.Answered.{ok_of_map_err}
+use Rattle.asm_text.proofs.Gathered.{behind, behind-none}
+
+-- characters that are passed
+tokens_behind-passed : (passed place : ℕ) (line : List ℕ)
+    → tokens_behind passed place line ≡ tokens_behind 0 (place + passed) (drop passed line)
+unfolding tokens_behind
+tokens_behind-passed zero place line =
+    let there : place ≡ place + 0 = omega arith in
+    ap (λ (p : ℕ). tokens_behind 0 p line) there
+tokens_behind-passed (suc passed) place [] = refl
+tokens_behind-passed (suc passed) place (c ∷ rest) =
+    let there : place + 1 + passed ≡ place + suc passed = omega arith in
+    tokens_behind-passed passed (place + 1) rest
+    ∙ ap (λ (p : ℕ). tokens_behind 0 p (drop passed rest)) there
+
+behind-token : (done : List Token) (token : Token) (later : Result (List Token) FaultKind)
+    → behind done (token_before token later) ≡ behind (done ++ token ∷ []) later
+behind-token done token (Ok later) = ap (λ all. Ok all) (sym (append_assoc done (token ∷ []) later))
+behind-token done token (Err kind) = refl
+
+-- what the characters from an index on give
+abbrev pub left_at : (place at : ℕ) → List ℕ → Result (List Token) FaultKind
+left_at place at line = tokens_behind 0 (place + at) (drop at line)
+
+left-cons : (place at : ℕ) (line : List ℕ) → at < length line
+    → left_at place at line
+    ≡ with_later (piece_of (place + at) (drop at line))
+    (λ passed. tokens_behind passed (place + at + 1) (drop (suc at) line))
+unfolding tokens_behind
+left-cons place at line below =
+    subst (λ (rest : List ℕ). tokens_behind 0 (place + at) rest
+    ≡ with_later (piece_of (place + at) rest)
+    (λ passed. tokens_behind passed (place + at + 1) (drop (suc at) line)))
+    (sym (drop-cons line at 0 below)) refl
+
+pub left-blank : (place at : ℕ) (line : List ℕ) → at < length line
+    → piece_of (place + at) (drop at line) ≡ pieces.Blank
+    → left_at place at line ≡ left_at place (at + 1) line
+left-blank place at line below is =
+    let there : place + at + 1 ≡ place + (at + 1) = omega arith in
+    left-cons place at line below
+    ∙ ap (λ piece. with_later piece
+    (λ passed. tokens_behind passed (place + at + 1) (drop (suc at) line))) is
+    ∙ ap (λ (n : ℕ). tokens_behind 0 (place + at + 1) (drop n line)) (sym (add-one at))
+    ∙ ap (λ (p : ℕ). tokens_behind 0 p (drop (at + 1) line)) there
+
+pub left-comment : (place at : ℕ) (line : List ℕ) → at < length line
+    → piece_of (place + at) (drop at line) ≡ pieces.Comment
+    → left_at place at line ≡ Ok []
+left-comment place at line below is =
+    left-cons place at line below
+    ∙ ap (λ piece. with_later piece
+    (λ passed. tokens_behind passed (place + at + 1) (drop (suc at) line))) is
+
+pub left-stray : (place at : ℕ) (line : List ℕ) → at < length line
+    → piece_of (place + at) (drop at line) ≡ pieces.Stray
+    → left_at place at line ≡ Err Syntax
+left-stray place at line below is =
+    left-cons place at line below
+    ∙ ap (λ piece. with_later piece
+    (λ passed. tokens_behind passed (place + at + 1) (drop (suc at) line))) is
+
+pub left-token : (place at count : ℕ) (line : List ℕ) (token : Token) → at < length line
+    → 0 < count
+    → piece_of (place + at) (drop at line) ≡ pieces.Token token count
+    → left_at place at line ≡ token_before token (left_at place (at + count) line)
+left-token place at count line token below some is =
+    let next : ℕ = place + at + 1 + (count - 1) in
+    let there : next ≡ place + (at + count) = omega (arith, some) in
+    let index : suc at + (count - 1) ≡ at + count = omega (arith, some) in
+    left-cons place at line below
+    ∙ ap (λ piece. with_later piece
+    (λ passed. tokens_behind passed (place + at + 1) (drop (suc at) line))) is
+    ∙ ap (token_before token)
+    (tokens_behind-passed (count - 1) (place + at + 1) (drop (suc at) line)
+    ∙ ap (λ (rest : List ℕ). tokens_behind 0 next rest) (drop-drop (count - 1) (suc at) line)
+    ∙ ap (λ (n : ℕ). tokens_behind 0 next (drop n line)) index
+    ∙ ap (λ (p : ℕ). tokens_behind 0 p (drop (at + count) line)) there)
+
+-- how far a line was read
+pub record ReadTo (whole : Result (List Token) FaultKind) (place at : ℕ) (line : List ℕ)
+    (done : List Token) : Type 0 where
+  pub within : at ≤ length line
+  pub so_far : whole ≡ behind done (left_at place at line)
+
+pub read_to-start : (place : ℕ) (line : List ℕ) → ReadTo (tokens_of place line) place 0 line []
+read_to-start place line = record {
+  within = omega arith;
+  so_far = behind-none (tokens_of place line) ∙ ap (behind []) (tokens_behind-passed 0 place line);
+}
+
+pub read_to-blank : {whole : Result (List Token) FaultKind} {place at : ℕ} {line : List ℕ}
+    {done : List Token} → ReadTo whole place at line done → at < length line
+    → piece_of (place + at) (drop at line) ≡ pieces.Blank → ReadTo whole place (at + 1) line done
+read_to-blank {place = place} {at = at} {line = line} {done = done} to below is = record {
+  within = omega arith;
+  so_far = to.so_far ∙ ap (behind done) (left-blank place at line below is);
+}
+
+pub read_to-token : {whole : Result (List Token) FaultKind} {place at : ℕ} {line : List ℕ}
+    {done : List Token} (more : List Token) (token : Token) (count : ℕ)
+    → ReadTo whole place at line done → at < length line → 0 < count → at + count ≤ length line
+    → piece_of (place + at) (drop at line) ≡ pieces.Token token count → more ≡ done ++ token ∷ []
+    → ReadTo whole place (at + count) line more
+read_to-token {place = place} {at = at} {line = line} {done = done} more token count to below some
+    within is added = rw added record {
+      within = within;
+      so_far = to.so_far ∙ ap (behind done) (left-token place at count line token below some is)
+          ∙ behind-token done token (left_at place (at + count) line);
+    }
+
+pub read_to-comment : {whole : Result (List Token) FaultKind} {place at : ℕ} {line : List ℕ}
+    {done : List Token} → ReadTo whole place at line done → at < length line
+    → piece_of (place + at) (drop at line) ≡ pieces.Comment → whole ≡ Ok done
+read_to-comment {place = place} {at = at} {line = line} {done = done} to below is =
+    to.so_far ∙ ap (behind done) (left-comment place at line below is)
+    ∙ ap (λ all. Ok all) (append-nil done)
+
+pub read_to-stray : {whole : Result (List Token) FaultKind} {place at : ℕ} {line : List ℕ}
+    {done : List Token} → ReadTo whole place at line done → at < length line
+    → piece_of (place + at) (drop at line) ≡ pieces.Stray → whole ≡ Err Syntax
+read_to-stray {place = place} {at = at} {line = line} {done = done} to below is =
+    to.so_far ∙ ap (behind done) (left-stray place at line below is)
+
+left-none : (place at : ℕ) (line : List ℕ) → length line ≤ at → left_at place at line ≡ Ok []
+unfolding tokens_behind
+left-none place at line over = rw (drop_of_length-le line over) refl
+
+pub read_to-end : {whole : Result (List Token) FaultKind} {place at : ℕ} {line : List ℕ}
+    {done : List Token} → ReadTo whole place at line done → length line ≤ at → whole ≡ Ok done
+read_to-end {place = place} {at = at} {line = line} {done = done} to over =
+    to.so_far ∙ ap (behind done) (left-none place at line over)
+    ∙ ap (λ all. Ok all) (append-nil done)
+
+-- the piece that a call gave
+pub given_piece : (P : AllocError → Type 0) (r : Result Piece AllocError)
+    (s : Result Piece WordFault) (piece : Piece) (place at : ℕ) (line : List ℕ)
+    → MatchResult r (λ y. s ≡ Ok y) P → is_ok s ≡ is_ok r → s ≡ Ok piece
+    → IfOk r (λ p. p ≡ piece_of (place + at) (take (length line - at) (drop at line)))
+    → piece_of (place + at) (drop at line) ≡ piece
+given_piece P r s piece place at line cases variant is said =
+    let read : piece ≡ piece_of (place + at) (take (length line - at) (drop at line)) =
+    rw (ok_of_map_err P r s piece cases variant is) at said in
+    ap (piece_of (place + at)) (sym (take_rest line at)) ∙ sym read
+
+pub given_within : (P : AllocError → Type 0) (r : Result Piece AllocError)
+    (s : Result Piece WordFault) (token : Token) (count place at : ℕ) (line : List ℕ)
+    → MatchResult r (λ y. s ≡ Ok y) P → is_ok s ≡ is_ok r → s ≡ Ok (pieces.Token token count)
+    → IfOk r (λ p. IsWithin p (length (take (length line - at) (drop at line))))
+    → at ≤ length line
+    → (0 < count) × (at + count ≤ length line)
+given_within P r s token count place at line cases variant is said within =
+    let fits : (0 < count) × (count ≤ length (take (length line - at) (drop at line))) =
+    rw (ok_of_map_err P r s (pieces.Token token count) cases variant is) at said in
+    let long : length (drop at line) ≡ length line - at = length-drop at line in
+    (fits.0, omega (arith, fits.1, ap length (take_rest line at), long, within))

@@ -1,0 +1,12 @@
+use Rattle.std.proofs.Common.{◌∙◌, rules, tests}
+use Rattle.std.proofs.lemmas.Iterator.{YieldsList-from_slice}
+use Rattle.std.proofs.lemmas.Iterator.Search.{position_from_yields_List}
+use Rattle.asm_text.specs.Token.{ends_text}
+use Rattle.asm_text.proofs.Cuts.{first_or_length}
+use Rattle.asm_text.proofs.line_piece.text_len.Goals as goal
+
+pub returns-clause-count : goal.returns-clause-count
+returns-clause-count c =
+    c.unwrap_or.ensures ∙ first_or_length ends_text c.args.characters.now c.position.result
+    (position_from_yields_List ends_text _ _ c.position.result c.position.ensures.ran
+    (YieldsList-from_slice _ c.iter.ensures.rest) (λ x b q k. search (rules, tests)))

@@ -1,0 +1,14 @@
+use Rattle.std.proofs.Common.{◌≡◌, length}
+use Rattle.std.specs.Prelude.{map}
+use Rattle.std.specs.Vec.Iter.{into_iter_items, into_iter_len}
+use Rattle.asm_text.specs.Operand.{all_of}
+use Rattle.asm_text.specs.Statement.{operand_expr, all_exprs}
+use Rattle.asm_text.proofs.Gathered.{behind}
+use Rattle.asm_text.proofs.operands.all_exprs.Given as goal
+
+abbrev pub invariant-loop-operand : goal.invariant-loop-operand
+invariant-loop-operand l = record {
+  so_far : all_exprs l.fn.operands.items
+      ≡ behind l.exprs (all_of (map operand_expr (into_iter_items l.operand-iterator)));
+  counted : into_iter_len l.operand-iterator ≡ length (into_iter_items l.operand-iterator);
+}

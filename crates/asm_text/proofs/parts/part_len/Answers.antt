@@ -1,0 +1,12 @@
+use Rattle.std.proofs.Common.{◌∙◌, rules, tests}
+use Rattle.std.proofs.lemmas.Iterator.{YieldsList-from_slice}
+use Rattle.std.proofs.lemmas.Iterator.Search.{position_from_yields_List}
+use Rattle.asm_text.specs.Operand.{is_comma}
+use Rattle.asm_text.proofs.Cuts.{first_or_length}
+use Rattle.asm_text.proofs.parts.part_len.Goals as goal
+
+pub returns-clause-count : goal.returns-clause-count
+returns-clause-count c =
+    c.unwrap_or.ensures ∙ first_or_length is_comma c.args.tokens.now c.position.result
+    (position_from_yields_List is_comma _ _ c.position.result c.position.ensures.ran
+    (YieldsList-from_slice _ c.iter.ensures.rest) (λ x b q k. search (rules, tests)))

@@ -1,0 +1,240 @@
+-- Statements: operations with operands of the forms that they take.
+use Rattle.std.specs.Prelude.{ℕ, ◌==◌, ◌&&◌, Bool, true, false, not, List, [], ◌∷◌, Option, Some, None, map, if◌then◌else◌, Result, Ok, Err}
+use Rattle.text_scan.specs.declared.fault_kind.FaultKind.{FaultKind}
+use Rattle.text_scan.specs.declared.fault_kind.FaultKind.TheVariants as faults
+use Rattle.text_scan.specs.Reader.{◌>>=◌}
+use Rattle.word_arith.specs.declared.size.Size.{Size}
+use Rattle.asm_text.specs.declared.body.Body.{Body}
+use Rattle.asm_text.specs.declared.body.Body.TheVariants as bodies
+use Rattle.asm_text.specs.declared.mnemonic.Mnemonic.{Mnemonic}
+use Rattle.asm_text.specs.declared.mnemonic.Mnemonic.TheVariants.{Mov, Add, Addc, Subc, Sub, Cmp, Dadd, Bit, Bic, Bis, Xor, And, Rrc, Swpb, Rra, Sxt, Push, Call, Reti, Jne, Jeq, Jnc, Jc, Jn, Jge, Jl, Jmp, Br, Clrc, Clrn, Clrz, Dint, Eint, Nop, Ret, Rla, Rlc, Setc, Setn, Setz}
+use Rattle.asm_text.specs.declared.operand.Operand.{Operand}
+use Rattle.asm_text.specs.declared.operand.Operand.TheVariants.{Reg, Imm, Abs, Indexed, Symbolic, Indirect, IndirectInc}
+use Rattle.asm_text.specs.declared.operand_form.OperandForm.{OperandForm}
+use Rattle.asm_text.specs.declared.operand_form.OperandForm.TheVariants.{SourceAndDestination, Source, Destination, Modified, Doubled, Target, Nothing}
+use Rattle.asm_text.specs.declared.operation.Operation.{Operation}
+use Rattle.asm_text.specs.declared.operation.Operation.TheVariants.{Instr, Org, Word, Byte, Ascii, Equ}
+use Rattle.asm_text.specs.declared.span.Span.{Span}
+use Rattle.asm_text.specs.declared.term.Term.TheVariants as terms
+use Rattle.asm_text.specs.declared.token.Token.{Token}
+use Rattle.asm_text.specs.declared.token.Token.TheVariants as tokens
+use Rattle.asm_text.specs.Operand.{operand_of, operands_of, parts_of, all_of}
+use Rattle.asm_text.specs.Expr.{SignedTerm}
+
+-- the operands that an emulated instruction takes
+abbrev pub emulated_form : Mnemonic → OperandForm
+emulated_form Br = Source
+emulated_form Rla = Doubled
+emulated_form Rlc = Doubled
+emulated_form Clrc = Nothing
+emulated_form Clrn = Nothing
+emulated_form Clrz = Nothing
+emulated_form Dint = Nothing
+emulated_form Eint = Nothing
+emulated_form Nop = Nothing
+emulated_form Ret = Nothing
+emulated_form Setc = Nothing
+emulated_form Setn = Nothing
+emulated_form Setz = Nothing
+emulated_form mnemonic = Destination
+
+-- the operands that an instruction takes
+abbrev pub form_of : Mnemonic → OperandForm
+form_of Mov = SourceAndDestination
+form_of Add = SourceAndDestination
+form_of Addc = SourceAndDestination
+form_of Subc = SourceAndDestination
+form_of Sub = SourceAndDestination
+form_of Cmp = SourceAndDestination
+form_of Dadd = SourceAndDestination
+form_of Bit = SourceAndDestination
+form_of Bic = SourceAndDestination
+form_of Bis = SourceAndDestination
+form_of Xor = SourceAndDestination
+form_of And = SourceAndDestination
+form_of Rrc = Modified
+form_of Swpb = Modified
+form_of Rra = Modified
+form_of Sxt = Modified
+form_of Push = Source
+form_of Call = Source
+form_of Jne = Target
+form_of Jeq = Target
+form_of Jnc = Target
+form_of Jc = Target
+form_of Jn = Target
+form_of Jge = Target
+form_of Jl = Target
+form_of Jmp = Target
+form_of Reti = Nothing
+form_of mnemonic = emulated_form mnemonic
+
+-- `@Rn`: not with R2 and R3
+abbrev pub is_pointer : ℕ → Bool
+is_pointer register = not (register == 2) && not (register == 3)
+
+-- `E(Rn)` is not with R2, and with R3 only as a destination; `@PC+` is not written
+abbrev pub is_source : Operand → Bool
+is_source (Indexed expr register) = is_pointer register
+is_source (Indirect register) = is_pointer register
+is_source (IndirectInc register) = is_pointer register && not (register == 0)
+is_source operand = true
+
+abbrev pub is_destination : Operand → Bool
+is_destination (Reg register) = true
+is_destination (Abs expr) = true
+is_destination (Indexed expr register) = not (register == 2)
+is_destination (Symbolic expr) = true
+is_destination operand = false
+
+-- an operand that is read and then written: not `E(R3)`
+abbrev pub is_doubled : Operand → Bool
+is_doubled (Indexed expr register) = is_pointer register
+is_doubled operand = is_destination operand
+
+-- a destination, `@Rn` or `@Rn+`; neither R3 nor `E(R3)`
+abbrev pub is_modified : Operand → Bool
+is_modified (Reg register) = not (register == 3)
+is_modified (Imm expr) = false
+is_modified operand = is_source operand
+
+abbrev pub is_target : Operand → Bool
+is_target (Symbolic expr) = true
+is_target operand = false
+
+abbrev pub fits : OperandForm → Option Operand → Option Operand → Bool
+fits SourceAndDestination (Some source) (Some destination) =
+    is_source source && is_destination destination
+fits Source (Some operand) None = is_source operand
+fits Destination (Some operand) None = is_destination operand
+fits Modified (Some operand) None = is_modified operand
+fits Doubled (Some operand) None = is_doubled operand
+fits Target (Some operand) None = is_target operand
+fits Nothing None None = true
+fits form first second = false
+
+-- at most two operands
+abbrev pub two_of : List Operand → Result (Option Operand × Option Operand) FaultKind
+two_of [] = Ok (None, None)
+two_of (first ∷ []) = Ok (Some first, None)
+two_of (first ∷ second ∷ []) = Ok (Some first, Some second)
+two_of operands = Err faults.Operand
+
+-- an instruction with operands of its form
+abbrev pub instruction_of : Mnemonic → Size → List Operand → Result Body FaultKind
+instruction_of mnemonic size operands = do
+  two ← two_of operands
+  if fits (form_of mnemonic) two.0 two.1 then Ok (bodies.Instr mnemonic size two.0 two.1)
+      else Err faults.Operand
+
+-- the expression of an operand that is one alone
+abbrev pub lone_expr : Option Operand → Result (List SignedTerm) FaultKind
+lone_expr (Some (Symbolic expr)) = Ok expr
+lone_expr operand = Err faults.Operand
+
+-- `.org E`
+abbrev pub org_with : Option Operand → Option Operand → Result Body FaultKind
+org_with first None = do
+  expr ← lone_expr first
+  Ok (bodies.Org expr)
+org_with first (Some operand) = Err faults.Operand
+
+abbrev pub org_of : List Operand → Result Body FaultKind
+org_of operands = do
+  two ← two_of operands
+  org_with two.0 two.1
+
+-- the name that an expression is
+abbrev pub lone_name : List SignedTerm → Result Span FaultKind
+lone_name ((false, terms.Name span) ∷ []) = Ok span
+lone_name expr = Err faults.Operand
+
+-- `.equ NAME, E`
+abbrev pub equ_of : List Operand → Result Body FaultKind
+equ_of operands = do
+  two ← two_of operands
+  name ← lone_expr two.0
+  span ← lone_name name
+  expr ← lone_expr two.1
+  Ok (bodies.Equ span expr)
+
+abbrev pub operand_expr : Operand → Result (List SignedTerm) FaultKind
+operand_expr operand = lone_expr (Some operand)
+
+abbrev pub all_exprs : List Operand → Result (List (List SignedTerm)) FaultKind
+all_exprs operands = all_of (map operand_expr operands)
+
+-- one expression or more
+abbrev pub exprs_of : List Operand → Result (List (List SignedTerm)) FaultKind
+exprs_of [] = Err faults.Operand
+exprs_of operands = all_exprs operands
+
+abbrev pub words_of : List Operand → Result Body FaultKind
+words_of operands = do
+  exprs ← exprs_of operands
+  Ok (bodies.Word exprs)
+
+abbrev pub bytes_of : List Operand → Result Body FaultKind
+bytes_of operands = do
+  exprs ← exprs_of operands
+  Ok (bodies.Byte exprs)
+
+-- an operation with operands, each of which has a form
+abbrev pub body_of : Option Operation → List Operand → Result Body FaultKind
+body_of (Some (Instr mnemonic size)) operands = instruction_of mnemonic size operands
+body_of (Some Org) operands = org_of operands
+body_of (Some Word) operands = words_of operands
+body_of (Some Byte) operands = bytes_of operands
+body_of (Some Equ) operands = equ_of operands
+body_of (Some Ascii) operands = Err faults.Operand
+body_of None operands = Err faults.Mnemonic
+
+-- what may stand in the place of the text: a text or an operand
+abbrev pub is_readable : List Token → Result Unit FaultKind
+is_readable (tokens.Text span ∷ []) = Ok tt
+is_readable part = do
+  operand ← operand_of part
+  Ok tt
+
+-- `.ascii "T"`
+abbrev pub ascii_of : List Token → Result Body FaultKind
+ascii_of (tokens.Text span ∷ []) = Ok (bodies.Ascii span)
+ascii_of rest = do
+  readable ← all_of (map is_readable (parts_of rest))
+  Err faults.Operand
+
+-- the operation of a statement's first word
+abbrev pub first_word : Token → Result (Option Operation) FaultKind
+first_word (tokens.Name span operation) = Ok operation
+first_word (tokens.Word operation) = Ok operation
+first_word (tokens.Register register) = Ok None
+first_word token = Err faults.Syntax
+
+abbrev pub is_ascii_directive : Option Operation → Bool
+is_ascii_directive (Some Ascii) = true
+is_ascii_directive operation = false
+
+-- a statement behind its first word: what has no form comes before an unknown word, and that
+-- before a
+-- wrong number or form of operands
+unfoldable pub operation_body : Option Operation → List Token → Result Body FaultKind
+operation_body operation rest =
+    if is_ascii_directive operation then ascii_of rest
+    else (do
+      operands ← operands_of rest
+      body_of operation operands)
+
+abbrev pub statement_body : List Token → Result Body FaultKind
+statement_body [] = Ok bodies.Empty
+statement_body (word ∷ rest) = do
+  operation ← first_word word
+  operation_body operation rest
+
+-- `NAME:` before a statement
+abbrev pub labelled_body : List Token → Result (Option Span × Body) FaultKind
+labelled_body (tokens.Name span operation ∷ tokens.Colon ∷ rest) = do
+  body ← statement_body rest
+  Ok (Some span, body)
+labelled_body all = do
+  body ← statement_body all
+  Ok (None, body)

@@ -1,0 +1,60 @@
+ghost use Rattle.std.specs.Prelude.{◌≡◌, ◌++◌, ◌∷◌, [], List, OnOk, length};
+ghost use Rattle.std.specs.List.{slice_get};
+ghost use Rattle.asm_text.specs.Expr.{SignedTerm};
+
+use crate::term::Term;
+use std::alloc::{AllocError, Global};
+use std::marker::Model;
+
+/// An expression: terms that are added or subtracted.
+#[derive(Debug, Drop)]
+pub struct Expr {
+    terms: Vec<(bool, Term)>,
+}
+
+// Seen as its terms in the order written, each with whether it is subtracted.
+impl Model for Expr {
+    ghost Value = { List SignedTerm };
+
+    ghost view = { λ expr. expr.terms.items };
+}
+
+impl Expr {
+    pub(crate) fn new(alloc: Global) -> Expr
+        ensures { result ≡ [] }
+    {
+        Expr {
+            terms: Vec::new(alloc),
+        }
+    }
+
+    /// Puts a term after the others.
+    pub(crate) fn add(&mut self, is_subtracted: bool, term: Term) -> Result<(), AllocError>
+        ensures { OnOk result (self.new ≡ self.old ++ (is_subtracted, term) ∷ []) }
+    {
+        self.terms.reserve(1)?;
+        self.terms.push_reserved((is_subtracted, term));
+        Ok(())
+    }
+
+    /// The number of terms.
+    pub fn len(&self) -> usize
+        ensures { result ≡ length self.now }
+    {
+        self.terms.len()
+    }
+
+    /// Whether a term is subtracted, and the term, at an index from 0; `None` past the last.
+    pub fn get(&self, i: usize) -> Option<(bool, Term)>
+        ensures { result ≡ slice_get self.now i }
+    {
+        self.terms.get(i).copied()
+    }
+
+    /// All terms in the order written, each with whether it is subtracted.
+    pub fn as_slice(&self) -> &[(bool, Term)]
+        ensures { result.now ≡ self.now }
+    {
+        &self.terms
+    }
+}

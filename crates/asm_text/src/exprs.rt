@@ -1,0 +1,60 @@
+ghost use Rattle.std.specs.Prelude.{◌≡◌, ◌++◌, ◌∷◌, [], List, OnOk, length};
+ghost use Rattle.std.specs.List.{slice_get};
+ghost use Rattle.std.specs.Option.{option_copied};
+ghost use Rattle.asm_text.specs.Expr.{SignedTerm};
+
+use crate::expr::Expr;
+use std::alloc::{AllocError, Global};
+use std::marker::Model;
+
+/// Expressions in the order written.
+#[derive(Debug, Drop)]
+pub struct Exprs {
+    exprs: Vec<Expr>,
+}
+
+impl Model for Exprs {
+    ghost Value = { List (List SignedTerm) };
+
+    ghost view = { λ exprs. exprs.exprs.items };
+}
+
+impl Exprs {
+    pub(crate) fn new(alloc: Global) -> Exprs
+        ensures { result ≡ [] }
+    {
+        Exprs {
+            exprs: Vec::new(alloc),
+        }
+    }
+
+    /// Puts an expression after the others.
+    pub(crate) fn add(&mut self, expr: Expr) -> Result<(), AllocError>
+        ensures { OnOk result (self.new ≡ self.old ++ expr ∷ []) }
+    {
+        self.exprs.reserve(1)?;
+        self.exprs.push_reserved(expr);
+        Ok(())
+    }
+
+    /// The number of expressions.
+    pub fn len(&self) -> usize
+        ensures { result ≡ length self.now }
+    {
+        self.exprs.len()
+    }
+
+    /// The expression at an index from 0; `None` past the last.
+    pub fn get(&self, i: usize) -> Option<&Expr>
+        ensures { option_copied result ≡ slice_get self.now i }
+    {
+        self.exprs.get(i)
+    }
+
+    /// All expressions in the order written.
+    pub fn as_slice(&self) -> &[Expr]
+        ensures { result.now ≡ self.now }
+    {
+        &self.exprs
+    }
+}

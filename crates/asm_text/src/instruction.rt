@@ -1,0 +1,144 @@
+ghost use Rattle.std.specs.Prelude.{◌≡◌};
+ghost use Rattle.std.specs.Option.{option_copied};
+ghost use Rattle.asm_text.specs.Statement.{form_of, emulated_form, is_pointer, is_source, is_destination, is_doubled, is_modified, is_target, fits, instruction_of};
+
+use crate::body::Body;
+use crate::mnemonic::Mnemonic;
+use crate::operand::Operand;
+use crate::operand_form::OperandForm;
+use crate::operands::Operands;
+use text_scan::FaultKind;
+use word_arith::Size;
+
+/// An instruction with its operands; `Operand` where it does not take these.
+pub fn instruction_of(mnemonic: Mnemonic, size: Size, operands: Operands) -> Result<Body, FaultKind>
+    ensures { result ≡ instruction_of mnemonic size operands }
+{
+    let (first, second) = operands.into_two()?;
+    if !fits(form_of(mnemonic), first.as_ref(), second.as_ref()) {
+        return Err(FaultKind::Operand);
+    }
+    Ok(Body::Instr(mnemonic, size, first, second))
+}
+
+fn fits(form: OperandForm, first: Option<&Operand>, second: Option<&Operand>) -> bool
+    ensures { result ≡ fits form (option_copied first.entry) (option_copied second.entry) }
+{
+    match (form, first, second) {
+        (OperandForm::SourceAndDestination, Some(source), Some(destination)) => {
+            is_source(source) && is_destination(destination)
+        }
+        (OperandForm::Source, Some(operand), None) => is_source(operand),
+        (OperandForm::Destination, Some(operand), None) => is_destination(operand),
+        (OperandForm::Modified, Some(operand), None) => is_modified(operand),
+        (OperandForm::Doubled, Some(operand), None) => is_doubled(operand),
+        (OperandForm::Target, Some(operand), None) => is_target(operand),
+        (OperandForm::Nothing, None, None) => true,
+        _ => false,
+    }
+}
+
+fn form_of(mnemonic: Mnemonic) -> OperandForm
+    ensures { result ≡ form_of mnemonic }
+{
+    match mnemonic {
+        Mnemonic::Mov
+        | Mnemonic::Add
+        | Mnemonic::Addc
+        | Mnemonic::Subc
+        | Mnemonic::Sub
+        | Mnemonic::Cmp
+        | Mnemonic::Dadd
+        | Mnemonic::Bit
+        | Mnemonic::Bic
+        | Mnemonic::Bis
+        | Mnemonic::Xor
+        | Mnemonic::And => OperandForm::SourceAndDestination,
+        Mnemonic::Rrc | Mnemonic::Swpb | Mnemonic::Rra | Mnemonic::Sxt => OperandForm::Modified,
+        Mnemonic::Push | Mnemonic::Call => OperandForm::Source,
+        Mnemonic::Jne
+        | Mnemonic::Jeq
+        | Mnemonic::Jnc
+        | Mnemonic::Jc
+        | Mnemonic::Jn
+        | Mnemonic::Jge
+        | Mnemonic::Jl
+        | Mnemonic::Jmp => OperandForm::Target,
+        Mnemonic::Reti => OperandForm::Nothing,
+        _ => emulated_form(mnemonic),
+    }
+}
+
+// The same of the emulated instructions.
+fn emulated_form(mnemonic: Mnemonic) -> OperandForm
+    ensures { result ≡ emulated_form mnemonic }
+{
+    match mnemonic {
+        Mnemonic::Br => OperandForm::Source,
+        Mnemonic::Rla | Mnemonic::Rlc => OperandForm::Doubled,
+        Mnemonic::Clrc
+        | Mnemonic::Clrn
+        | Mnemonic::Clrz
+        | Mnemonic::Dint
+        | Mnemonic::Eint
+        | Mnemonic::Nop
+        | Mnemonic::Ret
+        | Mnemonic::Setc
+        | Mnemonic::Setn
+        | Mnemonic::Setz => OperandForm::Nothing,
+        _ => OperandForm::Destination,
+    }
+}
+
+// Whether `@Rn` and a source `E(Rn)` may be written with a register.
+fn is_pointer(register: u8) -> bool
+    ensures { result ≡ is_pointer register }
+{
+    !matches!(register, 2 | 3)
+}
+
+fn is_source(operand: &Operand) -> bool
+    ensures { result ≡ is_source operand.now }
+{
+    match operand {
+        Operand::Indexed(_, register) | Operand::Indirect(register) => is_pointer(*register),
+        Operand::IndirectInc(register) => is_pointer(*register) && *register != 0,
+        _ => true,
+    }
+}
+
+fn is_destination(operand: &Operand) -> bool
+    ensures { result ≡ is_destination operand.now }
+{
+    match operand {
+        Operand::Reg(_) | Operand::Abs(_) | Operand::Symbolic(_) => true,
+        Operand::Indexed(_, register) => *register != 2,
+        _ => false,
+    }
+}
+
+// A destination that is read as a source too.
+fn is_doubled(operand: &Operand) -> bool
+    ensures { result ≡ is_doubled operand.now }
+{
+    match operand {
+        Operand::Indexed(_, register) => is_pointer(*register),
+        _ => is_destination(operand),
+    }
+}
+
+fn is_modified(operand: &Operand) -> bool
+    ensures { result ≡ is_modified operand.now }
+{
+    match operand {
+        Operand::Reg(register) => *register != 3,
+        Operand::Imm(_) => false,
+        _ => is_source(operand),
+    }
+}
+
+fn is_target(operand: &Operand) -> bool
+    ensures { result ≡ is_target operand.now }
+{
+    matches!(operand, Operand::Symbolic(_))
+}

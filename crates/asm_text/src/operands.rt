@@ -1,0 +1,93 @@
+ghost use Rattle.std.specs.Prelude.{◌≡◌, ◌++◌, ◌∷◌, [], List, OnOk};
+ghost use Rattle.text_scan.specs.Reader.{ReadsWord};
+ghost use Rattle.asm_text.specs.declared.operand.Operand.{Operand};
+ghost use Rattle.asm_text.specs.Operand.{operands_of};
+ghost use Rattle.asm_text.specs.Statement.{two_of, all_exprs, exprs_of};
+
+use crate::exprs::Exprs;
+use crate::operand::Operand;
+use crate::operand_reader::read_operand;
+use crate::parts::Parts;
+use crate::token::Token;
+use std::alloc::{AllocError, Global};
+use std::marker::Model;
+use text_scan::{FaultKind, WordFault};
+
+/// The operands of a statement in the order written.
+#[derive(Debug, Drop)]
+pub struct Operands {
+    operands: Vec<Operand>,
+}
+
+impl Model for Operands {
+    ghost Value = { List Operand };
+
+    ghost view = { λ operands. operands.operands.items };
+}
+
+impl Operands {
+    fn new(alloc: Global) -> Operands
+        ensures { result ≡ [] }
+    {
+        Operands {
+            operands: Vec::new(alloc),
+        }
+    }
+
+    fn add(&mut self, operand: Operand) -> Result<(), AllocError>
+        ensures { OnOk result (self.new ≡ self.old ++ operand ∷ []) }
+    {
+        self.operands.reserve(1)?;
+        self.operands.push_reserved(operand);
+        Ok(())
+    }
+
+    /// At most two operands.
+    pub fn into_two(self) -> Result<(Option<Operand>, Option<Operand>), FaultKind>
+        ensures { result ≡ two_of self }
+    {
+        let mut operands = self.operands.into_iter();
+        let first = operands.next();
+        let second = operands.next();
+        match operands.next() {
+            None => Ok((first, second)),
+            Some(_) => Err(FaultKind::Operand),
+        }
+    }
+
+    /// One expression or more.
+    pub fn into_exprs(self, alloc: Global) -> Result<Exprs, WordFault>
+        ensures { ReadsWord result (exprs_of self) }
+    {
+        if self.operands.is_empty() {
+            return Err(WordFault::Kind(FaultKind::Operand));
+        }
+        all_exprs(alloc, self.operands)
+    }
+}
+
+// The expressions that operands are, each of them alone.
+fn all_exprs(alloc: Global, operands: Vec<Operand>) -> Result<Exprs, WordFault>
+    ensures { ReadsWord result (all_exprs operands.items) }
+{
+    let mut exprs = Exprs::new(alloc);
+    for operand in operands {
+        let Operand::Symbolic(expr) = operand else {
+            return Err(WordFault::Kind(FaultKind::Operand));
+        };
+        exprs.add(expr).map_err(WordFault::Memory)?;
+    }
+    Ok(exprs)
+}
+
+/// The operands of these tokens; `Syntax` where a part between commas is none.
+pub fn read_operands(alloc: Global, tokens: &[Token]) -> Result<Operands, WordFault>
+    ensures { ReadsWord result (operands_of tokens.now) }
+{
+    let mut operands = Operands::new(alloc);
+    for part in Parts::new(tokens) {
+        let operand = read_operand(alloc, part)?;
+        operands.add(operand).map_err(WordFault::Memory)?;
+    }
+    Ok(operands)
+}

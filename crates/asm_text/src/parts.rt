@@ -1,0 +1,77 @@
+ghost use Rattle.std.specs.Prelude.{◌≡◌, ◌∷◌, ◌≤◌, List, length};
+ghost use Rattle.std.specs.Option.{option_copied};
+ghost use Rattle.std.specs.Iterator.{YieldsFirstRef, item_count};
+ghost use Rattle.std.specs.List.{slice_split, position_or_len};
+ghost use Rattle.asm_text.specs.declared.token.Token.{Token};
+ghost use Rattle.asm_text.specs.Operand.{is_comma, parts_of, parts_behind};
+
+use crate::token::Token;
+use std::marker::Model;
+
+/// What stands between the commas of tokens. Where there is no token, there is no part.
+#[derive(Debug, Drop)]
+pub struct Parts<'a> {
+    rest: Option<&'a [Token]>,
+}
+
+// Seen as the parts that are left.
+impl<'a> Model for Parts<'a> {
+    ghost Value = { List (List Token) };
+
+    ghost view = { λ it. parts_behind (option_copied it.rest) };
+}
+
+impl<'a> Parts<'a> {
+    pub fn new(tokens: &'a [Token]) -> Parts<'a>
+        ensures { result ≡ parts_of tokens.now }
+    {
+        if tokens.is_empty() {
+            return Parts { rest: None };
+        }
+        Parts { rest: Some(tokens) }
+    }
+}
+
+impl<'a> Iterator for Parts<'a> {
+    type Item = &'a [Token];
+
+    ghost next_gives = { YieldsFirstRef (λ left. left) };
+
+    ghost remaining = { item_count (λ left. left) };
+
+    fn next(&mut self) -> Option<&'a [Token]> {
+        let tokens = self.rest?;
+        let (part, rest) = first_part(tokens);
+        self.rest = rest;
+        Some(part)
+    }
+}
+
+// What stands before the first comma, and what stands behind it, if there is one.
+fn first_part(tokens: &[Token]) -> (&[Token], Option<&[Token]>)
+    ensures { slice_split is_comma tokens.now
+        ≡ result.0.now ∷ parts_behind (option_copied result.1) }
+{
+    let end = part_len(tokens);
+    if end == tokens.len() {
+        return (tokens, None);
+    }
+    (&tokens[..end], Some(&tokens[end + 1..]))
+}
+
+// The number of tokens before the first comma, or of all where there is none.
+fn part_len(tokens: &[Token]) -> usize
+    ensures count { result ≡ position_or_len is_comma tokens.now }
+    ensures within { result ≤ length tokens.now }
+{
+    tokens
+        .iter()
+        .position(|token| is_comma(*token))
+        .unwrap_or(tokens.len())
+}
+
+fn is_comma(token: Token) -> bool
+    ensures { result ≡ is_comma token }
+{
+    matches!(token, Token::Comma)
+}

@@ -1,0 +1,39 @@
+-- One statement more in the first pass.
+use Rattle.std.proofs.Common.{◌≡◌, ◌∙◌, ap, sym, ℕ, Bool, ◌||◌, List, [], ◌∷◌, OnOk, Result, Ok, Err}
+use Rattle.text_scan.specs.declared.word_fault.WordFault.{WordFault}
+use Rattle.asm_text.specs.declared.statement.Statement.{Statement}
+use Rattle.asm_bytes.specs.Value.{Scope}
+use Rattle.msp_asm.specs.declared.first_pass.FirstPass.{FirstPass}
+use Rattle.msp_asm.specs.FirstPass.{scope_after, is_placed, next_scope, places_byte}
+use Rattle.msp_asm.specs.FirstPassState.{taken_in}
+use Rattle.msp_asm.specs.FirstPassStands.{scope_of, FirstPassStandsFor}
+
+stands_next : (text : List ℕ) (earlier : List Statement) (statement : Statement)
+    (old new : FirstPass)
+    → FirstPassStandsFor old text earlier
+    → scope_of new ≡ next_scope (scope_of old) statement
+    → ((place : ℕ) → taken_in new.taken place
+    ≡ (places_byte (scope_of old) statement.body place || taken_in old.taken place))
+    → FirstPassStandsFor new text (statement ∷ earlier)
+unfolding scope_after is_placed
+stands_next text earlier statement old new at next taken =
+    record {
+      scope = next ∙ ap (λ (scope : Scope). next_scope scope statement) at.scope;
+      taken = λ i. λ place.
+          (taken place
+          ∙ ap (λ (scope : Scope). places_byte scope statement.body place || taken_in old.taken
+          place) at.scope
+          ∙ ap (λ (f : ℕ → Bool). places_byte (scope_after text earlier) statement.body place
+          || f place) at.taken) i;
+    }
+
+pub stands_more : (text : List ℕ) (earlier : List Statement) (statement : Statement)
+    (old new : FirstPass) (result : Result Unit WordFault)
+    → FirstPassStandsFor old text earlier
+    → OnOk result (scope_of new ≡ next_scope (scope_of old) statement)
+    → OnOk result ((place : ℕ) → taken_in new.taken place
+    ≡ (places_byte (scope_of old) statement.body place || taken_in old.taken place))
+    → OnOk result (FirstPassStandsFor new text (statement ∷ earlier))
+stands_more text earlier statement old new (Ok u) at next taken =
+    stands_next text earlier statement old new at next taken
+stands_more text earlier statement old new (Err fault) at next taken = tt

@@ -1,0 +1,5 @@
+pub mod Placing
+pub mod PlacesLeft
+pub mod FirstPassMore
+pub mod LinesSoFar
+pub mod SecondPassMore

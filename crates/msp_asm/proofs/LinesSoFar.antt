@@ -1,0 +1,94 @@
+-- The first fault of statements that are taken in order.
+use Rattle.std.proofs.Common.{◌≡◌, ◌∙◌, ◌<◌, ◌+◌, ℕ, suc, ap, sym, refl, arith, List, [], ◌∷◌, ◌++◌, length, reverse, take, drop, get_or, slice_index, take-append-drop, Option, Some, None, Result, Ok, Err, OnOk, inl, inr}
+use Rattle.std.specs.Option.{option_or}
+use Rattle.std.proofs.lemmas.List.{reverse-append, take_more, get_or_append_left, get_or-append-add}
+use Rattle.std.proofs.lemmas.Bool.{cases_lt}
+use Rattle.text_scan.specs.declared.fault_at.FaultAt.{FaultAt}
+use Rattle.text_scan.specs.declared.fault_kind.FaultKind.{FaultKind}
+use Rattle.text_scan.specs.declared.word_fault.WordFault.{WordFault}
+use Rattle.text_scan.specs.declared.word_fault.WordFault.TheVariants.{Kind, Memory}
+use Rattle.asm_text.specs.declared.statement.Statement.{Statement}
+use Rattle.msp_asm.specs.FirstPass.{at_line, first_fault}
+use Rattle.msp_asm.specs.FirstPassState.{AnswersFault}
+use Rattle.msp_asm.specs.Assembly.{IsFault, fault_in_line}
+
+abbrev pub Faults : Type 0
+Faults = List Statement → Statement → Option FaultKind
+
+-- the statements up to one, newest first
+pub earlier_more : (statements : List Statement) (i : ℕ) (d s : Statement) → i < length statements
+    → s ≡ get_or statements i d
+    → reverse (take (i + 1) statements) ≡ s ∷ reverse (take i statements)
+earlier_more statements i d s below is =
+    ap reverse (take_more statements i d below)
+    ∙ reverse-append (take i statements) (get_or statements i d ∷ [])
+    ∙ ap (λ (x : Statement). x ∷ reverse (take i statements)) (sym is)
+
+all_after : (statements : List Statement) (i : ℕ)
+    → reverse statements ≡ reverse (drop i statements) ++ reverse (take i statements)
+all_after statements i =
+    ap reverse (sym (take-append-drop i statements))
+    ∙ reverse-append (take i statements) (drop i statements)
+
+-- a fault stays the first
+fault_later : (fault : Faults) (later earlier : List Statement) (at : FaultAt)
+    → first_fault fault earlier ≡ Some at
+    → first_fault fault (later ++ earlier) ≡ Some at
+fault_later fault [] earlier at found = found
+fault_later fault (s ∷ later) earlier at found =
+    ap (λ first. option_or first (at_line s.line (fault (later ++ earlier) s)))
+    (fault_later fault later earlier at found)
+
+-- no fault up to one more
+pub sound_more : (fault : Faults) (statements : List Statement) (i : ℕ) (d s : Statement)
+    (u : Unit {0})
+    → i < length statements
+    → s ≡ get_or statements i d
+    → first_fault fault (reverse (take i statements)) ≡ None
+    → AnswersFault (Ok u) (fault (reverse (take i statements)) s)
+    → first_fault fault (reverse (take (i + 1) statements)) ≡ None
+sound_more fault statements i d s u below is sound none =
+    ap (first_fault fault) (earlier_more statements i d s below is)
+    ∙ ap (λ first. option_or first (at_line s.line (fault (reverse (take i statements)) s))) sound
+    ∙ ap (at_line s.line) none
+
+-- the first fault of all
+pub fault_of_all : (fault : Faults) (statements : List Statement) (i : ℕ)
+    (d s : Statement) (found : WordFault)
+    → i < length statements
+    → s ≡ get_or statements i d
+    → first_fault fault (reverse (take i statements)) ≡ None
+    → AnswersFault (Err found) (fault (reverse (take i statements)) s)
+    → IsFault (fault_in_line s.line found) (first_fault fault (reverse statements))
+fault_of_all fault statements i d s (Kind kind) below is sound found =
+    let here : first_fault fault (reverse (take (i + 1) statements))
+    ≡ Some (record { line = s.line; kind = kind }) =
+    ap (first_fault fault) (earlier_more statements i d s below is)
+    ∙ ap (λ first. option_or first (at_line s.line (fault (reverse (take i statements)) s))) sound
+    ∙ ap (at_line s.line) found in
+    ap (first_fault fault) (all_after statements (i + 1))
+    ∙ fault_later fault (reverse (drop (i + 1) statements)) (reverse (take (i + 1) statements))
+    (record { line = s.line; kind = kind }) here
+fault_of_all fault statements i d s (Memory error) below is sound found = tt
+
+-- places that are kept in order
+pub places_more : (heres : ℕ → ℕ) (old new : List ℕ) (place i : ℕ)
+    → length old ≡ i
+    → new ≡ old ++ place ∷ []
+    → place ≡ heres i
+    → ((j : ℕ) → j < i → slice_index old j ≡ heres j)
+    → (j : ℕ) → j < i + 1 → slice_index new j ≡ heres j
+places_more heres old new place i count added is so_far j below =
+    elim (cases_lt j i) [
+      | inl less ↦
+          ap (λ places. slice_index places j) added
+          ∙ get_or_append_left old (place ∷ []) 0 j (omega (arith, less, count))
+          ∙ so_far j less
+      | inr more ↦
+          let same : j ≡ length old + 0 = omega (arith, more, below, count) in
+          let last : j ≡ i = omega (arith, more, below) in
+          ap (λ places. slice_index places j) added
+          ∙ ap (slice_index (old ++ place ∷ [])) same
+          ∙ get_or-append-add old (place ∷ []) 0 0
+          ∙ is ∙ ap heres (sym last)
+    ]

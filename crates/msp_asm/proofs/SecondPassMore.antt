@@ -1,0 +1,80 @@
+-- One statement more in the second pass, and the end of it.
+use Rattle.std.proofs.Common.{◌≡◌, ◌∙◌, ℕ, ℤ, ap, sym, refl, List, [], ◌∷◌, reverse, Option, Some, None, Result, Ok, Err, IfOk, IsTrue, Bool, true, false, cond}
+use Rattle.std.specs.Option.{option_or}
+use Rattle.part_definitions.specs.Memory.{is_image_place}
+use Rattle.text_scan.specs.declared.text_fault.TextFault.{TextFault}
+use Rattle.text_scan.specs.declared.text_fault.TextFault.TheVariants.{At, Memory}
+use Rattle.text_scan.specs.Reader.{Reads}
+use Rattle.asm_text.specs.declared.statement.Statement.{Statement}
+use Rattle.mem_map.specs.declared.image.Image.{Image}
+use Rattle.mem_map.specs.Image.{byte_in}
+use Rattle.mem_map.specs.ImagePlace.{IsImage}
+use Rattle.asm_bytes.specs.Value.{Scope}
+use Rattle.asm_bytes.specs.Statement.{bytes_of}
+use Rattle.msp_asm.specs.FirstPass.{first_fault, first_pass_fault}
+use Rattle.msp_asm.specs.SecondPass.{byte_among, byte_placed, scope_among, second_pass_fault, byte_of_image, image_or_fault, image_of}
+use Rattle.msp_asm.specs.Assembly.{AnswersAt, image_in}
+
+pub same_scope : (text : List ℕ) (names other : List ℕ → Option ℤ) (here there : ℕ)
+    → names ≡ other
+    → here ≡ there
+    → ◌≡◌ {A = Scope} (record { text = text; names = names; here = here })
+    (record { text = text; names = other; here = there })
+same_scope text names other here there named placed =
+    ap (λ (f : List ℕ → Option ℤ). record { text = text; names = f; here = here }) named
+    ∙ ap (λ (n : ℕ). record { text = text; names = other; here = n }) placed
+
+-- the byte at a place with one statement more
+pub placed_more : (text : List ℕ) (all earlier : List Statement) (s : Statement) (scope : Scope)
+    (old new : ℕ → Option ℕ) (place : ℕ)
+    → scope ≡ scope_among text all earlier
+    → old place ≡ byte_placed text all earlier place
+    → new place ≡ option_or (byte_among scope.here (bytes_of scope s.body) place) (old place)
+    → new place ≡ byte_placed text all (s ∷ earlier) place
+unfolding byte_placed
+placed_more text all earlier s scope old new place is before after =
+    after
+    ∙ ap (λ (it : Scope). option_or (byte_among it.here (bytes_of it s.body) place) (old place)) is
+    ∙ ap (option_or (byte_among (scope_among text all earlier).here
+    (bytes_of (scope_among text all earlier) s.body) place)) before
+
+-- an image has no byte where it may hold none
+none_elsewhere : (image : ℕ → Option ℕ) (place : ℕ) (found : Option ℕ) → IsImage image
+    → image place ≡ found
+    → is_image_place place ≡ false
+    → found ≡ None
+none_elsewhere image place None are is elsewhere = refl
+none_elsewhere image place (Some byte) are is elsewhere =
+    let placed : is_image_place place ≡ true = (are place byte is).0 in absurd cc
+
+by_place : (image : ℕ → Option ℕ) (placed : ℕ → Option ℕ) (place : ℕ) (is : Bool) → IsImage image
+    → is_image_place place ≡ is
+    → (IsTrue (is_image_place place) → image place ≡ placed place)
+    → cond (is_image_place place) (placed place) None ≡ image place
+by_place image placed place true are is same =
+    ap (λ b. cond b (placed place) None) is ∙ sym (same is)
+by_place image placed place false are is same =
+    ap (λ b. cond b (placed place) None) is ∙ sym (none_elsewhere image place (image place) are refl
+    is)
+
+-- the image after both passes, or the fault of the second
+pub assembled : (text : List ℕ) (statements : List Statement) (result : Result Image TextFault)
+    → first_fault (first_pass_fault text) (reverse statements) ≡ None
+    → AnswersAt result
+    (first_fault (second_pass_fault text (reverse statements)) (reverse statements))
+    → IfOk result (λ image. (place : ℕ) → IsTrue (is_image_place place)
+    → byte_in image place ≡ byte_placed text (reverse statements) (reverse statements) place)
+    → Reads (image_in result) (image_of text statements)
+assembled text statements (Ok image) first second bytes =
+    let all = reverse statements in
+    ap (λ fault. image_or_fault (option_or fault (first_fault (second_pass_fault text all) all))
+    (byte_of_image text statements)) first
+    ∙ ap (λ fault. image_or_fault fault (byte_of_image text statements)) second
+    ∙ ap Ok (λ i. λ place. by_place (byte_in image) (byte_placed text all all) place
+    (is_image_place place) image.placed refl (bytes place) i)
+assembled text statements (Err (At fault)) first second bytes =
+    let all = reverse statements in
+    ap (λ found. image_or_fault (option_or found (first_fault (second_pass_fault text all) all))
+    (byte_of_image text statements)) first
+    ∙ ap (λ found. image_or_fault found (byte_of_image text statements)) second
+assembled text statements (Err (Memory error)) first second bytes = tt

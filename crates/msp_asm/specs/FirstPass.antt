@@ -1,0 +1,174 @@
+-- The first pass: places and names. Lists of statements have the newest first.
+use Rattle.std.specs.Prelude.{◌+◌, ◌%◌, ◌==◌, ◌&&◌, ◌||◌, ℕ, zero, suc, ℤ, pos, negsuc, Bool, true, false, not, nat_le, nat_lt, List, [], ◌∷◌, if◌then◌else◌, Option, Some, None, is_some, Result, Ok, Err}
+use Rattle.std.specs.List.{list_all, list_any}
+use Rattle.std.specs.Option.{option_or}
+use Rattle.std.specs.Result.{result_err}
+use Rattle.std.specs.Map.{update}
+use Rattle.std.specs.Str.{bytes_eq}
+use Rattle.part_definitions.specs.Memory.{is_image_place}
+use Rattle.text_scan.specs.declared.fault_at.FaultAt.{FaultAt}
+use Rattle.text_scan.specs.declared.fault_kind.FaultKind.{FaultKind}
+use Rattle.text_scan.specs.declared.fault_kind.FaultKind.TheVariants.{Twice, Place, Overlap}
+use Rattle.text_scan.specs.Reader.{◌>>=◌}
+use Rattle.asm_text.specs.declared.span.Span.{Span}
+use Rattle.asm_text.specs.declared.body.Body.{Body}
+use Rattle.asm_text.specs.declared.body.Body.TheVariants.{Empty, Instr as Instruction, Org, Word, Byte, Ascii, Equ}
+use Rattle.asm_text.specs.declared.statement.Statement.{Statement}
+use Rattle.asm_bytes.specs.Value.{Scope, characters, value, defined, address_of, word_of}
+use Rattle.asm_bytes.specs.Statement.{size_of, is_of_words}
+
+-- the name that a body gives
+abbrev pub constant_name : Body → Option Span
+constant_name (Equ name expr) = Some name
+constant_name Empty = None
+constant_name (Instruction mnemonic size first second) = None
+constant_name (Org expr) = None
+constant_name (Word exprs) = None
+constant_name (Byte exprs) = None
+constant_name (Ascii span) = None
+
+-- the value that `.org` or `.equ` names, by the names of earlier lines
+abbrev pub constant_value : Scope → Body → Option ℤ
+constant_value scope (Org expr) = value scope expr
+constant_value scope (Equ name expr) = value scope expr
+constant_value scope Empty = None
+constant_value scope (Instruction mnemonic size first second) = None
+constant_value scope (Word exprs) = None
+constant_value scope (Byte exprs) = None
+constant_value scope (Ascii span) = None
+
+-- names with another one
+abbrev pub with_name : List ℕ → Option Span → Option ℤ → (List ℕ → Option ℤ) → List ℕ → Option ℤ
+with_name text None value names = names
+with_name text (Some name) value names = update bytes_eq names (characters text name) value
+
+-- the names with those that a statement gives: a label's value is the place before its statement
+abbrev pub names_after : Scope → Statement → List ℕ → Option ℤ
+names_after scope statement =
+    with_name scope.text (constant_name statement.body) (constant_value scope statement.body)
+    (with_name scope.text statement.label (Some (pos scope.here)) scope.names)
+
+-- a value as a place
+abbrev pub place_of : Option ℤ → ℕ
+place_of None = 0
+place_of (Some (pos place)) = place
+place_of (Some (negsuc n)) = 0
+
+-- it names the next place
+abbrev pub is_org : Body → Bool
+is_org (Org expr) = true
+is_org Empty = false
+is_org (Instruction mnemonic size first second) = false
+is_org (Word exprs) = false
+is_org (Byte exprs) = false
+is_org (Ascii span) = false
+is_org (Equ name expr) = false
+
+-- the place after a statement
+abbrev pub place_after : Scope → Body → ℕ
+place_after scope body =
+    if is_org body then place_of (constant_value scope body)
+    else scope.here + size_of scope.text body
+
+-- a statement after those of a scope
+abbrev pub next_scope : Scope → Statement → Scope
+next_scope scope statement =
+    record {
+      text = scope.text;
+      names = names_after scope statement;
+      here = place_after scope statement.body;
+    }
+
+-- what a statement after these is read in: the names that they give, and the place after them,
+-- which is C000 at first
+unfoldable pub scope_after : List ℕ → List Statement → Scope
+scope_after text [] = record { text = text; names = λ name. None; here = 0xC000 }
+scope_after text (statement ∷ earlier) =
+    next_scope (scope_after text earlier) statement
+
+-- a name that has a value already
+abbrev pub is_given : List ℕ → (List ℕ → Option ℤ) → Option Span → Bool
+is_given text names None = false
+is_given text names (Some name) = is_some (names (characters text name))
+
+-- both names are the same
+abbrev pub are_same : List ℕ → Option Span → Option Span → Bool
+are_same text None other = false
+are_same text (Some name) None = false
+are_same text (Some name) (Some other) =
+    bytes_eq (characters text name) (characters text other)
+
+-- a name that the statement gives has a value, or it gives one name twice
+abbrev pub gives_again : Scope → Statement → Bool
+gives_again scope statement =
+    is_given scope.text scope.names statement.label
+    || is_given scope.text scope.names (constant_name statement.body)
+    || are_same scope.text statement.label (constant_name statement.body)
+
+-- the fault of the expression of `.org` or `.equ`
+abbrev pub constant_fault : Scope → Body → Option FaultKind
+constant_fault scope (Org expr) =
+    result_err (defined (value scope expr) >>= address_of)
+constant_fault scope (Equ name expr) =
+    result_err (defined (value scope expr) >>= word_of)
+constant_fault scope Empty = None
+constant_fault scope (Instruction mnemonic size first second) = None
+constant_fault scope (Word exprs) = None
+constant_fault scope (Byte exprs) = None
+constant_fault scope (Ascii span) = None
+
+-- so many places from this one upwards
+abbrev pub places_from : ℕ → ℕ → List ℕ
+places_from first zero = []
+places_from first (suc count) = first ∷ places_from (first + 1) count
+
+-- a place among so many from the first upwards
+abbrev pub is_among : ℕ → ℕ → ℕ → Bool
+is_among first count place = nat_le first place && nat_lt place (first + count)
+
+-- a statement places a byte there
+abbrev pub places_byte : Scope → Body → ℕ → Bool
+places_byte scope body place = is_among scope.here (size_of scope.text body) place
+
+-- one of these statements places a byte there
+unfoldable pub is_placed : List ℕ → List Statement → ℕ → Bool
+is_placed text [] place = false
+is_placed text (statement ∷ earlier) place =
+    places_byte (scope_after text earlier) statement.body place || is_placed text earlier place
+
+-- so many bytes from a place upwards cannot stand there: an image holds none there, or there is one
+abbrev pub space_fault : (ℕ → Bool) → List ℕ → Option FaultKind
+space_fault is_taken places =
+    if not (list_all is_image_place places) then Some Place
+    else if list_any is_taken places then Some Overlap
+    else None
+
+-- the fault of the places of a statement's bytes; instructions and words stand at even ones
+abbrev pub place_fault : (ℕ → Bool) → Scope → Body → Option FaultKind
+place_fault is_taken scope body =
+    if is_of_words body && not (scope.here % 2 == 0) then Some Place
+    else space_fault is_taken (places_from scope.here (size_of scope.text body))
+
+-- the fault of a statement in the first pass
+abbrev pub statement_fault : (ℕ → Bool) → Scope → Statement → Option FaultKind
+statement_fault is_taken scope statement =
+    if gives_again scope statement then Some Twice
+    else option_or (constant_fault scope statement.body)
+    (place_fault is_taken scope statement.body)
+
+-- the same after these statements
+abbrev pub first_pass_fault : List ℕ → List Statement → Statement → Option FaultKind
+first_pass_fault text earlier statement =
+    statement_fault (is_placed text earlier) (scope_after text earlier) statement
+
+-- a fault with its line
+abbrev pub at_line : ℕ → Option FaultKind → Option FaultAt
+at_line line None = None
+at_line line (Some kind) = Some (record { line = line; kind = kind })
+
+-- the fault of the first statement that has one
+abbrev pub first_fault : (List Statement → Statement → Option FaultKind) → List Statement
+    → Option FaultAt
+first_fault fault [] = None
+first_fault fault (statement ∷ earlier) =
+    option_or (first_fault fault earlier) (at_line statement.line (fault earlier statement))

@@ -1,0 +1,19 @@
+-- What a first pass in the midst of a source stands for.
+use Rattle.std.specs.Prelude.{◌≡◌, ℕ, List}
+use Rattle.asm_text.specs.declared.statement.Statement.{Statement}
+use Rattle.asm_bytes.specs.Value.{Scope}
+use Rattle.asm_bytes.specs.Names.{value_in}
+use Rattle.msp_asm.specs.declared.first_pass.FirstPass.{FirstPass}
+use Rattle.msp_asm.specs.FirstPass.{scope_after, is_placed}
+use Rattle.msp_asm.specs.FirstPassState.{taken_in}
+
+-- what the next statement is read in
+abbrev pub scope_of : FirstPass → Scope
+scope_of pass =
+    record { text = pass.text.now; names = value_in pass.names; here = pass.place }
+
+-- the first pass has taken these statements, newest first
+pub record FirstPassStandsFor (pass : FirstPass) (text : List ℕ)
+    (earlier : List Statement) : Type 0 where
+  pub scope : scope_of pass ≡ scope_after text earlier
+  pub taken : taken_in pass.taken ≡ is_placed text earlier

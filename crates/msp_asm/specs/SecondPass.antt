@@ -1,0 +1,66 @@
+-- The second pass: the bytes. Lists of statements have the newest first.
+use Rattle.std.specs.Prelude.{◌+◌, ◌==◌, ℕ, List, [], ◌∷◌, reverse, if◌then◌else◌, Option, Some, None, Result, Ok, Err}
+use Rattle.std.specs.Option.{option_or}
+use Rattle.std.specs.Result.{result_err}
+use Rattle.part_definitions.specs.Memory.{is_image_place}
+use Rattle.text_scan.specs.declared.fault_at.FaultAt.{FaultAt}
+use Rattle.text_scan.specs.declared.fault_kind.FaultKind.{FaultKind}
+use Rattle.asm_text.specs.declared.statement.Statement.{Statement}
+use Rattle.asm_bytes.specs.Value.{Scope}
+use Rattle.asm_bytes.specs.Statement.{bytes_of}
+use Rattle.msp_asm.specs.FirstPass.{scope_after, first_fault, first_pass_fault}
+
+-- what a statement after these is read in: at the same place, with the names of all statements
+abbrev pub scope_among : List ℕ → List Statement → List Statement → Scope
+scope_among text all earlier =
+    record {
+      text = text;
+      names = (scope_after text all).names;
+      here = (scope_after text earlier).here;
+    }
+
+-- the fault of a statement after these in the second pass
+abbrev pub second_pass_fault : List ℕ → List Statement → List Statement → Statement
+    → Option FaultKind
+second_pass_fault text all earlier statement =
+    result_err (bytes_of (scope_among text all earlier) statement.body)
+
+-- which of these bytes, from the first place upwards, is at a place
+abbrev pub byte_at : ℕ → List ℕ → ℕ → Option ℕ
+byte_at first [] place = None
+byte_at first (byte ∷ bytes) place =
+    if place == first then Some byte else byte_at (first + 1) bytes place
+
+abbrev pub byte_among : ℕ → Result (List ℕ) FaultKind → ℕ → Option ℕ
+byte_among first (Ok bytes) place = byte_at first bytes place
+byte_among first (Err kind) place = None
+
+-- the byte at a place is the one that the statement at that place gives
+unfoldable pub byte_placed : List ℕ → List Statement → List Statement → ℕ → Option ℕ
+byte_placed text all [] place = None
+byte_placed text all (statement ∷ earlier) place =
+    let scope = scope_among text all earlier in
+    option_or (byte_among scope.here (bytes_of scope statement.body) place)
+    (byte_placed text all earlier place)
+
+-- the first fault of a source's statements: of the first pass, and then of the second
+abbrev pub fault_of : List ℕ → List Statement → Option FaultAt
+fault_of text statements =
+    let all = reverse statements in
+    option_or (first_fault (first_pass_fault text) all)
+    (first_fault (second_pass_fault text all) all)
+
+-- the byte of the image at a place
+abbrev pub byte_of_image : List ℕ → List Statement → ℕ → Option ℕ
+byte_of_image text statements place =
+    if is_image_place place
+    then byte_placed text (reverse statements) (reverse statements) place
+    else None
+
+-- the bytes of the image by their places, or the first fault
+abbrev pub image_or_fault : Option FaultAt → (ℕ → Option ℕ) → Result (ℕ → Option ℕ) FaultAt
+image_or_fault None bytes = Ok bytes
+image_or_fault (Some fault) bytes = Err fault
+
+abbrev pub image_of : List ℕ → List Statement → Result (ℕ → Option ℕ) FaultAt
+image_of text statements = image_or_fault (fault_of text statements) (byte_of_image text statements)

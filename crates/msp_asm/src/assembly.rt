@@ -1,0 +1,170 @@
+ghost use Rattle.std.specs.Prelude.{◌≡◌, ◌++◌, ◌∷◌, [], ℕ, IfOk, IfErr, OnOk, IsTrue, reverse, length, ◌+◌};
+ghost use Rattle.std.specs.Option.{option_or};
+ghost use Rattle.std.specs.Result.{result_err};
+ghost use Rattle.part_definitions.specs.Memory.{is_image_place};
+ghost use Rattle.mem_map.specs.Image.{byte_in};
+ghost use Rattle.text_scan.specs.Reader.{Reads};
+ghost use Rattle.asm_bytes.specs.Scope.{scope_in};
+ghost use Rattle.asm_bytes.specs.Statement.{bytes_of};
+ghost use Rattle.msp_asm.specs.FirstPass.{first_fault, first_pass_fault};
+ghost use Rattle.msp_asm.specs.FirstPassState.{AnswersFault};
+ghost use Rattle.msp_asm.specs.SecondPass.{byte_among, byte_placed, second_pass_fault, image_of};
+ghost use Rattle.msp_asm.specs.Assembly.{LayoutStandsFor, AnswersAt, IsMemory, fault_in_line, image_in};
+
+use crate::first_pass::FirstPass;
+use crate::image_writer::place_bytes;
+use asm_bytes::{Names, Scope};
+use asm_text::Statement;
+use mem_map::Image;
+use std::alloc::{AllocError, Global};
+use text_scan::{FaultAt, TextFault, WordFault};
+
+/// What the first pass over all statements gives: the names, and the place before each statement.
+#[derive(Drop)]
+pub struct Layout<'a> {
+    names: Names<'a>,
+    places: Vec<u32>,
+}
+
+impl<'a> Layout<'a> {
+    ghost use Rattle.std.specs.Prelude.{◌≡◌, ◌<◌, length, slice_index};
+    ghost use Rattle.asm_bytes.specs.Names.{value_in};
+    ghost use Rattle.asm_bytes.specs.Scope.{scope_in};
+
+    // What the statement at an index is read in.
+    fn scope(&self, text: &'a [u8], i: usize) -> Scope<'_, 'a>
+        requires { i < length self.now.places.items }
+        ensures { scope_in result
+            ≡ record {
+              text = text.now;
+              names = value_in self.now.names;
+              here = slice_index self.now.places.items i;
+            } }
+    {
+        Scope {
+            text,
+            names: &self.names,
+            here: self.places[i],
+        }
+    }
+}
+
+// A fault with its line.
+fn fault_in_line(line: u64, fault: WordFault) -> TextFault
+    ensures { result ≡ fault_in_line line fault }
+{
+    match fault {
+        WordFault::Kind(kind) => TextFault::At(FaultAt { line, kind }),
+        WordFault::Memory(error) => TextFault::Memory(error),
+    }
+}
+
+// Puts a place after the others.
+fn push_place(places: &mut Vec<u32>, place: u32) -> Result<(), TextFault>
+    ensures ok { OnOk result (places.new.items ≡ places.old.items ++ place ∷ []) }
+    ensures count { OnOk result (length places.new.items ≡ length places.old.items + 1) }
+    ensures memory { IfErr result (λ fault. IsMemory fault) }
+{
+    match places.push(place) {
+        Ok(()) => Ok(()),
+        Err(_) => Err(TextFault::Memory(AllocError)),
+    }
+}
+
+// The names of all statements and their places, or the first fault of the first pass.
+fn names_and_places<'a>(
+    alloc: Global,
+    text: &'a [u8],
+    statements: &[Statement],
+) -> Result<Layout<'a>, TextFault>
+    ensures ok { IfOk result (λ layout. LayoutStandsFor layout text.now statements.now) }
+    ensures fault { AnswersAt result
+        (first_fault (first_pass_fault text.now) (reverse statements.now)) }
+{
+    let mut pass = match FirstPass::new(alloc, text) {
+        Ok(pass) => pass,
+        Err(error) => return Err(TextFault::Memory(error)),
+    };
+    let mut places = Vec::new(alloc);
+    for statement in statements {
+        if let Err(fault) = push_place(&mut places, pass.place()) {
+            return Err(fault);
+        }
+        if let Err(fault) = pass.take(statement) {
+            return Err(fault_in_line(statement.line, fault));
+        }
+    }
+    Ok(Layout {
+        names: pass.into_names(),
+        places,
+    })
+}
+
+// Puts the bytes of a statement, or answers its first fault.
+fn place_statement(
+    alloc: Global,
+    scope: &Scope<'_, '_>,
+    statement: &Statement,
+    image: &mut Image,
+) -> Result<(), WordFault>
+    ensures fault { AnswersFault result
+        (result_err (bytes_of (scope_in scope.now) statement.now.body)) }
+    ensures bytes { OnOk result ((place : ℕ) → IsTrue (is_image_place place)
+        → byte_in image.new place
+        ≡ option_or
+        (byte_among scope.now.here (bytes_of (scope_in scope.now) statement.now.body) place)
+        (byte_in image.old place)) }
+{
+    match scope.bytes_of(alloc, &statement.body) {
+        Ok(bytes) => {
+            place_bytes(image, scope.here, bytes.as_slice());
+            Ok(())
+        }
+        Err(fault) => Err(fault),
+    }
+}
+
+// The image of all statements, or the first fault of the second pass.
+#[tactic(auto, unfolding(crate::specs::SecondPass::byte_placed))]
+fn image_of<'a>(
+    alloc: Global,
+    text: &'a [u8],
+    statements: &[Statement],
+    layout: &Layout<'a>,
+) -> Result<Image, TextFault>
+    requires { LayoutStandsFor layout.now text.now statements.now }
+    ensures fault { AnswersAt result
+        (first_fault (second_pass_fault text.now (reverse statements.now))
+        (reverse statements.now)) }
+    ensures bytes { IfOk result (λ image. (place : ℕ) → IsTrue (is_image_place place)
+        → byte_in image place
+        ≡ byte_placed text.now (reverse statements.now) (reverse statements.now) place) }
+{
+    let mut image = match Image::new(alloc) {
+        Ok(image) => image,
+        Err(error) => return Err(TextFault::Memory(error)),
+    };
+    for i in 0..statements.len() {
+        let statement = &statements[i];
+        let scope = layout.scope(text, i);
+        if let Err(fault) = place_statement(alloc, &scope, statement, &mut image) {
+            return Err(fault_in_line(statement.line, fault));
+        }
+    }
+    Ok(image)
+}
+
+/// The image of statements, or the first fault of the two passes over them.
+pub fn assemble_statements(
+    alloc: Global,
+    text: &[u8],
+    statements: &[Statement],
+) -> Result<Image, TextFault>
+    ensures { Reads (image_in result) (image_of text.now statements.now) }
+{
+    let layout = match names_and_places(alloc, text, statements) {
+        Ok(layout) => layout,
+        Err(fault) => return Err(fault),
+    };
+    image_of(alloc, text, statements, &layout)
+}

@@ -1,0 +1,246 @@
+ghost use Rattle.std.specs.Prelude.{◌≡◌, ◌≤◌, ◌≤ℤ◌, ◌+◌, ℕ, pos, Some, None, IfOk, OnOk, IfSome, IsNone, if◌then◌else◌};
+ghost use Rattle.std.specs.Result.{result_err};
+ghost use Rattle.asm_bytes.specs.Names.{value_in};
+ghost use Rattle.asm_bytes.specs.Statement.{size_of};
+ghost use Rattle.msp_asm.specs.FirstPass.{constant_name, are_same, with_name, place_after, is_org, place_of};
+ghost use Rattle.msp_asm.specs.FirstPassState.{AnswersFault};
+
+use crate::space::take_places;
+use asm_bytes::{Names, Scope, address_of, characters, is_of_words, size_of, word_of};
+use asm_text::{Body, Span, Statement};
+use mem_map::Image;
+use std::alloc::{AllocError, Global};
+use text_scan::{FaultKind, WordFault};
+
+// The name that a body gives.
+fn constant_name(body: &Body) -> Option<Span>
+    ensures { result ≡ constant_name body.now }
+{
+    match body {
+        Body::Equ(name, _) => Some(*name),
+        _ => None,
+    }
+}
+
+// Whether both names are the same.
+fn are_same(text: &[u8], name: Option<Span>, other: Option<Span>) -> bool
+    ensures { result ≡ are_same text.now name other }
+{
+    match (name, other) {
+        (Some(name), Some(other)) => characters(text, name) == characters(text, other),
+        _ => false,
+    }
+}
+
+// Gives a name a value.
+fn insert<'a>(
+    text: &'a [u8],
+    names: &mut Names<'a>,
+    name: Option<Span>,
+    value: i32,
+) -> Result<(), AllocError>
+    ensures { OnOk result
+        (value_in names.new ≡ with_name text.now name (Some value) (value_in names.old)) }
+{
+    match name {
+        Some(name) => names.insert(characters(text, name), value),
+        None => Ok(()),
+    }
+}
+
+// The place behind a statement that names this one, or whose bytes end before `after`.
+fn next_place(body: &Body, constant: Option<i32>, after: u32) -> u32
+    ensures value { result ≡ (if is_org body.now then place_of constant else after) }
+    ensures most { IfSome constant (λ value. value ≤ℤ pos 65535) → after ≤ 65536 → result ≤ 65536 }
+{
+    match (body, constant) {
+        (Body::Org(_), Some(place)) => u32::try_from(place).unwrap_or(0),
+        (Body::Org(_), None) => 0,
+        _ => after,
+    }
+}
+
+/// The first pass over the statements so far: the names that they give, and the place after them.
+#[derive(Drop)]
+pub struct FirstPass<'a> {
+    text: &'a [u8],
+    names: Names<'a>,
+    // 65,536 after the last place.
+    place: u32,
+    // An image with a byte at each place that is taken.
+    taken: Image,
+    ghost in_memory: { place ≤ 65536 },
+}
+
+impl<'a> FirstPass<'a> {
+    ghost use Rattle.std.specs.Prelude.{◌≡◌, ◌≤◌, ◌≤ℤ◌, ◌∷◌, ◌||◌, [], ℕ, pos, List, IfOk, OnOk, IfSome, IsNone};
+    ghost use Rattle.std.specs.Result.{result_err};
+    ghost use Rattle.asm_text.specs.declared.statement.Statement.{Statement};
+    ghost use Rattle.asm_bytes.specs.Names.{value_in};
+    ghost use Rattle.asm_bytes.specs.Scope.{scope_in};
+    ghost use Rattle.asm_bytes.specs.Statement.{size_of};
+    ghost use Rattle.msp_asm.specs.FirstPass.{is_given, gives_again, constant_name, constant_value, constant_fault, places_byte, place_fault, next_scope, statement_fault, first_pass_fault};
+    ghost use Rattle.msp_asm.specs.FirstPassState.{taken_in, AnswersFault};
+    ghost use Rattle.msp_asm.specs.FirstPassStands.{scope_of, FirstPassStandsFor};
+
+    /// Before the first statement: at C000, without names.
+    #[tactic(auto, unfolding(crate::specs::FirstPass::scope_after, crate::specs::FirstPass::is_placed))]
+    pub fn new(alloc: Global, text: &'a [u8]) -> Result<FirstPass<'a>, AllocError>
+        ensures { IfOk result (λ pass. FirstPassStandsFor pass text.now []) }
+    {
+        Ok(FirstPass {
+            text,
+            names: Names::new(alloc),
+            place: 0xC000,
+            taken: Image::new(alloc)?,
+        })
+    }
+
+    /// The place after the statements so far; 65,536 after the last place.
+    pub fn place(&self) -> u32
+        ensures { result ≡ (scope_of self.now).here }
+    {
+        self.place
+    }
+
+    /// The names that the statements so far give.
+    pub fn into_names(self) -> Names<'a>
+        ensures { value_in result ≡ (scope_of self.entry).names }
+    {
+        self.names
+    }
+
+    // What the expressions of the next statement are read in.
+    fn scope(&self) -> Scope<'_, 'a>
+        ensures { scope_in result ≡ scope_of self.now }
+    {
+        Scope {
+            text: self.text,
+            names: &self.names,
+            here: self.place,
+        }
+    }
+
+    fn is_given(&self, name: Option<Span>) -> bool
+        ensures { result ≡ is_given (scope_of self.now).text (scope_of self.now).names name }
+    {
+        match name {
+            Some(name) => self.names.get(characters(self.text, name)).is_some(),
+            None => false,
+        }
+    }
+
+    // Whether a name that the statement gives has a value, or it gives one name twice.
+    fn gives_again(&self, statement: &Statement) -> bool
+        ensures { result ≡ gives_again (scope_of self.now) statement.now }
+    {
+        let constant = constant_name(&statement.body);
+        self.is_given(statement.label)
+            || self.is_given(constant)
+            || are_same(self.text, statement.label, constant)
+    }
+
+    // The value that `.org` or `.equ` names.
+    fn constant(&self, body: &Body) -> Result<Option<i32>, FaultKind>
+        ensures fault { result_err result ≡ constant_fault (scope_of self.now) body.now }
+        ensures value { IfOk result (λ value. value ≡ constant_value (scope_of self.now) body.now) }
+        ensures most { IfOk result (λ value. IfSome value (λ number. number ≤ℤ pos 65535)) }
+        ensures none { IfOk result (λ value. IsNone value → IsNone (constant_name body.now)) }
+    {
+        match body {
+            Body::Org(expr) => {
+                let place = address_of(self.scope().defined_value(expr)?)?;
+                Ok(Some(i32::from(place)))
+            }
+            Body::Equ(_, expr) => {
+                let value = self.scope().defined_value(expr)?;
+                word_of(value)?;
+                Ok(Some(value as i32))
+            }
+            _ => Ok(None),
+        }
+    }
+
+    // Takes the places of a statement's bytes, and answers the place behind them.
+    fn take_places(&mut self, body: &Body) -> Result<u32, FaultKind>
+        ensures fault { result_err result
+            ≡ place_fault (taken_in self.old.taken) (scope_of self.old) body.now }
+        ensures next { IfOk result (λ next.
+            next ≡ (scope_of self.old).here + size_of (scope_of self.old).text body.now) }
+        ensures most { IfOk result (λ next. next ≤ 65536) }
+        ensures scope { scope_of self.new ≡ scope_of self.old }
+        ensures taken { OnOk result ((place : ℕ)
+            → taken_in self.new.taken place
+            ≡ (places_byte (scope_of self.old) body.now place || taken_in self.old.taken place)) }
+    {
+        if is_of_words(body) && self.place % 2 != 0 {
+            return Err(FaultKind::Place);
+        }
+        take_places(&mut self.taken, self.place, size_of(self.text, body))
+    }
+
+    // Gives the names of a statement their values, and goes to the place behind it.
+    fn pass(
+        &mut self,
+        statement: &Statement,
+        constant: Option<i32>,
+        after: u32,
+    ) -> Result<(), AllocError>
+        requires value { constant ≡ constant_value (scope_of self.old) statement.now.body }
+        requires most { IfSome constant (λ value. value ≤ℤ pos 65535) }
+        requires none { IsNone constant → IsNone (constant_name statement.now.body) }
+        requires after_fits { after ≤ 65536 }
+        requires after { after ≡ (scope_of self.old).here
+            + size_of (scope_of self.old).text statement.now.body }
+        ensures scope { OnOk result
+            (scope_of self.new ≡ next_scope (scope_of self.old) statement.now) }
+        ensures taken { OnOk result (taken_in self.new.taken ≡ taken_in self.old.taken) }
+    {
+        insert(
+            self.text,
+            &mut self.names,
+            statement.label,
+            self.place as i32,
+        )?;
+        if let Some(value) = constant {
+            let name = constant_name(&statement.body);
+            insert(self.text, &mut self.names, name, value)?;
+        }
+        self.place = next_place(&statement.body, constant, after);
+        Ok(())
+    }
+
+    // Takes a further statement, or answers its first fault.
+    fn add(&mut self, statement: &Statement) -> Result<(), WordFault>
+        ensures fault { AnswersFault result
+            (statement_fault (taken_in self.old.taken) (scope_of self.old) statement.now) }
+        ensures scope { OnOk result
+            (scope_of self.new ≡ next_scope (scope_of self.old) statement.now) }
+        ensures taken { OnOk result ((place : ℕ)
+            → taken_in self.new.taken place
+            ≡ (places_byte (scope_of self.old) statement.now.body place
+            || taken_in self.old.taken place)) }
+    {
+        if self.gives_again(statement) {
+            return Err(WordFault::Kind(FaultKind::Twice));
+        }
+        let constant = self.constant(&statement.body)?;
+        let after = self.take_places(&statement.body)?;
+        match self.pass(statement, constant, after) {
+            Ok(()) => Ok(()),
+            Err(error) => Err(WordFault::Memory(error)),
+        }
+    }
+
+    /// Takes a further statement, or answers its first fault.
+    pub fn take(&mut self, statement: &Statement) -> Result<(), WordFault>
+        ensures fault { (text : List ℕ) (earlier : List Statement)
+            → FirstPassStandsFor self.old text earlier
+            → AnswersFault result (first_pass_fault text earlier statement.now) }
+        ensures taken { (text : List ℕ) (earlier : List Statement)
+            → FirstPassStandsFor self.old text earlier
+            → OnOk result (FirstPassStandsFor self.new text (statement.now ∷ earlier)) }
+    {
+        self.add(statement)
+    }
+}

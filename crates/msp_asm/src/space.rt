@@ -1,0 +1,51 @@
+ghost use Rattle.std.specs.Prelude.{◌≡◌, ◌≤◌, ◌+◌, ◌||◌, ◌==◌, ◌<◌, ℕ, Bool, true, false, IfOk, OnOk, IfErr};
+ghost use Rattle.std.specs.Result.{result_err};
+ghost use Rattle.part_definitions.specs.Memory.{is_image_place};
+ghost use Rattle.msp_asm.specs.FirstPass.{places_from, is_among, space_fault};
+ghost use Rattle.msp_asm.specs.FirstPassState.{taken_in};
+
+use mem_map::Image;
+use text_scan::FaultKind;
+
+// Takes a place, where an image may hold a byte, and answers whether it was taken before.
+fn take_place(taken: &mut Image, place: u32) -> Result<bool, FaultKind>
+    ensures before { IfOk result (λ was_taken. was_taken ≡ taken_in taken.old place) }
+    ensures placed { OnOk result (is_image_place place ≡ true) }
+    ensures most { OnOk result (place < 65536) }
+    ensures taken { OnOk result ((other : ℕ)
+        → taken_in taken.new other ≡ ((other == place) || taken_in taken.old other)) }
+    ensures refused { IfErr result (λ kind.
+        (kind ≡ FaultKind.Place) × (is_image_place place ≡ false)) }
+{
+    let Ok(place) = u16::try_from(place) else {
+        return Err(FaultKind::Place);
+    };
+    let was_taken = taken.get(place).is_some();
+    if !taken.set(place, 0) {
+        return Err(FaultKind::Place);
+    }
+    Ok(was_taken)
+}
+
+/// Takes so many places from one upwards, and answers the place behind them. `Place` where an image
+/// holds no byte at one of them, else `Overlap` where one was taken before.
+pub fn take_places(taken: &mut Image, first: u32, count: usize) -> Result<u32, FaultKind>
+    requires { first ≤ 65536 }
+    ensures fault { result_err result
+        ≡ space_fault (taken_in taken.old) (places_from first count) }
+    ensures next { IfOk result (λ next. next ≡ first + count) }
+    ensures most { IfOk result (λ next. next ≤ 65536) }
+    ensures taken { OnOk result ((place : ℕ)
+        → taken_in taken.new place ≡ (is_among first count place || taken_in taken.old place)) }
+{
+    let mut next = first;
+    let mut overlaps = false;
+    for _done in 0..count {
+        overlaps |= take_place(taken, next)?;
+        next += 1;
+    }
+    if overlaps {
+        return Err(FaultKind::Overlap);
+    }
+    Ok(next)
+}
