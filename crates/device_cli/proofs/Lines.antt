@@ -1,7 +1,8 @@
 -- The text of a play, step by step.
-use Rattle.std.proofs.Common.{◌≡◌, ◌≤◌, ◌+◌, ◌-◌, ◌++◌, ◌∷◌, ◌∙◌, [], ℕ, zero, suc, Bool, List, Option, Some, length, refl, ap, sym, arith, append_assoc, append-nil}
+use Rattle.std.proofs.Common.{◌≡◌, ◌≤◌, ◌+◌, ◌-◌, ◌++◌, ◌&&◌, ◌∷◌, ◌∙◌, [], ℕ, zero, suc, Bool, true, List, Option, Some, None, is_none, unwrap_or, length, refl, ap, sym, arith, append_assoc, append-nil}
 use Rattle.bus_signals.specs.declared.bus_record.BusRecord.{BusRecord}
 use Rattle.bus_signals.specs.declared.event.Event.{Event}
+use Rattle.bus_signals.specs.declared.rule.Rule.{Rule}
 use Rattle.bus_signals.specs.Report.{ReportFields}
 use Rattle.device_trace.specs.Logs.{Logs, exec_of}
 use Rattle.device_trace.specs.Progress.{next_pc_of}
@@ -9,6 +10,7 @@ use Rattle.device_trace.specs.Start.{Start}
 use Rattle.device_trace.specs.Step.{next_record}
 use Rattle.device_trace.specs.Trace.{trace, last_record, logs_after, play_of}
 use Rattle.device_trace.specs.Text.{byte_sent_in, last_byte_sent, report_in, last_report, sent_lines, reset_lines, report_lines, step_lines, lines_of, play_text}
+use Rattle.device_core.specs.Silence.{last_rule, is_silent}
 use Rattle.printed_lines.specs.Lines.{end_line}
 
 pub length-play_of :
@@ -18,16 +20,16 @@ length-play_of events_at (suc steps) = ap suc (length-play_of events_at steps)
 
 -- the lines of a step from what is told of it
 step_lines-told :
-    (start : Start) (step made : ℕ) (newest entry : BusRecord) (logs : Logs) (sent : Option ℕ)
-    (report : Option ReportFields)
+    (start : Start) (step made : ℕ) (newest : BusRecord) (logs : Logs) (sent : Option ℕ)
+    (rule : Option Rule) (report : Option ReportFields)
     → made ≡ step
-    → newest ≡ entry
     → sent ≡ byte_sent_in newest
+    → rule ≡ newest.reset
     → report ≡ report_in start logs made newest
     → step_lines start made newest logs
-    ≡ sent_lines step sent ++ reset_lines step entry.reset ++ report_lines report
-step_lines-told start step made newest entry logs sent report size same byte told =
-    rw (byte, told, same, size) refl
+    ≡ sent_lines step sent ++ reset_lines step rule ++ report_lines report
+step_lines-told start step made newest logs sent rule report size byte broken told =
+    rw (byte, broken, told, size) refl
 
 -- one more step adds its lines
 lines_of-cons :
@@ -39,13 +41,6 @@ lines_of-cons :
 unfolding lines_of
 lines_of-cons start events play = refl
 
-newest-is :
-    (start : Start) (events : List Event) (play : List (List Event)) (entry : BusRecord)
-    → last_record (trace start (events ∷ play)) ≡ Some entry
-    → next_record start (logs_after start play) events ≡ entry
-unfolding trace
-newest-is start events play entry last = cc
-
 last_byte_sent-cons :
     (start : Start) (events : List Event) (play : List (List Event))
     → last_byte_sent (trace start (events ∷ play))
@@ -53,7 +48,49 @@ last_byte_sent-cons :
 unfolding trace
 last_byte_sent-cons start events play = refl
 
--- what is printed in a step is its lines
+last_rule-cons :
+    (start : Start) (events : List Event) (play : List (List Event))
+    → last_rule (trace start (events ∷ play))
+    ≡ (next_record start (logs_after start play) events).reset
+unfolding trace
+last_rule-cons start events play = refl
+
+-- what the last step of a play sent, broke and reported are its lines
+pub lines_of-last :
+    (start : Start) (events_at : ℕ → List Event) (steps : ℕ)
+    → lines_of start (play_of events_at (suc steps))
+    ≡ lines_of start (play_of events_at steps)
+    ++ (sent_lines steps (last_byte_sent (trace start (play_of events_at (suc steps))))
+    ++ reset_lines steps (last_rule (trace start (play_of events_at (suc steps))))
+    ++ report_lines (last_report start (play_of events_at (suc steps))))
+lines_of-last start events_at steps =
+    let play : List (List Event) = play_of events_at steps in
+    let events : List Event = events_at steps in
+    lines_of-cons start events play
+    ∙ ap (λ lines. lines_of start play ++ lines)
+    (step_lines-told start steps (length play) (next_record start (logs_after start play) events)
+    (logs_after start (events ∷ play)) (last_byte_sent (trace start (events ∷ play)))
+    (last_rule (trace start (events ∷ play))) (last_report start (events ∷ play))
+    (length-play_of events_at steps) (last_byte_sent-cons start events play)
+    (last_rule-cons start events play) refl)
+
+last_rule-of :
+    (history : List BusRecord) (entry : BusRecord) → last_record history ≡ Some entry
+    → last_rule history ≡ entry.reset
+last_rule-of [] entry last = cc last
+last_rule-of (newest ∷ history) entry last =
+    ap (λ (one : Option BusRecord). (unwrap_or one newest).reset) last
+
+same-pieces :
+    (step : ℕ) (sent sent' : Option ℕ) (rule rule' : Option Rule)
+    (report report' : Option ReportFields)
+    → sent ≡ sent' → rule ≡ rule' → report ≡ report'
+    → sent_lines step sent ++ reset_lines step rule ++ report_lines report
+    ≡ sent_lines step sent' ++ reset_lines step rule' ++ report_lines report'
+same-pieces step sent sent' rule rule' report report' byte broken told =
+    rw (byte, broken, told) refl
+
+-- what is printed in a step, of its record, is its lines
 pub lines_of-printed :
     (start : Start) (events_at : ℕ → List Event) (steps : ℕ) (entry : BusRecord) (sent : Option ℕ)
     (report : Option ReportFields)
@@ -64,13 +101,33 @@ pub lines_of-printed :
     ≡ lines_of start (play_of events_at steps)
     ++ (sent_lines steps sent ++ reset_lines steps entry.reset ++ report_lines report)
 lines_of-printed start events_at steps entry sent report last byte told =
-    let play : List (List Event) = play_of events_at steps in
-    let events : List Event = events_at steps in
-    lines_of-cons start events play
-    ∙ ap (λ lines. lines_of start play ++ lines)
-    (step_lines-told start steps (length play) (next_record start (logs_after start play) events) entry
-    (logs_after start (events ∷ play)) sent report (length-play_of events_at steps)
-    (newest-is start events play entry last) (byte ∙ last_byte_sent-cons start events play) told)
+    let play : List (List Event) = play_of events_at (suc steps) in
+    lines_of-last start events_at steps
+    ∙ ap (λ lines. lines_of start (play_of events_at steps) ++ lines)
+    (same-pieces steps (last_byte_sent (trace start play)) sent (last_rule (trace start play))
+    entry.reset (last_report start play) report (sym byte)
+    (last_rule-of (trace start play) entry last) (sym told))
+
+silent-pieces :
+    (step : ℕ) (sent : Option ℕ) (rule : Option Rule) (report : Option ReportFields)
+    → (is_none sent && is_none rule && is_none report) ≡ true
+    → sent_lines step sent ++ reset_lines step rule ++ report_lines report ≡ []
+silent-pieces step None None None silent = refl
+silent-pieces step None None (Some report) silent = absurd cc
+silent-pieces step None (Some rule) report silent = absurd cc
+silent-pieces step (Some byte) rule report silent = absurd cc
+
+-- a silent step has no lines
+pub silent-lines :
+    (start : Start) (play : List (List Event)) (step : ℕ)
+    → is_silent start play ≡ true
+    → sent_lines step (last_byte_sent (trace start play))
+    ++ reset_lines step (last_rule (trace start play))
+    ++ report_lines (last_report start play)
+    ≡ []
+silent-lines start play step silent =
+    silent-pieces step (last_byte_sent (trace start play)) (last_rule (trace start play))
+    (last_report start play) silent
 
 more-lines :
     (all earlier before rest lines : List ℕ)

@@ -9,6 +9,10 @@ most_steps = 10000000
 abbrev pub key_limit : ℕ
 key_limit = 256
 
--- the longest file of an image and of a script
+-- the longest file of a policy
+abbrev pub policy_limit : ℕ
+policy_limit = 65536
+
+-- the longest file of an image, of a script and of reports
 abbrev pub text_limit : ℕ
 text_limit = 1048576

@@ -1,5 +1,6 @@
--- A command as a row: the files that it reads, in order, and the text that it puts.
-use Rattle.std.specs.Prelude.{ℕ, List, length, Option, Some, if◌then◌else◌, nat_lt}
+-- A command as a row: the files that it reads, in order, and what it makes of their bytes.
+use Rattle.std.specs.Prelude.{ℕ, Bool, List, length, Option, Some, if◌then◌else◌, nat_lt}
+use Rattle.bus_signals.specs.declared.event.Event.{Event}
 use Rattle.text_scan.specs.declared.fault_at.FaultAt.{FaultAt}
 use Rattle.text_scan.specs.declared.fault_kind.FaultKind.TheVariants.{TooLong}
 use Rattle.device_cli.specs.declared.status.Status.{Status}
@@ -16,11 +17,25 @@ pub record File : Type 0 where
   pub name : List ℕ
   pub kind : FileKind
 
--- a command: its files in the order in which they are read, and its text, made of their bytes in
--- that order
+-- what is put: a text, whether every verdict in it is `accept`, and whether there is a pair of
+-- lists in it, for which memory is taken
+pub record Outcome : Type 0 where
+  pub text : List ℕ
+  pub is_accepted : Bool
+  pub has_pair : Bool
+
+-- a play of a device: the key and the image that it is powered on with, and the events of its steps
+pub record Played : Type 0 where
+  pub key : List ℕ
+  pub image : ℕ → ℕ
+  pub play : List (List Event)
+
+-- a command: its files in the order in which they are read; what is put, made of their bytes in
+-- that order; and the play that it is put of, if it is one
 pub record Row : Type 0 where
   pub files : List File
-  pub text : List (List ℕ) → List ℕ
+  pub outcome : List (List ℕ) → Outcome
+  pub played : List (List ℕ) → Option Played
 
 -- the first fault of a file's bytes: past the limit it is at line 0
 abbrev pub first_fault : FileKind → List ℕ → Option FaultAt

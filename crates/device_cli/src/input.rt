@@ -1,27 +1,33 @@
-ghost use Rattle.std.specs.Prelude.{◌≡◌, ◌≤◌, ◌∷◌, [], ℕ, List, None, IfOk, IfErr, IfSome, MatchResult};
-ghost use Rattle.outside_edge.specs.File.{file_of};
+ghost use Rattle.std.specs.Prelude.{◌≡◌, ◌∷◌, [], ℕ, List};
 ghost use Rattle.mem_map.specs.Image.{byte_in};
 ghost use Rattle.device_cli.specs.Row.{FileKind};
-ghost use Rattle.device_cli.specs.Play.{key_kind, image_kind, script_kind, key_in, bytes_in, script_in};
-ghost use Rattle.device_cli.specs.Input.{IsParse, IsParseOrRefusal, file_refusal};
-ghost use Rattle.device_cli.specs.Answer.{HasValue, IsRefusal, Refuses, counts_of, refusal_in};
+ghost use Rattle.device_cli.specs.FileKinds.{key_kind, image_kind, script_kind, policy_kind, reports_kind, key_in, bytes_in, script_in, policy_in, reports_in};
+ghost use Rattle.device_cli.specs.Input.{IsParse, IsParseOrRefusal, OfOne, file_refusal};
+ghost use Rattle.device_cli.specs.Reading.{NamesFault, Reads};
 
 use crate::status::Status;
 use hex_loader::read_hex;
 use mem_map::Image;
 use outside_edge::{FileFault, Shelf, read_whole};
 use play_script::{Script, read_script};
+use report_text::{Report, read_reports};
+use report_verifier::{Policy, read_policy};
 use std::alloc::Global;
 use text_scan::{FaultAt, FaultKind, TextFault, read_key};
 
 /// The most bytes of a key's file.
 const KEY_LIMIT: usize = 256;
 
-/// The most bytes of an image and of a script.
-const TEXT_LIMIT: usize = 1_048_576;
+/// The most bytes of a policy.
+const POLICY_LIMIT: usize = 65_536;
+
+/// The most bytes of an image, of a script, of a source and of reports.
+pub const TEXT_LIMIT: usize = 1_048_576;
 
 /// What a file of one kind is read as.
 pub trait Input: Drop + Sized {
+    ghost use Rattle.text_scan.specs.declared.fault_at.FaultAt.{FaultAt};
+
     /// The kind of file: its limit, its grammar and the answer that names a fault.
     ghost kind: { FileKind };
 
@@ -39,6 +45,8 @@ pub trait Input: Drop + Sized {
     /// The answer that names a fault of such a file.
     fn refusal(fault: FaultAt) -> Status
         ensures { result ≡ kind.refusal fault };
+
+    ghost named: { (fault : FaultAt) → NamesFault (kind.refusal fault) };
 }
 
 impl Input for [u8; 64] {
@@ -57,6 +65,8 @@ impl Input for [u8; 64] {
     fn refusal(fault: FaultAt) -> Status {
         Status::BadKey(fault)
     }
+
+    ghost named = { λ fault. tt };
 }
 
 impl Input for Image {
@@ -75,6 +85,48 @@ impl Input for Image {
     fn refusal(fault: FaultAt) -> Status {
         Status::BadImage(fault)
     }
+
+    ghost named = { λ fault. tt };
+}
+
+impl Input for Policy {
+    ghost kind = { policy_kind };
+
+    ghost stands = { λ policy bytes. policy ≡ policy_in bytes };
+
+    fn limit() -> usize {
+        POLICY_LIMIT
+    }
+
+    fn parse(alloc: Global, bytes: &[u8]) -> Result<Policy, TextFault> {
+        read_policy(alloc, bytes)
+    }
+
+    fn refusal(fault: FaultAt) -> Status {
+        Status::BadPolicy(fault)
+    }
+
+    ghost named = { λ fault. tt };
+}
+
+impl Input for Vec<Report> {
+    ghost kind = { reports_kind };
+
+    ghost stands = { λ reports bytes. reports.items ≡ reports_in bytes };
+
+    fn limit() -> usize {
+        TEXT_LIMIT
+    }
+
+    fn parse(alloc: Global, bytes: &[u8]) -> Result<Vec<Report>, TextFault> {
+        read_reports(alloc, bytes)
+    }
+
+    fn refusal(fault: FaultAt) -> Status {
+        Status::BadReports(fault)
+    }
+
+    ghost named = { λ fault. tt };
 }
 
 impl Input for Script {
@@ -93,21 +145,14 @@ impl Input for Script {
     fn refusal(fault: FaultAt) -> Status {
         Status::BadScript(fault)
     }
+
+    ghost named = { λ fault. tt };
 }
 
 /// The value of the file of that name, or the answer that says why there is none.
 pub fn read_input<I: Input, S: Shelf>(alloc: Global, shelf: &mut S, name: &str) -> Result<I, Status>
-    ensures value { IfOk result (λ input.
-        HasValue (S.files shelf.old) name.now I.kind (I.stands input)) }
-    ensures refusal { IfErr result (IsRefusal (S.files shelf.old)
-        (counts_of S.faults S.misses shelf.old shelf.new)
-        (record { name = name.now; kind = I.kind } ∷ [])) }
-    ensures order { IfSome (S.files shelf.old) (λ held. MatchResult result
-        (λ _. refusal_in I.kind (file_of held name.now) ≡ None)
-        (Refuses (refusal_in I.kind (file_of held name.now)))) }
-    ensures same { S.files shelf.new ≡ S.files shelf.old }
-    ensures faults { S.faults shelf.old ≤ S.faults shelf.new }
-    ensures misses { S.misses shelf.old ≤ S.misses shelf.new }
+    ensures { Reads S.files S.faults S.misses shelf.old shelf.new
+        (record { name = name.now; kind = I.kind } ∷ []) (OfOne I.stands) result }
 {
     match read_whole(alloc, shelf, name, I::limit()) {
         Ok(bytes) => parse_input(alloc, &bytes),

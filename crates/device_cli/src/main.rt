@@ -1,19 +1,36 @@
-//! The program: it plays firmware a bus step at a time and prints what the device sends and why it
-//! resets.
+//! The program: it plays firmware a bus step at a time and prints what the device sends, why it
+//! resets and what it attests, dumps its memory, lists images, and verifies reports.
 //!
 //! [`run`](run::run) is the whole program over any shelf of files and any byte sink. Its contract
 //! says of the bytes put that they are the text of the command's row, and of each other answer what
 //! its cause is. `main` runs it over the file system and standard output.
 #![tactic(auto)]
 
+mod assembled_image;
+mod assembly;
 mod command;
+mod dump;
+mod image_listing;
 mod input;
+mod judgement;
 mod play;
+mod play_inputs;
 mod play_text;
+mod round;
+#[cfg(test)]
+mod round_row;
+mod round_text;
 mod run;
 mod status;
+mod task;
 #[cfg(test)]
 mod tests;
+mod verdict_line;
+mod verdict_text;
+mod verify;
+mod verify_inputs;
+#[cfg(test)]
+mod worked_row;
 
 use crate::run::run;
 use crate::status::Status;
@@ -23,19 +40,33 @@ use std::{env, io};
 
 const HELP: &str = "\
 usage: foldgneiss play IMAGE SCRIPT KEY STEPS
+       foldgneiss dump IMAGE SCRIPT KEY STEPS
+       foldgneiss list IMAGE
+       foldgneiss verify IMAGE POLICY KEY REPORTS
+       foldgneiss round IMAGE SCRIPT KEY POLICY STEPS
+       foldgneiss asm SOURCE
 
-Plays STEPS bus steps (1 to 10000000) of the firmware in IMAGE (Intel HEX), with
-the events of SCRIPT and the device key in KEY (128 hexadecimal digits). Prints
-`tx S HH` for a byte sent in step S, `reset S R` where step S broke the rule R,
-`report S ..` where step S finished an attestation, and `end N pc H4 exec E`
-after the last step.
+play    Plays STEPS bus steps (1 to 10000000) of the firmware in IMAGE (Intel
+        HEX), with the events of SCRIPT and the device key in KEY (128
+        hexadecimal digits). Prints `tx S HH` for a byte sent in step S,
+        `reset S R` where step S broke the rule R, `report S ..` where step S
+        finished an attestation, and `end N pc H4 exec E` after the last step.
+dump    Prints what play prints, and then RAM, program and vectors as Intel HEX.
+list    Prints the instructions, words and bytes of IMAGE, one a line.
+verify  Prints `verdict I V` for each report line in REPORTS, the I-th of which
+        has to answer the I-th challenge of POLICY.
+round   Prints what play prints, and after each report its verdict; after an
+        `accept` where the device's own memory is not what was expected though
+        the MACs agree, `collision HH.. HH..` with two lists of one digest.
+asm     Prints the image of an assembler source as Intel HEX.
 
   --help     prints this
   --version  prints the version
 
-The exit status is 0 where all was printed. Otherwise a line on standard error
-says what is wrong: 2 the arguments, 3 a file that is absent, 4 reading,
-5 writing, 6 memory, 7 the key, 8 the image, 9 the script.
+The exit status is 0 where all was printed, and 1 where a verdict in it is not
+`accept`. Otherwise a line on standard error says what is wrong: 2 the
+arguments, 3 a file that is absent, 4 reading, 5 writing, 6 memory, 7 the key,
+8 the image, 9 the script, 10 the policy, 11 the reports, 12 the source.
 ";
 
 const VERSION: &str = "foldgneiss 0.1.0\n";

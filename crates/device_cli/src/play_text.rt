@@ -1,12 +1,17 @@
 ghost use Rattle.std.specs.Prelude.{◌≡◌, ◌≤◌, ◌++◌, [], ℕ, List, IfOk, option_map};
 ghost use Rattle.bus_signals.specs.Report.{fields_of};
 ghost use Rattle.outside_edge.specs.Sink.{Puts, CountsFaults};
-ghost use Rattle.device_trace.specs.Start.{with_key};
-ghost use Rattle.device_trace.specs.Text.{sent_lines, reset_lines, report_lines, play_text};
-ghost use Rattle.device_trace.specs.Trace.{play_of};
+ghost use Rattle.bus_signals.specs.declared.event.Event.{Event};
+ghost use Rattle.device_trace.specs.Start.{Start, with_key};
+ghost use Rattle.device_trace.specs.Text.{last_byte_sent, last_report, sent_lines, reset_lines, report_lines, play_text};
+ghost use Rattle.device_trace.specs.Trace.{trace, play_of};
 ghost use Rattle.play_script.specs.Script.{events_of};
+ghost use Rattle.key_isolation.specs.Agreement.{ReleaseAlike};
+ghost use Rattle.mac_coverage.specs.Coverage.{IsDeviceKey, IsOfBytes};
 ghost use Rattle.device_cli.specs.Limit.{most_steps};
-ghost use Rattle.device_core.specs.Device.{HeldStandsFor, LiveStandsFor, steps_of};
+ghost use Rattle.device_cli.specs.PlayLaws.{ObeysLaws};
+ghost use Rattle.device_core.specs.Device.{HasStepped, HeldStandsFor, LiveStandsFor, steps_of};
+ghost use Rattle.device_core.specs.Silence.{last_rule};
 
 use bus_signals::{ReportView, Rule};
 use device_core::{Device, Held, Live};
@@ -16,7 +21,7 @@ use play_script::Script;
 use report_text::{print_end, print_report, print_reset, print_sent};
 
 /// Puts the lines of one step.
-fn print_step<W: Sink>(
+pub fn print_step<W: Sink>(
     step: u64,
     sent: Option<u8>,
     reset: Option<Rule>,
@@ -24,8 +29,8 @@ fn print_step<W: Sink>(
     sink: &mut W,
 ) -> Result<(), Failed>
     ensures puts { Puts W.stands sink.old sink.new
-        (sent_lines step sent ++ reset_lines step reset ++ report_lines (option_map fields_of report.entry))
-        result }
+        (sent_lines step sent ++ reset_lines step reset
+        ++ report_lines (option_map fields_of report.entry)) result }
     ensures counts { CountsFaults W.faults sink.old sink.new result }
 {
     print_sent_and_reset(step, sent, reset, sink)?;
@@ -77,8 +82,32 @@ fn print_broken_rule<W: Sink>(step: u64, reset: Option<Rule>, sink: &mut W) -> R
     }
 }
 
-/// Plays a script's first steps on a device at power-on, and puts the text of that play. It gives the
-/// device after the last step.
+/// Puts the lines of the last step, which has this number.
+#[inline(always)]
+fn print_last_step<D: Digest32, W: Sink>(
+    step: u64,
+    live: &Live<D>,
+    sink: &mut W,
+) -> Result<(), Failed>
+    requires { HasStepped live.now }
+    ensures puts { (start : Start) (play : List (List Event))
+        → LiveStandsFor D.has_taken D.digest_of live.now start play
+        → Puts W.stands sink.old sink.new
+        (sent_lines step (last_byte_sent (trace start play))
+        ++ reset_lines step (last_rule (trace start play))
+        ++ report_lines (last_report start play))
+        result }
+    ensures counts { CountsFaults W.faults sink.old sink.new result }
+{
+    if live.is_silent() {
+        Ok(())
+    } else {
+        print_step(step, live.sent(), live.entry().reset, live.report(), sink)
+    }
+}
+
+/// Plays a script's first steps on a device at power-on, and puts the text of that play. It gives
+/// the device after the last step.
 pub fn play_on<D: Digest32, W: Sink>(
     device: Device<Held, D>,
     script: &Script,
@@ -95,12 +124,24 @@ pub fn play_on<D: Digest32, W: Sink>(
         → HeldStandsFor D.has_taken D.digest_of device (with_key D.digest_of key image) []
         → Puts W.stands sink.old sink.new
         (play_text (with_key D.digest_of key image) (play_of (events_of script.now) steps)) result }
+    ensures hides_key { (key other : List ℕ) (image : ℕ → ℕ)
+        → HeldStandsFor D.has_taken D.digest_of device (with_key D.digest_of key image) []
+        → ReleaseAlike (with_key D.digest_of key image) (with_key D.digest_of other image)
+        (play_of (events_of script.now) steps)
+        → Puts W.stands sink.old sink.new (play_text (with_key D.digest_of other image)
+        (play_of (events_of script.now) steps)) result }
+    ensures laws { (key : List ℕ) (image : ℕ → ℕ)
+        → HeldStandsFor D.has_taken D.digest_of device (with_key D.digest_of key image) []
+        → IsDeviceKey key
+        → IsOfBytes image
+        → ObeysLaws D.digest_of key image (play_of (events_of script.now) steps) }
     ensures counts { CountsFaults W.faults sink.old sink.new result }
 {
     let mut live = Live::Held(device);
+    let mut playback = script.playback();
     for step in 0..steps {
-        live = live.step(script.events_at(step));
-        print_step(step, live.sent(), live.entry().reset, live.report(), sink)?;
+        live = live.step(playback.pass(step));
+        print_last_step(step, &live, sink)?;
     }
     print_end(steps, live.next_pc(), live.exec(), sink)?;
     Ok(live)

@@ -6,18 +6,19 @@ use std::test::Fail;
 use text_scan::{FaultAt, FaultKind};
 
 /// Sends the letter A, and then jumps to itself.
-const LETTER_A: &[u8] = b":08C00000B24041007600FF3F51\n:02FFFE0000C041\n:00000001FF\n";
+pub const LETTER_A: &[u8] = b":08C00000B24041007600FF3F51\n:02FFFE0000C041\n:00000001FF\n";
 
 const LETTER_A_TEXT: &[u8] = b"tx 4 41\nend 5 pc c006 exec 0\n";
 
 /// The bytes 00 to 3f.
-const KEY: &[u8] =
-    b"000102030405060708090a0b0c0d0e0f101112131415161718191a1b1c1d1e1f202122232425262728292a2b2c2d2e2f303132333435363738393a3b3c3d3e3f\n";
+pub const KEY: &[u8] = b"000102030405060708090a0b0c0d0e0f101112131415161718191a1b1c1d1e1f\
+202122232425262728292a2b2c2d2e2f303132333435363738393a3b3c3d3e3f\n";
 
 /// The limit of an image and of a script.
 const LIMIT: usize = 1_048_576;
 
-fn arguments(alloc: Global, texts: &[&str]) -> Result<Vec<String>, AllocError> {
+/// The arguments of a command line.
+pub fn arguments(alloc: Global, texts: &[&str]) -> Result<Vec<String>, AllocError> {
     let mut arguments = Vec::new(alloc);
     for text in texts {
         arguments.push(String::from_str(alloc, text)?)?;
@@ -25,17 +26,36 @@ fn arguments(alloc: Global, texts: &[&str]) -> Result<Vec<String>, AllocError> {
     Ok(arguments)
 }
 
-fn files(
+/// Files by their names.
+fn held(alloc: Global, files: &[(&str, &[u8])]) -> Result<Vec<(String, Vec<u8>)>, AllocError> {
+    let mut all = Vec::new(alloc);
+    for (name, bytes) in files {
+        all.push((String::from_str(alloc, name)?, bytes.to_vec(alloc)?))?;
+    }
+    Ok(all)
+}
+
+/// The files of a play.
+pub fn files(
     alloc: Global,
     image: &[u8],
     script: &[u8],
     key: &[u8],
 ) -> Result<Vec<(String, Vec<u8>)>, AllocError> {
-    let mut files = Vec::new(alloc);
-    files.push((String::from_str(alloc, "i")?, image.to_vec(alloc)?))?;
-    files.push((String::from_str(alloc, "s")?, script.to_vec(alloc)?))?;
-    files.push((String::from_str(alloc, "k")?, key.to_vec(alloc)?))?;
-    Ok(files)
+    held(alloc, &[("i", image), ("s", script), ("k", key)])
+}
+
+/// A run of these words over these files, and the bytes that it put.
+pub fn run_on(
+    alloc: Global,
+    words: &[&str],
+    files: &[(&str, &[u8])],
+) -> Result<(Status, Vec<u8>), AllocError> {
+    let mut shelf = MemShelf::new(held(alloc, files)?, 4096, Vec::new(alloc));
+    let mut sink = MemSink::new(Vec::new(alloc), 100_000, 4096, Vec::new(alloc))?;
+    let arguments = arguments(alloc, words)?;
+    let status = run(alloc, arguments.as_slice(), &mut shelf, &mut sink);
+    Ok((status, sink.held().to_vec(alloc)?))
 }
 
 /// A run of `play i s k STEPS`, and the bytes that it put.
@@ -46,11 +66,11 @@ fn play(
     key: &[u8],
     steps: &str,
 ) -> Result<(Status, Vec<u8>), AllocError> {
-    let mut shelf = MemShelf::new(files(alloc, image, script, key)?, 4096, Vec::new(alloc));
-    let mut sink = MemSink::new(Vec::new(alloc), 4096, 4096, Vec::new(alloc))?;
-    let arguments = arguments(alloc, &["play", "i", "s", "k", steps])?;
-    let status = run(alloc, arguments.as_slice(), &mut shelf, &mut sink);
-    Ok((status, sink.held().to_vec(alloc)?))
+    run_on(
+        alloc,
+        &["play", "i", "s", "k", steps],
+        &[("i", image), ("s", script), ("k", key)],
+    )
 }
 
 fn bad_image(line: u64, kind: FaultKind) -> Status {
@@ -115,11 +135,13 @@ fn refuses_arguments_that_are_no_command(rt: HostRuntime) -> Result<(), Fail> {
         assert_eq!(rt; status, Status::Words);
         assert_eq!(rt; put.len(), 0);
     }
-    let rows: [&[&str]; 4] = [
+    let rows: [&[&str]; 6] = [
         &[],
         &["--help"],
         &["play", "i", "s", "k"],
-        &["dump", "i", "s", "k", "5"],
+        &["dump", "i", "s", "k"],
+        &["list", "i", "i"],
+        &["verify", "i", "s", "k"],
     ];
     for row in rows {
         let mut shelf = MemShelf::new(files(alloc, LETTER_A, b"", KEY)?, 9, Vec::new(alloc));
@@ -294,7 +316,7 @@ fn a_status_has_its_number_and_its_line(rt: HostRuntime) -> Result<(), Fail> {
         line: 3,
         kind: FaultKind::Check,
     };
-    let rows: [(Status, u8, &str); 10] = [
+    let rows: [(Status, u8, &str); 13] = [
         (Status::Done, 0, "done"),
         (Status::Rejected, 1, "rejected"),
         (Status::Words, 2, "words are no command"),
@@ -305,6 +327,9 @@ fn a_status_has_its_number_and_its_line(rt: HostRuntime) -> Result<(), Fail> {
         (Status::BadKey(at), 7, "bad key: line 3: Check"),
         (Status::BadImage(at), 8, "bad image: line 3: Check"),
         (Status::BadScript(at), 9, "bad script: line 3: Check"),
+        (Status::BadPolicy(at), 10, "bad policy: line 3: Check"),
+        (Status::BadReports(at), 11, "bad reports: line 3: Check"),
+        (Status::BadSource(at), 12, "bad source: line 3: Check"),
     ];
     for (status, code, line) in rows {
         assert_eq!(rt; status.code(), code);

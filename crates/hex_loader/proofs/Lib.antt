@@ -1,5 +1,6 @@
 pub mod Digits
 pub mod Encoded
+pub mod ImageBytes
 pub mod Placing
 pub mod ReadBack
 pub mod ReadLines

@@ -69,7 +69,8 @@ pub fn record_of_digits<'a>(
     digits: &[u8],
     room: &'a mut [u8; MOST_BYTES],
 ) -> Result<HexRecord<'a>, FaultKind>
-    ensures { GivesRecord result (record_or_fault (hex_bytes_of (length digits.now / 2) digits.now)) }
+    ensures { GivesRecord result
+        (record_or_fault (hex_bytes_of (length digits.now / 2) digits.now)) }
 {
     let bytes = &mut room[..(digits.len() / 2).min(MOST_BYTES)];
     hex_bytes(digits, bytes)?;

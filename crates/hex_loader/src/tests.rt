@@ -126,7 +126,8 @@ const SREC_CAT_LINEAR: &[u8] = b":020000040000fa
 #[test]
 fn images_that_other_tools_wrote_are_read(rt: HostRuntime) -> Result<(), Fail> {
     let bytes =
-        b"\xB2\x40\x41\x00\x76\x00\xFF\x3F\x00\x01\x02\x03\x04\x05\x06\x07\x08\x09\x0A\x0B\x0C\x0D\x0E\x0F\x10\x11\x12\x13\x14\x15\x16\x17\x18\x19\x1A\x1B\x1C\x1D\x1E\x1F\x20";
+        b"\xB2\x40\x41\x00\x76\x00\xFF\x3F\x00\x01\x02\x03\x04\x05\x06\x07\x08\x09\x0A\x0B\x0C\
+        \x0D\x0E\x0F\x10\x11\x12\x13\x14\x15\x16\x17\x18\x19\x1A\x1B\x1C\x1D\x1E\x1F\x20";
     let texts = [
         (OBJCOPY, 0xC000),
         (LLVM_OBJCOPY, 0xC000),
@@ -138,8 +139,8 @@ fn images_that_other_tools_wrote_are_read(rt: HostRuntime) -> Result<(), Fail> {
     }
     // The base 0C00 times 16, then 0 again; the byte that was placed last counts; a record of no
     // bytes.
-    let text =
-        b":020000020C00F0\n:020000001122CB\n:020000040000FA\n:01C00100330B\n\n:0000000000\n:00000001FF\n";
+    let text = b":020000020C00F0\n:020000001122CB\n:020000040000FA\n:01C00100330B\n\n\
+        :0000000000\n:00000001FF\n";
     assert!(rt; holds(rt.alloc(), text, 0xC000, b"\x11\x33")?);
     Ok(())
 }

@@ -1,7 +1,7 @@
 -- The items of a listing: what stands at a place of an image.
 use Rattle.std.specs.Prelude.{◌+◌, ◌*◌, ◌%◌, ◌==◌, ℕ, zero, suc, Option, Some, None, length, nat_le, if◌then◌else◌}
 use Rattle.msp_decode.specs.declared.head.Head.{Head}
-use Rattle.msp_decode.specs.Completion.{extension_count, completed, words_of}
+use Rattle.msp_decode.specs.Completion.{extension_count, completion, words_of}
 use Rattle.msp_decode.specs.Head.{head_of}
 use Rattle.msp_disasm.specs.declared.item.Item.{Item}
 use Rattle.msp_disasm.specs.declared.item.Item.TheVariants.{Byte, Word, Instruction}
@@ -20,9 +20,10 @@ FIRST_VECTOR = 0xFFE0
 
 -- an instruction with so many extension words, where the image has them
 abbrev pub with_words : Head → ℕ → Option ℕ → Option ℕ → Item → Item
-with_words head zero first second otherwise = Instruction (completed head 0 0)
-with_words head (suc zero) (Some first) second otherwise = Instruction (completed head first 0)
-with_words head (suc (suc zero)) (Some first) (Some second) otherwise = Instruction (completed head first second)
+with_words head zero first second otherwise = Instruction (completion head 0 0)
+with_words head (suc zero) (Some first) second otherwise = Instruction (completion head first 0)
+with_words head (suc (suc zero)) (Some first) (Some second) otherwise =
+    Instruction (completion head first second)
 with_words head count first second otherwise = otherwise
 
 -- a legal word with its extension words is an instruction

@@ -113,7 +113,8 @@ dest_text (DestIndexed register index) = indexed_text register index
 -- an instruction at a place; a jump has its target
 abbrev pub instr_text : ℕ → Instr → List ℕ
 instr_text place (Two op size source dest) =
-    op2_name op ++ size_suffix size ++ codes " " ++ source_text source ++ codes "," ++ dest_text dest
+    op2_name op ++ size_suffix size ++ codes " " ++ source_text source ++ codes ","
+    ++ dest_text dest
 instr_text place (OneOperand op size source) =
     one_name op ++ size_suffix size ++ codes " " ++ source_text source
 instr_text place Reti = codes "reti"

@@ -7,7 +7,9 @@ use Rattle.play_script.specs.Script.{events_of}
 use Rattle.device_core.specs.Device.{HeldStandsFor}
 use Rattle.device_cli.proofs.PutsLemmas.{prefix-append, takes-append, takes-nothing}
 use Rattle.outside_edge.proofs.SinkLemmas.{puts-failed, counts-failed}
-use Rattle.device_cli.proofs.Lines.{lines_of-printed, play_text-begins, play_text-ended}
+use Rattle.device_cli.proofs.Lines.{lines_of-last, play_text-begins, play_text-ended}
+use Rattle.key_isolation.proofs.TwoKeys.{same_text}
+use Rattle.device_cli.proofs.LawfulPlay.{obeys_laws}
 use Rattle.device_cli.proofs.play_text.play_on.Goals as goal
 
 pub loop-step-init : goal.loop-step-init
@@ -17,55 +19,56 @@ loop-step-init g c = (
   λ key image held. held,
   λ key image held. takes-nothing g.W.Sink.stands c.args.sink.now,
   refl,
+  λ later from. c.playback-playback.ensures later,
 )
 
 pub loop-step-preserved : goal.loop-step-preserved
 loop-step-preserved g c =
     let taken = g.D.Digest32.has_taken in
     let digest = g.D.Digest32.digest_of in
+    let events = c.pass.ensures.events ∙ c.loop-step.invariant.4 c.loop-step.step (omega arith) in
     let stands = λ (key : List ℕ) (image : ℕ → ℕ)
     (held : HeldStandsFor taken digest c.args.device (with_key digest key image) []).
-    rw c.events_at.ensures
-    at (c.step-live.ensures.stands key image (play_of (events_of c.args.script.now) c.loop-step.step)
+    rw events
+    at (c.step-live.ensures.stands key image
+    (play_of (events_of c.args.script.now) c.loop-step.step)
     (c.loop-step.invariant.1 key image held)) in
-    let printed = λ (key : List ℕ) (image : ℕ → ℕ)
-    (held : HeldStandsFor taken digest c.args.device (with_key digest key image) []).
-    lines_of-printed (with_key digest key image) (events_of c.args.script.now) c.loop-step.step
-    c.entry.result c.sent.result _
-    (c.entry.ensures.last (with_key digest key image) _ (stands key image held))
-    (c.sent.ensures (with_key digest key image) _ (stands key image held))
-    (c.report.ensures (with_key digest key image) _ (stands key image held))
-    in
     rw add-one (
       rw (c.loop-step.invariant.0, add-one) at c.step-live.ensures.steps,
       stands,
       λ key image held.
-          takes-append g.W.Sink.stands c.args.sink.now c.loop-step.sink c.print_step.new.sink
-          (lines_of (with_key digest key image) (play_of (events_of c.args.script.now) c.loop-step.step)) _ _
-          (printed key image held)
-          (c.loop-step.invariant.2 key image held) c.in_ok-print_step.ensures.puts.all,
-      c.in_ok-print_step.ensures.counts.quiet ∙ c.loop-step.invariant.3,
+          takes-append g.W.Sink.stands c.args.sink.now c.loop-step.sink c.print_last_step.new.sink
+          (lines_of (with_key digest key image)
+          (play_of (events_of c.args.script.now) c.loop-step.step)) _ _
+          (lines_of-last (with_key digest key image) (events_of c.args.script.now) c.loop-step.step)
+          (c.loop-step.invariant.2 key image held)
+          (c.in_ok-print_last_step.ensures.puts (with_key digest key image) _
+          (stands key image held)).all,
+      c.in_ok-print_last_step.ensures.counts.quiet ∙ c.loop-step.invariant.3,
+      λ later from.
+          c.pass.ensures.left later (omega arith)
+          ∙ c.loop-step.invariant.4 later (omega arith),
     )
 
-pub returns-in_err-print_step-clause-puts : goal.returns-in_err-print_step-clause-puts
-returns-in_err-print_step-clause-puts g c = λ key image held.
+pub returns-in_err-print_last_step-clause-puts : goal.returns-in_err-print_last_step-clause-puts
+returns-in_err-print_last_step-clause-puts g c = λ key image held.
     let start : Start = with_key g.D.Digest32.digest_of key image in
+    let events = c.pass.ensures.events ∙ c.loop-step.invariant.4 c.loop-step.step (omega arith) in
     let live =
-    rw c.events_at.ensures
-    at (c.step-live.ensures.stands key image (play_of (events_of c.args.script.now) c.loop-step.step)
+    rw events
+    at (c.step-live.ensures.stands key image
+    (play_of (events_of c.args.script.now) c.loop-step.step)
     (c.loop-step.invariant.1 key image held)) in
-    let printed = lines_of-printed start (events_of c.args.script.now) c.loop-step.step
-    c.entry.result c.sent.result _
-    (c.entry.ensures.last start _ live) (c.sent.ensures start _ live) (c.report.ensures start _ live) in
     let begins = play_text-begins start (events_of c.args.script.now) c.loop-step.step c.args.steps
-    _ (omega arith) printed in
-    puts-failed g.W.Sink.stands c.args.sink.now c.print_step.new.sink
+    _ (omega arith) (lines_of-last start (events_of c.args.script.now) c.loop-step.step) in
+    puts-failed g.W.Sink.stands c.args.sink.now c.print_last_step.new.sink
     (play_text start (play_of (events_of c.args.script.now) c.args.steps))
     c.from_residual.result c.from_residual.ensures.0
-    (prefix-append g.W.Sink.stands c.args.sink.now c.loop-step.sink c.print_step.new.sink
+    (prefix-append g.W.Sink.stands c.args.sink.now c.loop-step.sink c.print_last_step.new.sink
     (lines_of start (play_of (events_of c.args.script.now) c.loop-step.step)) _ begins.0 _
     begins.1
-    (c.loop-step.invariant.2 key image held) c.in_err-print_step.ensures.puts.prefix)
+    (c.loop-step.invariant.2 key image held)
+    (c.in_err-print_last_step.ensures.puts start _ live).prefix)
 
 pub returns-in_err-print_end-clause-puts : goal.returns-in_err-print_end-clause-puts
 returns-in_err-print_end-clause-puts g c = λ key image held.
@@ -73,7 +76,8 @@ returns-in_err-print_end-clause-puts g c = λ key image held.
     let made : c.loop-step.step ≡ c.args.steps = omega arith in
     let live = c.loop-step.invariant.1 key image held in
     let text = play_text-ended start (events_of c.args.script.now) c.loop-step.step c.args.steps
-    c.next_pc.result c.exec.result made (c.next_pc.ensures start _ live) (c.exec.ensures start _ live) in
+    c.next_pc.result c.exec.result made (c.next_pc.ensures start _ live)
+    (c.exec.ensures start _ live) in
     puts-failed g.W.Sink.stands c.args.sink.now c.print_end.new.sink
     (play_text start (play_of (events_of c.args.script.now) c.args.steps))
     c.from_residual-in_err-print_end.result c.from_residual-in_err-print_end.ensures.0
@@ -89,7 +93,8 @@ returns-clause-puts g c = λ key image held.
     let made : c.loop-step.step ≡ c.args.steps = omega arith in
     let live = c.loop-step.invariant.1 key image held in
     let text = play_text-ended start (events_of c.args.script.now) c.loop-step.step c.args.steps
-    c.next_pc.result c.exec.result made (c.next_pc.ensures start _ live) (c.exec.ensures start _ live) in
+    c.next_pc.result c.exec.result made (c.next_pc.ensures start _ live)
+    (c.exec.ensures start _ live) in
     record {
       all = takes-append g.W.Sink.stands c.args.sink.now c.loop-step.sink c.print_end.new.sink
           (lines_of start (play_of (events_of c.args.script.now) c.loop-step.step))
@@ -103,12 +108,12 @@ returns-clause-stands g c = λ key image held.
     let made : c.loop-step.step ≡ c.args.steps = omega arith in
     rw (← made) (c.loop-step.invariant.1 key image held)
 
-pub returns-in_err-print_step-clause-counts : goal.returns-in_err-print_step-clause-counts
-returns-in_err-print_step-clause-counts g c =
-    counts-failed g.W.Sink.faults c.args.sink.now c.loop-step.sink c.print_step.new.sink
+pub returns-in_err-print_last_step-clause-counts : goal.returns-in_err-print_last_step-clause-counts
+returns-in_err-print_last_step-clause-counts g c =
+    counts-failed g.W.Sink.faults c.args.sink.now c.loop-step.sink c.print_last_step.new.sink
     c.from_residual.result
-    c.from_residual.ensures.0 c.loop-step.invariant.3 c.in_err-print_step.ensures.counts.failed
-    c.in_err-print_step.ensures.counts.counted
+    c.from_residual.ensures.0 c.loop-step.invariant.3 c.in_err-print_last_step.ensures.counts.failed
+    c.in_err-print_last_step.ensures.counts.counted
 
 pub returns-in_err-print_end-clause-counts : goal.returns-in_err-print_end-clause-counts
 returns-in_err-print_end-clause-counts g c =
@@ -116,3 +121,40 @@ returns-in_err-print_end-clause-counts g c =
     c.from_residual-in_err-print_end.result
     c.from_residual-in_err-print_end.ensures.0 c.loop-step.invariant.3
     c.in_err-print_end.ensures.counts.failed c.in_err-print_end.ensures.counts.counted
+
+pub returns-in_err-print_last_step-clause-hides_key :
+    goal.returns-in_err-print_last_step-clause-hides_key
+returns-in_err-print_last_step-clause-hides_key g c = λ key other image held alike.
+    rw (same_text (with_key g.D.Digest32.digest_of key image)
+    (with_key g.D.Digest32.digest_of other image)
+    (play_of (events_of c.args.script.now) c.args.steps) refl alike)
+    at (returns-in_err-print_last_step-clause-puts g c key image held)
+
+pub returns-in_err-print_last_step-clause-laws : goal.returns-in_err-print_last_step-clause-laws
+returns-in_err-print_last_step-clause-laws g c = λ key image held device_key bytes.
+    obeys_laws g.D.Digest32.digest_of key image
+    (play_of (events_of c.args.script.now) c.args.steps) device_key bytes
+
+pub returns-in_err-print_end-clause-hides_key : goal.returns-in_err-print_end-clause-hides_key
+returns-in_err-print_end-clause-hides_key g c = λ key other image held alike.
+    rw (same_text (with_key g.D.Digest32.digest_of key image)
+    (with_key g.D.Digest32.digest_of other image)
+    (play_of (events_of c.args.script.now) c.args.steps) refl alike)
+    at (returns-in_err-print_end-clause-puts g c key image held)
+
+pub returns-in_err-print_end-clause-laws : goal.returns-in_err-print_end-clause-laws
+returns-in_err-print_end-clause-laws g c = λ key image held device_key bytes.
+    obeys_laws g.D.Digest32.digest_of key image
+    (play_of (events_of c.args.script.now) c.args.steps) device_key bytes
+
+pub returns-clause-hides_key : goal.returns-clause-hides_key
+returns-clause-hides_key g c = λ key other image held alike.
+    rw (same_text (with_key g.D.Digest32.digest_of key image)
+    (with_key g.D.Digest32.digest_of other image)
+    (play_of (events_of c.args.script.now) c.args.steps) refl alike)
+    at (returns-clause-puts g c key image held)
+
+pub returns-clause-laws : goal.returns-clause-laws
+returns-clause-laws g c = λ key image held device_key bytes.
+    obeys_laws g.D.Digest32.digest_of key image
+    (play_of (events_of c.args.script.now) c.args.steps) device_key bytes

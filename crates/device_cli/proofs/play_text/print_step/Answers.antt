@@ -3,7 +3,8 @@ use Rattle.device_trace.specs.Text.{sent_lines, reset_lines}
 use Rattle.outside_edge.proofs.SinkLemmas.{prefix_of_more, puts_after, counts_after, puts-failed}
 use Rattle.device_cli.proofs.play_text.print_step.Goals as goal
 
-pub returns-in_err-print_sent_and_reset-clause-puts : goal.returns-in_err-print_sent_and_reset-clause-puts
+pub returns-in_err-print_sent_and_reset-clause-puts :
+    goal.returns-in_err-print_sent_and_reset-clause-puts
 returns-in_err-print_sent_and_reset-clause-puts g c =
     puts-failed g.W.Sink.stands _ _ _ c.from_residual.result c.from_residual.ensures.0
     (prefix_of_more g.W.Sink.stands _ _

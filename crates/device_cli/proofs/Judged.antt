@@ -1,0 +1,241 @@
+-- What an accept says of a report, and what a comparison shows.
+use Rattle.std.proofs.Common.{◌≡◌, ◌∙◌, ◌+◌, ◌-◌, ◌≤◌, ◌&&◌, [], ◌++◌, ℕ, Bool, true, false, List, Option, Some, None, Result, Ok, Err, IfSome, length, refl, ap, sym, arith}
+use Rattle.std.specs.Prelude.{not, if◌then◌else◌, ◌==◌}
+use Rattle.std.specs.Str.{bytes_eq}
+use Rattle.std.proofs.lemmas.Bool.{false≢true, and_parts, eqb-true}
+use Rattle.std.proofs.lemmas.Slice.Eq.{bytes_eq-Decides}
+use Rattle.outside_edge.specs.Sink.{Takes, TakesPrefix}
+use Rattle.outside_edge.proofs.SinkLemmas.{prefix_of_more, prefix_after, takes_both}
+use Rattle.bus_signals.specs.declared.bounds.Bounds.{Bounds}
+use Rattle.bus_signals.specs.Bounds.{are_valid}
+use Rattle.bus_signals.specs.Report.{ReportFields}
+use Rattle.part_definitions.specs.Hmac.{hmac}
+use Rattle.part_definitions.specs.Memory.{bytes_from}
+use Rattle.device_trace.specs.Text.{reported_output}
+use Rattle.report_verifier.specs.declared.decision.Decision.{Decision}
+use Rattle.report_verifier.specs.declared.decision.Decision.TheVariants.{Accept, ChalDiffers, BoundsDiffer, ExecZero, MacDiffers}
+use Rattle.report_verifier.specs.declared.evidence.Exhibit.{Exhibit}
+use Rattle.report_verifier.specs.declared.evidence.Exhibit.TheVariants.{Same, MacsDiffer, Pair}
+use Rattle.report_verifier.specs.declared.expect.Expect.{Expect}
+use Rattle.report_verifier.specs.Collision.{HaveOneMac, Exhibits}
+use Rattle.report_verifier.specs.Comparison.{OutputFits, expected_key, expected_bytes, own_bytes}
+use Rattle.report_verifier.specs.Expected.{expected_mac, output_of}
+use Rattle.report_verifier.specs.Policy.{expected_at}
+use Rattle.report_verifier.specs.Verdict.{same_bounds, verdict}
+use Rattle.report_verifier.proofs.Regions.{length-bytes_from}
+use Rattle.device_cli.specs.VerdictLine.{verdict_line}
+use Rattle.device_cli.specs.Verify.{is_accept}
+use Rattle.device_cli.specs.Judgement.{Judge, verdict_at, have_one_mac, pair_line, collision_lines, exhibit_lines, comparison_lines, own_bytes_collide, evidence_lines, is_pair_shown, judgement_lines, judgement_has_pair, TellsOutput}
+
+false-unless : (b : Bool) → (b ≡ true → ⊥) → b ≡ false
+false-unless true never = absurd (never refl)
+false-unless false never = refl
+
+bytes_eq-unless : (left right : List ℕ) → (left ≡ right → ⊥) → bytes_eq left right ≡ false
+bytes_eq-unless left right differ =
+    false-unless (bytes_eq left right) (λ same. differ ((bytes_eq-Decides left right).0 same))
+
+-- the line of what a comparison shows
+comparison-shown :
+    (Fault : Type 0) (digest : List ℕ → List ℕ) (key left right : List ℕ) (exhibit : Exhibit)
+    → Exhibits {Fault = Fault} digest key left right (Ok exhibit)
+    → exhibit_lines exhibit ≡ collision_lines digest key left right
+comparison-shown Fault digest key left right Same shows =
+    rw ((bytes_eq-Decides left right).1 shows) refl
+comparison-shown Fault digest key left right MacsDiffer shows =
+    rw (
+      bytes_eq-unless left right shows.0,
+      bytes_eq-unless (hmac digest key left) (hmac digest key right) shows.1,
+    ) refl
+comparison-shown Fault digest key left right (Pair first second) shows =
+    rw (
+      bytes_eq-unless left right shows.0.0,
+      (bytes_eq-Decides (hmac digest key left) (hmac digest key right)).1 shows.0.1,
+    )
+    (ap pair_line shows.1)
+
+one-mac :
+    (digest : List ℕ → List ℕ) (key left right : List ℕ)
+    → HaveOneMac digest key left right
+    → have_one_mac digest key left right ≡ true
+one-mac digest key left right shows =
+    rw (
+      bytes_eq-unless left right shows.0,
+      (bytes_eq-Decides (hmac digest key left) (hmac digest key right)).1 shows.1,
+    ) refl
+
+-- the same of what a verifier compares
+pub own_bytes-shown :
+    (judge : Judge) (expect : Expect) (output : Option (List ℕ)) (bytes : ℕ → ℕ)
+    (exhibit : Exhibit)
+    → Exhibits {Fault = Unit {0}} judge.digest (expected_key judge.digest judge.key expect)
+    (expected_bytes judge.image expect output) (own_bytes bytes) (Ok exhibit)
+    → exhibit_lines exhibit ≡ comparison_lines judge expect output bytes
+own_bytes-shown judge expect output bytes exhibit shows =
+    comparison-shown (Unit {0}) judge.digest (expected_key judge.digest judge.key expect)
+    (expected_bytes judge.image expect output) (own_bytes bytes) exhibit shows
+
+pub own_bytes-one_mac :
+    (judge : Judge) (expect : Expect) (output : Option (List ℕ)) (bytes : ℕ → ℕ)
+    → HaveOneMac judge.digest (expected_key judge.digest judge.key expect)
+    (expected_bytes judge.image expect output) (own_bytes bytes)
+    → own_bytes_collide judge expect output bytes ≡ true
+own_bytes-one_mac judge expect output bytes shows =
+    one-mac judge.digest (expected_key judge.digest judge.key expect)
+    (expected_bytes judge.image expect output) (own_bytes bytes) shows
+
+-- of four tests in a row
+accepted-bounds :
+    (chal bounds exec mac : Bool)
+    → is_accept (if not chal then ChalDiffers else if not bounds then BoundsDiffer
+    else if not exec then ExecZero else if not mac then MacDiffers else Accept) ≡ true
+    → bounds ≡ true
+accepted-bounds false bounds exec mac accepts = absurd (false≢true accepts)
+accepted-bounds true false exec mac accepts = absurd (false≢true accepts)
+accepted-bounds true true exec mac accepts = refl
+
+output_bounds-same :
+    (left right : Bounds)
+    → same_bounds left right ≡ true
+    → (left.or_min ≡ right.or_min) × (left.or_max ≡ right.or_max)
+output_bounds-same left right same =
+    let parts = and_parts (((left.er_min == right.er_min) && (left.er_max == right.er_max))
+    && (left.or_min == right.or_min)) (left.or_max == right.or_max) same in
+    let third = and_parts ((left.er_min == right.er_min) && (left.er_max == right.er_max))
+    (left.or_min == right.or_min) parts.0 in
+    (eqb-true left.or_min right.or_min third.1, eqb-true left.or_max right.or_max parts.1)
+
+reported-fits :
+    (bytes : ℕ → ℕ) (bounds : Bounds) (valid : Bool)
+    → are_valid bounds ≡ valid
+    → length (output_of (reported_output bytes bounds)) ≤ bounds.or_max + 2 - bounds.or_min
+reported-fits bytes bounds true is =
+    rw is (omega (
+      arith,
+      length-bytes_from bytes bounds.or_min
+          (bounds.or_max + 2 - bounds.or_min),
+    ))
+reported-fits bytes bounds false is = rw is (omega arith)
+
+told-fits :
+    (bytes : ℕ → ℕ) (expect : Expect) (report : ReportFields)
+    → same_bounds expect.bounds report.bounds ≡ true
+    → report.output ≡ reported_output bytes report.bounds
+    → OutputFits expect.bounds report.output
+told-fits bytes expect report same told =
+    let bounds = output_bounds-same expect.bounds report.bounds same in
+    let fits = reported-fits bytes report.bounds (are_valid report.bounds) refl in
+    rw (told, bounds.0, bounds.1) fits
+
+accepted_on-fits :
+    (digest : List ℕ → List ℕ) (key : List ℕ) (image : ℕ → Option ℕ) (bytes : ℕ → ℕ)
+    (expect : Option Expect) (report : ReportFields)
+    → report.output ≡ reported_output bytes report.bounds
+    → is_accept (verdict digest key image expect report) ≡ true
+    → IfSome expect (λ expect. OutputFits expect.bounds report.output)
+accepted_on-fits digest key image bytes None report told accepts = tt
+accepted_on-fits digest key image bytes (Some expect) report told accepts =
+    told-fits bytes expect report
+    (accepted-bounds (bytes_eq expect.chal report.chal) (same_bounds expect.bounds report.bounds)
+    report.exec (bytes_eq (expected_mac digest key image expect report.output) report.mac) accepts)
+    told
+
+-- an accepted report has no longer output than is expected
+pub accepted-fits :
+    (judge : Judge) (i : ℕ) (bytes : ℕ → ℕ) (report : ReportFields)
+    → TellsOutput bytes (Some report)
+    → is_accept (verdict_at judge i report) ≡ true
+    → IfSome (expected_at judge.policy i) (λ expect. OutputFits expect.bounds report.output)
+accepted-fits judge i bytes report told accepts =
+    accepted_on-fits judge.digest judge.key judge.image bytes (expected_at judge.policy i) report
+    told accepts
+
+-- of a verdict and of what is expected, as the code has them
+pub evidence-fits :
+    (judge : Judge) (i : ℕ) (bytes : ℕ → ℕ) (report : ReportFields) (decided : Decision)
+    (expect : Option Expect)
+    → decided ≡ verdict_at judge i report
+    → expect ≡ expected_at judge.policy i
+    → TellsOutput bytes (Some report)
+    → is_accept decided ≡ true
+    → IfSome expect (λ expect. OutputFits expect.bounds report.output)
+evidence-fits judge i bytes report decided expect is told tells accepts =
+    rw told (accepted-fits judge i bytes report tells (rw is at accepts))
+
+-- a verdict was begun
+pub verdict-begun :
+    {S : Type 0} (stands : S → List ℕ → Type 0) (old new : S) (judge : Judge) (i : ℕ)
+    (bytes : ℕ → ℕ) (report : ReportFields) (decided : Decision)
+    → decided ≡ verdict_at judge i report
+    → TakesPrefix stands old new (verdict_line (i + 1) decided)
+    → TakesPrefix stands old new (judgement_lines judge i bytes (Some report))
+verdict-begun stands old new judge i bytes report decided is begun =
+    prefix_of_more stands old new (verdict_line (i + 1) (verdict_at judge i report))
+    (evidence_lines judge (expected_at judge.policy i) (verdict_at judge i report) report.output
+    bytes)
+    (rw is at begun)
+
+-- and what it shows, behind it
+pub evidence-begun :
+    {S : Type 0} (stands : S → List ℕ → Type 0) (old mid new : S) (judge : Judge) (i : ℕ)
+    (bytes : ℕ → ℕ) (report : ReportFields) (decided : Decision) (expect : Option Expect)
+    → decided ≡ verdict_at judge i report
+    → expect ≡ expected_at judge.policy i
+    → Takes stands old mid (verdict_line (i + 1) decided)
+    → TakesPrefix stands mid new (evidence_lines judge expect decided report.output bytes)
+    → TakesPrefix stands old new (judgement_lines judge i bytes (Some report))
+evidence-begun stands old mid new judge i bytes report decided expect is told first begun =
+    prefix_after stands old mid new (verdict_line (i + 1) (verdict_at judge i report))
+    (evidence_lines judge (expected_at judge.policy i) (verdict_at judge i report) report.output
+    bytes)
+    (rw is at first) (rw (told, is) at begun)
+
+pub evidence-put :
+    {S : Type 0} (stands : S → List ℕ → Type 0) (old mid new : S) (judge : Judge) (i : ℕ)
+    (bytes : ℕ → ℕ) (report : ReportFields) (decided : Decision) (expect : Option Expect)
+    → decided ≡ verdict_at judge i report
+    → expect ≡ expected_at judge.policy i
+    → Takes stands old mid (verdict_line (i + 1) decided)
+    → Takes stands mid new (evidence_lines judge expect decided report.output bytes)
+    → Takes stands old new (judgement_lines judge i bytes (Some report))
+evidence-put stands old mid new judge i bytes report decided expect is told first second =
+    takes_both stands old mid new (verdict_line (i + 1) (verdict_at judge i report))
+    (evidence_lines judge (expected_at judge.policy i) (verdict_at judge i report) report.output
+    bytes)
+    (rw is at first) (rw (told, is) at second)
+
+pub pair-of_report :
+    (judge : Judge) (i : ℕ) (bytes : ℕ → ℕ) (report : ReportFields) (decided : Decision)
+    (expect : Option Expect)
+    → decided ≡ verdict_at judge i report
+    → expect ≡ expected_at judge.policy i
+    → is_pair_shown judge expect decided report.output bytes ≡ true
+    → judgement_has_pair judge i bytes (Some report) ≡ true
+pair-of_report judge i bytes report decided expect is told shown = rw (told, is) at shown
+
+-- an accept, where something is expected
+pub evidence-of :
+    (judge : Judge) (expect : Option Expect) (decided : Decision) (output : Option (List ℕ))
+    (bytes : ℕ → ℕ) (expected : Expect)
+    → expect ≡ Some expected
+    → is_accept decided ≡ true
+    → evidence_lines judge expect decided output bytes ≡ comparison_lines judge expected output
+    bytes
+evidence-of judge expect decided output bytes expected is accepts = rw (is, accepts) refl
+
+pub pair-of :
+    (judge : Judge) (expect : Option Expect) (decided : Decision) (output : Option (List ℕ))
+    (bytes : ℕ → ℕ) (expected : Expect)
+    → expect ≡ Some expected
+    → is_accept decided ≡ true
+    → is_pair_shown judge expect decided output bytes
+    ≡ own_bytes_collide judge expected output bytes
+pair-of judge expect decided output bytes expected is accepts = rw (is, accepts) refl
+
+pub fits-of :
+    (expect : Option Expect) (decided : Decision) (output : Option (List ℕ)) (expected : Expect)
+    → expect ≡ Some expected
+    → is_accept decided ≡ true
+    → (is_accept decided ≡ true → IfSome expect (λ expect. OutputFits expect.bounds output))
+    → OutputFits expected.bounds output
+fits-of expect decided output expected is accepts fits = rw is at (fits accepts)

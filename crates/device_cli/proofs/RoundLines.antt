@@ -1,0 +1,278 @@
+-- The text of a round, step by step.
+use Rattle.std.proofs.Common.{◌≡◌, ◌≤◌, ◌+◌, ◌-◌, ◌++◌, ◌∷◌, ◌∙◌, [], ℕ, zero, suc, Bool, true, false, List, Option, Some, None, length, refl, ap, sym, arith, append_assoc, append-nil}
+use Rattle.std.specs.Prelude.{◌||◌, if◌then◌else◌}
+use Rattle.std.proofs.lemmas.Bool.{false≢true}
+use Rattle.std.proofs.lemmas.List.{append_cancel_left}
+use Rattle.bus_signals.specs.declared.bus_record.BusRecord.{BusRecord}
+use Rattle.bus_signals.specs.declared.event.Event.{Event}
+use Rattle.bus_signals.specs.Report.{ReportFields}
+use Rattle.device_trace.specs.Logs.{Logs, exec_of, logged_byte}
+use Rattle.device_trace.specs.Progress.{next_pc_of}
+use Rattle.device_trace.specs.Start.{Start}
+use Rattle.device_trace.specs.Step.{next_record}
+use Rattle.device_trace.specs.Trace.{trace, last_record, logs_after, byte_after, play_of}
+use Rattle.device_trace.specs.Text.{last_byte_sent, finishes_call, report_of, last_report, sent_lines, reset_lines, report_lines, step_lines, lines_of}
+use Rattle.printed_lines.specs.Lines.{end_line}
+use Rattle.device_cli.specs.Judgement.{Judge, judgement_lines, judgement_has_pair, TellsOutput}
+use Rattle.device_cli.specs.RoundText.{reports_in, round_lines, round_has_pair, round_text}
+use Rattle.outside_edge.specs.Sink.{Takes, TakesPrefix}
+use Rattle.outside_edge.proofs.SinkLemmas.{takes_both}
+use Rattle.device_cli.proofs.Lines.{length-play_of, lines_of-printed}
+use Rattle.device_cli.proofs.PutsLemmas.{takes-append, prefix-append}
+
+lines_of-cons :
+    (start : Start) (events : List Event) (play : List (List Event))
+    → lines_of start (events ∷ play)
+    ≡ lines_of start play
+    ++ step_lines start (length play) (next_record start (logs_after start play) events)
+    (logs_after start (events ∷ play))
+unfolding lines_of
+lines_of-cons start events play = refl
+
+-- what is printed of a step
+abbrev pub printed_lines : ℕ → Option ℕ → BusRecord → Option ReportFields → List ℕ
+printed_lines step sent entry report =
+    sent_lines step sent ++ reset_lines step entry.reset ++ report_lines report
+
+-- the lines of a step from what is told of it
+step_lines-printed :
+    (start : Start) (events_at : ℕ → List Event) (steps : ℕ) (entry : BusRecord) (sent : Option ℕ)
+    (report : Option ReportFields)
+    → last_record (trace start (play_of events_at (suc steps))) ≡ Some entry
+    → sent ≡ last_byte_sent (trace start (play_of events_at (suc steps)))
+    → report ≡ last_report start (play_of events_at (suc steps))
+    → step_lines start (length (play_of events_at steps))
+    (next_record start (logs_after start (play_of events_at steps)) (events_at steps))
+    (logs_after start (events_at steps ∷ play_of events_at steps))
+    ≡ printed_lines steps sent entry report
+step_lines-printed start events_at steps entry sent report last byte told =
+    append_cancel_left (lines_of start (play_of events_at steps)) _ _
+    (sym (lines_of-cons start (events_at steps) (play_of events_at steps))
+    ∙ lines_of-printed start events_at steps entry sent report last byte told)
+
+round_lines-cons :
+    (judge : Judge) (start : Start) (events : List Event) (play : List (List Event))
+    → round_lines judge start (events ∷ play)
+    ≡ round_lines judge start play
+    ++ (step_lines start (length play) (next_record start (logs_after start play) events)
+    (logs_after start (events ∷ play))
+    ++ judgement_lines judge (length (reports_in start play)) (byte_after start (events ∷ play))
+    (last_report start (events ∷ play)))
+unfolding round_lines
+round_lines-cons judge start events play = refl
+
+-- what is put in a step is its lines; the report is asked for twice
+pub round_lines-printed :
+    (judge : Judge) (start : Start) (events_at : ℕ → List Event) (steps : ℕ) (entry : BusRecord)
+    (sent : Option ℕ) (report again : Option ReportFields) (i : ℕ)
+    → last_record (trace start (play_of events_at (suc steps))) ≡ Some entry
+    → sent ≡ last_byte_sent (trace start (play_of events_at (suc steps)))
+    → report ≡ last_report start (play_of events_at (suc steps))
+    → again ≡ last_report start (play_of events_at (suc steps))
+    → i ≡ length (reports_in start (play_of events_at steps))
+    → round_lines judge start (play_of events_at (suc steps))
+    ≡ round_lines judge start (play_of events_at steps)
+    ++ (printed_lines steps sent entry report
+    ++ judgement_lines judge i (byte_after start (play_of events_at (suc steps))) again)
+round_lines-printed judge start events_at steps entry sent report again i last byte told same count
+    =
+    let play : List (List Event) = play_of events_at steps in
+    let bytes : ℕ → ℕ = byte_after start (play_of events_at (suc steps)) in
+    round_lines-cons judge start (events_at steps) play
+    ∙ ap (λ (lines : List ℕ). round_lines judge start play
+    ++ (lines ++ judgement_lines judge (length (reports_in start play)) bytes
+    (last_report start (play_of events_at (suc steps)))))
+    (step_lines-printed start events_at steps entry sent report last byte told)
+    ∙ ap (λ (made : Option ReportFields). round_lines judge start play
+    ++ (printed_lines steps sent entry report
+    ++ judgement_lines judge (length (reports_in start play)) bytes made)) (sym same)
+    ∙ ap (λ (k : ℕ). round_lines judge start play
+    ++ (printed_lines steps sent entry report ++ judgement_lines judge k bytes again)) (sym count)
+
+-- a report tells the output that stands in memory after its step
+told-where :
+    (start : Start) (logs : Logs) (step : ℕ) (finishes : Bool)
+    → TellsOutput (logged_byte start logs)
+    (if finishes then Some (report_of start logs step) else None)
+told-where start logs step true = refl
+told-where start logs step false = tt
+
+pub last_report-told :
+    (start : Start) (events : List Event) (play : List (List Event))
+    → TellsOutput (byte_after start (events ∷ play)) (last_report start (events ∷ play))
+last_report-told start events play =
+    told-where start (logs_after start (events ∷ play)) (length play)
+    (finishes_call (next_record start (logs_after start play) events))
+
+-- the lines of more steps begin with those of fewer
+round_lines-begins :
+    (judge : Judge) (start : Start) (events_at : ℕ → List Event) (more fewer steps : ℕ)
+    → steps ≡ more + fewer
+    → (rest : List ℕ)
+    × (round_lines judge start (play_of events_at steps)
+    ≡ round_lines judge start (play_of events_at fewer) ++ rest)
+round_lines-begins judge start events_at zero fewer steps sum =
+    let same : steps ≡ fewer = omega arith in
+    rw same ([], sym (append-nil (round_lines judge start (play_of events_at fewer))))
+round_lines-begins judge start events_at (suc more) fewer steps sum =
+    let same : steps ≡ suc (more + fewer) = omega arith in
+    let shorter = round_lines-begins judge start events_at more fewer (more + fewer) refl in
+    let play : List (List Event) = play_of events_at (more + fewer) in
+    let events : List Event = events_at (more + fewer) in
+    let before : List ℕ = round_lines judge start (play_of events_at fewer) in
+    let lines : List ℕ = step_lines start (length play)
+    (next_record start (logs_after start play) events) (logs_after start (events ∷ play))
+    ++ judgement_lines judge (length (reports_in start play)) (byte_after start (events ∷ play))
+    (last_report start (events ∷ play)) in
+    rw same (
+      shorter.0 ++ lines,
+      round_lines-cons judge start events play
+          ∙ ap (λ (earlier : List ℕ). earlier ++ lines) shorter.1
+          ∙ append_assoc before shorter.0 lines,
+    )
+
+-- the text of so many steps
+round_text-lines :
+    (judge : Judge) (start : Start) (events_at : ℕ → List Event) (steps : ℕ)
+    → round_text judge start (play_of events_at steps)
+    ≡ round_lines judge start (play_of events_at steps)
+    ++ end_line steps (next_pc_of (logs_after start (play_of events_at steps)).progress)
+    (exec_of (logs_after start (play_of events_at steps)))
+unfolding round_text
+round_text-lines judge start events_at steps = rw (length-play_of events_at steps) refl
+
+-- the whole text begins with the lines of the first steps and of one more
+pub round_text-begins :
+    (judge : Judge) (start : Start) (events_at : ℕ → List Event) (fewer steps : ℕ)
+    (lines : List ℕ)
+    → fewer + 1 ≤ steps
+    → round_lines judge start (play_of events_at (suc fewer))
+    ≡ round_lines judge start (play_of events_at fewer) ++ lines
+    → (rest : List ℕ)
+    × (round_text judge start (play_of events_at steps)
+    ≡ round_lines judge start (play_of events_at fewer) ++ (lines ++ rest))
+round_text-begins judge start events_at fewer steps lines within printed =
+    let sum : steps ≡ (steps - suc fewer) + suc fewer = omega arith in
+    let begins = round_lines-begins judge start events_at (steps - suc fewer) (suc fewer) steps sum
+    in
+    let before : List ℕ = round_lines judge start (play_of events_at fewer) in
+    let ending : List ℕ = end_line steps
+    (next_pc_of (logs_after start (play_of events_at steps)).progress)
+    (exec_of (logs_after start (play_of events_at steps))) in (
+      begins.0 ++ ending,
+      round_text-lines judge start events_at steps
+          ∙ ap (λ (all : List ℕ). all ++ ending) begins.1
+          ∙ ap (λ (all : List ℕ). (all ++ begins.0) ++ ending) printed
+          ∙ append_assoc (before ++ lines) begins.0 ending
+          ∙ append_assoc before lines (begins.0 ++ ending),
+    )
+
+-- the whole text, once all steps are made
+pub round_text-ended :
+    (judge : Judge) (start : Start) (events_at : ℕ → List Event) (made steps pc : ℕ) (exec : Bool)
+    → made ≡ steps
+    → pc ≡ next_pc_of (logs_after start (play_of events_at made)).progress
+    → exec ≡ exec_of (logs_after start (play_of events_at made))
+    → round_text judge start (play_of events_at steps)
+    ≡ round_lines judge start (play_of events_at made) ++ end_line steps pc exec
+round_text-ended judge start events_at made steps pc exec same here flag =
+    rw (here, flag, same) (round_text-lines judge start events_at steps)
+
+-- the lines of one more step: those of the play, and then what is said of its report
+pub step-taken :
+    {S : Type 0} (stands : S → List ℕ → Type 0) (old loop mid new : S)
+    (before printed judged text : List ℕ)
+    → text ≡ before ++ (printed ++ judged)
+    → Takes stands old loop before
+    → Takes stands loop mid printed
+    → Takes stands mid new judged
+    → Takes stands old new text
+step-taken stands old loop mid new before printed judged text joins first second third =
+    takes-append stands old loop new before (printed ++ judged) text joins first
+    (takes_both stands loop mid new printed judged second third)
+
+pub printed-begun :
+    {S : Type 0} (stands : S → List ℕ → Type 0) (old loop new : S)
+    (before printed judged rest text : List ℕ)
+    → text ≡ before ++ ((printed ++ judged) ++ rest)
+    → Takes stands old loop before
+    → TakesPrefix stands loop new printed
+    → TakesPrefix stands old new text
+printed-begun stands old loop new before printed judged rest text begins first begun =
+    prefix-append stands old loop new before printed (judged ++ rest) text
+    (begins ∙ ap (λ (l : List ℕ). before ++ l) (append_assoc printed judged rest)) first begun
+
+pub judged-begun :
+    {S : Type 0} (stands : S → List ℕ → Type 0) (old loop mid new : S)
+    (before printed judged rest text : List ℕ)
+    → text ≡ before ++ ((printed ++ judged) ++ rest)
+    → Takes stands old loop before
+    → Takes stands loop mid printed
+    → TakesPrefix stands mid new judged
+    → TakesPrefix stands old new text
+judged-begun stands old loop mid new before printed judged rest text begins first second begun =
+    prefix-append stands old mid new (before ++ printed) judged rest text
+    (begins
+    ∙ ap (λ (l : List ℕ). before ++ l) (append_assoc printed judged rest)
+    ∙ sym (append_assoc before printed (judged ++ rest)))
+    (takes_both stands old loop mid before printed first second) begun
+
+round_has_pair-cons :
+    (judge : Judge) (start : Start) (events : List Event) (play : List (List Event))
+    → round_has_pair judge start (events ∷ play)
+    ≡ (round_has_pair judge start play
+    || judgement_has_pair judge (length (reports_in start play)) (byte_after start (events ∷ play))
+    (last_report start (events ∷ play)))
+unfolding round_has_pair
+round_has_pair-cons judge start events play = refl
+
+or-first : (first second : Bool) → first ≡ true → (first || second) ≡ true
+or-first true second is = refl
+or-first false second is = absurd (false≢true is)
+
+or-second : (first second : Bool) → second ≡ true → (first || second) ≡ true
+or-second true second is = refl
+or-second false second is = is
+
+-- a pair of the first steps is one of more steps
+round_has_pair-more :
+    (judge : Judge) (start : Start) (events_at : ℕ → List Event) (more fewer steps : ℕ)
+    → steps ≡ more + fewer
+    → round_has_pair judge start (play_of events_at fewer) ≡ true
+    → round_has_pair judge start (play_of events_at steps) ≡ true
+round_has_pair-more judge start events_at zero fewer steps sum pair =
+    let same : steps ≡ fewer = omega arith in rw same pair
+round_has_pair-more judge start events_at (suc more) fewer steps sum pair =
+    let same : steps ≡ suc (more + fewer) = omega arith in
+    let play : List (List Event) = play_of events_at (more + fewer) in
+    let events : List Event = events_at (more + fewer) in
+    let shorter = round_has_pair-more judge start events_at more fewer (more + fewer) refl pair in
+    rw same
+    (round_has_pair-cons judge start events play
+    ∙ or-first (round_has_pair judge start play)
+    (judgement_has_pair judge (length (reports_in start play)) (byte_after start (events ∷ play))
+    (last_report start (events ∷ play))) shorter)
+
+-- a pair that one more step shows is one of the whole round
+pub pair-shown :
+    (judge : Judge) (start : Start) (events_at : ℕ → List Event) (fewer steps i : ℕ)
+    (report : Option ReportFields)
+    → fewer + 1 ≤ steps
+    → report ≡ last_report start (play_of events_at (suc fewer))
+    → i ≡ length (reports_in start (play_of events_at fewer))
+    → judgement_has_pair judge i (byte_after start (play_of events_at (suc fewer))) report ≡ true
+    → round_has_pair judge start (play_of events_at steps) ≡ true
+pair-shown judge start events_at fewer steps i report within told count pair =
+    let sum : steps ≡ (steps - suc fewer) + suc fewer = omega arith in
+    let play : List (List Event) = play_of events_at fewer in
+    let bytes : ℕ → ℕ = byte_after start (play_of events_at (suc fewer)) in
+    let here : judgement_has_pair judge (length (reports_in start play)) bytes
+    (last_report start (play_of events_at (suc fewer))) ≡ true =
+    ap (λ (k : ℕ). judgement_has_pair judge k bytes
+    (last_report start (play_of events_at (suc fewer)))) (sym count)
+    ∙ ap (judgement_has_pair judge i bytes) (sym told) ∙ pair in
+    round_has_pair-more judge start events_at (steps - suc fewer) (suc fewer) steps sum
+    (round_has_pair-cons judge start (events_at fewer) play
+    ∙ or-second (round_has_pair judge start play)
+    (judgement_has_pair judge (length (reports_in start play)) bytes
+    (last_report start (play_of events_at (suc fewer)))) here)

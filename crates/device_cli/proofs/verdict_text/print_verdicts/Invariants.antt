@@ -1,0 +1,16 @@
+use Rattle.std.proofs.Common.{◌≡◌, ◌+◌, ◌&&◌, ◌++◌, List, ℕ}
+use Rattle.outside_edge.specs.Sink.{Takes}
+use Rattle.device_cli.specs.Verify.{verdicts_in, lines_from, all_accept}
+use Rattle.device_cli.proofs.Verdicts.{verdicts_ahead}
+use Rattle.device_cli.proofs.verdict_text.print_verdicts.Given as goal
+
+-- the lines so far and those ahead are the whole text
+abbrev pub invariant-loop-i : goal.invariant-loop-i
+invariant-loop-i g l = record {
+  taken : (before : List ℕ) × Takes g.W.Sink.stands l.fn.sink l.sink before
+      × (before ++ lines_from (l.i + 1) (verdicts_ahead l.inputs l.i)
+      ≡ lines_from 1 (verdicts_in l.inputs));
+  accepted : (l.accepted && all_accept (verdicts_ahead l.inputs l.i))
+      ≡ all_accept (verdicts_in l.inputs);
+  quiet : g.W.Sink.faults l.sink ≡ g.W.Sink.faults l.fn.sink;
+}
