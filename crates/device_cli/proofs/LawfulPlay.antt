@@ -8,6 +8,8 @@ use Rattle.text_scan.specs.Key.{key_of}
 use Rattle.text_scan.specs.declared.fault_at.FaultAt.{FaultAt}
 use Rattle.text_scan.proofs.HexBytes.{key_of-ok}
 use Rattle.hex_loader.proofs.ImageBytes.{image_of-bytes}
+use Rattle.hmac_core.proofs.Sha256Bytes.{sha256-bytes}
+use Rattle.sha2.proofs.Facts256.{length-sha256}
 use Rattle.device_trace.specs.Start.{with_key}
 use Rattle.key_isolation.proofs.TwoKeys.{same_text, same_memory}
 use Rattle.mac_coverage.specs.Coverage.{IsDeviceKey, IsOfBytes}
@@ -67,8 +69,10 @@ played_laws : (steps : ℕ) (told : Files) (name : List ℕ) (files : List File)
 played_laws steps told name files [] read = tt
 played_laws steps told name files (key ∷ []) read = tt
 played_laws steps told name files (key ∷ image ∷ []) read = tt
-played_laws steps told name files (key ∷ image ∷ script ∷ more) read =
-    obeys_laws sha256 (key_in key) _ _ (device_key key read.1) (image_of-bytes image)
+played_laws steps told name files (key ∷ image ∷ script ∷ more) read = (
+  record { size = length-sha256; bytes = sha256-bytes },
+  obeys_laws sha256 (key_in key) _ _ (device_key key read.1) (image_of-bytes image),
+)
 
 command_laws : (command : Command) (told : Files) (texts : List (List ℕ))
     → AreRead told (row_of_command command).files texts

@@ -7,7 +7,7 @@ use Rattle.device_trace.specs.Start.{with_key}
 use Rattle.device_trace.specs.Text.{play_text}
 use Rattle.device_trace.specs.Trace.{byte_after}
 use Rattle.key_isolation.specs.Agreement.{ReleaseAlike}
-use Rattle.mac_coverage.specs.Coverage.{MacCoversReport}
+use Rattle.mac_coverage.specs.Coverage.{Gives32Bytes, MacCoversReport}
 use Rattle.sha2.specs.Sha256.{sha256}
 use Rattle.device_cli.specs.Answer.{HasTexts}
 use Rattle.device_cli.specs.Reading.{Files}
@@ -32,9 +32,10 @@ pub record ObeysLaws (digest : List ℕ → List ℕ) (key : List ℕ) (image : 
   pub whole_runs : EachReport (with_key digest key image) play
       (ExecMeansWholeRun (with_key digest key image))
 
--- a play under SHA-256
+-- a play under SHA-256, which gives 32 bytes of every message
 abbrev pub IsLawful : Played → Type 0
-IsLawful played = ObeysLaws sha256 played.key played.image played.play
+IsLawful played =
+    Gives32Bytes sha256 × ObeysLaws sha256 played.key played.image played.play
 
 -- the files of a row are without fault, this holds of what the row makes of them, and the play that
 -- it is made of obeys the laws
