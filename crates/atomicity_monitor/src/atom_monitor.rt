@@ -1,4 +1,4 @@
-ghost use Rattle.std.specs.Prelude.{◌≡◌, [], ◌∷◌, List, IfSome};
+ghost use Rattle.std.specs.Prelude.{◌≡◌, [], ◌∷◌, true, List, IfSome};
 ghost use Rattle.bus_signals.specs.declared.bounds.Bounds.{Bounds};
 ghost use Rattle.bus_signals.specs.Access.{IsFormed};
 ghost use Rattle.bus_signals.specs.Seen.{Seen};
@@ -39,13 +39,28 @@ impl AtomMonitor {
         ensures { (seen : List Seen) →
             AtomMonitorStandsFor self.now seen → result ≡ atomicity_rule (last_pc seen) now.now }
     {
-        let in_rom = CR.contains(now.pc);
-        if breaks_a3(now, in_rom) {
-            Some(Rule::A3)
-        } else if self.breaks_a2(now, in_rom) {
-            Some(Rule::A2)
-        } else if self.breaks_a1(now, in_rom) {
+        if CR.contains(now.pc) {
+            self.check_within(now)
+        } else if self.breaks_a1(now, false) {
             Some(Rule::A1)
+        } else {
+            None
+        }
+    }
+
+    // Likewise for a step in the ROM, which is all that A3, A2 and A4 look at.
+    #[inline(always)]
+    #[tactic(auto, unfolding(part_definitions::specs::Monitors::atomicity_rule))]
+    fn check_within(&self, now: &Signals) -> Option<Rule>
+        requires formed { IfSome now.now.cpu IsFormed }
+        requires inside { in_rom now.now.pc ≡ true }
+        ensures { (seen : List Seen) →
+            AtomMonitorStandsFor self.now seen → result ≡ atomicity_rule (last_pc seen) now.now }
+    {
+        if breaks_a3(now, true) {
+            Some(Rule::A3)
+        } else if self.breaks_a2(now, true) {
+            Some(Rule::A2)
         } else if breaks_a4(now) {
             Some(Rule::A4)
         } else {

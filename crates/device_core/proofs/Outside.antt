@@ -1,5 +1,5 @@
 -- What can be seen of a device without its secrets, for two keys.
-use Rattle.std.proofs.Common.{◌≡◌, ◌∙◌, ℕ, List, [], ◌∷◌, refl, sym, ap, option_map}
+use Rattle.std.proofs.Common.{◌≡◌, ◌∙◌, ◌+◌, ℕ, List, [], ◌∷◌, IsSome, refl, sym, ap, subst, option_map}
 use Rattle.bus_signals.specs.declared.bus_record.BusRecord.{BusRecord}
 use Rattle.bus_signals.specs.declared.event.Event.{Event}
 use Rattle.device_trace.specs.Blank.{blank, blank_record}
@@ -7,9 +7,13 @@ use Rattle.device_trace.specs.Start.{Start, with_key}
 use Rattle.device_trace.specs.Trace.{trace, last_record, logs_after}
 use Rattle.key_isolation.specs.Agreement.{ReleaseAlike}
 use Rattle.key_isolation.proofs.TwoKeys.{same_history, same_memory}
-use Rattle.device_core.specs.Device.{LiveStandsFor}
+use Rattle.device_core.specs.Device.{LiveStandsFor, HasStepped, machine_of, steps_made}
 use Rattle.device_core.specs.Outside.{LooksLike}
+use Rattle.device_core.specs.Past.{StepsFrom}
+use Rattle.device_core.specs.Step.{IsStep}
 use Rattle.device_core.specs.declared.live.Live.{Live}
+use Rattle.device_core.specs.declared.machine.Machine.{Machine}
+use Rattle.device_core.specs.declared.past.Past.{Past}
 use Rattle.device_core.proofs.Lives.{live-bus, live-last}
 
 last_record-blank : (history : List BusRecord)
@@ -35,3 +39,41 @@ looks_like taken digest live key other image play stands agree =
           ∙ (ap last_record (same_history start second play refl agree)
           ∙ last_record-blank (trace second play)));
     }
+
+-- a step after which a device stands for each play with these events on it
+pub is_step :
+    {D : Type 0} (taken : D → List ℕ → Type 0) (digest : List ℕ → List ℕ)
+    (before : Start → List (List Event) → Type 0) (count : ℕ) (events : List Event)
+    (live : Live D)
+    → ((key : List ℕ) (image : ℕ → ℕ) (play : List (List Event))
+    → before (with_key digest key image) play
+    → LiveStandsFor taken digest live (with_key digest key image) (events ∷ play))
+    → steps_made live ≡ count + 1 → HasStepped live
+    → IsStep taken digest before count events live
+is_step taken digest before count events live stands steps recorded =
+    record {
+      stands = stands;
+      hides_key = λ key other image play stood agree.
+          looks_like taken digest live key other image (events ∷ play)
+          (stands key image play stood) agree;
+      steps = steps;
+      recorded = recorded;
+    }
+
+abbrev steps_in : {D : Type 0} → Machine D → ℕ
+steps_in machine = machine.bus.past.steps
+
+-- likewise, by what its machine did
+pub is_machine_step :
+    {D : Type 0} (taken : D → List ℕ → Type 0) (digest : List ℕ → List ℕ)
+    (before : Start → List (List Event) → Type 0) (events : List Event) (live : Live D)
+    (past : Past) (machine : Machine D)
+    → ((key : List ℕ) (image : ℕ → ℕ) (play : List (List Event))
+    → before (with_key digest key image) play
+    → LiveStandsFor taken digest live (with_key digest key image) (events ∷ play))
+    → machine_of live ≡ machine → StepsFrom past machine.bus.past
+    → IsStep taken digest before past.steps events live
+is_machine_step taken digest before events live past machine stands same made =
+    is_step taken digest before past.steps events live stands
+    (ap steps_in same ∙ made.0)
+    (subst (λ here. IsSome here.bus.past.last) (sym same) made.1)

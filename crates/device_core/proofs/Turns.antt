@@ -75,12 +75,11 @@ pub boundary-kind :
     step_kind logs
 boundary-kind logs regs kind runs same = sym same ∙ rw runs refl
 
-pub is_rom-Rom : (kind : Kind) → is_rom kind ≡ true → kind ≡ Rom
-is_rom-Rom Rom same = refl
-is_rom-Rom Boot same = absurd cc
-is_rom-Rom Cpu same = absurd cc
-is_rom-Rom Idle same = absurd cc
-is_rom-Rom Irq same = absurd cc
+pub not_rom :
+    (kind : Kind) → (kind ≡ Boot) ⊎ ((kind ≡ Idle) ⊎ (kind ≡ Irq)) → is_rom kind ≡ false
+not_rom kind (inl boot) = rw boot refl
+not_rom kind (inr (inl idle)) = rw idle refl
+not_rom kind (inr (inr irq)) = rw irq refl
 
 pub begun-turn :
     (start : Start) (logs : Logs) (regs : List ℕ)

@@ -6,4 +6,5 @@ pub mod Monitors
 pub mod Past
 pub mod Peripherals
 pub mod Silence
+pub mod Step
 pub mod Turn

@@ -10,7 +10,9 @@ use Rattle.bus_signals.specs.declared.kind.Kind.TheVariants.{Idle, Irq, Rom}
 use Rattle.device_trace.specs.Logs.{Logs, step_progress, vector_of}
 use Rattle.device_trace.specs.Progress.{Held, Runs, InCall, boundary_kind}
 use Rattle.device_trace.specs.Signals.{step_kind}
-use Rattle.device_trace.specs.Start.{Start}
+use Rattle.device_trace.specs.Start.{Start, with_key}
+use Rattle.device_trace.specs.Trace.{next_logs}
+use Rattle.bus_signals.specs.declared.event.Event.{Event}
 use Rattle.device_core.specs.Bus.{BusStandsFor, TurnStandsFor}
 use Rattle.device_core.specs.declared.machine.Machine.{Machine}
 use Rattle.device_core.specs.declared.turn.Turn.{Turn}
@@ -60,6 +62,17 @@ MachineStandsFor taken digest RunningStage machine start logs = RunningMachine t
 MachineStandsFor taken digest InRomStage machine start logs = CallingMachine taken digest machine
     start logs
 
+-- a step with these events: where the machine stood for a start and logs before it, this one stands
+-- for the next logs, at this stage
+abbrev pub MakesStep :
+    {D : Type 0} → (D → List ℕ → Type 0) → (List ℕ → List ℕ)
+    → (Start → Logs → Type 0) → List Event → Stage → Machine D → Type 0
+MakesStep taken digest stood events stage machine =
+    (key : List ℕ) (image : ℕ → ℕ) (logs : Logs)
+    → stood (with_key digest key image) logs
+    → MachineStandsFor taken digest stage machine (with_key digest key image)
+    (next_logs (with_key digest key image) logs events)
+
 -- at a boundary the processor fetches an opcode, or sleeps
 abbrev pub FetchesOpcode : Kind → Bool → CpuState → Type 0
 FetchesOpcode kind opcode (Boundary regs) = (kind ≡ Idle) ⊎ (opcode ≡ true)
@@ -81,12 +94,6 @@ pub record RunsWithin {D : Type 0} (taken : D → List ℕ → Type 0) (digest :
 abbrev pub state_begun : List ℕ → Kind → Option ℕ → CpuState
 state_begun regs Irq (Some vector) = entry_begun regs vector
 state_begun regs kind vector = Boundary regs
-
--- likewise, from some state
-pub record RunsSomewhere {D : Type 0} (taken : D → List ℕ → Type 0) (digest : List ℕ → List ℕ)
-    (machine : Machine D) (turn : Turn) (start : Start) (logs : Logs) : Type 0 where
-  pub state : CpuState
-  pub same : RunsWithin taken digest machine turn start logs state
 
 -- at a boundary at which a call begins, with some registers
 pub record BeginsCall {D : Type 0} (taken : D → List ℕ → Type 0) (digest : List ℕ → List ℕ)

@@ -1,9 +1,7 @@
 -- What the peripherals stand for, and what a step leaves of what happened to them.
-use Rattle.std.specs.Prelude.{ℕ, Bool, false, Option, None, Some}
+use Rattle.std.specs.Prelude.{ℕ, Bool, Option, None}
 use Rattle.bus_signals.specs.declared.access.Access.{Access}
-use Rattle.bus_signals.specs.declared.access.Access.TheVariants.{Fetch, Read, Write}
 use Rattle.bus_signals.specs.declared.rule.Rule.{Rule}
-use Rattle.bus_signals.specs.Map.{lies_in, peripheral_region}
 use Rattle.irq_timer.specs.Timer.{TimerStandsFor}
 use Rattle.irq_timer.specs.Pins.{PinsStandFor}
 use Rattle.serial_port.specs.Serial.{SerialStandsFor}
@@ -17,16 +15,9 @@ pub record PeripheralsStandFor (parts : Peripherals) (logs : PeripheralLogs) : T
   pub same_dma : DmaStandsFor parts.dma logs.dma
   pub same_pins : PinsStandFor parts.pins logs.pins
 
--- the access is to a register of a peripheral
-abbrev pub reaches_peripherals : Option Access → Bool
-reaches_peripherals None = false
-reaches_peripherals (Some (Fetch place)) = lies_in peripheral_region place
-reaches_peripherals (Some (Read place size)) = lies_in peripheral_region place
-reaches_peripherals (Some (Write place size number)) = lies_in peripheral_region place
-
 -- after an access of the processor
-abbrev pub peripherals_reached : Option Access → PeripheralLogs → PeripheralLogs
-peripherals_reached access logs =
+abbrev pub peripherals_after_access : Option Access → PeripheralLogs → PeripheralLogs
+peripherals_after_access access logs =
     record {
       timer = with_timer_access access logs.timer;
       serial = serial_after None access logs.serial;
@@ -36,9 +27,9 @@ peripherals_reached access logs =
 
 -- after a step: which rule it broke, whether the entry of the timer's interrupt began in it, the
 -- accesses of processor and DMA, and what the DMA read
-abbrev pub peripherals_served : Option Rule → Bool → Option Access → Option Access → ℕ →
+abbrev pub peripherals_after_step : Option Rule → Bool → Option Access → Option Access → ℕ →
     PeripheralLogs → PeripheralLogs
-peripherals_served rule accepted cpu dma dma_value logs =
+peripherals_after_step rule accepted cpu dma dma_value logs =
     record {
       timer = timer_after rule accepted cpu logs.timer;
       serial = serial_after rule cpu logs.serial;

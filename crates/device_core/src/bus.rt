@@ -20,7 +20,7 @@ use crate::access::{value_read, word_fetched};
 use crate::monitors::Monitors;
 use crate::past::Past;
 use crate::peripherals::Peripherals;
-use crate::record::{performed, refused};
+use crate::record::{record_of_refusal, record_of_step};
 use crate::turn::Turn;
 use bus_arbiter::{Proposal, exchange};
 use bus_signals::{Access, Bounds, BusMaster, BusRecord, Event, Rule, Signals};
@@ -56,10 +56,23 @@ fn asks_reset(events: &[Event]) -> bool
     events.iter().any(|event| is_reset(event))
 }
 
+// Shows the EXEC flag in memory, which showed what it was.
+#[inline(always)]
+fn show_exec(memory: &mut Memory, was_set: bool, is_set: bool)
+    ensures { (start : PowerOn) (writes : List MemoryWrite)
+        → MemoryStandsFor memory.old start was_set writes
+        → MemoryStandsFor memory.new start is_set writes }
+{
+    if is_set != was_set {
+        memory.set_exec(is_set);
+    }
+}
+
 // Makes the accesses of a step: the DMA sees what the processor writes.
 #[inline(always)]
 fn make_accesses(memory: &mut Memory, peripherals: &Peripherals, now: &Signals) -> Values
-    requires { IfSome now.now.cpu IsFormed }
+    requires cpu { IfSome now.now.cpu IsFormed }
+    requires dma { IfSome now.now.dma IsFormed }
     ensures cpu { (start : Start) (logs : Logs)
         → MemoryStandsFor memory.old start.power (exec_of logs) logs.memory
         → PeripheralsStandFor peripherals.now logs.peripherals
@@ -67,18 +80,13 @@ fn make_accesses(memory: &mut Memory, peripherals: &Peripherals, now: &Signals) 
         → result.cpu ≡ value_read start logs now.now.cpu }
     ensures dma { (start : Start) (logs : Logs)
         → MemoryStandsFor memory.old start.power (exec_of logs) logs.memory
-        → PeripheralsStandFor peripherals.now logs.peripherals
-        → now.now.dma ≡ dma_access logs.peripherals.dma
         → result.dma ≡ dma_value_read start logs now.now }
     ensures memory { (start : PowerOn) (flag : Bool) (writes : List MemoryWrite)
-        (logs : PeripheralLogs)
         → MemoryStandsFor memory.old start flag writes
-        → PeripheralsStandFor peripherals.now logs
-        → now.now.dma ≡ dma_access logs.dma
         → MemoryStandsFor memory.new start flag (memory_after None now.now.cpu now.now.dma writes) }
 {
     let cpu = value_read(memory, peripherals, now.cpu, now.word);
-    let values = exchange(memory, &Proposal::new(now.cpu), &peripherals.dma);
+    let values = exchange(memory, &Proposal::new(now.cpu), &Proposal::new(now.dma));
     Values {
         cpu,
         dma: values.second,
@@ -156,9 +164,8 @@ impl Bus {
         requires dma { IfSome entry.dma IsFormed }
         ensures past_steps { StepsFrom self.old.past self.new.past }
         ensures peripherals { self.new.peripherals ≡ self.old.peripherals }
-        ensures memory { (start : PowerOn) (flag : Bool) (writes : List MemoryWrite)
-            (seen : List Seen)
-            → MemoryStandsFor self.old.memory start flag writes
+        ensures memory { (start : PowerOn) (writes : List MemoryWrite) (seen : List Seen)
+            → MemoryStandsFor self.old.memory start (exec seen) writes
             → MonitorsStandFor self.old.monitors seen
             → MemoryStandsFor self.new.memory start
             (exec (record { entry = entry; bounds = bounds.now } ∷ seen)) writes }
@@ -170,18 +177,17 @@ impl Bus {
             → PastStandsFor self.old.past seen
             → PastStandsFor self.new.past (record { entry = entry; bounds = bounds.now } ∷ seen) }
     {
-        self.monitors.see(&entry, bounds);
-        self.memory.set_exec(self.monitors.exec());
-        self.past = Past {
-            steps: self.past.steps + 1,
-            last: Some(entry),
-        };
+        let was_set = self.monitors.exec();
+        self.past.steps += 1;
+        let entry = self.past.last.insert(entry);
+        self.monitors.see(entry, bounds);
+        show_exec(&mut self.memory, was_set, self.monitors.exec());
     }
 
     // Makes a step that breaks no rule. What the access of the processor read.
     #[inline(always)]
     #[tactic(auto, unfolding(device_trace::specs::Logs::with_record))]
-    fn perform(&mut self, regs: [u16; 16], is_accepted: bool, now: &Signals) -> u16
+    fn perform(&mut self, regs: &[u16; 16], is_accepted: bool, now: &Signals) -> u16
         requires few { self.old.past.steps < 2 ^ 63 }
         requires cpu { IfSome now.now.cpu IsFormed }
         requires dma { IfSome now.now.dma IsFormed }
@@ -196,41 +202,41 @@ impl Bus {
             → now.now.dma ≡ dma_access logs.peripherals.dma
             → is_accepted ≡ accepts_timer logs.progress now.now.kind (vector_of logs)
             → BusStandsFor self.new start (with_record start logs
-            (record_from regs now.now None (value_read start logs now.now.cpu)
+            (record_from regs.now now.now None (value_read start logs now.now.cpu)
             (dma_value_read start logs now.now))) }
     {
         let bounds = self.memory.bounds();
         let values = make_accesses(&mut self.memory, &self.peripherals, now);
         self.peripherals
             .serve(now.cpu, now.dma, values.dma, is_accepted);
-        self.record(performed(regs, now, values.cpu, values.dma), &bounds);
+        self.record(record_of_step(regs, now, values.cpu, values.dma), &bounds);
         values.cpu
     }
 
     // Makes no access, and resets all that is reached over the bus but memory and pins.
     #[inline(never)]
     #[tactic(auto, unfolding(device_trace::specs::Logs::with_record))]
-    fn refuse(&mut self, regs: [u16; 16], rule: Rule, now: &Signals)
+    fn refuse(&mut self, regs: &[u16; 16], rule: Rule, now: Signals)
         requires few { self.old.past.steps < 2 ^ 63 }
-        requires cpu { IfSome now.now.cpu IsFormed }
-        requires dma { IfSome now.now.dma IsFormed }
+        requires cpu { IfSome now.cpu IsFormed }
+        requires dma { IfSome now.dma IsFormed }
         ensures past_steps { StepsFrom self.old.past self.new.past }
         ensures stands { (start : Start) (logs : Logs) (value dma_value : ℕ)
             → BusStandsFor self.old start logs
             → BusStandsFor self.new start (with_record start logs
-            (record_from regs now.now (Some rule) value dma_value)) }
+            (record_from regs.now now (Some rule) value dma_value)) }
     {
         let bounds = self.memory.bounds();
         self.peripherals.clear();
-        self.record(refused(regs, now, rule), &bounds);
+        self.record(record_of_refusal(regs, &now, rule), &bounds);
     }
 
-    // Tries the rules, and makes the step of this turn where none is broken, in which the DMA asks
-    // for this access. What the access of processor or ROM read, `None` where the step is refused.
+    /// Tries the rules, and makes the step of this turn where none is broken, in which the DMA asks
+    /// for this access. What the access of processor or ROM read, `None` where the step is refused.
     #[inline(always)]
-    fn act_beside(
+    pub fn act(
         &mut self,
-        regs: [u16; 16],
+        regs: &[u16; 16],
         turn: &Turn,
         dma: Option<Access>,
         script_reset: bool,
@@ -241,12 +247,12 @@ impl Bus {
         ensures past_steps { StepsFrom self.old.past self.new.past }
         ensures answer { (start : Start) (logs : Logs)
             → BusStandsFor self.old start logs
-            → TurnStandsFor regs turn.now start logs
+            → TurnStandsFor regs.now turn.now start logs
             → dma ≡ dma_access logs.peripherals.dma
             → result ≡ answer_in (record_of start logs script_reset) }
         ensures stands { (start : Start) (logs : Logs)
             → BusStandsFor self.old start logs
-            → TurnStandsFor regs turn.now start logs
+            → TurnStandsFor regs.now turn.now start logs
             → dma ≡ dma_access logs.peripherals.dma
             → BusStandsFor self.new start (logs_after_step start logs script_reset) }
     {
@@ -254,58 +260,9 @@ impl Bus {
         match self.monitors.first_rule(&now) {
             None => Some(self.perform(regs, turn.accepts_timer, &now)),
             Some(rule) => {
-                self.refuse(regs, rule, &now);
+                self.refuse(regs, rule, now);
                 None
             }
-        }
-    }
-
-    // Likewise, where the DMA asks for an access.
-    #[inline(never)]
-    fn act_beside_dma(
-        &mut self,
-        regs: [u16; 16],
-        turn: &Turn,
-        access: Access,
-        script_reset: bool,
-    ) -> Option<u16>
-        requires few { self.old.past.steps < 2 ^ 63 }
-        requires formed { IfSome turn.now.access IsFormed }
-        requires dma_formed { IsFormed access }
-        ensures past_steps { StepsFrom self.old.past self.new.past }
-        ensures answer { (start : Start) (logs : Logs)
-            → BusStandsFor self.old start logs
-            → TurnStandsFor regs turn.now start logs
-            → Some access ≡ dma_access logs.peripherals.dma
-            → result ≡ answer_in (record_of start logs script_reset) }
-        ensures stands { (start : Start) (logs : Logs)
-            → BusStandsFor self.old start logs
-            → TurnStandsFor regs turn.now start logs
-            → Some access ≡ dma_access logs.peripherals.dma
-            → BusStandsFor self.new start (logs_after_step start logs script_reset) }
-    {
-        self.act_beside(regs, turn, Some(access), script_reset)
-    }
-
-    /// Tries the rules, and makes the step of this turn where none is broken. What the access of
-    /// processor or ROM read, `None` where the step is refused.
-    #[inline(always)]
-    pub fn act(&mut self, regs: [u16; 16], turn: &Turn, script_reset: bool) -> Option<u16>
-        requires few { self.old.past.steps < 2 ^ 63 }
-        requires formed { IfSome turn.now.access IsFormed }
-        ensures past_steps { StepsFrom self.old.past self.new.past }
-        ensures answer { (start : Start) (logs : Logs)
-            → BusStandsFor self.old start logs
-            → TurnStandsFor regs turn.now start logs
-            → result ≡ answer_in (record_of start logs script_reset) }
-        ensures stands { (start : Start) (logs : Logs)
-            → BusStandsFor self.old start logs
-            → TurnStandsFor regs turn.now start logs
-            → BusStandsFor self.new start (logs_after_step start logs script_reset) }
-    {
-        match self.peripherals.dma.ask() {
-            None => self.act_beside(regs, turn, None, script_reset),
-            Some(access) => self.act_beside_dma(regs, turn, access, script_reset),
         }
     }
 }

@@ -1,9 +1,8 @@
-ghost use Rattle.std.specs.Prelude.{◌≡◌, ◌<◌, ◌^◌, ◌+◌, ◌∷◌, [], ℕ, List, IfOk};
-ghost use Rattle.bus_signals.specs.declared.event.Event.{Event};
+ghost use Rattle.std.specs.Prelude.{◌≡◌, ◌<◌, ◌^◌, [], IfOk};
 ghost use Rattle.mem_map.specs.Image.{powered_on};
 ghost use Rattle.device_trace.specs.Start.{with_key};
-ghost use Rattle.device_core.specs.Device.{HeldStandsFor, RunningStandsFor, InRomStandsFor, LiveStandsFor, HasStepped, steps_of, steps_made};
-ghost use Rattle.device_core.specs.Outside.{HidesKey};
+ghost use Rattle.device_core.specs.Device.{HeldStandsFor, RunningStandsFor, InRomStandsFor, steps_of};
+ghost use Rattle.device_core.specs.Step.{IsStep};
 
 use crate::live::Live;
 use crate::machine::Machine;
@@ -65,14 +64,8 @@ impl<D: Digest32> Device<Held, D> {
     #[tactic(auto, unfolding(device_trace::specs::Trace::logs_after))]
     pub fn step(self, events: &[Event]) -> Live<D>
         requires { steps_of self < 2 ^ 63 }
-        ensures stands { (key : List ℕ) (image : ℕ → ℕ) (play : List (List Event))
-            → HeldStandsFor D.has_taken D.digest_of self (with_key D.digest_of key image) play
-            → LiveStandsFor D.has_taken D.digest_of result (with_key D.digest_of key image)
-            (events.now ∷ play) }
-        ensures hides_key { HidesKey D.digest_of (HeldStandsFor D.has_taken D.digest_of self)
-            events.now result }
-        ensures steps { steps_made result ≡ steps_of self + 1 }
-        ensures recorded { HasStepped result }
+        ensures { IsStep D.has_taken D.digest_of (HeldStandsFor D.has_taken D.digest_of self)
+            (steps_of self) events.now result }
     {
         let mut machine = self.machine;
         let stage = machine.held_step(events);
@@ -83,17 +76,12 @@ impl<D: Digest32> Device<Held, D> {
 impl<D: Digest32> Device<Running, D> {
     /// Makes the next step: an access of the processor, none while it sleeps, or the first of a
     /// call. The events come at its beginning.
+    #[inline(always)]
     #[tactic(auto, unfolding(device_trace::specs::Trace::logs_after))]
     pub fn step(self, events: &[Event]) -> Live<D>
         requires { steps_of self < 2 ^ 63 }
-        ensures stands { (key : List ℕ) (image : ℕ → ℕ) (play : List (List Event))
-            → RunningStandsFor D.has_taken D.digest_of self (with_key D.digest_of key image) play
-            → LiveStandsFor D.has_taken D.digest_of result (with_key D.digest_of key image)
-            (events.now ∷ play) }
-        ensures hides_key { HidesKey D.digest_of (RunningStandsFor D.has_taken D.digest_of self)
-            events.now result }
-        ensures steps { steps_made result ≡ steps_of self + 1 }
-        ensures recorded { HasStepped result }
+        ensures { IsStep D.has_taken D.digest_of (RunningStandsFor D.has_taken D.digest_of self)
+            (steps_of self) events.now result }
     {
         let mut machine = self.machine;
         let stage = machine.running_step(events);
@@ -106,14 +94,8 @@ impl<D: Digest32> Device<InRom, D> {
     #[tactic(auto, unfolding(device_trace::specs::Trace::logs_after))]
     pub fn step(self, events: &[Event]) -> Live<D>
         requires { steps_of self < 2 ^ 63 }
-        ensures stands { (key : List ℕ) (image : ℕ → ℕ) (play : List (List Event))
-            → InRomStandsFor D.has_taken D.digest_of self (with_key D.digest_of key image) play
-            → LiveStandsFor D.has_taken D.digest_of result (with_key D.digest_of key image)
-            (events.now ∷ play) }
-        ensures hides_key { HidesKey D.digest_of (InRomStandsFor D.has_taken D.digest_of self)
-            events.now result }
-        ensures steps { steps_made result ≡ steps_of self + 1 }
-        ensures recorded { HasStepped result }
+        ensures { IsStep D.has_taken D.digest_of (InRomStandsFor D.has_taken D.digest_of self)
+            (steps_of self) events.now result }
     {
         let mut machine = self.machine;
         let stage = machine.call_step(events);

@@ -13,7 +13,7 @@ ghost use Rattle.trace_facts.specs.Naming.{NamesNeitherA1NorK3};
 ghost use Rattle.mac_coverage.specs.Coverage.{IsDeviceKey, IsOfBytes, MacCoversReport};
 ghost use Rattle.device_core.specs.Device.{LiveStandsAt, LiveStandsFor, machine_of, steps_made, HasStepped};
 ghost use Rattle.device_core.specs.Machine.{MachineStandsFor};
-ghost use Rattle.device_core.specs.Outside.{HidesKey};
+ghost use Rattle.device_core.specs.Step.{IsStep};
 ghost use Rattle.device_core.specs.Silence.{is_silent};
 ghost use Rattle.device_trace.specs.Text.{last_report};
 
@@ -79,16 +79,11 @@ impl<D: Digest32> Live<D> {
     }
 
     /// Makes the next step. The events come at its beginning.
+    #[inline(always)]
     pub fn step(self, events: &[Event]) -> Live<D>
         requires { steps_made self < 2 ^ 63 }
-        ensures stands { (key : List ℕ) (image : ℕ → ℕ) (play : List (List Event))
-            → LiveStandsFor D.has_taken D.digest_of self (with_key D.digest_of key image) play
-            → LiveStandsFor D.has_taken D.digest_of result (with_key D.digest_of key image)
-            (events.now ∷ play) }
-        ensures hides_key { HidesKey D.digest_of (LiveStandsFor D.has_taken D.digest_of self)
-            events.now result }
-        ensures steps { steps_made result ≡ steps_made self + 1 }
-        ensures recorded { HasStepped result }
+        ensures { IsStep D.has_taken D.digest_of (LiveStandsFor D.has_taken D.digest_of self)
+            (steps_made self) events.now result }
     {
         match self {
             Live::Held(device) => device.step(events),

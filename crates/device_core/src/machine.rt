@@ -1,4 +1,4 @@
-ghost use Rattle.std.specs.Prelude.{◌≡◌, ◌⊎◌, ◌==◌, ◌<◌, ◌^◌, ◌&&◌, ℕ, List, IfOk, IfSome, IfNone, true, false, is_some, if◌then◌else◌};
+ghost use Rattle.std.specs.Prelude.{◌≡◌, ◌⊎◌, ◌==◌, ◌<◌, ◌^◌, ◌&&◌, ℕ, List, IfOk, IfSome, true, false, is_some, if◌then◌else◌};
 ghost use Rattle.bus_signals.specs.Access.{IsFormed};
 ghost use Rattle.bus_signals.specs.Map.{ROM_ENTRY};
 ghost use Rattle.part_definitions.specs.CpuRegisters.{with_pc, with_sp, is_asleep};
@@ -12,14 +12,14 @@ ghost use Rattle.device_trace.specs.Logs.{Logs, power_on_logs, vector_of, is_tim
 ghost use Rattle.bus_signals.specs.Kind.{is_cpu, is_irq, is_rom};
 ghost use Rattle.device_core.specs.Machine.{state_begun};
 ghost use Rattle.device_trace.specs.Progress.{last_registers, boundary_kind, running_after};
-ghost use Rattle.device_trace.specs.Trace.{next_logs};
+ghost use Rattle.part_definitions.specs.Dma.{dma_access};
 ghost use Rattle.mem_map.specs.Image.{powered_on};
 
 use crate::bus::Bus;
 use crate::peripherals::TIMER_VECTOR;
 use crate::stage::Stage;
 use crate::turn::Turn;
-use bus_signals::{BusMaster, CR, Event, Kind};
+use bus_signals::{Access, BusMaster, CR, Event, Kind};
 use hmac_core::Digest32;
 use mem_map::Image;
 use msp_exec::Cpu;
@@ -77,7 +77,7 @@ fn is_rom_entry(pc: u16) -> bool
 impl<D: Digest32> Machine<D> {
     ghost use Rattle.device_core.specs.Bus.{BusStandsFor, logs_after_step};
     ghost use Rattle.device_core.specs.Past.{StepsFrom};
-    ghost use Rattle.device_core.specs.Machine.{HeldMachine, RunningMachine, RunsFrom, CallingMachine, RunsWithin, RunsSomewhere, BeginsCall, CallsWithin, MachineStandsFor};
+    ghost use Rattle.device_core.specs.Machine.{HeldMachine, RunningMachine, RunsFrom, CallingMachine, RunsWithin, BeginsCall, CallsWithin, MachineStandsFor, MakesStep};
 
     /// The machine at power-on.
     pub fn new(alloc: Global, key: &[u8; 64], image: &Image) -> Result<Machine<D>, AllocError>
@@ -95,6 +95,7 @@ impl<D: Digest32> Machine<D> {
     }
 
     // The vector of the interrupt that could be accepted.
+    #[inline(always)]
     fn vector(&self) -> Option<u16>
         ensures { (start : Start) (logs : Logs) (state : CpuState)
             → BusStandsFor self.now.bus start logs
@@ -108,6 +109,7 @@ impl<D: Digest32> Machine<D> {
     }
 
     // A step that breaks a rule resets the device.
+    #[inline(never)]
     fn hold(&mut self) -> Stage
         ensures bus { self.new.bus ≡ self.old.bus }
         ensures processor { CpuStandsFor self.new.processor clear_cpu }
@@ -130,7 +132,9 @@ impl<D: Digest32> Machine<D> {
             (logs_after_step start logs script_reset) }
     {
         let turn = Turn::boot();
-        match self.bus.act(self.processor.regs(), &turn, script_reset) {
+        let dma = self.bus.peripherals.dma.ask();
+        let regs = self.processor.registers();
+        match self.bus.act(regs, &turn, dma, script_reset) {
             Some(vector) => {
                 self.processor.start(vector, 0);
                 Stage::Running
@@ -139,18 +143,21 @@ impl<D: Digest32> Machine<D> {
         }
     }
 
-    // A step of the processor, or of its sleep.
+    // A step of the processor, or of its sleep, in which the DMA asks for this access.
     #[inline(always)]
-    fn run(&mut self, turn: &Turn, script_reset: bool) -> Stage
+    fn run(&mut self, turn: &Turn, dma: Option<Access>, script_reset: bool) -> Stage
         requires few { self.old.bus.past.steps < 2 ^ 63 }
         requires formed { IfSome turn.now.access IsFormed }
+        requires dma_formed { IfSome dma IsFormed }
         ensures past { StepsFrom self.old.bus.past self.new.bus.past }
         ensures stands { (start : Start) (logs : Logs) (state : CpuState)
             → RunsWithin D.has_taken D.digest_of self.old turn.now start logs state
+            → dma ≡ dma_access logs.peripherals.dma
             → MachineStandsFor D.has_taken D.digest_of result self.new start
             (logs_after_step start logs script_reset) }
     {
-        match self.bus.act(self.processor.regs(), turn, script_reset) {
+        let regs = self.processor.registers();
+        match self.bus.act(regs, turn, dma, script_reset) {
             Some(value) => {
                 take_unless_asleep(&mut self.processor, turn.kind, value);
                 Stage::Running
@@ -172,7 +179,9 @@ impl<D: Digest32> Machine<D> {
             (with_key D.digest_of key image)
             (logs_after_step (with_key D.digest_of key image) logs script_reset) }
     {
-        match self.bus.act(self.processor.regs(), turn, script_reset) {
+        let dma = self.bus.peripherals.dma.ask();
+        let regs = self.processor.registers();
+        match self.bus.act(regs, turn, dma, script_reset) {
             Some(value) => {
                 self.call.take(value);
                 self.leave_call()
@@ -240,6 +249,7 @@ impl<D: Digest32> Machine<D> {
 
     // The processor's turn at a boundary, in a step of this kind: an opcode fetch, a step of sleep,
     // or the first of the entry of this interrupt.
+    #[inline(always)]
     fn turn_from_boundary(&mut self, kind: Kind, vector: Option<u16>) -> Turn
         ensures bus { self.new.bus ≡ self.old.bus }
         ensures formed { IfSome result.access IsFormed }
@@ -263,6 +273,7 @@ impl<D: Digest32> Machine<D> {
     }
 
     // The processor's turn in the middle of an instruction or an interrupt entry.
+    #[inline(always)]
     fn turn_in_the_middle(&self) -> Turn
         ensures formed { IfSome result.access IsFormed }
         ensures runs { (start : Start) (logs : Logs) (state : CpuState)
@@ -274,47 +285,134 @@ impl<D: Digest32> Machine<D> {
         Turn::of_processor(&self.processor, kind, false, false, false)
     }
 
-    // The processor's turn at a boundary, none where a call begins.
-    fn turn_at_boundary(&mut self) -> Option<Turn>
-        ensures bus { self.new.bus ≡ self.old.bus }
-        ensures formed { IfSome result (λ turn. IfSome turn.access IsFormed) }
-        ensures runs { (start : Start) (logs : Logs) (regs : List ℕ)
+    // A step that begins at a boundary, and no call: of this kind, with this interrupt, and with
+    // this access of the DMA.
+    #[inline(always)]
+    fn run_from_boundary(
+        &mut self,
+        kind: Kind,
+        vector: Option<u16>,
+        dma: Option<Access>,
+        script_reset: bool,
+    ) -> Stage
+        requires few { self.old.bus.past.steps < 2 ^ 63 }
+        requires dma_formed { IfSome dma IsFormed }
+        ensures past { StepsFrom self.old.bus.past self.new.bus.past }
+        ensures stands { (start : Start) (logs : Logs) (regs : List ℕ)
             → RunsFrom D.has_taken D.digest_of self.old start logs (Boundary regs)
-            → IfSome result (λ turn.
-            RunsSomewhere D.has_taken D.digest_of self.new turn start logs) }
-        ensures calls { (start : Start) (logs : Logs) (regs : List ℕ)
+            → vector ≡ vector_of logs
+            → kind ≡ boundary_kind regs (vector_of logs)
+            → is_rom kind ≡ false
+            → dma ≡ dma_access logs.peripherals.dma
+            → MachineStandsFor D.has_taken D.digest_of result self.new start
+            (logs_after_step start logs script_reset) }
+    {
+        let turn = self.turn_from_boundary(kind, vector);
+        self.run(&turn, dma, script_reset)
+    }
+
+    // Likewise: sleep, or the first step of an interrupt entry.
+    #[inline(never)]
+    fn sleep_or_enter(&mut self, kind: Kind, vector: Option<u16>, script_reset: bool) -> Stage
+        requires { self.old.bus.past.steps < 2 ^ 63 }
+        ensures past { StepsFrom self.old.bus.past self.new.bus.past }
+        ensures stands { (start : Start) (logs : Logs) (regs : List ℕ)
             → RunsFrom D.has_taken D.digest_of self.old start logs (Boundary regs)
-            → IfNone result (BeginsCall D.has_taken D.digest_of self.new start logs) }
+            → vector ≡ vector_of logs
+            → kind ≡ boundary_kind regs (vector_of logs)
+            → is_rom kind ≡ false
+            → MachineStandsFor D.has_taken D.digest_of result self.new start
+            (logs_after_step start logs script_reset) }
+    {
+        let dma = self.bus.peripherals.dma.ask();
+        self.run_from_boundary(kind, vector, dma, script_reset)
+    }
+
+    // A step that begins at a boundary.
+    #[inline(always)]
+    fn go_from_boundary(&mut self, dma: Option<Access>, script_reset: bool) -> Stage
+        requires few { self.old.bus.past.steps < 2 ^ 63 }
+        requires dma_formed { IfSome dma IsFormed }
+        ensures past { StepsFrom self.old.bus.past self.new.bus.past }
+        ensures stands { (key : List ℕ) (image : ℕ → ℕ) (logs : Logs) (regs : List ℕ)
+            → RunsFrom D.has_taken D.digest_of self.old (with_key D.digest_of key image) logs
+            (Boundary regs)
+            → dma ≡ dma_access logs.peripherals.dma
+            → MachineStandsFor D.has_taken D.digest_of result self.new
+            (with_key D.digest_of key image)
+            (logs_after_step (with_key D.digest_of key image) logs script_reset) }
     {
         let vector = self.vector();
         let kind = boundary_kind(&self.processor, vector);
-        if is_rom(kind) {
-            None
-        } else {
-            Some(self.turn_from_boundary(kind, vector))
+        match kind {
+            Kind::Cpu => self.run_from_boundary(kind, vector, dma, script_reset),
+            Kind::Rom => self.begin_call(script_reset),
+            Kind::Boot | Kind::Idle | Kind::Irq => self.sleep_or_enter(kind, vector, script_reset),
         }
     }
 
-    // The processor's turn, none where a call begins.
-    fn turn(&mut self) -> Option<Turn>
-        ensures bus { self.new.bus ≡ self.old.bus }
-        ensures formed { IfSome result (λ turn. IfSome turn.access IsFormed) }
-        ensures runs { (start : Start) (logs : Logs)
-            → RunningMachine D.has_taken D.digest_of self.old start logs
-            → IfSome result (λ turn.
-            RunsSomewhere D.has_taken D.digest_of self.new turn start logs) }
-        ensures calls { (start : Start) (logs : Logs)
-            → RunningMachine D.has_taken D.digest_of self.old start logs
-            → IfNone result (BeginsCall D.has_taken D.digest_of self.new start logs) }
+    // A step in the middle of an instruction or an interrupt entry. The compiler makes one for each
+    // kind of access, which is shorter than one for all.
+    #[inline(always)]
+    fn run_in_the_middle(&mut self, dma: Option<Access>, script_reset: bool) -> Stage
+        requires few { self.old.bus.past.steps < 2 ^ 63 }
+        requires dma_formed { IfSome dma IsFormed }
+        ensures past { StepsFrom self.old.bus.past self.new.bus.past }
+        ensures stands { (start : Start) (logs : Logs) (state : CpuState)
+            → RunsFrom D.has_taken D.digest_of self.old start logs state
+            → is_at_boundary state ≡ false
+            → dma ≡ dma_access logs.peripherals.dma
+            → MachineStandsFor D.has_taken D.digest_of result self.new start
+            (logs_after_step start logs script_reset) }
+    {
+        let turn = self.turn_in_the_middle();
+        match turn.access {
+            Some(Access::Write(..)) => self.run(&turn, dma, script_reset),
+            Some(Access::Read(..)) => self.run(&turn, dma, script_reset),
+            Some(Access::Fetch(..)) | None => self.run(&turn, dma, script_reset),
+        }
+    }
+
+    // Likewise, apart from the steps of instructions.
+    #[inline(never)]
+    fn go_on_entering(&mut self, script_reset: bool) -> Stage
+        requires { self.old.bus.past.steps < 2 ^ 63 }
+        ensures past { StepsFrom self.old.bus.past self.new.bus.past }
+        ensures stands { (start : Start) (logs : Logs) (state : CpuState)
+            → RunsFrom D.has_taken D.digest_of self.old start logs state
+            → is_at_boundary state ≡ false
+            → MachineStandsFor D.has_taken D.digest_of result self.new start
+            (logs_after_step start logs script_reset) }
+    {
+        let dma = self.bus.peripherals.dma.ask();
+        self.run_in_the_middle(dma, script_reset)
+    }
+
+    // The step of a device that runs, after its events, in which the DMA asks for this access.
+    #[inline(always)]
+    fn go_beside(&mut self, dma: Option<Access>, script_reset: bool) -> Stage
+        requires few { self.old.bus.past.steps < 2 ^ 63 }
+        requires dma_formed { IfSome dma IsFormed }
+        ensures past { StepsFrom self.old.bus.past self.new.bus.past }
+        ensures stands { (key : List ℕ) (image : ℕ → ℕ) (logs : Logs)
+            → RunningMachine D.has_taken D.digest_of self.old (with_key D.digest_of key image) logs
+            → dma ≡ dma_access logs.peripherals.dma
+            → MachineStandsFor D.has_taken D.digest_of result self.new
+            (with_key D.digest_of key image)
+            (logs_after_step (with_key D.digest_of key image) logs script_reset) }
     {
         if self.processor.at_boundary() {
-            self.turn_at_boundary()
+            self.go_from_boundary(dma, script_reset)
+        } else if self.processor.is_entering() {
+            self.go_on_entering(script_reset)
         } else {
-            Some(self.turn_in_the_middle())
+            self.run_in_the_middle(dma, script_reset)
         }
     }
 
-    // The step of a device that runs, after its events.
+    // Likewise, whatever the DMA asks for. The compiler makes a step without an access of the DMA
+    // apart from one with it.
+    #[inline(always)]
     fn go(&mut self, script_reset: bool) -> Stage
         requires { self.old.bus.past.steps < 2 ^ 63 }
         ensures past { StepsFrom self.old.bus.past self.new.bus.past }
@@ -324,9 +422,9 @@ impl<D: Digest32> Machine<D> {
             (with_key D.digest_of key image)
             (logs_after_step (with_key D.digest_of key image) logs script_reset) }
     {
-        match self.turn() {
-            Some(turn) => self.run(&turn, script_reset),
-            None => self.begin_call(script_reset),
+        match self.bus.peripherals.dma.ask() {
+            None => self.go_beside(None, script_reset),
+            Some(access) => self.go_beside(Some(access), script_reset),
         }
     }
 
@@ -334,25 +432,20 @@ impl<D: Digest32> Machine<D> {
     pub fn held_step(&mut self, events: &[Event]) -> Stage
         requires { self.old.bus.past.steps < 2 ^ 63 }
         ensures past { StepsFrom self.old.bus.past self.new.bus.past }
-        ensures stands { (key : List ℕ) (image : ℕ → ℕ) (logs : Logs)
-            → HeldMachine D.has_taken D.digest_of self.old (with_key D.digest_of key image) logs
-            → MachineStandsFor D.has_taken D.digest_of result self.new
-            (with_key D.digest_of key image)
-            (next_logs (with_key D.digest_of key image) logs events.now) }
+        ensures stands { MakesStep D.has_taken D.digest_of
+            (HeldMachine D.has_taken D.digest_of self.old) events.now result self.new }
     {
         let script_reset = self.bus.hear(events);
         self.boot(script_reset)
     }
 
     /// The step of a device that runs.
+    #[inline(always)]
     pub fn running_step(&mut self, events: &[Event]) -> Stage
         requires { self.old.bus.past.steps < 2 ^ 63 }
         ensures past { StepsFrom self.old.bus.past self.new.bus.past }
-        ensures stands { (key : List ℕ) (image : ℕ → ℕ) (logs : Logs)
-            → RunningMachine D.has_taken D.digest_of self.old (with_key D.digest_of key image) logs
-            → MachineStandsFor D.has_taken D.digest_of result self.new
-            (with_key D.digest_of key image)
-            (next_logs (with_key D.digest_of key image) logs events.now) }
+        ensures stands { MakesStep D.has_taken D.digest_of
+            (RunningMachine D.has_taken D.digest_of self.old) events.now result self.new }
     {
         let script_reset = self.bus.hear(events);
         self.go(script_reset)
@@ -362,21 +455,12 @@ impl<D: Digest32> Machine<D> {
     pub fn call_step(&mut self, events: &[Event]) -> Stage
         requires { self.old.bus.past.steps < 2 ^ 63 }
         ensures past { StepsFrom self.old.bus.past self.new.bus.past }
-        ensures stands { (key : List ℕ) (image : ℕ → ℕ) (logs : Logs)
-            → CallingMachine D.has_taken D.digest_of self.old (with_key D.digest_of key image) logs
-            → MachineStandsFor D.has_taken D.digest_of result self.new
-            (with_key D.digest_of key image)
-            (next_logs (with_key D.digest_of key image) logs events.now) }
+        ensures stands { MakesStep D.has_taken D.digest_of
+            (CallingMachine D.has_taken D.digest_of self.old) events.now result self.new }
     {
         let script_reset = self.bus.hear(events);
         self.go_on_with_call(script_reset)
     }
-}
-
-fn is_rom(kind: Kind) -> bool
-    ensures { result ≡ is_rom kind }
-{
-    matches!(kind, Kind::Rom)
 }
 
 fn is_cpu(kind: Kind) -> bool
@@ -416,6 +500,7 @@ fn kind_within(processor: &Cpu) -> Kind
 }
 
 // The processor takes what it read; asleep it reads nothing.
+#[inline(always)]
 fn take_unless_asleep(processor: &mut Cpu, kind: Kind, value: u16)
     ensures { (state : CpuState)
         → CpuStandsFor processor.old state

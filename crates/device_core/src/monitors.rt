@@ -78,6 +78,7 @@ impl Monitors {
 }
 
 // A word is illegal. Jumps and instructions of two operands, from 2000 on, never are.
+#[inline(always)]
 #[tactic(auto, unfolding(msp_decode::specs::Head::head_of))]
 fn is_illegal(word: u16) -> bool
     ensures { result ≡ is_illegal word }

@@ -1,4 +1,4 @@
-ghost use Rattle.std.specs.Prelude.{◌≡◌, ℕ, Bool, List, Option, IfOk, None, Some};
+ghost use Rattle.std.specs.Prelude.{◌≡◌, ℕ, Bool, true, List, Option, IfOk, None, Some};
 ghost use Rattle.part_definitions.specs.Pins.{pins_read};
 ghost use Rattle.bus_signals.specs.declared.access.Access.{Access};
 ghost use Rattle.irq_timer.specs.Pins.{PinsStandFor};
@@ -12,7 +12,7 @@ ghost use Rattle.part_definitions.specs.Timer.{timer_requests};
 ghost use Rattle.irq_timer.specs.Timer.{TimerStandsFor};
 ghost use Rattle.serial_port.specs.Serial.{SerialStandsFor};
 ghost use Rattle.dma_engine.specs.Dma.{DmaStandsFor};
-ghost use Rattle.device_core.specs.Peripherals.{reaches_peripherals};
+ghost use Rattle.bus_signals.specs.declared.access.Access.TheVariants.{Write};
 ghost use Rattle.device_trace.specs.Peripherals.{Peripherals as PeripheralLogs, power_on_peripherals, with_event, with_all_events, peripheral_read, with_timer_access, with_acceptance, with_serial_read, with_dma_access, with_dma_value, timer_after, serial_after, dma_after};
 
 use bus_signals::{Access, BusMaster, Event, Region};
@@ -65,7 +65,7 @@ pub struct Peripherals {
 }
 
 impl Peripherals {
-    ghost use Rattle.device_core.specs.Peripherals.{PeripheralsStandFor, peripherals_reached, peripherals_served};
+    ghost use Rattle.device_core.specs.Peripherals.{PeripheralsStandFor, peripherals_after_access, peripherals_after_step};
 
     /// The peripherals at power-on. The receive queue is all the memory that they take.
     pub fn new(alloc: Global) -> Result<Peripherals, AllocError>
@@ -148,11 +148,52 @@ impl Peripherals {
             → result ≡ accepted_vector is_allowed (serial_requests logs.serial)
             (timer_requests logs.timer) }
     {
+        if is_allowed {
+            self.pending_vector()
+        } else {
+            None
+        }
+    }
+
+    // Likewise, where it allows any.
+    #[inline(always)]
+    fn pending_vector(&self) -> Option<u16>
+        ensures { (logs : PeripheralLogs)
+            → PeripheralsStandFor self.now logs
+            → result ≡ accepted_vector true (serial_requests logs.serial)
+            (timer_requests logs.timer) }
+    {
         let pending = Pending {
             serial: self.serial.request(),
             timer: self.timer.request(),
         };
-        best(&pending, is_allowed)
+        best(&pending, true)
+    }
+
+    // A write of the processor below 0200.
+    #[inline(never)]
+    fn write(&mut self, place: u16, size: Size, number: u16)
+        ensures { (logs : PeripheralLogs)
+            → PeripheralsStandFor self.old logs
+            → PeripheralsStandFor self.new
+            (peripherals_after_access (Some (Write place size number)) logs) }
+    {
+        write_timer(&mut self.timer, place, size, number);
+        write_serial(&mut self.serial, place, size, number);
+        write_dma(&mut self.dma, place, size, number);
+    }
+
+    // A write of the processor, where it is to a peripheral.
+    #[inline(always)]
+    fn take_write(&mut self, place: u16, size: Size, number: u16)
+        ensures { (logs : PeripheralLogs)
+            → PeripheralsStandFor self.old logs
+            → PeripheralsStandFor self.new
+            (peripherals_after_access (Some (Write place size number)) logs) }
+    {
+        if PERIPHERALS.contains(place) {
+            self.write(place, size, number);
+        }
     }
 
     // The access of the processor, where it is to a peripheral.
@@ -160,12 +201,13 @@ impl Peripherals {
     fn reach(&mut self, access: Option<Access>)
         ensures { (logs : PeripheralLogs)
             → PeripheralsStandFor self.old logs
-            → PeripheralsStandFor self.new (peripherals_reached access logs) }
+            → PeripheralsStandFor self.new (peripherals_after_access access logs) }
     {
-        if reaches_peripherals(access) {
-            write_timer(&mut self.timer, access);
-            serve_serial(&mut self.serial, access);
-            write_dma(&mut self.dma, access);
+        match access {
+            None => {}
+            Some(Access::Fetch(place)) => take_byte(&mut self.serial, place, Size::Word),
+            Some(Access::Read(place, size)) => take_byte(&mut self.serial, place, size),
+            Some(Access::Write(place, size, number)) => self.take_write(place, size, number),
         }
     }
 
@@ -182,7 +224,7 @@ impl Peripherals {
         ensures { (logs : PeripheralLogs)
             → PeripheralsStandFor self.old logs
             → PeripheralsStandFor self.new
-            (peripherals_served None is_timer_accepted cpu dma dma_value logs) }
+            (peripherals_after_step None is_timer_accepted cpu dma dma_value logs) }
     {
         self.reach(cpu);
         accept_timer(&mut self.timer, is_timer_accepted);
@@ -196,7 +238,7 @@ impl Peripherals {
             (logs : PeripheralLogs)
             → PeripheralsStandFor self.old logs
             → PeripheralsStandFor self.new
-            (peripherals_served (Some rule) accepted cpu dma value logs) }
+            (peripherals_after_step (Some rule) accepted cpu dma value logs) }
     {
         self.timer.clear();
         self.serial.clear();
@@ -204,35 +246,14 @@ impl Peripherals {
     }
 }
 
-// The access is to a register of a peripheral.
-#[inline(always)]
-fn reaches_peripherals(access: Option<Access>) -> bool
-    ensures { result ≡ reaches_peripherals access }
-{
-    match access {
-        None => false,
-        Some(Access::Fetch(place) | Access::Read(place, _) | Access::Write(place, _, _)) => {
-            PERIPHERALS.contains(place)
-        }
-    }
-}
-
-// The access of the processor, where it is the serial port's.
-#[inline(never)]
-fn serve_serial(serial: &mut Serial, access: Option<Access>)
+// A write of the processor, where it is to the serial port.
+fn write_serial(serial: &mut Serial, place: u16, size: Size, number: u16)
     ensures { (events : List SerialEvent)
         → SerialStandsFor serial.old events
-        → SerialStandsFor serial.new (serial_after None access events) }
+        → SerialStandsFor serial.new (serial_after None (Some (Write place size number)) events) }
 {
-    match access {
-        None => {}
-        Some(Access::Fetch(place)) => take_byte(serial, place, Size::Word),
-        Some(Access::Read(place, size)) => take_byte(serial, place, size),
-        Some(Access::Write(place, size, number)) => {
-            if SERIAL.contains(place) {
-                serial.write(place, size, number);
-            }
-        }
+    if SERIAL.contains(place) {
+        serial.write(place, size, number);
     }
 }
 
@@ -247,17 +268,14 @@ fn take_byte(serial: &mut Serial, place: u16, size: Size)
     }
 }
 
-// The access of the processor, where it is a write to the DMA engine.
-#[inline(never)]
-fn write_dma(dma: &mut Dma, access: Option<Access>)
+// A write of the processor, where it is to the DMA engine.
+fn write_dma(dma: &mut Dma, place: u16, size: Size, number: u16)
     ensures { (events : List DmaEvent)
         → DmaStandsFor dma.old events
-        → DmaStandsFor dma.new (with_dma_access access events) }
+        → DmaStandsFor dma.new (with_dma_access (Some (Write place size number)) events) }
 {
-    if let Some(Access::Write(place, size, number)) = access {
-        if DMA.contains(place) {
-            dma.write(place, size, number);
-        }
+    if DMA.contains(place) {
+        dma.write(place, size, number);
     }
 }
 
@@ -272,17 +290,14 @@ fn take_value(dma: &mut Dma, access: Option<Access>, value: u16)
     }
 }
 
-// The access of the processor, where it is a write to the timer.
-#[inline(never)]
-fn write_timer(timer: &mut Timer, access: Option<Access>)
+// A write of the processor, where it is to the timer.
+fn write_timer(timer: &mut Timer, place: u16, size: Size, number: u16)
     ensures { (events : List TimerEvent)
         → TimerStandsFor timer.old events
-        → TimerStandsFor timer.new (with_timer_access access events) }
+        → TimerStandsFor timer.new (with_timer_access (Some (Write place size number)) events) }
 {
-    if let Some(Access::Write(place, size, number)) = access {
-        if TIMER.contains(place) {
-            timer.write(place, size, number);
-        }
+    if TIMER.contains(place) {
+        timer.write(place, size, number);
     }
 }
 

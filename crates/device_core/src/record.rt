@@ -18,17 +18,17 @@ fn without_number(access: Option<Access>) -> Option<Access>
 
 /// The record of a step that was not refused.
 #[inline(always)]
-pub fn performed(regs: [u16; 16], now: &Signals, value: u16, dma_value: u16) -> BusRecord
+pub fn record_of_step(regs: &[u16; 16], now: &Signals, value: u16, dma_value: u16) -> BusRecord
     requires cpu { IfSome now.now.cpu IsFormed }
     requires dma { IfSome now.now.dma IsFormed }
-    ensures value { result ≡ record_from regs now.now None value dma_value }
+    ensures value { result ≡ record_from regs.now now.now None value dma_value }
     ensures cpu { IfSome result.cpu IsFormed }
     ensures dma { IfSome result.dma IsFormed }
 {
     BusRecord {
         kind: now.kind,
         pc: now.pc,
-        regs,
+        regs: *regs,
         cpu: now.cpu,
         value,
         dma: now.dma,
@@ -39,18 +39,18 @@ pub fn performed(regs: [u16; 16], now: &Signals, value: u16, dma_value: u16) -> 
 }
 
 /// The record of a step that broke a rule.
-pub fn refused(regs: [u16; 16], now: &Signals, rule: Rule) -> BusRecord
+pub fn record_of_refusal(regs: &[u16; 16], now: &Signals, rule: Rule) -> BusRecord
     requires cpu { IfSome now.now.cpu IsFormed }
     requires dma { IfSome now.now.dma IsFormed }
     ensures value { (value dma_value : ℕ)
-        → result ≡ record_from regs now.now (Some rule) value dma_value }
+        → result ≡ record_from regs.now now.now (Some rule) value dma_value }
     ensures cpu { IfSome result.cpu IsFormed }
     ensures dma { IfSome result.dma IsFormed }
 {
     BusRecord {
         kind: now.kind,
         pc: now.pc,
-        regs,
+        regs: *regs,
         cpu: without_number(now.cpu),
         value: 0,
         dma: without_number(now.dma),

@@ -44,7 +44,7 @@ impl Activity {
     }
 
     /// What it does after a start, which is ignored while a transfer is active.
-    pub fn started(self, source: u16, destination: u16, words: u16) -> Activity
+    pub fn after_start(self, source: u16, destination: u16, words: u16) -> Activity
         ensures { (transfer : Transfer)
             → ActivityStandsFor self transfer
             → ActivityStandsFor result

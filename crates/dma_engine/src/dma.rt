@@ -67,7 +67,7 @@ impl Dma {
         ensures { Takes DmaStandsFor self.old (Store place size value) self.new }
     {
         if covers_byte(place, size, DCTL) && value % 2 == 1 {
-            self.activity = self.activity.started(
+            self.activity = self.activity.after_start(
                 self.source.word(),
                 self.destination.word(),
                 self.length.word(),

@@ -12,7 +12,7 @@ pub fn starts_run(entry: &BusRecord, bounds: &Bounds) -> bool
 }
 
 // An opcode fetch fetches at its own `pc`.
-#[inline(always)]
+#[inline(never)]
 fn is_opcode_fetch(entry: &BusRecord) -> bool
     ensures { result ≡ is_opcode_fetch entry.now }
 {

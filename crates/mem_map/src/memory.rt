@@ -73,8 +73,8 @@ impl Memory {
         match size {
             Size::Byte => u16::from(self.byte(place)),
             Size::Word => {
-                let low = place / 2 * 2;
-                u16::from_le_bytes([self.byte(low), self.byte(low + 1)])
+                let low = usize::from(place / 2 * 2);
+                u16::from_le_bytes([self.bytes[low], self.bytes[low + 1]])
             }
         }
     }

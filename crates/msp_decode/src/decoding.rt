@@ -10,6 +10,7 @@ use crate::head::Head;
 use crate::one::One;
 use crate::source_form::SourceForm;
 
+#[inline(always)]
 fn one_operand(word: u16) -> Option<Head>
     requires least { 0x1000 ≤ word }
     requires most { word < 0x1300 }
@@ -25,6 +26,7 @@ fn one_operand(word: u16) -> Option<Head>
     }
 }
 
+#[inline(always)]
 fn jump(word: u16) -> Head
     ensures { result ≡ jump_head word }
 {
@@ -34,6 +36,7 @@ fn jump(word: u16) -> Head
     )
 }
 
+#[inline(always)]
 fn two_operands(word: u16) -> Head
     requires { 0x4000 ≤ word }
     ensures { result ≡ two_head word }
@@ -47,6 +50,7 @@ fn two_operands(word: u16) -> Head
 }
 
 /// The head that a word spells (SLAU049); `None` exactly on the illegal words.
+#[inline(always)]
 #[tactic(auto, unfolding(crate::specs::Head::head_of))]
 pub fn decode(word: u16) -> Option<Head>
     ensures value { result ≡ head_of word }

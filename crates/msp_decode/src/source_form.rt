@@ -51,6 +51,7 @@ impl SourceForm {
     }
 
     /// The form of a mode and a register field.
+    #[inline(always)]
     pub(crate) fn from_fields(mode: u16, register: u16) -> SourceForm
         requires mode_fits { mode < 4 }
         requires register_fits { register < 16 }

@@ -56,6 +56,15 @@ impl Cpu {
         self.regs
     }
 
+    /// Likewise, where they are kept.
+    pub fn registers(&self) -> &[u16; 16]
+        ensures { (state : CpuState)
+            → CpuStandsFor self.now state
+            → result.now ≡ registers_of state }
+    {
+        &self.regs
+    }
+
     /// Whether no instruction and no interrupt entry is in progress.
     pub fn at_boundary(&self) -> bool
         ensures { (state : CpuState) → CpuStandsFor self.now state → result ≡ is_at_boundary state }
@@ -165,6 +174,7 @@ impl Cpu {
         self.phase_access()
     }
 
+    #[inline(always)]
     fn complete(&mut self)
         ensures regs { self.new.regs ≡ self.old.working.regs }
         ensures working { self.new.working ≡ self.old.working }
@@ -191,6 +201,7 @@ impl Cpu {
     }
 
     /// Begins the instruction of a word, if it is not illegal.
+    #[inline(always)]
     #[tactic(auto, unfolding(part_definitions::specs::NextAccess::next_access))]
     fn begin(&mut self, word: u16) -> bool
         ensures taken { result ≡ not (is_illegal word) }
@@ -211,6 +222,7 @@ impl Cpu {
     }
 
     /// An access of the instruction was made and gave this value.
+    #[inline(always)]
     fn execute(&mut self, access: CpuAccess, value: u16)
         ensures { Follows self.new self.old.regs false
             (λ values. instruction_course self.old.head access self.old.working self.old.number
@@ -226,6 +238,7 @@ impl Cpu {
     }
 
     /// An access of the interrupt entry was made and gave this value.
+    #[inline(always)]
     #[tactic(auto, unfolding(part_definitions::specs::NextAccess::entry_access))]
     fn enter(&mut self, access: EntryAccess, vector: u16, value: u16)
         ensures { Follows self.new self.old.regs true
@@ -241,6 +254,7 @@ impl Cpu {
         }
     }
 
+    #[inline(always)]
     fn step(&mut self, value: u16) -> bool
         ensures taken { result ≡ takes_value self.old.phase value }
         ensures follows { result ≡ true
@@ -258,6 +272,7 @@ impl Cpu {
 
     /// Takes what the access read, 0 for a write. An illegal word at an opcode fetch is not taken:
     /// then the answer is false, and nothing changes.
+    #[inline(always)]
     #[tactic(auto, using(crate::proofs::Courses::takes_value_same))]
     pub fn try_take(&mut self, value: u16) -> bool
         ensures taken { (state : CpuState)

@@ -22,6 +22,7 @@ pub fn size_of(head: &Head) -> Size
 }
 
 /// The next access once the source is known.
+#[inline(always)]
 fn access_after_source(head: &Head) -> Option<CpuAccess>
     ensures { accesses_from head.now result ≡ after_source head.now }
 {
@@ -63,6 +64,7 @@ fn access_after_read(head: &Head) -> Option<CpuAccess>
 }
 
 /// The opcode was fetched; the answer is the first access after it.
+#[inline(always)]
 pub fn start(working: &mut Working, head: &Head) -> Option<CpuAccess>
     ensures working { working.new ≡ working_at_start head.now working.old.regs }
     ensures next { accesses_from head.now result ≡ accesses_of head.now }
@@ -98,6 +100,7 @@ pub fn start(working: &mut Working, head: &Head) -> Option<CpuAccess>
 }
 
 /// The source is known; the answer is the next access.
+#[inline(always)]
 fn learn_source(working: &mut Working, head: &Head, source: u16) -> Option<CpuAccess>
     ensures working { working.new ≡ record working.old { source = source } }
     ensures next { accesses_from head.now result ≡ after_source head.now }
@@ -107,6 +110,7 @@ fn learn_source(working: &mut Working, head: &Head, source: u16) -> Option<CpuAc
 }
 
 /// An access was made and gave this value, 0 for a write; the answer is the access after it.
+#[inline(always)]
 pub fn learn(working: &mut Working, head: &Head, access: CpuAccess, value: u16) -> Option<CpuAccess>
     ensures working { working.new ≡ after_value head.now access value working.old }
     ensures next { accesses_from head.now result ≡ accesses_after head.now access }

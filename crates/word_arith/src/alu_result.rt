@@ -9,6 +9,7 @@ use crate::size::Size;
 use crate::sum::add;
 
 /// A result of bits with its flags: the carry says that it is not 0.
+#[inline(always)]
 fn test(size: Size, outcome: u16, overflow: bool) -> (u16, Flags)
     ensures value { result ≡ test_of size outcome overflow }
     ensures same { result.0 ≡ outcome }
@@ -28,6 +29,7 @@ fn add_decimal(size: Size, src: u16, dst: u16, flags: Flags) -> (u16, Flags)
     (sum, Flags::of_result(size, sum, carry, flags.v))
 }
 
+#[inline(always)]
 #[tactic(auto, using(crate::proofs::Fits::bits_fit))]
 fn operate(op: Op2, size: Size, src: u16, dst: u16, flags: Flags) -> (u16, Flags)
     requires src_fits { src < span size }
@@ -55,10 +57,14 @@ fn operate(op: Op2, size: Size, src: u16, dst: u16, flags: Flags) -> (u16, Flags
 
 /// Result and flags of an operation of two operands (SLAU049). In a byte the operands are the low
 /// bytes, and the result is at most 0x00FF. The result of CMP and BIT is what is not written.
+#[inline(always)]
 #[tactic(auto, unfolding(crate::specs::Op2::alu_result))]
 pub fn alu(op: Op2, size: Size, src: u16, dst: u16, flags: Flags) -> (u16, Flags)
     ensures value { result ≡ alu_result op size src dst flags }
     ensures fits { result.0 < span size }
 {
-    operate(op, size, size.low_part(src), size.low_part(dst), flags)
+    match size {
+        Size::Byte => operate(op, Size::Byte, src % 0x100, dst % 0x100, flags),
+        Size::Word => operate(op, Size::Word, src, dst, flags),
+    }
 }

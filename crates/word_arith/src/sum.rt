@@ -6,6 +6,7 @@ use crate::flags::Flags;
 use crate::size::Size;
 
 /// The sum of two operands and a carry, with its flags.
+#[inline(always)]
 pub(crate) fn add(size: Size, left: u16, right: u16, carry: bool) -> (u16, Flags)
     requires left_fits { left < span size }
     requires right_fits { right < span size }

@@ -2,6 +2,10 @@ use Rattle.std.proofs.Common.{None}
 use Rattle.device_trace.specs.Logs.{exec_of, memory_after, with_record}
 use Rattle.device_core.proofs.bus.Bus.perform.Goals as goal
 
+pub returns-clause-value : goal.returns-clause-value
+returns-clause-value c = λ start logs stands word.
+    c.make_accesses-values.ensures.cpu start logs stands.same_memory stands.same_peripherals word
+
 pub returns-clause-stands : goal.returns-clause-stands
 unfolding with_record
 returns-clause-stands c = λ start logs stands word asked accepted.
@@ -9,18 +13,17 @@ returns-clause-stands c = λ start logs stands word asked accepted.
     c.make_accesses-values.ensures.cpu start logs stands.same_memory stands.same_peripherals
     word in
     let dma =
-    c.make_accesses-values.ensures.dma start logs stands.same_memory stands.same_peripherals asked
-    in
+    c.make_accesses-values.ensures.dma start logs stands.same_memory in
     let bounds = c.bounds-bounds.ensures start.power (exec_of logs) logs.memory stands.same_memory
     in
-    let entry = c.performed.ensures.value in
+    let entry = c.record_of_step.ensures.value in
     let memory =
-    c.make_accesses-values.ensures.memory start.power (exec_of logs) logs.memory logs.peripherals
-    stands.same_memory stands.same_peripherals asked in
+    c.make_accesses-values.ensures.memory start.power (exec_of logs) logs.memory
+    stands.same_memory in
     record {
       same_memory =
           rw (entry, value, dma, bounds) at
-          (c.record.ensures.memory start.power (exec_of logs)
+          (c.record.ensures.memory start.power
           (memory_after None c.args.now.now.cpu c.args.now.now.dma logs.memory) logs.seen memory
           stands.same_monitors);
       same_peripherals =

@@ -17,10 +17,12 @@ pub returns-in-Some-clause-stands : goal.returns-in-Some-clause-stands
 returns-in-Some-clause-stands g c = λ key image logs regs words within.
     let digest = g.D.Digest32.digest_of in
     let start : Start = with_key g.D.Digest32.digest_of key image in
-    let same : TurnStandsFor c.regs.result c.args.turn.now start logs =
-    rw (c.regs.ensures (Boundary regs) within.same_processor) within.same_turn in
+    let same : TurnStandsFor c.registers-regs.result.now c.args.turn.now start logs =
+    rw (c.registers-regs.ensures (Boundary regs) within.same_processor) within.same_turn in
+    let dma =
+    c.ask-dma.ensures.access logs.peripherals.dma within.same_bus.same_peripherals.same_dma in
     let answer : answer_in (record_of start logs c.args.script_reset) ≡ Some c.in-Some.value =
-    sym (c.act.ensures.answer start logs within.same_bus same) ∙ c.in-Some.is in
+    sym (c.act.ensures.answer start logs within.same_bus same dma) ∙ c.in-Some.is in
     after-call g.D.Digest32.has_taken g.D.Digest32.digest_of _ _ c.leave_call.result start
     (with_record start logs (record_of start logs c.args.script_reset))
     regs words
@@ -28,7 +30,7 @@ returns-in-Some-clause-stands g c = λ key image logs regs words within.
     c.in-Some.value (is_return (call_item words))
     (λ ends. word_passed-return (sp_of regs) (bounds_read words) (call_item words)
     (written_word g.D.Digest32.digest_of words (call_item words)) c.in-Some.value ends)
-    (rw c.leave_call.ensures.bus (c.act.ensures.stands start logs within.same_bus same))
+    (rw c.leave_call.ensures.bus (c.act.ensures.stands start logs within.same_bus same dma))
     (progress-performed start logs c.args.script_reset c.in-Some.value answer ∙ rw
     within.same_within refl)
     within.same_processor
@@ -38,12 +40,14 @@ returns-in-Some-clause-stands g c = λ key image logs regs words within.
 pub returns-in-None-clause-stands : goal.returns-in-None-clause-stands
 returns-in-None-clause-stands g c = λ key image logs regs words within.
     let start : Start = with_key g.D.Digest32.digest_of key image in
-    let same : TurnStandsFor c.regs.result c.args.turn.now start logs =
-    rw (c.regs.ensures (Boundary regs) within.same_processor) within.same_turn in
+    let same : TurnStandsFor c.registers-regs.result.now c.args.turn.now start logs =
+    rw (c.registers-regs.ensures (Boundary regs) within.same_processor) within.same_turn in
+    let dma =
+    c.ask-dma.ensures.access logs.peripherals.dma within.same_bus.same_peripherals.same_dma in
     let answer : answer_in (record_of start logs c.args.script_reset) ≡ None =
-    sym (c.act.ensures.answer start logs within.same_bus same) ∙ c.in-None.is in
+    sym (c.act.ensures.answer start logs within.same_bus same dma) ∙ c.in-None.is in
     rw c.hold.ensures.stage (record {
-      same_bus = rw c.hold.ensures.bus (c.act.ensures.stands start logs within.same_bus same);
+      same_bus = rw c.hold.ensures.bus (c.act.ensures.stands start logs within.same_bus same dma);
       same_progress = progress-refused start logs c.args.script_reset answer;
       same_processor = c.hold.ensures.processor;
       same_call = c.hold.ensures.call;

@@ -9,15 +9,17 @@ use Rattle.device_core.proofs.machine.Machine.boot.Goals as goal
 
 pub returns-in-Some-clause-stands : goal.returns-in-Some-clause-stands
 returns-in-Some-clause-stands g c = λ start logs stands.
-    let same : TurnStandsFor c.regs.result c.boot-turn.result start logs =
-    rw (c.boot-turn.ensures.value, c.regs.ensures clear_cpu stands.same_processor)
+    let same : TurnStandsFor c.registers-regs.result.now c.boot-turn.result start logs =
+    rw (c.boot-turn.ensures.value, c.registers-regs.ensures clear_cpu stands.same_processor)
     (boot-turn start logs stands.same_progress) in
+    let dma =
+    c.ask-dma.ensures.access logs.peripherals.dma stands.same_bus.same_peripherals.same_dma in
     let answer : answer_in (record_of start logs c.args.script_reset) ≡ Some c.in-Some.vector =
-    sym (c.act.ensures.answer start logs stands.same_bus same) ∙ c.in-Some.is in
+    sym (c.act.ensures.answer start logs stands.same_bus same dma) ∙ c.in-Some.is in
     record {
       state = Boundary (with_pc clear_registers c.in-Some.vector);
       same = record {
-        same_bus = c.act.ensures.stands start logs stands.same_bus same;
+        same_bus = c.act.ensures.stands start logs stands.same_bus same dma;
         same_progress =
             progress-performed start logs c.args.script_reset c.in-Some.vector answer
             ∙ rw stands.same_progress refl;
@@ -28,13 +30,15 @@ returns-in-Some-clause-stands g c = λ start logs stands.
 
 pub returns-in-None-clause-stands : goal.returns-in-None-clause-stands
 returns-in-None-clause-stands g c = λ start logs stands.
-    let same : TurnStandsFor c.regs.result c.boot-turn.result start logs =
-    rw (c.boot-turn.ensures.value, c.regs.ensures clear_cpu stands.same_processor)
+    let same : TurnStandsFor c.registers-regs.result.now c.boot-turn.result start logs =
+    rw (c.boot-turn.ensures.value, c.registers-regs.ensures clear_cpu stands.same_processor)
     (boot-turn start logs stands.same_progress) in
+    let dma =
+    c.ask-dma.ensures.access logs.peripherals.dma stands.same_bus.same_peripherals.same_dma in
     let answer : answer_in (record_of start logs c.args.script_reset) ≡ None =
-    sym (c.act.ensures.answer start logs stands.same_bus same) ∙ c.in-None.is in
+    sym (c.act.ensures.answer start logs stands.same_bus same dma) ∙ c.in-None.is in
     rw c.hold.ensures.stage (record {
-      same_bus = rw c.hold.ensures.bus (c.act.ensures.stands start logs stands.same_bus same);
+      same_bus = rw c.hold.ensures.bus (c.act.ensures.stands start logs stands.same_bus same dma);
       same_progress = progress-refused start logs c.args.script_reset answer;
       same_processor = c.hold.ensures.processor;
       same_call = c.hold.ensures.call;

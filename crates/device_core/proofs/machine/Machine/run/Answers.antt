@@ -8,15 +8,15 @@ use Rattle.device_core.proofs.Turns.{takes-value}
 use Rattle.device_core.proofs.machine.Machine.run.Goals as goal
 
 pub returns-in-Some-clause-stands : goal.returns-in-Some-clause-stands
-returns-in-Some-clause-stands g c = λ start logs state within.
-    let same : TurnStandsFor c.regs.result c.args.turn.now start logs =
-    rw (c.regs.ensures state within.same_processor) within.same_turn in
+returns-in-Some-clause-stands g c = λ start logs state within dma.
+    let same : TurnStandsFor c.registers-regs.result.now c.args.turn.now start logs =
+    rw (c.registers-regs.ensures state within.same_processor) within.same_turn in
     let answer : answer_in (record_of start logs c.args.script_reset) ≡ Some c.in-Some.value =
-    sym (c.act.ensures.answer start logs within.same_bus same) ∙ c.in-Some.is in
+    sym (c.act.ensures.answer start logs within.same_bus same dma) ∙ c.in-Some.is in
     record {
       state = running_after (step_kind logs) state c.in-Some.value;
       same = record {
-        same_bus = c.act.ensures.stands start logs within.same_bus same;
+        same_bus = c.act.ensures.stands start logs within.same_bus same dma;
         same_progress =
             progress-performed start logs c.args.script_reset c.in-Some.value answer
             ∙ rw within.same_within refl;
@@ -30,13 +30,13 @@ returns-in-Some-clause-stands g c = λ start logs state within.
     }
 
 pub returns-in-None-clause-stands : goal.returns-in-None-clause-stands
-returns-in-None-clause-stands g c = λ start logs state within.
-    let same : TurnStandsFor c.regs.result c.args.turn.now start logs =
-    rw (c.regs.ensures state within.same_processor) within.same_turn in
+returns-in-None-clause-stands g c = λ start logs state within dma.
+    let same : TurnStandsFor c.registers-regs.result.now c.args.turn.now start logs =
+    rw (c.registers-regs.ensures state within.same_processor) within.same_turn in
     let answer : answer_in (record_of start logs c.args.script_reset) ≡ None =
-    sym (c.act.ensures.answer start logs within.same_bus same) ∙ c.in-None.is in
+    sym (c.act.ensures.answer start logs within.same_bus same dma) ∙ c.in-None.is in
     rw c.hold.ensures.stage (record {
-      same_bus = rw c.hold.ensures.bus (c.act.ensures.stands start logs within.same_bus same);
+      same_bus = rw c.hold.ensures.bus (c.act.ensures.stands start logs within.same_bus same dma);
       same_progress = progress-refused start logs c.args.script_reset answer;
       same_processor = c.hold.ensures.processor;
       same_call = c.hold.ensures.call;
