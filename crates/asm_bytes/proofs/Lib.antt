@@ -1,3 +1,6 @@
 pub mod ValueSum
 pub mod Lists
 pub mod NameMap
+pub mod OperandWords
+pub mod InstructionWords
+pub mod StatementSize

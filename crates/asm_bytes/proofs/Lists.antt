@@ -1,6 +1,6 @@
 -- Lists that are gathered item by item.
 use Rattle.std.proofs.Common.{◌≡◌, ◌∙◌, ap, sym, refl, ◌+◌, ◌<◌, ℕ, suc, List, [], ◌∷◌, ◌++◌, length, drop, get_or, drop-cons, add-one, Result, Ok, Err, flat_map}
-use Rattle.std.proofs.lemmas.List.{append_assoc, append-nil}
+use Rattle.std.proofs.lemmas.List.{append_assoc}
 use Rattle.text_scan.specs.declared.fault_kind.FaultKind.{FaultKind}
 use Rattle.text_scan.specs.declared.word_fault.WordFault.{WordFault}
 use Rattle.text_scan.specs.declared.word_fault.WordFault.TheVariants.{Kind, Memory}

@@ -1,5 +1,5 @@
 -- The instruction that a statement names, at its address.
-use Rattle.std.specs.Prelude.{◌+◌, ◌-◌, ◌*◌, ◌/◌, ◌%◌, ◌==◌, ◌&&◌, ℕ, ℤ, pos, negsuc, neg_ℤ, Bool, not, ◌||◌, nat_le, List, [], if◌then◌else◌, Option, Some, None, Result, Ok, Err}
+use Rattle.std.specs.Prelude.{◌+◌, ◌-◌, ◌*◌, ◌/◌, ◌%◌, ◌==◌, ◌&&◌, ℕ, ℤ, pos, neg_ℤ, Bool, not, ◌||◌, nat_le, if◌then◌else◌, Option, None, Result, Ok, Err}
 use Rattle.word_arith.specs.declared.size.Size.{Size}
 use Rattle.msp_decode.specs.declared.source.Source.{Source}
 use Rattle.msp_decode.specs.declared.source.Source.TheVariants as source
@@ -17,14 +17,13 @@ use Rattle.text_scan.specs.declared.fault_kind.FaultKind.{FaultKind}
 use Rattle.text_scan.specs.declared.fault_kind.FaultKind.TheVariants as fault
 use Rattle.text_scan.specs.Reader.{◌>>=◌}
 use Rattle.asm_text.specs.declared.operand.Operand.{Operand}
-use Rattle.asm_text.specs.Expr.{SignedTerm}
 use Rattle.asm_bytes.specs.declared.form.Form.{Form}
 use Rattle.asm_bytes.specs.declared.form.Form.TheVariants.{Two, One, Reti, Jump}
 use Rattle.asm_bytes.specs.declared.form.SourceRole.{SourceRole}
 use Rattle.asm_bytes.specs.declared.form.SourceRole.TheVariants.{First, Constant, StackTop}
 use Rattle.asm_bytes.specs.declared.form.DestRole.{DestRole}
 use Rattle.asm_bytes.specs.declared.form.DestRole.TheVariants.{First as OnlyDest, Second, Register}
-use Rattle.asm_bytes.specs.Value.{Scope, value, defined, address_of}
+use Rattle.asm_bytes.specs.Value.{Scope, value, known_value, address_of}
 use Rattle.asm_bytes.specs.Operand.{expr_in, operand_words, source_of, dest_of}
 
 -- the operands of a statement, in the order written
@@ -98,17 +97,17 @@ form_size (Jump cond) size operands = 2
 -- destination's
 abbrev pub instruction_of : Scope → Form → Size → Operands → Result Instr FaultKind
 instruction_of scope (Two op source dest) size operands = do
-  first ← defined (value scope (expr_in (written_source source operands)))
-  second ← defined (value scope (expr_in (written_dest dest operands)))
+  first ← known_value (value scope (expr_in (written_source source operands)))
+  second ← known_value (value scope (expr_in (written_dest dest operands)))
   from ← source_at source size (plus scope.here 2) operands first
   to ← dest_at dest (plus scope.here (2 + 2 * source_words source size operands)) operands second
   Ok (instr.Two op size from to)
 instruction_of scope (One op) size operands = do
-  first ← defined (value scope (expr_in operands.first))
+  first ← known_value (value scope (expr_in operands.first))
   from ← source_of size (plus scope.here 2) operands.first first
   one_of op size from
 instruction_of scope Reti size operands = Ok instr.Reti
 instruction_of scope (Jump cond) size operands = do
-  first ← defined (value scope (expr_in operands.first))
+  first ← known_value (value scope (expr_in operands.first))
   target ← address_of first
   jump_of cond scope.here target

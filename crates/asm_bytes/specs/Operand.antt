@@ -19,7 +19,7 @@ use Rattle.asm_text.specs.declared.operand.Operand.{Operand}
 use Rattle.asm_text.specs.declared.operand.Operand.TheVariants.{Reg, Imm, Abs, Indexed, Symbolic, Indirect, IndirectInc}
 use Rattle.asm_text.specs.Expr.{SignedTerm}
 use Rattle.part_definitions.specs.Words.{minus}
-use Rattle.asm_bytes.specs.Value.{signed, address_of, word_of, byte_immediate_of}
+use Rattle.asm_bytes.specs.Value.{with_sign, address_of, word_of, byte_immediate_of}
 
 -- the expression of an operand; the empty one where it has none
 abbrev pub expr_in : Option Operand → List SignedTerm
@@ -51,20 +51,20 @@ constant_of size (negsuc n) = if n == 0 then Some gen.MinusOne else None
 
 -- the constant of an immediate: of a lone number alone, never of a name or a sum
 abbrev pub lone_constant : Size → Bool × Term → Option Gen
-lone_constant size (is_subtracted, Number n) = constant_of size (signed is_subtracted (pos n))
+lone_constant size (is_subtracted, Number n) = constant_of size (with_sign is_subtracted (pos n))
 lone_constant size (is_subtracted, Name span) = None
 lone_constant size (is_subtracted, Here) = None
 
-abbrev pub generated : Size → List SignedTerm → Option Gen
-generated size [] = None
-generated size (term ∷ []) = lone_constant size term
-generated size (term ∷ next ∷ terms) = None
+abbrev pub generated_constant : Size → List SignedTerm → Option Gen
+generated_constant size [] = None
+generated_constant size (term ∷ []) = lone_constant size term
+generated_constant size (term ∷ next ∷ terms) = None
 
 -- how many extension words an operand has
 abbrev pub operand_words : Size → Option Operand → ℕ
 operand_words size None = 0
 operand_words size (Some (Reg n)) = 0
-operand_words size (Some (Imm expr)) = if is_some (generated size expr) then 0 else 1
+operand_words size (Some (Imm expr)) = if is_some (generated_constant size expr) then 0 else 1
 operand_words size (Some (Abs expr)) = 1
 operand_words size (Some (Indexed expr n)) = 1
 operand_words size (Some (Symbolic expr)) = 1
@@ -83,8 +83,8 @@ immediate size None value = do
   Ok (source.Immediate word)
 
 -- indexed, but not by R3
-abbrev pub indexed : ℕ → ℤ → Result Source FaultKind
-indexed n value =
+abbrev pub indexed_source : ℕ → ℤ → Result Source FaultKind
+indexed_source n value =
     if n == 3 then Err fault.Operand
     else (do
       word ← word_of value
@@ -106,11 +106,11 @@ abbrev pub source_of : Size → ℕ → Option Operand → ℤ → Result Source
 source_of size at None value = Err fault.Operand
 source_of size at (Some (Reg n)) value =
     Ok (if n == 3 then source.Constant gen.Zero else source.Reg (reg_of n))
-source_of size at (Some (Imm expr)) value = immediate size (generated size expr) value
+source_of size at (Some (Imm expr)) value = immediate size (generated_constant size expr) value
 source_of size at (Some (Abs expr)) value = do
   address ← address_of value
   Ok (source.Indexed R2 address)
-source_of size at (Some (Indexed expr n)) value = indexed n value
+source_of size at (Some (Indexed expr n)) value = indexed_source n value
 source_of size at (Some (Symbolic expr)) value = do
   address ← address_of value
   Ok (source.Indexed R0 (minus address at))

@@ -1,5 +1,5 @@
 -- The bytes of a statement.
-use Rattle.std.specs.Prelude.{◌≡◌, ◌*◌, ◌/◌, ◌%◌, ℕ, ℤ, Bool, true, false, List, [], ◌∷◌, ◌++◌, length, if◌then◌else◌, Option, Some, None, Result, Ok, Err}
+use Rattle.std.specs.Prelude.{◌≡◌, ◌*◌, ◌/◌, ◌%◌, ℕ, ℤ, Bool, true, false, List, [], ◌∷◌, ◌++◌, length, Option, Result, Ok}
 use Rattle.std.specs.List.{flat_map}
 use Rattle.word_arith.specs.declared.size.Size.{Size}
 use Rattle.word_arith.specs.declared.size.Size.TheVariants as sizes
@@ -7,16 +7,15 @@ use Rattle.msp_decode.specs.declared.instr.Instr.{Instr}
 use Rattle.msp_decode.specs.Completion.{words_of}
 use Rattle.msp_decode.specs.Law.{AreReadAs}
 use Rattle.text_scan.specs.declared.fault_kind.FaultKind.{FaultKind}
-use Rattle.text_scan.specs.declared.fault_kind.FaultKind.TheVariants as fault
 use Rattle.text_scan.specs.Reader.{◌>>=◌}
 use Rattle.asm_text.specs.declared.mnemonic.Mnemonic.{Mnemonic}
 use Rattle.asm_text.specs.declared.operand.Operand.{Operand}
 use Rattle.asm_text.specs.declared.body.Body.{Body}
 use Rattle.asm_text.specs.declared.body.Body.TheVariants.{Empty, Instr as Instruction, Org, Word, Byte, Ascii, Equ}
 use Rattle.asm_text.specs.Expr.{SignedTerm}
-use Rattle.asm_bytes.specs.Value.{Scope, characters, value, defined, each, word_of, byte_of}
+use Rattle.asm_bytes.specs.Value.{Scope, characters, value, known_value, each, word_of, byte_of}
 use Rattle.asm_bytes.specs.Form.{form_of}
-use Rattle.asm_bytes.specs.Instruction.{Operands, form_size, instruction_of}
+use Rattle.asm_bytes.specs.Instruction.{form_size, instruction_of}
 
 -- how many bytes a statement places
 abbrev pub size_of : List ℕ → Body → ℕ
@@ -68,7 +67,7 @@ all_bytes size (value ∷ values) = do
 
 -- the values of expressions, if each has one
 abbrev pub values_of : Scope → List (List SignedTerm) → Result (List ℤ) FaultKind
-values_of scope exprs = each (λ expr. defined (value scope expr)) exprs
+values_of scope exprs = each (λ expr. known_value (value scope expr)) exprs
 
 -- the bytes that a statement places, under all names, or its fault
 abbrev pub bytes_of : Scope → Body → Result (List ℕ) FaultKind

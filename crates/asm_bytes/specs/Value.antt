@@ -26,14 +26,14 @@ term_value scope (Name span) = scope.names (characters scope.text span)
 term_value scope Here = Some (pos scope.here)
 
 -- a value with its sign turned, where it is subtracted
-abbrev pub signed : Bool → ℤ → ℤ
-signed is_subtracted value = if is_subtracted then neg_ℤ value else value
+abbrev pub with_sign : Bool → ℤ → ℤ
+with_sign is_subtracted value = if is_subtracted then neg_ℤ value else value
 
 -- one term more
 abbrev pub with_term : Bool → Option ℤ → Option ℤ → Option ℤ
 with_term is_subtracted None rest = None
 with_term is_subtracted (Some value) None = None
-with_term is_subtracted (Some value) (Some rest) = Some (signed is_subtracted value +ℤ rest)
+with_term is_subtracted (Some value) (Some rest) = Some (with_sign is_subtracted value +ℤ rest)
 
 -- the value of an expression, which it has where each of its names has one
 abbrev pub value : Scope → List SignedTerm → Option ℤ
@@ -41,28 +41,28 @@ value scope [] = Some (pos 0)
 value scope (term ∷ terms) = with_term term.0 (term_value scope term.1) (value scope terms)
 
 -- the value, or the fault that there is none
-abbrev pub defined : Option ℤ → Result ℤ FaultKind
-defined None = Err Undefined
-defined (Some value) = Ok value
+abbrev pub known_value : Option ℤ → Result ℤ FaultKind
+known_value None = Err Undefined
+known_value (Some value) = Ok value
 
 -- a value from -least to most, modulo a number above both
-abbrev pub fitted : ℕ → ℕ → ℕ → ℤ → Result ℕ FaultKind
-fitted least most base (pos n) = if nat_le n most then Ok n else Err Range
-fitted least most base (negsuc n) = if nat_lt n least then Ok (base - 1 - n) else Err Range
+abbrev pub value_in_range : ℕ → ℕ → ℕ → ℤ → Result ℕ FaultKind
+value_in_range least most base (pos n) = if nat_le n most then Ok n else Err Range
+value_in_range least most base (negsuc n) = if nat_lt n least then Ok (base - 1 - n) else Err Range
 
 -- the ranges of expressions: addresses, words, bytes, and immediates of byte instructions, which
 -- are placed as words
 abbrev pub address_of : ℤ → Result ℕ FaultKind
-address_of value = fitted 0 65535 65536 value
+address_of value = value_in_range 0 65535 65536 value
 
 abbrev pub word_of : ℤ → Result ℕ FaultKind
-word_of value = fitted 32768 65535 65536 value
+word_of value = value_in_range 32768 65535 65536 value
 
 abbrev pub byte_of : ℤ → Result ℕ FaultKind
-byte_of value = fitted 128 255 256 value
+byte_of value = value_in_range 128 255 256 value
 
 abbrev pub byte_immediate_of : ℤ → Result ℕ FaultKind
-byte_immediate_of value = fitted 128 255 65536 value
+byte_immediate_of value = value_in_range 128 255 65536 value
 
 -- what a function gives of each item, or its first fault
 abbrev pub each : {A B : Type 0} → (A → Result B FaultKind) → List A → Result (List B) FaultKind

@@ -4,7 +4,7 @@ ghost use Rattle.msp_decode.specs.Spelling.{has_form};
 ghost use Rattle.msp_decode.specs.EncodeFault.{first_fault};
 ghost use Rattle.part_definitions.specs.Words.{plus};
 ghost use Rattle.asm_bytes.specs.declared.form.Form.TheVariants.{Two as TwoForm, One as OneForm, Jump as JumpForm};
-ghost use Rattle.asm_bytes.specs.Value.{value, defined};
+ghost use Rattle.asm_bytes.specs.Value.{value, known_value};
 ghost use Rattle.asm_bytes.specs.Scope.{scope_in};
 ghost use Rattle.asm_bytes.specs.Operands.{operands_in};
 ghost use Rattle.asm_bytes.specs.Operand.{expr_in, operand_words};
@@ -157,7 +157,7 @@ impl Scope<'_, '_> {
     // The value of an operand's expression, 0 where it has none.
     fn operand_value(&self, operand: Option<&Operand>) -> Result<i128, FaultKind>
         ensures { result
-            ≡ defined (value (scope_in self.now)
+            ≡ known_value (value (scope_in self.now)
             (expr_in (option_map (λ o. o.now) operand.entry))) }
     {
         match expr_in(operand) {

@@ -8,12 +8,14 @@
 
 mod form;
 mod instruction;
+mod law;
 mod names;
 mod number;
 mod operand;
 mod scope;
 mod statement_bytes;
 
+pub use law::{bytes_have_their_size, named_instructions_are_read};
 pub use names::Names;
 pub use number::{address_of, word_of};
 pub use scope::{Scope, characters};

@@ -3,8 +3,8 @@ ghost use Rattle.std.specs.Option.{option_map_or};
 ghost use Rattle.msp_decode.specs.Field.{reg_of};
 ghost use Rattle.msp_decode.specs.Completion.{source_form};
 ghost use Rattle.msp_decode.specs.Spelling.{has_form};
-ghost use Rattle.asm_bytes.specs.Value.{signed};
-ghost use Rattle.asm_bytes.specs.Operand.{expr_in, constant_of, all_ones, generated, operand_words, immediate, source_of, dest_of};
+ghost use Rattle.asm_bytes.specs.Value.{with_sign};
+ghost use Rattle.asm_bytes.specs.Operand.{expr_in, constant_of, all_ones, generated_constant, operand_words, immediate, source_of, dest_of};
 
 use crate::number::{address_of, byte_immediate_of, word_of};
 use asm_text::{Expr, Operand, Term};
@@ -28,7 +28,7 @@ pub fn expr_in(operand: Option<&Operand>) -> Option<&Expr>
 
 // The constant of this number that the constant generators give.
 fn constant_of(size: Size, is_negative: bool, number: u16) -> Option<Gen>
-    ensures { result ≡ constant_of size (signed is_negative (pos number)) }
+    ensures { result ≡ constant_of size (with_sign is_negative (pos number)) }
 {
     match (is_negative, number) {
         (_, 0) => Some(Gen::Zero),
@@ -53,8 +53,8 @@ fn all_ones(size: Size) -> u16
 }
 
 // The constant of an immediate, which only a lone number has.
-fn generated(size: Size, expr: &Expr) -> Option<Gen>
-    ensures { result ≡ generated size expr.now }
+fn generated_constant(size: Size, expr: &Expr) -> Option<Gen>
+    ensures { result ≡ generated_constant size expr.now }
 {
     match expr.as_slice() {
         [(is_subtracted, Term::Number(number))] => constant_of(size, *is_subtracted, *number),
@@ -68,7 +68,7 @@ pub fn operand_words(size: Size, operand: Option<&Operand>) -> u16
     ensures most { result ≤ 1 }
 {
     match operand {
-        Some(Operand::Imm(expr)) if generated(size, expr).is_some() => 0,
+        Some(Operand::Imm(expr)) if generated_constant(size, expr).is_some() => 0,
         Some(Operand::Imm(_) | Operand::Abs(_) | Operand::Indexed(..) | Operand::Symbolic(_)) => 1,
         _ => 0,
     }
@@ -82,9 +82,9 @@ fn register(number: u8) -> Reg
 
 // An immediate, or the constant in its place.
 fn immediate(size: Size, expr: &Expr, value: i128) -> Result<Source, FaultKind>
-    ensures { result ≡ immediate size (generated size expr.now) value }
+    ensures { result ≡ immediate size (generated_constant size expr.now) value }
 {
-    if let Some(constant) = generated(size, expr) {
+    if let Some(constant) = generated_constant(size, expr) {
         return Ok(Source::Constant(constant));
     }
     let word = match size {

@@ -1,5 +1,5 @@
 ghost use Rattle.std.specs.Prelude.{◌≡◌, ◌≤ℤ◌, ◌^◌, pos, neg_ℤ};
-ghost use Rattle.asm_bytes.specs.Value.{characters, signed};
+ghost use Rattle.asm_bytes.specs.Value.{characters, with_sign};
 
 use crate::names::Names;
 use asm_text::{Expr, Span, Term};
@@ -24,8 +24,8 @@ pub struct Scope<'s, 'a> {
 }
 
 // A value with its sign turned, where it is subtracted.
-fn signed(is_subtracted: bool, value: i64) -> i128
-    ensures value { result ≡ signed is_subtracted value }
+fn with_sign(is_subtracted: bool, value: i64) -> i128
+    ensures value { result ≡ with_sign is_subtracted value }
     ensures least { neg_ℤ (pos (2 ^ 63)) ≤ℤ result }
     ensures most { result ≤ℤ pos (2 ^ 63) }
 {
@@ -35,7 +35,7 @@ fn signed(is_subtracted: bool, value: i64) -> i128
 
 impl Scope<'_, '_> {
     ghost use Rattle.std.specs.Prelude.{◌≡◌};
-    ghost use Rattle.asm_bytes.specs.Value.{term_value, value, defined};
+    ghost use Rattle.asm_bytes.specs.Value.{term_value, value, known_value};
     ghost use Rattle.asm_bytes.specs.Scope.{scope_in};
 
     fn term_value(&self, term: Term) -> Option<i64>
@@ -54,14 +54,14 @@ impl Scope<'_, '_> {
     {
         let mut total: i128 = 0;
         for (is_subtracted, term) in expr.as_slice() {
-            total += signed(*is_subtracted, self.term_value(*term)?);
+            total += with_sign(*is_subtracted, self.term_value(*term)?);
         }
         Some(total)
     }
 
     /// The value of an expression; `Undefined` where a name has none.
     pub fn defined_value(&self, expr: &Expr) -> Result<i128, FaultKind>
-        ensures { result ≡ defined (value (scope_in self.now) expr.now) }
+        ensures { result ≡ known_value (value (scope_in self.now) expr.now) }
     {
         self.value(expr).ok_or(FaultKind::Undefined)
     }

@@ -8,10 +8,11 @@ ghost use Rattle.asm_bytes.specs.StatementBytes.{AddsBytes};
 
 use crate::form::Form;
 use crate::instruction::{Operands, form_size};
+use crate::law::named_instructions_are_read;
 use crate::number::{byte_of, word_of};
 use crate::scope::{Scope, characters};
 use asm_text::{Body, Expr};
-use msp_decode::{Instr, encode, words_are_read};
+use msp_decode::{Instr, encode};
 use std::alloc::{AllocError, Global};
 use text_scan::{Bytes, WordFault};
 use word_arith::Size;
@@ -91,10 +92,8 @@ fn push_instruction(bytes: &mut Vec<u8>, instr: &Instr) -> Result<(), AllocError
 }
 
 impl Scope<'_, '_> {
-    ghost use Rattle.std.specs.Prelude.{◌≡◌, None, IfOk, OnOk};
+    ghost use Rattle.std.specs.Prelude.{IfOk};
     ghost use Rattle.msp_decode.specs.declared.instr.Instr.{Instr};
-    ghost use Rattle.msp_decode.specs.Completion.{head_part};
-    ghost use Rattle.msp_decode.specs.EncodeFault.{first_fault};
     ghost use Rattle.text_scan.specs.Reader.{ReadsWord};
     ghost use Rattle.asm_bytes.specs.Scope.{scope_in};
     ghost use Rattle.asm_bytes.specs.Statement.{values_of, bytes_of, IsNamed, AreBytesOf};
@@ -116,11 +115,8 @@ impl Scope<'_, '_> {
 
     // Puts the bytes of a statement after the bytes.
     fn push_bytes(&self, alloc: Global, bytes: &mut Vec<u8>, body: &Body) -> Result<(), WordFault>
-        ensures value { AddsBytes result bytes.old.items bytes.new.items
+        ensures { AddsBytes result bytes.old.items bytes.new.items
             (bytes_of (scope_in self.now) body.now) }
-        ensures written { (instr : Instr)
-            → IsNamed (scope_in self.now) body.now instr
-            → OnOk result (first_fault (head_part instr) ≡ None) }
     {
         match body {
             Body::Instr(mnemonic, size, first, second) => {
@@ -152,7 +148,7 @@ impl Scope<'_, '_> {
             → IsNamed (scope_in self.now) body.now instr
             → IfOk result (λ bytes. AreBytesOf bytes instr) }
     {
-        words_are_read();
+        named_instructions_are_read();
         let mut bytes = Vec::new(alloc);
         match self.push_bytes(alloc, &mut bytes, body) {
             Ok(()) => Ok(Bytes::from_vec(bytes)),

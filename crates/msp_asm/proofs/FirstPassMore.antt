@@ -1,5 +1,5 @@
 -- One statement more in the first pass.
-use Rattle.std.proofs.Common.{◌≡◌, ◌∙◌, ap, sym, ℕ, Bool, ◌||◌, List, [], ◌∷◌, OnOk, Result, Ok, Err}
+use Rattle.std.proofs.Common.{◌≡◌, ◌∙◌, ap, ℕ, Bool, ◌||◌, List, ◌∷◌, OnOk, Result, Ok, Err}
 use Rattle.text_scan.specs.declared.word_fault.WordFault.{WordFault}
 use Rattle.asm_text.specs.declared.statement.Statement.{Statement}
 use Rattle.asm_bytes.specs.Value.{Scope}

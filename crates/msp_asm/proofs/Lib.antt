@@ -3,3 +3,6 @@ pub mod PlacesLeft
 pub mod FirstPassMore
 pub mod LinesSoFar
 pub mod SecondPassMore
+pub mod FreePlaces
+pub mod BytesStay
+pub mod Standing

@@ -1,5 +1,5 @@
 -- The first fault of statements that are taken in order.
-use Rattle.std.proofs.Common.{◌≡◌, ◌∙◌, ◌<◌, ◌+◌, ℕ, suc, ap, sym, refl, arith, List, [], ◌∷◌, ◌++◌, length, reverse, take, drop, get_or, slice_index, take-append-drop, Option, Some, None, Result, Ok, Err, OnOk, inl, inr}
+use Rattle.std.proofs.Common.{◌≡◌, ◌∙◌, ◌<◌, ◌+◌, ℕ, ap, sym, refl, arith, List, [], ◌∷◌, ◌++◌, length, reverse, take, drop, get_or, slice_index, take-append-drop, Option, Some, None, Ok, Err, inl, inr}
 use Rattle.std.specs.Option.{option_or}
 use Rattle.std.proofs.lemmas.List.{reverse-append, take_more, get_or_append_left, get_or-append-add}
 use Rattle.std.proofs.lemmas.Bool.{cases_lt}
@@ -92,3 +92,25 @@ places_more heres old new place i count added is so_far j below =
           ∙ get_or-append-add old (place ∷ []) 0 0
           ∙ is ∙ ap heres (sym last)
     ]
+
+-- a fault that is the first of two, and there is none
+pub neither : {A : Type 0} (first second : Option A) → option_or first second ≡ None
+    → (first ≡ None) × (second ≡ None)
+neither None second is = (refl, is)
+neither (Some found) second is = absurd cc
+
+no_kind : (line : ℕ) (kind : Option FaultKind) → at_line line kind ≡ None → kind ≡ None
+no_kind line None is = refl
+no_kind line (Some kind) is = absurd cc
+
+-- without a first fault a statement has none, nor have those before it
+pub no_fault_at : (fault : Faults) (later earlier : List Statement) (s : Statement)
+    → first_fault fault (later ++ s ∷ earlier) ≡ None
+    → fault earlier s ≡ None
+no_fault_at fault [] earlier s none =
+    no_kind s.line (fault earlier s)
+    (neither (first_fault fault earlier) (at_line s.line (fault earlier s)) none).1
+no_fault_at fault (last ∷ later) earlier s none =
+    no_fault_at fault later earlier s
+    (neither (first_fault fault (later ++ s ∷ earlier))
+    (at_line last.line (fault (later ++ s ∷ earlier) last)) none).0

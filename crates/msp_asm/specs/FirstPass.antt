@@ -1,5 +1,5 @@
 -- The first pass: places and names. Lists of statements have the newest first.
-use Rattle.std.specs.Prelude.{◌+◌, ◌%◌, ◌==◌, ◌&&◌, ◌||◌, ℕ, zero, suc, ℤ, pos, negsuc, Bool, true, false, not, nat_le, nat_lt, List, [], ◌∷◌, if◌then◌else◌, Option, Some, None, is_some, Result, Ok, Err}
+use Rattle.std.specs.Prelude.{◌+◌, ◌%◌, ◌==◌, ◌&&◌, ◌||◌, ℕ, zero, suc, ℤ, pos, negsuc, Bool, true, false, not, nat_le, nat_lt, List, [], ◌∷◌, if◌then◌else◌, Option, Some, None, is_some}
 use Rattle.std.specs.List.{list_all, list_any}
 use Rattle.std.specs.Option.{option_or}
 use Rattle.std.specs.Result.{result_err}
@@ -14,7 +14,7 @@ use Rattle.asm_text.specs.declared.span.Span.{Span}
 use Rattle.asm_text.specs.declared.body.Body.{Body}
 use Rattle.asm_text.specs.declared.body.Body.TheVariants.{Empty, Instr as Instruction, Org, Word, Byte, Ascii, Equ}
 use Rattle.asm_text.specs.declared.statement.Statement.{Statement}
-use Rattle.asm_bytes.specs.Value.{Scope, characters, value, defined, address_of, word_of}
+use Rattle.asm_bytes.specs.Value.{Scope, characters, value, known_value, address_of, word_of}
 use Rattle.asm_bytes.specs.Statement.{size_of, is_of_words}
 
 -- the name that a body gives
@@ -108,9 +108,9 @@ gives_again scope statement =
 -- the fault of the expression of `.org` or `.equ`
 abbrev pub constant_fault : Scope → Body → Option FaultKind
 constant_fault scope (Org expr) =
-    result_err (defined (value scope expr) >>= address_of)
+    result_err (known_value (value scope expr) >>= address_of)
 constant_fault scope (Equ name expr) =
-    result_err (defined (value scope expr) >>= word_of)
+    result_err (known_value (value scope expr) >>= word_of)
 constant_fault scope Empty = None
 constant_fault scope (Instruction mnemonic size first second) = None
 constant_fault scope (Word exprs) = None

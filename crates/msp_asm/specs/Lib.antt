@@ -4,3 +4,4 @@ pub mod FirstPassStands
 pub mod SecondPass
 pub mod Assembly
 pub mod Source
+pub mod Standing

@@ -1,5 +1,5 @@
 -- The image of a source.
-use Rattle.std.specs.Prelude.{ℕ, List, Option, Result, Ok, Err}
+use Rattle.std.specs.Prelude.{ℕ, List, Option, Result}
 use Rattle.text_scan.specs.declared.fault_at.FaultAt.{FaultAt}
 use Rattle.text_scan.specs.Reader.{◌>>=◌}
 use Rattle.asm_text.specs.Source.{source_of}

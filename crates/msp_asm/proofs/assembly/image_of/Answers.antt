@@ -1,4 +1,4 @@
-use Rattle.std.proofs.Common.{arith, ◌≡◌, ◌∙◌, ◌<◌, ap, sym, subst, Err, Ok, ℕ, reverse, take, length}
+use Rattle.std.proofs.Common.{◌≡◌, ◌∙◌, ◌<◌, ap, sym, subst, Err, reverse, take, length}
 use Rattle.std.specs.Result.{result_err}
 use Rattle.mem_map.specs.Image.{byte_in}
 use Rattle.asm_bytes.specs.Value.{Scope}

@@ -1,5 +1,4 @@
-use Rattle.std.proofs.Common.{◌≡◌, ◌∙◌, ◌<◌, ◌+◌, ap, sym, subst, arith, ℕ, List, length, reverse, take}
-use Rattle.asm_text.specs.declared.statement.Statement.{Statement}
+use Rattle.std.proofs.Common.{◌∙◌, ◌+◌, ap, sym, subst, ℕ, reverse, take}
 use Rattle.asm_bytes.specs.Value.{Scope}
 use Rattle.msp_asm.specs.FirstPass.{scope_after, first_pass_fault}
 use Rattle.msp_asm.specs.FirstPassStands.{FirstPassStandsFor}

@@ -1,4 +1,4 @@
-use Rattle.std.proofs.Common.{◌≡◌, ◌∙◌, arith}
+use Rattle.std.proofs.Common.{◌∙◌, arith}
 use Rattle.mem_map.specs.Image.{byte_in}
 use Rattle.msp_asm.proofs.Placing.{byte_at-more}
 use Rattle.msp_asm.proofs.image_writer.place_bytes.Goals as goal

@@ -1,4 +1,4 @@
-use Rattle.std.proofs.Common.{◌≡◌, ◌<◌, arith}
+use Rattle.std.proofs.Common.{arith}
 use Rattle.std.specs.List.{list_all, list_any}
 use Rattle.part_definitions.specs.Memory.{is_image_place}
 use Rattle.msp_asm.specs.FirstPass.{places_from}

@@ -1,4 +1,4 @@
-use Rattle.std.proofs.Common.{arith, rules, ◌≡◌, ◌+ℤ◌, ◌<◌, length}
+use Rattle.std.proofs.Common.{arith, rules, ◌≡◌, ◌+ℤ◌}
 use Rattle.std.proofs.lemmas.Int.{ints, to_z-of_z}
 use mir.Syntax.{w64, w128}
 use mir.Val.{SFits, to_z, of_z}
@@ -13,13 +13,13 @@ loop-is_subtracted-preserved c =
     let found = c.in_ok-term_value.field-0 in
     let fits : SFits w64 c.in_ok-term_value.field-0 = search rules in
     let total = to_z w128 at.total-bits in
-    let next = to_z w128 (of_z w128 (total +ℤ to_z w128 (of_z w128 c.signed.result))) in
-    let sum : next ≡ total +ℤ c.signed.result = omega (arith, ints) in
+    let next = to_z w128 (of_z w128 (total +ℤ to_z w128 (of_z w128 c.with_sign.result))) in
+    let sum : next ≡ total +ℤ c.with_sign.result = omega (arith, ints) in
     record {
       so_far = sum_step (scope_in c.args.self.now) c.args.expr.now items.result.now
-          at.is_subtracted-index _ total found (to_z w64 (of_z w64 found)) c.signed.result next
+          at.is_subtracted-index _ total found (to_z w64 (of_z w64 found)) c.with_sign.result next
           items.ensures (to_z-of_z w64 found fits) c.loop-is_subtracted-test.true
-          at.invariant.so_far c.in_ok-term_value.ensures c.signed.ensures.value sum;
+          at.invariant.so_far c.in_ok-term_value.ensures c.with_sign.ensures.value sum;
       least = omega (arith, ints);
       most = omega (arith, ints);
     }

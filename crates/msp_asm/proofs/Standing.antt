@@ -1,0 +1,164 @@
+-- The bytes of each statement stand in the image.
+use Rattle.std.proofs.Common.{◌≡◌, ◌∙◌, ◌<◌, ◌≤◌, ◌+◌, ◌++◌, ◌||◌, ℕ, ap, sym, subst, refl, List, [], ◌∷◌, length, reverse, true, Option, Some, None, Result, Ok, Err, IfOk, inl, inr, arith, if◌then◌else◌}
+use Rattle.std.specs.Prelude.{IsOkAnd}
+use Rattle.std.specs.List.{flat_map}
+use Rattle.std.specs.Option.{option_or}
+use Rattle.std.specs.Result.{result_err}
+use Rattle.std.proofs.lemmas.Bool.Decides.{eqb_tells}
+use Rattle.std.proofs.lemmas.List.{reverse-append, append_assoc}
+use Rattle.part_definitions.specs.Memory.{is_image_place}
+use Rattle.msp_decode.specs.declared.instr.Instr.{Instr}
+use Rattle.msp_decode.specs.Completion.{words_of}
+use Rattle.msp_decode.specs.Law.{AreReadAs}
+use Rattle.text_scan.specs.declared.fault_kind.FaultKind.{FaultKind}
+use Rattle.text_scan.specs.declared.fault_at.FaultAt.{FaultAt}
+use Rattle.text_scan.specs.declared.text_fault.TextFault.{TextFault}
+use Rattle.text_scan.specs.Reader.{◌>>=◌, Reads}
+use Rattle.asm_text.specs.declared.body.Body.{Body}
+use Rattle.asm_text.specs.declared.body.Body.TheVariants.{Empty, Instr as Instruction, Org, Word, Byte, Ascii, Equ}
+use Rattle.asm_text.specs.declared.statement.Statement.{Statement}
+use Rattle.asm_bytes.specs.Value.{Scope}
+use Rattle.asm_bytes.specs.Statement.{bytes_of, word_bytes, named_instruction, IsNamed}
+use Rattle.mem_map.specs.declared.image.Image.{Image}
+use Rattle.mem_map.specs.Image.{byte_in}
+use Rattle.msp_asm.specs.Assembly.{image_in}
+use Rattle.msp_asm.specs.FirstPass.{first_fault, first_pass_fault, is_placed, scope_after}
+use Rattle.msp_asm.specs.SecondPass.{byte_at, byte_among, byte_placed, byte_of_image, fault_of, image_or_fault, image_of, scope_among, second_pass_fault}
+use Rattle.msp_asm.specs.Source.{source_image}
+use Rattle.msp_asm.specs.Standing.{HasBytes, HasBytesOf, HasInstruction, HasInstructionOf, OfEachStatement}
+use Rattle.msp_asm.proofs.LinesSoFar.{neither, no_fault_at}
+use Rattle.msp_asm.proofs.FreePlaces.{count_after, are_free, all_among, among_between}
+use Rattle.msp_asm.proofs.BytesStay.{sized, stays}
+
+byte_at-next : (first byte : ℕ) (bytes : List ℕ) (place : ℕ) → first + 1 ≤ place
+    → byte_at first (byte ∷ bytes) place ≡ byte_at (first + 1) bytes place
+byte_at-next first byte bytes place after =
+    elim (eqb_tells place first) [
+      | inl same ↦ absurd (omega (arith, same.1))
+      | inr other ↦ rw other.0 refl
+    ]
+
+byte_at-first : (first byte : ℕ) (bytes : List ℕ) → byte_at first (byte ∷ bytes) first ≡ Some byte
+byte_at-first first byte bytes =
+    elim (eqb_tells first first) [
+      | inl same ↦ rw same.0 refl
+      | inr other ↦ absurd (other.1 refl)
+    ]
+
+-- bytes that an image has at their places stand in it
+has_bytes : (image other : ℕ → Option ℕ) (first : ℕ) (bytes : List ℕ)
+    → ((place : ℕ) → first ≤ place → place < first + length bytes
+    → image place ≡ option_or (byte_at first bytes place) (other place))
+    → HasBytes image first bytes
+has_bytes image other first [] placed = tt
+has_bytes image other first (byte ∷ bytes) placed = (
+  placed first (omega arith) (omega arith)
+      ∙ ap (λ found. option_or found (other first)) (byte_at-first first byte bytes),
+  has_bytes image other (first + 1) bytes (λ place from below.
+      placed place (omega arith) (omega arith)
+      ∙ ap (λ found. option_or found (other place)) (byte_at-next first byte bytes place from)),
+)
+
+-- the bytes of a statement among others
+stand_among : (text : List ℕ) (all later earlier : List Statement) (s : Statement)
+    (image : ℕ → Option ℕ) (read : Result (List ℕ) FaultKind)
+    → bytes_of (scope_among text all earlier) s.body ≡ read
+    → result_err read ≡ None
+    → first_fault (first_pass_fault text) (later ++ s ∷ earlier) ≡ None
+    → ((place : ℕ) → is_image_place place ≡ true
+    → image place ≡ byte_placed text all (later ++ s ∷ earlier) place)
+    → IsOkAnd read (HasBytes image (scope_after text earlier).here)
+unfolding is_placed byte_placed
+stand_among text all later earlier s image (Err kind) is sound none placed = absurd cc
+stand_among text all later earlier s image (Ok bytes) is sound none placed =
+    let here : ℕ = (scope_after text earlier).here in
+    let count : ℕ = count_after text earlier s in
+    let size : length bytes ≡ count =
+    subst (λ (read : Result (List ℕ) FaultKind). IfOk read (λ found. length found ≡ count)) is
+    (sized text all earlier s) in
+    let free = are_free text earlier s (no_fault_at (first_pass_fault text) later earlier s none) in
+    has_bytes image (byte_placed text all earlier) here bytes (λ place from below.
+    let within : place < here + count = omega (arith, below, size) in
+    let taken : is_placed text (s ∷ earlier) place ≡ true =
+    ap (λ among. among || is_placed text earlier place) (among_between here count place from within)
+    in
+    placed place (all_among is_image_place here count place free.placed from within)
+    ∙ (stays text all later (s ∷ earlier) place none taken).1
+    ∙ ap (λ found. option_or (byte_among here found place) (byte_placed text all earlier place)) is)
+
+-- an image that was made, and nothing was at fault
+made : (fault : Option FaultAt) (bytes image : ℕ → Option ℕ) → image_or_fault fault bytes ≡ Ok image
+    → (fault ≡ None) × (bytes ≡ image)
+made None bytes image is = (refl, cc)
+made (Some fault) bytes image is = absurd cc
+
+-- statements with the newest first
+cut : (before after : List Statement) (s : Statement)
+    → reverse (before ++ s ∷ after) ≡ reverse after ++ s ∷ reverse before
+cut before after s =
+    reverse-append before (s ∷ after)
+    ∙ ap (λ front. front ++ reverse before) (reverse-append (s ∷ []) after)
+    ∙ append_assoc (reverse after) (s ∷ []) (reverse before)
+
+pub statements_stand : (text : List ℕ) (image : ℕ → Option ℕ) → source_image text ≡ Ok image
+    → OfEachStatement (HasBytesOf image) text
+statements_stand text image is before after s read =
+    let statements : List Statement = before ++ s ∷ after in
+    let all : List Statement = reverse statements in
+    let earlier : List Statement = reverse before in
+    let later : List Statement = reverse after in
+    let whole = made (fault_of text statements) (byte_of_image text statements) image
+    (ap (λ found. found >>= image_of text) (sym read) ∙ is) in
+    let sound = neither (first_fault (first_pass_fault text) all)
+    (first_fault (second_pass_fault text all) all) whole.0 in
+    stand_among text all later earlier s image (bytes_of (scope_among text all earlier) s.body) refl
+    (no_fault_at (second_pass_fault text all) later earlier s
+    (ap (first_fault (second_pass_fault text all)) (sym (cut before after s)) ∙ sound.1))
+    (ap (first_fault (first_pass_fault text)) (sym (cut before after s)) ∙ sound.0)
+    (λ place is_placed.
+    ap (λ (bytes : ℕ → Option ℕ). bytes place) (sym whole.1)
+    ∙ ap (λ test. if test then byte_placed text all all place else None) is_placed
+    ∙ ap (λ lines. byte_placed text all lines place) (cut before after s))
+
+-- an instruction whose bytes stand, and whose words are read as it
+named_stands : (image : ℕ → Option ℕ) (place : ℕ) (named : Result Instr FaultKind)
+    → ((it : Instr) → named ≡ Ok it → AreReadAs (words_of it) it)
+    → IsOkAnd (named >>= (λ it. Ok (flat_map word_bytes (words_of it)))) (HasBytes image place)
+    → IsOkAnd named (HasInstruction image place)
+named_stands image place (Ok it) are_read stands =
+    record { bytes = stands; read = are_read it refl }
+named_stands image place (Err kind) are_read stands = stands
+
+instruction_stands : (image : ℕ → Option ℕ) (scope : Scope) (body : Body)
+    → ((it : Instr) → IsNamed scope body it → AreReadAs (words_of it) it)
+    → HasBytesOf image scope body
+    → HasInstructionOf image scope body
+instruction_stands image scope (Instruction mnemonic size first second) are_read stands =
+    named_stands image scope.here (named_instruction scope mnemonic size first second)
+    are_read stands
+instruction_stands image scope Empty are_read stands = tt
+instruction_stands image scope (Org expr) are_read stands = tt
+instruction_stands image scope (Word exprs) are_read stands = tt
+instruction_stands image scope (Byte exprs) are_read stands = tt
+instruction_stands image scope (Ascii span) are_read stands = tt
+instruction_stands image scope (Equ name expr) are_read stands = tt
+
+pub instructions_stand : ((scope : Scope) (body : Body) (it : Instr) → IsNamed scope body it
+    → AreReadAs (words_of it) it)
+    → (text : List ℕ) (image : ℕ → Option ℕ)
+    → source_image text ≡ Ok image
+    → OfEachStatement (HasInstructionOf image) text
+instructions_stand are_read text image is before after s read =
+    let scope : Scope = scope_among text (reverse (before ++ s ∷ after)) (reverse before) in
+    instruction_stands image scope s.body (are_read scope s.body)
+    (statements_stand text image is before after s read)
+
+-- what holds of each statement in the image of a source, holds in the one that was made
+pub of_image : (Holds : (ℕ → Option ℕ) → Scope → Body → Type 0) (text : List ℕ)
+    (result : Result Image TextFault)
+    → Reads (image_in result) (source_image text)
+    → ((image : ℕ → Option ℕ) → source_image text ≡ Ok image
+    → OfEachStatement (Holds image) text)
+    → IfOk result (λ image. OfEachStatement (Holds (byte_in image)) text)
+of_image Holds text (Ok image) reads holds = holds (byte_in image) reads
+of_image Holds text (Err fault) reads holds = tt

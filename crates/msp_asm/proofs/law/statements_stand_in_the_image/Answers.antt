@@ -1,0 +1,5 @@
+use Rattle.msp_asm.proofs.Standing.{statements_stand}
+use Rattle.msp_asm.proofs.law.statements_stand_in_the_image.Goals as goal
+
+pub returns : goal.returns
+returns c = statements_stand

@@ -1,0 +1,6 @@
+pub mod SaidLine
+pub mod SaidText
+pub mod Writable
+pub mod ReadBack
+pub mod Listing
+pub mod Example

@@ -1,0 +1,31 @@
+-- What is written is read back.
+use Rattle.std.specs.Prelude.{◌≡◌, ◌<◌, ◌++◌, ℕ, List, [], ◌∷◌, length, map, codes, Some, Ok}
+use Rattle.asm_text.specs.declared.statement.Statement.{Statement}
+use Rattle.asm_text.specs.Source.{line_statement, source_of}
+use Rattle.asm_text.specs.Word.{number_of}
+use Rattle.source_round_trip.specs.SaidLine.{SaidLine, said_by}
+use Rattle.source_round_trip.specs.SaidText.{Numerals, said_text}
+
+-- each number is written as a numeral of it: decimal, or hexadecimal, with zeros in front or not
+abbrev pub AreNumerals : Numerals → Type 0
+AreNumerals numerals =
+    (number : ℕ) → number < 65536 → number_of (numerals number) ≡ Some number
+
+-- the line of this text, which stands between others of a source, says what was written
+pub record IsReadBack (numerals : Numerals) (number : ℕ) (before after : List ℕ) (said : SaidLine)
+    : Type 0 where
+  pub statement : Statement
+  pub read : line_statement number (length before) (said_text numerals said) ≡ Ok statement
+  pub says : said_by (before ++ said_text numerals said ++ after) statement ≡ said
+
+-- the text of statements, each in a line that ends with LF
+abbrev pub source_text : Numerals → List SaidLine → List ℕ
+source_text numerals [] = []
+source_text numerals (said ∷ rest) =
+    said_text numerals said ++ codes "\n" ++ source_text numerals rest
+
+-- the source of this text has the statements that were written
+pub record IsSourceReadBack (numerals : Numerals) (all : List SaidLine) : Type 0 where
+  pub statements : List Statement
+  pub read : source_of (source_text numerals all) ≡ Ok statements
+  pub says : map (said_by (source_text numerals all)) statements ≡ all
