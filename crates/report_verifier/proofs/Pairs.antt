@@ -1,6 +1,6 @@
 -- The pair that two messages with one HMAC give collides.
-use Rattle.std.proofs.Common.{◌≡◌, ◌∙◌, ap, sym, subst, ℕ, List, [], ◌++◌, Bool, true, false, Result, Ok, Err, IfOk, refl, append_assoc}
-use Rattle.std.proofs.lemmas.Bool.{false≢true}
+use Rattle.std.proofs.Common.{◌≡◌, ◌∙◌, ap, sym, subst, ℕ, List, [], ◌++◌, Bool, true, false, Result, Ok, Err, IfOk, inl, inr, refl, append_assoc}
+use Rattle.std.proofs.lemmas.Bool.{cases_Bool, false≢true}
 use Rattle.std.proofs.lemmas.Slice.Eq.{bytes_eq-Decides}
 use Rattle.std.specs.Str.{bytes_eq}
 use Rattle.std.proofs.lemmas.List.{append_cancel_left}
@@ -9,18 +9,43 @@ use Rattle.report_verifier.specs.declared.evidence.Exhibit.{Exhibit}
 use Rattle.report_verifier.specs.declared.evidence.Exhibit.TheVariants.{Pair}
 use Rattle.report_verifier.specs.Collision.{HaveOneMac, Collides, Exhibits, colliding_pair}
 
+-- the pair of two messages with one HMAC collides
+pub one_mac-collides : (digest : List ℕ → List ℕ) (key left right : List ℕ)
+    → HaveOneMac digest key left right
+    → Collides digest (colliding_pair digest key left right)
+one_mac-collides digest key left right mac =
+    elim (cases_Bool (bytes_eq first second)) [
+      | inl same ↦
+          rw same (record {
+            differ = λ equal. mac.0 (append_cancel_left _ left right equal);
+            same_digest = (bytes_eq-Decides first second).0 same;
+          })
+      | inr differ ↦
+          rw differ (record {
+            differ = λ equal.
+                false≢true (sym differ
+                ∙ (bytes_eq-Decides first second).1 (append_cancel_left _ first second equal));
+            same_digest = mac.1;
+          })
+    ]
+  where
+    first : List ℕ
+    first = inner_digest digest key left
+
+    second : List ℕ
+    second = inner_digest digest key right
+
 pair_shows :
     {Fault : Type 0} (digest : List ℕ → List ℕ) (key left right first second : List ℕ)
     (result : Result Exhibit Fault)
     → HaveOneMac digest key left right
     → (first, second) ≡ colliding_pair digest key left right
-    → Collides digest (first, second)
     → IfOk result (λ exhibit. exhibit ≡ Pair first second)
     → Exhibits digest key left right result
-pair_shows {Fault = Fault} digest key left right first second (Ok exhibit) mac pair collides is =
+pair_shows {Fault = Fault} digest key left right first second (Ok exhibit) mac pair is =
     subst (λ shown. Exhibits {Fault = Fault} digest key left right (Ok shown)) (sym is)
-    (mac, pair, collides)
-pair_shows digest key left right first second (Err fault) mac pair collides is = mac
+    (mac, pair, rw (← pair) at (one_mac-collides digest key left right mac))
+pair_shows digest key left right first second (Err fault) mac pair is = mac
 
 bytes_eq-of :
     (left right first second : List ℕ) (result : Bool)
@@ -54,12 +79,7 @@ inner_pair_shows digest key left right first second pad result mac is_first is_s
     let pair : (pad ++ left, pad ++ right) ≡ colliding_pair digest key left right =
     ap (λ l. (l, pad ++ right)) is_left ∙ ap (λ r. (inner_input digest key left, r)) is_right
     ∙ rw tested refl in
-    pair_shows digest key left right (pad ++ left) (pad ++ right) result mac pair
-    (record {
-      differ = λ equal. mac.0 (append_cancel_left pad left right equal);
-      same_digest = ap digest is_left ∙ (bytes_eq-Decides _ _).0 tested ∙ sym (ap digest is_right);
-    })
-    shows
+    pair_shows digest key left right (pad ++ left) (pad ++ right) result mac pair shows
 
 -- unequal inner digests: the outer inputs collide
 pub outer_pair_shows :
@@ -86,14 +106,7 @@ outer_pair_shows digest key left right first second pad result mac is_first is_s
     ap (λ l. (l, pad ++ second)) is_left
     ∙ ap (λ r. (outer_input digest key (inner_digest digest key left), r)) is_right
     ∙ rw tested refl in
-    pair_shows digest key left right (pad ++ first) (pad ++ second) result mac pair
-    (record {
-      differ = λ equal.
-          false≢true (sym differ ∙ (bytes_eq-Decides first second).1
-          (append_cancel_left pad first second equal));
-      same_digest = ap digest is_left ∙ mac.1 ∙ sym (ap digest is_right);
-    })
-    shows
+    pair_shows digest key left right (pad ++ first) (pad ++ second) result mac pair shows
 
 -- what is shown of equal messages under one key
 pub Exhibits-same :

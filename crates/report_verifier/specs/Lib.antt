@@ -1,3 +1,4 @@
+pub mod Acceptance
 pub mod Expected
 pub mod Verdict
 pub mod Collision

@@ -1,0 +1,99 @@
+-- The bounds of a policy that is read are valid.
+use Rattle.std.proofs.Common.{◌≡◌, ℕ, List, [], ◌∷◌, Bool, true, false, Result, Ok, Err, IfOk, refl, length}
+use Rattle.std.specs.Prelude.{if◌then◌else◌}
+use Rattle.std.specs.Str.Lines.{lines}
+use Rattle.bus_signals.specs.declared.bounds.Bounds.{Bounds}
+use Rattle.bus_signals.specs.Bounds.{are_valid}
+use Rattle.text_scan.specs.declared.fault_at.FaultAt.{FaultAt}
+use Rattle.text_scan.specs.declared.fault_kind.FaultKind.{FaultKind}
+use Rattle.text_scan.specs.declared.fault_kind.FaultKind.TheVariants as kinds
+use Rattle.text_scan.specs.Line.{lines_of}
+use Rattle.text_scan.specs.LineFold.{state_after, text_fold}
+use Rattle.text_scan.specs.Reader.{◌>>=◌, in_line}
+use Rattle.text_scan.specs.Utf8.{utf8_of}
+use Rattle.text_scan.specs.Word.{is_passed_over, words_of}
+use Rattle.report_verifier.specs.declared.draft.Draft.{Draft}
+use Rattle.report_verifier.specs.declared.draft.Draft.TheVariants.{Empty, ExecutableKnown, Whole}
+use Rattle.report_verifier.specs.declared.policy_line.PolicyLine.{PolicyLine}
+use Rattle.report_verifier.specs.declared.policy_line.PolicyLine.TheVariants.{Executable, Output, Challenge}
+use Rattle.report_verifier.specs.PolicyGrammar.{policy_of, line_of, bounds_with, with_entry, with_line, whole_policy}
+
+-- the bounds that a draft has are valid
+abbrev HasValidBounds : Draft → Type 0
+HasValidBounds (Whole policy) = are_valid policy.bounds ≡ true
+HasValidBounds draft = Unit {0}
+
+with_bounds-valid : (bounds : Bounds) (test : Bool) → are_valid bounds ≡ test
+    → IfOk (if test then Ok (Whole (record { bounds = bounds; challenges = [] }))
+    else Err kinds.Bounds) HasValidBounds
+with_bounds-valid bounds true valid = valid
+with_bounds-valid bounds false valid = tt
+
+with_entry-valid : (draft : Draft) (line : PolicyLine) → HasValidBounds draft
+    → IfOk (with_entry draft line) HasValidBounds
+with_entry-valid Empty (Executable first last) valid = tt
+with_entry-valid Empty (Output first last) valid = tt
+with_entry-valid Empty (Challenge chal) valid = tt
+with_entry-valid (ExecutableKnown er_min er_max) (Executable first last) valid = tt
+with_entry-valid (ExecutableKnown er_min er_max) (Output first last) valid =
+    with_bounds-valid (bounds_with er_min er_max first last) _ refl
+with_entry-valid (ExecutableKnown er_min er_max) (Challenge chal) valid = tt
+with_entry-valid (Whole policy) (Executable first last) valid = tt
+with_entry-valid (Whole policy) (Output first last) valid = tt
+with_entry-valid (Whole policy) (Challenge chal) valid = valid
+
+with_line-valid : (draft : Draft) (line : List ℕ) → HasValidBounds draft
+    → IfOk (with_line draft line) HasValidBounds
+unfolding with_line
+with_line-valid draft line valid = by_entry (line_of (words_of line))
+  where
+    by_entry : (entry : Result PolicyLine FaultKind)
+        → IfOk (entry >>= (λ said. with_entry draft said)) HasValidBounds
+    by_entry (Ok said) = with_entry-valid draft said valid
+    by_entry (Err kind) = tt
+
+one_more-valid : (draft : Draft) (line : ℕ × List ℕ) (lines : List (ℕ × List ℕ)) (passed : Bool)
+    (next : Result Draft FaultKind) → HasValidBounds draft
+    → IfOk next HasValidBounds
+    → ((after : Draft) → HasValidBounds after
+    → IfOk (state_after with_line after lines) HasValidBounds)
+    → IfOk (if passed then state_after with_line draft lines
+    else (in_line line.0 next >>= (λ after. state_after with_line after lines)))
+    HasValidBounds
+one_more-valid draft line lines true next valid valid_next later = later draft valid
+one_more-valid draft line lines false (Ok after) valid valid_next later = later after valid_next
+one_more-valid draft line lines false (Err kind) valid valid_next later = tt
+
+state_after-valid : (draft : Draft) (lines : List (ℕ × List ℕ)) → HasValidBounds draft
+    → IfOk (state_after with_line draft lines) HasValidBounds
+unfolding state_after
+state_after-valid draft [] valid = valid
+state_after-valid draft (line ∷ lines) valid =
+    one_more-valid draft line lines (is_passed_over line.1) (with_line draft line.1) valid
+    (with_line-valid draft line.1 valid)
+    (λ after valid_after. state_after-valid after lines valid_after)
+
+whole-valid : (last : ℕ) (draft : Draft) → HasValidBounds draft
+    → IfOk (whole_policy last draft) (λ policy. are_valid policy.bounds ≡ true)
+whole-valid last Empty valid = tt
+whole-valid last (ExecutableKnown first end) valid = tt
+whole-valid last (Whole policy) valid = valid
+
+draft-valid : (last : ℕ) (draft : Result Draft FaultAt) → IfOk draft HasValidBounds
+    → IfOk (draft >>= whole_policy last) (λ policy. are_valid policy.bounds ≡ true)
+draft-valid last (Ok after) valid = whole-valid last after valid
+draft-valid last (Err fault) valid = tt
+
+pub policy_of-valid : (text : List ℕ)
+    → IfOk (policy_of text) (λ policy. are_valid policy.bounds ≡ true)
+unfolding policy_of text_fold
+policy_of-valid text = by_case (utf8_of text)
+  where
+    by_case : (sound : Result Unit FaultAt)
+        → IfOk ((sound >>= (λ is. state_after with_line Empty (lines_of text)))
+        >>= whole_policy (length (lines text)))
+        (λ policy. are_valid policy.bounds ≡ true)
+    by_case (Err fault) = tt
+    by_case (Ok is) =
+        draft-valid (length (lines text)) (state_after with_line Empty (lines_of text))
+        (state_after-valid Empty (lines_of text) tt)

@@ -1,0 +1,40 @@
+-- What an accept means for a device whose memory has these bytes.
+use Rattle.std.specs.Prelude.{◌≡◌, ℕ, List, Option, Some, IsTrue}
+use Rattle.bus_signals.specs.Bounds.{are_valid}
+use Rattle.bus_signals.specs.Report.{ReportFields}
+use Rattle.part_definitions.specs.Attestation.{attestation_tag}
+use Rattle.part_definitions.specs.Metadata.{bounds_in}
+use Rattle.part_definitions.specs.Region.{challenge_bytes, metadata_bytes, rest_bytes, bytes_between, output_bytes}
+use Rattle.report_verifier.specs.declared.decision.Decision.TheVariants.{Accept}
+use Rattle.report_verifier.specs.declared.expect.Expect.{Expect}
+use Rattle.report_verifier.specs.Expected.{expected_metadata, image_code}
+use Rattle.report_verifier.specs.Verdict.{verdict}
+
+-- a report of a device: it tells what stands in memory, and its MAC is the tag of that under the
+-- device key
+pub record IsOfMemory (digest : List ℕ → List ℕ) (key : List ℕ) (bytes : ℕ → ℕ)
+    (report : ReportFields) : Type 0 where
+  pub chal : report.chal ≡ challenge_bytes bytes
+  pub bounds : report.bounds ≡ bounds_in bytes
+  pub output : IsTrue (are_valid report.bounds)
+      → report.output ≡ Some (output_bytes bytes report.bounds)
+  pub mac : report.mac ≡ attestation_tag digest key (metadata_bytes bytes) (rest_bytes bytes)
+
+-- it is accepted by a verifier that has the device key
+pub record IsAccepted (digest : List ℕ → List ℕ) (key : List ℕ) (image : ℕ → Option ℕ)
+    (expect : Expect) (bytes : ℕ → ℕ) (report : ReportFields) : Type 0 where
+  pub valid : IsTrue (are_valid expect.bounds)
+  pub of_memory : IsOfMemory digest key bytes report
+  pub accepted : verdict digest key image (Some expect) report ≡ Accept
+
+-- what stands in memory is what was expected
+pub record StandsAsExpected (image : ℕ → Option ℕ) (expect : Expect) (report : ReportFields)
+    (bytes : ℕ → ℕ) : Type 0 where
+  -- the metadata are the expected challenge and bounds, with EXEC 1
+  pub metadata : metadata_bytes bytes ≡ expected_metadata expect
+  -- the code is the image's
+  pub code :
+      bytes_between bytes expect.bounds.er_min expect.bounds.er_max
+      ≡ image_code image expect.bounds
+  -- the output is the report's
+  pub output : Some (output_bytes bytes expect.bounds) ≡ report.output
