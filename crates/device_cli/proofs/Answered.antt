@@ -1,12 +1,11 @@
 -- Answers to a row: after a refusal, and after its text was begun.
-use Rattle.std.proofs.Common.{◌≡◌, ◌≤◌, ◌⊎◌, ◌∷◌, [], ℕ, Bool, true, false, List, Option, Some, None, IfSome, Result, Ok, Err, refl, subst, inl, inr, arith}
+use Rattle.std.proofs.Common.{◌≡◌, ◌≤◌, ◌⊎◌, ℕ, Bool, true, false, List, Option, Some, None, IfSome, Result, Ok, Err, refl, inl, inr, arith}
 use Rattle.std.specs.Prelude.{IsErrAnd}
 use Rattle.outside_edge.specs.Count.{Rose}
 use Rattle.outside_edge.specs.Shelf.{KeepsFiles}
-use Rattle.outside_edge.specs.Sink.{Takes, TakesPrefix}
 use Rattle.device_cli.specs.declared.status.Status.{Status}
-use Rattle.device_cli.specs.declared.status.Status.TheVariants.{Done, Rejected, Absent, ReadFault, WriteFault, Memory}
-use Rattle.device_cli.specs.Row.{File, Outcome, Row}
+use Rattle.device_cli.specs.declared.status.Status.TheVariants.{Done, Rejected, ReadFault, WriteFault, Memory}
+use Rattle.device_cli.specs.Row.{File, Row}
 use Rattle.device_cli.specs.Reading.{Files, AreRead, NamesFault, IsRefusal, Refuses, Reads, ShelfCounts, counts_of, first_refusal}
 use Rattle.device_cli.specs.Answer.{HasOutcome, PutsAll, PutsPrefix, StopsAtPair, PutsOutcome, Follows, OnPut, OnWriteFault, OnMemory, UnlessPut, Answers, ending, answer_of}
 

@@ -1,6 +1,6 @@
 -- The reading of one file.
-use Rattle.std.proofs.Common.{◌≡◌, ◌<◌, ◌≤◌, ◌⊎◌, ◌∷◌, [], ℕ, suc, List, Option, Some, None, IfSome, Result, Ok, Err, IfErr, length, replicate, refl, inl, inr, arith}
-use Rattle.std.specs.Prelude.{IsSomeAnd, MatchOption, option_map}
+use Rattle.std.proofs.Common.{◌≡◌, ◌<◌, ◌≤◌, ◌⊎◌, ◌∷◌, [], ℕ, suc, List, Option, Some, None, IfSome, Result, Ok, Err, length, replicate, refl, inl, inr, arith}
+use Rattle.std.specs.Prelude.{IsSomeAnd}
 use Rattle.std.proofs.lemmas.Bool.{lt-ltb, le-ltb}
 use Rattle.std.proofs.lemmas.List.{length-replicate}
 use Rattle.outside_edge.specs.Count.{Rose}

@@ -1,13 +1,10 @@
 -- The values of several files together, and what a command makes of them.
-use Rattle.std.proofs.Common.{◌≡◌, ◌++◌, ◌∷◌, [], ℕ, List, Option, refl}
+use Rattle.std.proofs.Common.{◌≡◌, ◌++◌, ◌∷◌, [], ℕ, List, refl}
 use Rattle.bus_signals.specs.declared.event.Event.{Event}
-use Rattle.bus_signals.specs.Report.{ReportFields}
 use Rattle.mem_map.specs.declared.image.Image.{Image}
 use Rattle.mem_map.specs.Image.{byte_in}
 use Rattle.hex_loader.specs.HexText.{hex_text}
 use Rattle.msp_disasm.specs.Listing.{listing}
-use Rattle.play_script.specs.Script.{TimedEvent}
-use Rattle.report_verifier.specs.Policy.{PolicyFields}
 use Rattle.device_trace.specs.Start.{Start}
 use Rattle.device_cli.specs.declared.assembled_image.AssembledImage.{AssembledImage}
 use Rattle.device_cli.specs.declared.play_inputs.DeviceInputs.{DeviceInputs}

@@ -1,5 +1,5 @@
 -- What an accept says of a report, and what a comparison shows.
-use Rattle.std.proofs.Common.{◌≡◌, ◌∙◌, ◌+◌, ◌-◌, ◌≤◌, ◌&&◌, [], ◌++◌, ℕ, Bool, true, false, List, Option, Some, None, Result, Ok, Err, IfSome, length, refl, ap, sym, arith}
+use Rattle.std.proofs.Common.{◌≡◌, ◌+◌, ◌-◌, ◌≤◌, ◌&&◌, ℕ, Bool, true, false, List, Option, Some, None, Ok, IfSome, length, refl, ap, arith}
 use Rattle.std.specs.Prelude.{not, if◌then◌else◌, ◌==◌}
 use Rattle.std.specs.Str.{bytes_eq}
 use Rattle.std.proofs.lemmas.Bool.{false≢true, and_parts, eqb-true}
@@ -10,7 +10,6 @@ use Rattle.bus_signals.specs.declared.bounds.Bounds.{Bounds}
 use Rattle.bus_signals.specs.Bounds.{are_valid}
 use Rattle.bus_signals.specs.Report.{ReportFields}
 use Rattle.part_definitions.specs.Hmac.{hmac}
-use Rattle.part_definitions.specs.Memory.{bytes_from}
 use Rattle.device_trace.specs.Text.{reported_output}
 use Rattle.report_verifier.specs.declared.decision.Decision.{Decision}
 use Rattle.report_verifier.specs.declared.decision.Decision.TheVariants.{Accept, ChalDiffers, BoundsDiffer, ExecZero, MacDiffers}
@@ -25,7 +24,8 @@ use Rattle.report_verifier.specs.Verdict.{same_bounds, verdict}
 use Rattle.report_verifier.proofs.Regions.{length-bytes_from}
 use Rattle.device_cli.specs.VerdictLine.{verdict_line}
 use Rattle.device_cli.specs.Verify.{is_accept}
-use Rattle.device_cli.specs.Judgement.{Judge, verdict_at, have_one_mac, pair_line, collision_lines, exhibit_lines, comparison_lines, own_bytes_collide, evidence_lines, is_pair_shown, judgement_lines, judgement_has_pair, TellsOutput}
+use Rattle.device_cli.specs.Judge.{Judge}
+use Rattle.device_cli.specs.Judgement.{verdict_at, have_one_mac, pair_line, collision_lines, exhibit_lines, comparison_lines, own_bytes_collide, evidence_lines, is_pair_shown, judgement_lines, judgement_has_pair, TellsOutput}
 
 false-unless : (b : Bool) → (b ≡ true → ⊥) → b ≡ false
 false-unless true never = absurd (never refl)

@@ -1,9 +1,11 @@
 -- The play of a command obeys the laws of the device.
-use Rattle.std.proofs.Common.{◌≡◌, ◌<◌, ℕ, Bool, true, false, All, List, [], ◌∷◌, Option, Some, None, IfSome, Result, Ok, Err, refl, length}
+use Rattle.std.proofs.Common.{◌≡◌, ◌<◌, ℕ, Bool, true, false, List, [], ◌∷◌, Option, Some, None, IfSome, Result, Ok, Err, refl, length, arith}
 use Rattle.std.specs.Prelude.{if◌then◌else◌, nat_lt}
 use Rattle.std.specs.Result.{result_err, result_unwrap_or}
 use Rattle.std.proofs.lemmas.List.Elements.{All-from_get_or}
+use Rattle.std.proofs.lemmas.List.FromFn.{get_or-range_with_len}
 use Rattle.bus_signals.specs.declared.event.Event.{Event}
+use Rattle.bus_signals.specs.Bounds.{are_valid}
 use Rattle.text_scan.specs.Key.{key_of}
 use Rattle.text_scan.specs.declared.fault_at.FaultAt.{FaultAt}
 use Rattle.text_scan.proofs.HexBytes.{key_of-ok}
@@ -12,22 +14,28 @@ use Rattle.hmac_core.proofs.Sha256Bytes.{sha256-bytes}
 use Rattle.sha2.proofs.Facts256.{length-sha256}
 use Rattle.device_trace.specs.Start.{with_key}
 use Rattle.key_isolation.proofs.TwoKeys.{same_text, same_memory}
-use Rattle.mac_coverage.specs.Coverage.{IsDeviceKey, IsOfBytes}
+use Rattle.mac_coverage.specs.Coverage.{Gives32Bytes, IsDeviceKey, IsOfBytes}
 use Rattle.mac_coverage.proofs.Plays.{report-covered}
 use Rattle.proof_of_execution.proofs.Plays.{report-whole_run}
 use Rattle.sha2.specs.Sha256.{sha256}
+use Rattle.report_verifier.specs.PolicyGrammar.{policy_of}
+use Rattle.report_verifier.proofs.PolicyBounds.{policy_of-valid}
+use Rattle.device_cli.proofs.Grounds.{each_accept-has_grounds}
 use Rattle.device_cli.specs.declared.command.Command.{Command}
 use Rattle.device_cli.specs.declared.command.Command.TheVariants as command
 use Rattle.device_cli.specs.declared.status.Status.{Status}
 use Rattle.device_cli.specs.declared.status.Status.TheVariants.{Done, Rejected}
 use Rattle.device_cli.specs.Answer.{HasOutcome, OnPut}
 use Rattle.device_cli.specs.Command.{row_of_command}
-use Rattle.device_cli.specs.FileKinds.{key_file, image_file, script_file, policy_file, key_kind, key_in, bytes_in}
-use Rattle.device_cli.specs.Limit.{key_limit}
+use Rattle.device_cli.specs.FileKinds.{key_file, image_file, script_file, policy_file, key_kind, policy_kind, key_in, bytes_in, policy_in}
+use Rattle.device_cli.specs.Limit.{key_limit, policy_limit}
+use Rattle.device_cli.specs.Load.{load_key, load_image}
 use Rattle.device_cli.specs.Play.{played_in}
+use Rattle.device_cli.specs.Work.{load_played}
+use Rattle.device_cli.specs.Round.{judge_with, judged_in}
 use Rattle.device_cli.specs.PlayLaws.{ObeysLaws, IsLawful, HasLawfulOutcome}
 use Rattle.device_cli.specs.Reading.{Files, AreRead}
-use Rattle.device_cli.specs.Row.{File, Outcome, first_fault}
+use Rattle.device_cli.specs.Row.{File, Outcome, Played, first_fault}
 
 pub obeys_laws : (digest : List ℕ → List ℕ) (key : List ℕ) (image : ℕ → ℕ)
     (play : List (List Event)) → IsDeviceKey key → IsOfBytes image
@@ -49,18 +57,31 @@ long_is_fault : (long : Bool) (past : FaultAt) (fault : Option FaultAt)
 long_is_fault true past fault none = cc none
 long_is_fault false past fault none = none
 
-read-ok : (read : Result (List ℕ) FaultAt) → result_err read ≡ None
-    → read ≡ Ok (result_unwrap_or read [])
-read-ok (Ok bytes) none = refl
-read-ok (Err fault) none = cc none
+read-ok : {V : Type 0} (read : Result V FaultAt) (other : V) → result_err read ≡ None
+    → read ≡ Ok (result_unwrap_or read other)
+read-ok (Ok value) other none = refl
+read-ok (Err fault) other none = cc none
 
 device_key : (text : List ℕ) → first_fault key_kind text ≡ None → IsDeviceKey (key_in text)
 device_key text none =
-    let key = key_of-ok text (key_in text) (read-ok (key_of text)
+    let key = key_of-ok text (key_in text) (read-ok (key_of text) []
     (long_is_fault (nat_lt key_limit (length text)) _ (result_err (key_of text)) none)) in
     record {
       size = key.0;
       bytes = All-from_get_or (λ byte. byte < 256) (key_in text) 0 (λ i within. key.1 i);
+    }
+
+sha256_gives : Gives32Bytes sha256
+sha256_gives = record { size = length-sha256; bytes = sha256-bytes }
+
+-- without a judge
+unjudged : (played : Played) → IsDeviceKey played.key → IsOfBytes played.image
+    → played.judge ≡ None → IsLawful played
+unjudged played device_key bytes none =
+    record {
+      gives = sha256_gives;
+      laws = obeys_laws sha256 played.key played.image played.play device_key bytes;
+      accepts = rw none tt;
     }
 
 played_laws : (steps : ℕ) (told : Files) (name : List ℕ) (files : List File)
@@ -69,10 +90,54 @@ played_laws : (steps : ℕ) (told : Files) (name : List ℕ) (files : List File)
 played_laws steps told name files [] read = tt
 played_laws steps told name files (key ∷ []) read = tt
 played_laws steps told name files (key ∷ image ∷ []) read = tt
-played_laws steps told name files (key ∷ image ∷ script ∷ more) read = (
-  record { size = length-sha256; bytes = sha256-bytes },
-  obeys_laws sha256 (key_in key) _ _ (device_key key read.1) (image_of-bytes image),
-)
+played_laws steps told name files (key ∷ image ∷ script ∷ more) read =
+    unjudged _ (device_key key read.1) (image_of-bytes image) refl
+
+-- the bounds of a policy without fault
+policy-valid : (text : List ℕ) → first_fault policy_kind text ≡ None
+    → are_valid (policy_in text).bounds ≡ true
+policy-valid text none =
+    let read = read-ok (policy_of text) _
+    (long_is_fault (nat_lt policy_limit (length text)) _ (result_err (policy_of text)) none) in
+    rw read at (policy_of-valid text)
+
+-- with a judge
+judged_laws : (steps : ℕ) (told : Files) (key_name image_name script_name policy_name : List ℕ)
+    (texts : List (List ℕ))
+    → AreRead told (key_file key_name ∷ image_file image_name ∷ script_file script_name
+    ∷ policy_file policy_name ∷ []) texts
+    → IfSome (judged_in steps texts) IsLawful
+judged_laws steps told key_name image_name script_name policy_name [] read = tt
+judged_laws steps told key_name image_name script_name policy_name (key ∷ []) read = tt
+judged_laws steps told key_name image_name script_name policy_name (key ∷ image ∷ []) read = tt
+judged_laws steps told key_name image_name script_name policy_name (key ∷ image ∷ script ∷ []) read
+    = tt
+judged_laws steps told key_name image_name script_name policy_name
+    (key ∷ image ∷ script ∷ policy ∷ next ∷ more) read = tt
+judged_laws steps told key_name image_name script_name policy_name
+    (key ∷ image ∷ script ∷ policy ∷ []) (
+      found,
+      none,
+      (
+        image_read,
+        image_none,
+        (script_read, script_none, (policy_read, policy_none, end)),
+      ),
+    ) =
+    record {
+      gives = sha256_gives;
+      laws = obeys_laws sha256 (key_in key) _ _ (device_key key none) (image_of-bytes image);
+      accepts = each_accept-has_grounds (judge_with (key_in key) (bytes_in image)
+          (policy_in policy)) _ _ (device_key key none) (image_of-bytes image) sha256_gives
+          (policy-valid policy policy_none);
+    }
+
+load_device_key : IsDeviceKey load_key
+load_device_key =
+    record {
+      size = refl;
+      bytes = λ k d h. rw (get_or-range_with_len 0 64 k d h) (omega (arith, h));
+    }
 
 command_laws : (command : Command) (told : Files) (texts : List (List ℕ))
     → AreRead told (row_of_command command).files texts
@@ -86,10 +151,11 @@ command_laws (command.Dump dump) told texts read =
 command_laws (command.List listing) told texts read = tt
 command_laws (command.Verify verify) told texts read = tt
 command_laws (command.Round round) told texts read =
-    played_laws round.steps told round.key.now
-    (image_file round.image.now ∷ script_file round.script.now
-    ∷ policy_file round.policy.now ∷ []) texts read
+    judged_laws round.steps told round.key.now round.image.now round.script.now round.policy.now
+    texts read
 command_laws (command.Asm assembly) told texts read = tt
+command_laws (command.Work work) told texts read =
+    unjudged (load_played work.seed) load_device_key (image_of-bytes load_image) refl
 
 lawful_outcome : (command : Command) (told : Files) (holds : Outcome → Type 0)
     → HasOutcome told (row_of_command command) holds

@@ -1,9 +1,12 @@
 pub mod Answered
+pub mod DrawnScript
 pub mod FileRead
 pub mod Inputs
 pub mod Judged
 pub mod LawfulPlay
 pub mod Lines
+pub mod LoadText
+pub mod Occurrences
 pub mod PutsLemmas
 pub mod Putting
 pub mod ReadInTurn
@@ -11,5 +14,7 @@ pub mod RoundInputs
 pub mod RoundLines
 pub mod SourceRead
 pub mod Tallies
+pub mod TextLength
 pub mod Verdicts
 pub mod WriteCounts
+pub mod Grounds

@@ -1,5 +1,5 @@
 -- How the putting of a text ends.
-use Rattle.std.proofs.Common.{◌≡◌, ℕ, Bool, List, Result, Ok, Err, refl, inl, inr}
+use Rattle.std.proofs.Common.{◌≡◌, ℕ, Bool, List, Result, refl, inl, inr}
 use Rattle.std.specs.Prelude.{IsErrAnd}
 use Rattle.outside_edge.specs.Count.{Rose}
 use Rattle.outside_edge.specs.Sink.{Takes, TakesPrefix}

@@ -1,9 +1,9 @@
 -- Files that are read after others.
-use Rattle.std.proofs.Common.{◌≡◌, ◌∙◌, ◌≤◌, ◌<◌, ◌⊎◌, ◌∷◌, ◌++◌, [], ℕ, List, Option, Some, None, IfSome, Result, Ok, Err, refl, subst, inl, inr, arith}
+use Rattle.std.proofs.Common.{◌≡◌, ◌∙◌, ◌≤◌, ◌∷◌, ◌++◌, [], ℕ, List, Option, Some, None, IfSome, Result, Ok, Err, refl, subst, inl, inr, arith}
 use Rattle.std.specs.Prelude.{IsErrAnd, MatchOption}
 use Rattle.std.specs.Option.{option_or}
 use Rattle.outside_edge.specs.Count.{Rose}
-use Rattle.outside_edge.specs.File.{file_of, Finds}
+use Rattle.outside_edge.specs.File.{file_of}
 use Rattle.outside_edge.specs.Shelf.{KeepsFiles}
 use Rattle.text_scan.specs.declared.fault_at.FaultAt.{FaultAt}
 use Rattle.device_cli.specs.declared.status.Status.{Status}

@@ -1,7 +1,7 @@
 -- The files of a round, and what is put of their values.
-use Rattle.std.proofs.Common.{◌≡◌, ◌∙◌, ◌⊎◌, ◌∷◌, ◌++◌, [], ℕ, Bool, true, false, List, Option, inl, inr, refl}
+use Rattle.std.proofs.Common.{◌≡◌, ◌⊎◌, ◌∷◌, ◌++◌, [], ℕ, true, List, Option, inl, inr, refl}
 use Rattle.outside_edge.specs.Count.{Rose}
-use Rattle.outside_edge.specs.Sink.{Takes, TakesPrefix}
+use Rattle.outside_edge.specs.Sink.{TakesPrefix}
 use Rattle.bus_signals.specs.declared.event.Event.{Event}
 use Rattle.mem_map.specs.Image.{byte_in}
 use Rattle.play_script.specs.Script.{TimedEvent}
@@ -10,13 +10,13 @@ use Rattle.report_verifier.specs.Policy.{PolicyFields}
 use Rattle.device_cli.specs.declared.round.RoundInputs.{RoundInputs}
 use Rattle.device_cli.specs.declared.status.Status.{Status}
 use Rattle.device_cli.specs.declared.status.Status.TheVariants.{WriteFault, Memory}
-use Rattle.device_cli.specs.Answer.{PutsOutcome, ending}
+use Rattle.device_cli.specs.Answer.{PutsOutcome}
 use Rattle.device_cli.specs.FileKinds.{key_in, bytes_in, script_in, policy_in}
 use Rattle.device_cli.specs.Input.{OfOne}
-use Rattle.device_cli.specs.Judgement.{Judge}
+use Rattle.device_cli.specs.Judge.{Judge}
 use Rattle.device_cli.specs.Play.{ArePlayInputs, start_of, steps_of}
 use Rattle.device_cli.specs.Round.{AreRoundInputs, judge_with, outcome_with, round_outcome}
-use Rattle.device_cli.specs.RoundText.{round_text, round_has_pair, all_are_accepted}
+use Rattle.device_cli.specs.RoundText.{round_text, round_has_pair}
 use Rattle.device_cli.specs.Row.{Outcome}
 
 -- the bytes of a policy after those of a play

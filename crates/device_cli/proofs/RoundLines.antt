@@ -1,24 +1,21 @@
 -- The text of a round, step by step.
-use Rattle.std.proofs.Common.{◌≡◌, ◌≤◌, ◌+◌, ◌-◌, ◌++◌, ◌∷◌, ◌∙◌, [], ℕ, zero, suc, Bool, true, false, List, Option, Some, None, length, refl, ap, sym, arith, append_assoc, append-nil}
+use Rattle.std.proofs.Common.{◌≡◌, ◌≤◌, ◌+◌, ◌-◌, ◌++◌, ◌∷◌, ◌∙◌, [], ℕ, zero, suc, Bool, true, false, List, Some, None, length, refl, ap, sym, arith, append_assoc, append-nil}
 use Rattle.std.specs.Prelude.{◌||◌, if◌then◌else◌}
 use Rattle.std.proofs.lemmas.Bool.{false≢true}
 use Rattle.std.proofs.lemmas.List.{append_cancel_left}
-use Rattle.bus_signals.specs.declared.bus_record.BusRecord.{BusRecord}
 use Rattle.bus_signals.specs.declared.event.Event.{Event}
-use Rattle.bus_signals.specs.Report.{ReportFields}
 use Rattle.device_trace.specs.Logs.{Logs, exec_of, logged_byte}
 use Rattle.device_trace.specs.Progress.{next_pc_of}
 use Rattle.device_trace.specs.Start.{Start}
 use Rattle.device_trace.specs.Step.{next_record}
-use Rattle.device_trace.specs.Trace.{trace, last_record, logs_after, byte_after, play_of}
+use Rattle.device_trace.specs.Trace.{trace, logs_after, byte_after, play_of}
 use Rattle.device_trace.specs.Text.{last_byte_sent, finishes_call, report_of, last_report, sent_lines, reset_lines, report_lines, step_lines, lines_of}
 use Rattle.printed_lines.specs.Lines.{end_line}
-use Rattle.device_cli.specs.Judgement.{Judge, judgement_lines, judgement_has_pair, TellsOutput}
+use Rattle.device_cli.specs.Judge.{Judge}
+use Rattle.device_cli.specs.Judgement.{judgement_lines, judgement_has_pair, TellsOutput}
 use Rattle.device_cli.specs.RoundText.{reports_in, round_lines, round_has_pair, round_text}
-use Rattle.outside_edge.specs.Sink.{Takes, TakesPrefix}
-use Rattle.outside_edge.proofs.SinkLemmas.{takes_both}
-use Rattle.device_cli.proofs.Lines.{length-play_of, lines_of-printed}
-use Rattle.device_cli.proofs.PutsLemmas.{takes-append, prefix-append}
+use Rattle.device_core.specs.Silence.{last_rule}
+use Rattle.device_cli.proofs.Lines.{length-play_of, lines_of-last}
 
 lines_of-cons :
     (start : Start) (events : List Event) (play : List (List Event))
@@ -29,26 +26,23 @@ lines_of-cons :
 unfolding lines_of
 lines_of-cons start events play = refl
 
--- what is printed of a step
-abbrev pub printed_lines : ℕ → Option ℕ → BusRecord → Option ReportFields → List ℕ
-printed_lines step sent entry report =
-    sent_lines step sent ++ reset_lines step entry.reset ++ report_lines report
+-- what the last step of a play sent, broke and reported are its lines
+abbrev pub last_lines : Start → List (List Event) → ℕ → List ℕ
+last_lines start play step =
+    sent_lines step (last_byte_sent (trace start play))
+    ++ reset_lines step (last_rule (trace start play))
+    ++ report_lines (last_report start play)
 
--- the lines of a step from what is told of it
-step_lines-printed :
-    (start : Start) (events_at : ℕ → List Event) (steps : ℕ) (entry : BusRecord) (sent : Option ℕ)
-    (report : Option ReportFields)
-    → last_record (trace start (play_of events_at (suc steps))) ≡ Some entry
-    → sent ≡ last_byte_sent (trace start (play_of events_at (suc steps)))
-    → report ≡ last_report start (play_of events_at (suc steps))
+step_lines-last :
+    (start : Start) (events_at : ℕ → List Event) (steps : ℕ)
     → step_lines start (length (play_of events_at steps))
     (next_record start (logs_after start (play_of events_at steps)) (events_at steps))
     (logs_after start (events_at steps ∷ play_of events_at steps))
-    ≡ printed_lines steps sent entry report
-step_lines-printed start events_at steps entry sent report last byte told =
+    ≡ last_lines start (play_of events_at (suc steps)) steps
+step_lines-last start events_at steps =
     append_cancel_left (lines_of start (play_of events_at steps)) _ _
     (sym (lines_of-cons start (events_at steps) (play_of events_at steps))
-    ∙ lines_of-printed start events_at steps entry sent report last byte told)
+    ∙ lines_of-last start events_at steps)
 
 round_lines-cons :
     (judge : Judge) (start : Start) (events : List Event) (play : List (List Event))
@@ -61,33 +55,25 @@ round_lines-cons :
 unfolding round_lines
 round_lines-cons judge start events play = refl
 
--- what is put in a step is its lines; the report is asked for twice
-pub round_lines-printed :
-    (judge : Judge) (start : Start) (events_at : ℕ → List Event) (steps : ℕ) (entry : BusRecord)
-    (sent : Option ℕ) (report again : Option ReportFields) (i : ℕ)
-    → last_record (trace start (play_of events_at (suc steps))) ≡ Some entry
-    → sent ≡ last_byte_sent (trace start (play_of events_at (suc steps)))
-    → report ≡ last_report start (play_of events_at (suc steps))
-    → again ≡ last_report start (play_of events_at (suc steps))
+-- one more step adds its lines and what is said of its report
+pub round_lines-last :
+    (judge : Judge) (start : Start) (events_at : ℕ → List Event) (steps i : ℕ)
     → i ≡ length (reports_in start (play_of events_at steps))
     → round_lines judge start (play_of events_at (suc steps))
     ≡ round_lines judge start (play_of events_at steps)
-    ++ (printed_lines steps sent entry report
-    ++ judgement_lines judge i (byte_after start (play_of events_at (suc steps))) again)
-round_lines-printed judge start events_at steps entry sent report again i last byte told same count
-    =
+    ++ (last_lines start (play_of events_at (suc steps)) steps
+    ++ judgement_lines judge i (byte_after start (play_of events_at (suc steps)))
+    (last_report start (play_of events_at (suc steps))))
+round_lines-last judge start events_at steps i count =
     let play : List (List Event) = play_of events_at steps in
-    let bytes : ℕ → ℕ = byte_after start (play_of events_at (suc steps)) in
+    let more : List (List Event) = play_of events_at (suc steps) in
+    let judged : ℕ → List ℕ = λ k.
+    judgement_lines judge k (byte_after start more) (last_report start more) in
     round_lines-cons judge start (events_at steps) play
     ∙ ap (λ (lines : List ℕ). round_lines judge start play
-    ++ (lines ++ judgement_lines judge (length (reports_in start play)) bytes
-    (last_report start (play_of events_at (suc steps)))))
-    (step_lines-printed start events_at steps entry sent report last byte told)
-    ∙ ap (λ (made : Option ReportFields). round_lines judge start play
-    ++ (printed_lines steps sent entry report
-    ++ judgement_lines judge (length (reports_in start play)) bytes made)) (sym same)
-    ∙ ap (λ (k : ℕ). round_lines judge start play
-    ++ (printed_lines steps sent entry report ++ judgement_lines judge k bytes again)) (sym count)
+    ++ (lines ++ judged (length (reports_in start play)))) (step_lines-last start events_at steps)
+    ∙ ap (λ (k : ℕ). round_lines judge start play ++ (last_lines start more steps ++ judged k))
+    (sym count)
 
 -- a report tells the output that stands in memory after its step
 told-where :
@@ -98,9 +84,10 @@ told-where start logs step true = refl
 told-where start logs step false = tt
 
 pub last_report-told :
-    (start : Start) (events : List Event) (play : List (List Event))
-    → TellsOutput (byte_after start (events ∷ play)) (last_report start (events ∷ play))
-last_report-told start events play =
+    (start : Start) (play : List (List Event))
+    → TellsOutput (byte_after start play) (last_report start play)
+last_report-told start [] = tt
+last_report-told start (events ∷ play) =
     told-where start (logs_after start (events ∷ play)) (length play)
     (finishes_call (next_record start (logs_after start play) events))
 
@@ -178,45 +165,6 @@ pub round_text-ended :
 round_text-ended judge start events_at made steps pc exec same here flag =
     rw (here, flag, same) (round_text-lines judge start events_at steps)
 
--- the lines of one more step: those of the play, and then what is said of its report
-pub step-taken :
-    {S : Type 0} (stands : S → List ℕ → Type 0) (old loop mid new : S)
-    (before printed judged text : List ℕ)
-    → text ≡ before ++ (printed ++ judged)
-    → Takes stands old loop before
-    → Takes stands loop mid printed
-    → Takes stands mid new judged
-    → Takes stands old new text
-step-taken stands old loop mid new before printed judged text joins first second third =
-    takes-append stands old loop new before (printed ++ judged) text joins first
-    (takes_both stands loop mid new printed judged second third)
-
-pub printed-begun :
-    {S : Type 0} (stands : S → List ℕ → Type 0) (old loop new : S)
-    (before printed judged rest text : List ℕ)
-    → text ≡ before ++ ((printed ++ judged) ++ rest)
-    → Takes stands old loop before
-    → TakesPrefix stands loop new printed
-    → TakesPrefix stands old new text
-printed-begun stands old loop new before printed judged rest text begins first begun =
-    prefix-append stands old loop new before printed (judged ++ rest) text
-    (begins ∙ ap (λ (l : List ℕ). before ++ l) (append_assoc printed judged rest)) first begun
-
-pub judged-begun :
-    {S : Type 0} (stands : S → List ℕ → Type 0) (old loop mid new : S)
-    (before printed judged rest text : List ℕ)
-    → text ≡ before ++ ((printed ++ judged) ++ rest)
-    → Takes stands old loop before
-    → Takes stands loop mid printed
-    → TakesPrefix stands mid new judged
-    → TakesPrefix stands old new text
-judged-begun stands old loop mid new before printed judged rest text begins first second begun =
-    prefix-append stands old mid new (before ++ printed) judged rest text
-    (begins
-    ∙ ap (λ (l : List ℕ). before ++ l) (append_assoc printed judged rest)
-    ∙ sym (append_assoc before printed (judged ++ rest)))
-    (takes_both stands old loop mid before printed first second) begun
-
 round_has_pair-cons :
     (judge : Judge) (start : Start) (events : List Event) (play : List (List Event))
     → round_has_pair judge start (events ∷ play)
@@ -256,23 +204,20 @@ round_has_pair-more judge start events_at (suc more) fewer steps sum pair =
 -- a pair that one more step shows is one of the whole round
 pub pair-shown :
     (judge : Judge) (start : Start) (events_at : ℕ → List Event) (fewer steps i : ℕ)
-    (report : Option ReportFields)
     → fewer + 1 ≤ steps
-    → report ≡ last_report start (play_of events_at (suc fewer))
     → i ≡ length (reports_in start (play_of events_at fewer))
-    → judgement_has_pair judge i (byte_after start (play_of events_at (suc fewer))) report ≡ true
+    → judgement_has_pair judge i (byte_after start (play_of events_at (suc fewer)))
+    (last_report start (play_of events_at (suc fewer))) ≡ true
     → round_has_pair judge start (play_of events_at steps) ≡ true
-pair-shown judge start events_at fewer steps i report within told count pair =
+pair-shown judge start events_at fewer steps i within count pair =
     let sum : steps ≡ (steps - suc fewer) + suc fewer = omega arith in
     let play : List (List Event) = play_of events_at fewer in
-    let bytes : ℕ → ℕ = byte_after start (play_of events_at (suc fewer)) in
-    let here : judgement_has_pair judge (length (reports_in start play)) bytes
-    (last_report start (play_of events_at (suc fewer))) ≡ true =
-    ap (λ (k : ℕ). judgement_has_pair judge k bytes
-    (last_report start (play_of events_at (suc fewer)))) (sym count)
-    ∙ ap (judgement_has_pair judge i bytes) (sym told) ∙ pair in
+    let here : ℕ → Bool = λ k.
+    judgement_has_pair judge k (byte_after start (play_of events_at (suc fewer)))
+    (last_report start (play_of events_at (suc fewer))) in
+    let count_here : here (length (reports_in start play)) ≡ true =
+    ap here (sym count) ∙ pair in
     round_has_pair-more judge start events_at (steps - suc fewer) (suc fewer) steps sum
     (round_has_pair-cons judge start (events_at fewer) play
-    ∙ or-second (round_has_pair judge start play)
-    (judgement_has_pair judge (length (reports_in start play)) bytes
-    (last_report start (play_of events_at (suc fewer)))) here)
+    ∙ or-second (round_has_pair judge start play) (here (length (reports_in start play)))
+    count_here)

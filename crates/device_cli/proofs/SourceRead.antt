@@ -1,5 +1,5 @@
 -- The reading of a source.
-use Rattle.std.proofs.Common.{◌≡◌, ℕ, List, Result, Ok, Err, refl}
+use Rattle.std.proofs.Common.{◌≡◌, ℕ, List, Ok, Err, refl}
 use Rattle.text_scan.specs.declared.text_fault.TextFault.{TextFault}
 use Rattle.text_scan.specs.declared.text_fault.TextFault.TheVariants.{At, Memory}
 use Rattle.text_scan.specs.Reader as reader

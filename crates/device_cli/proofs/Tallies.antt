@@ -1,5 +1,5 @@
 -- The verdicts on the reports of a play, with one more step.
-use Rattle.std.proofs.Common.{◌≡◌, ◌∙◌, ◌≤◌, ◌+◌, ◌++◌, ◌&&◌, ◌∷◌, [], ℕ, zero, suc, Bool, true, false, List, Option, Some, None, length, refl, ap, sym, arith, length-append}
+use Rattle.std.proofs.Common.{◌≡◌, ◌∙◌, ◌≤◌, ◌+◌, ◌++◌, ◌&&◌, ◌∷◌, [], ℕ, Bool, true, false, List, Option, Some, None, Result, Ok, Err, IfOk, length, refl, ap, sym, arith, length-append}
 use Rattle.std.proofs.Math.Bool.{and_assoc}
 use Rattle.bus_signals.specs.declared.event.Event.{Event}
 use Rattle.bus_signals.specs.Report.{ReportFields}
@@ -7,8 +7,10 @@ use Rattle.device_trace.specs.Start.{Start}
 use Rattle.device_trace.specs.Text.{last_report}
 use Rattle.report_verifier.specs.declared.decision.Decision.{Decision}
 use Rattle.device_cli.specs.declared.judgement.Tally.{Tally}
+use Rattle.device_cli.specs.declared.status.Status.{Status}
 use Rattle.device_cli.specs.Verify.{is_accept, all_accept, verdicts_from}
-use Rattle.device_cli.specs.Judgement.{Judge, verdict_at, tally_after}
+use Rattle.device_cli.specs.Judge.{Judge}
+use Rattle.device_cli.specs.Judgement.{verdict_at, tally_after}
 use Rattle.device_cli.specs.RoundText.{reports_in, with_last, all_are_accepted}
 
 -- the verdicts on the reports of a play
@@ -103,9 +105,16 @@ tally-more judge start events play tally report stands told =
     }
 
 -- a step makes one report at most
-pub verdicts-more :
+verdicts-more :
     (judge : Judge) (tally : Tally) (report : Option ReportFields) (new : Tally)
     → new ≡ tally_after judge tally report
     → new.verdicts ≤ tally.verdicts + 1
 verdicts-more judge tally None new is = rw is (omega arith)
 verdicts-more judge tally (Some report) new is = rw is (omega arith)
+
+pub verdicts-one_more :
+    (judge : Judge) (tally : Tally) (report : Option ReportFields) (result : Result Tally Status)
+    → IfOk result (λ new. new ≡ tally_after judge tally report)
+    → IfOk result (λ new. new.verdicts ≤ tally.verdicts + 1)
+verdicts-one_more judge tally report (Ok new) is = verdicts-more judge tally report new is
+verdicts-one_more judge tally report (Err status) is = tt

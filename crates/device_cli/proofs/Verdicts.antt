@@ -1,5 +1,5 @@
 -- Verdicts that are put one after another.
-use Rattle.std.proofs.Common.{◌≡◌, ◌∙◌, ◌≤◌, ◌+◌, ◌&&◌, ◌++◌, ◌∷◌, [], ℕ, zero, suc, Bool, true, false, List, length, drop, Option, Some, None, add-one, append_assoc, append-nil, refl, sym, ap}
+use Rattle.std.proofs.Common.{◌≡◌, ◌∙◌, ◌≤◌, ◌+◌, ◌&&◌, ◌++◌, ◌∷◌, [], ℕ, zero, suc, Bool, true, false, List, length, drop, Option, Some, None, add-one, append_assoc, refl}
 use Rattle.std.specs.List.{slice_get}
 use Rattle.std.proofs.Math.ListN.{drop_of_length-le}
 use Rattle.bus_signals.specs.Report.{ReportFields}
@@ -10,7 +10,7 @@ use Rattle.report_verifier.specs.Policy.{expected_at}
 use Rattle.report_verifier.specs.Verdict.{verdict}
 use Rattle.device_cli.specs.declared.verify_inputs.VerifyInputs.{VerifyInputs}
 use Rattle.device_cli.specs.VerdictLine.{verdict_line}
-use Rattle.device_cli.specs.Verify.{verdicts_from, verdicts_in, lines_from, all_accept, is_accept, verdict_at}
+use Rattle.device_cli.specs.Verify.{verdicts_from, lines_from, all_accept, is_accept, verdict_at}
 
 -- the verdicts that are still to be put before report i
 abbrev pub verdicts_ahead : VerifyInputs → ℕ → List Decision

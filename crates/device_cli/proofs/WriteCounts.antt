@@ -1,5 +1,5 @@
 -- A call that puts text and may run out of memory: what it put, and what it counted.
-use Rattle.std.proofs.Common.{◌≡◌, ◌∙◌, ◌≤◌, ◌⊎◌, [], ℕ, Bool, true, sym, List, Result, Ok, Err, length, take, inl, inr, refl, arith}
+use Rattle.std.proofs.Common.{◌≡◌, ◌∙◌, ◌≤◌, ◌⊎◌, [], ℕ, Bool, true, sym, List, Result, Ok, Err, inl, inr, refl, arith}
 use Rattle.std.specs.Prelude.{IsErrAnd, IsTrue}
 use Rattle.outside_edge.specs.Count.{Rose}
 use Rattle.outside_edge.specs.Sink.{TakesPrefix, Puts}

@@ -6,7 +6,7 @@ use Rattle.outside_edge.specs.Sink.{Takes, TakesPrefix}
 use Rattle.device_cli.specs.declared.status.Status.{Status}
 use Rattle.device_cli.specs.declared.status.Status.TheVariants.{Done, Rejected, WriteFault, Memory}
 use Rattle.device_cli.specs.Row.{Outcome, Row}
-use Rattle.device_cli.specs.Reading.{Files, AreRead, IsRefusal, IsFailure, ShelfCounts, counts_of, first_refusal}
+use Rattle.device_cli.specs.Reading.{Files, AreRead, IsRefusal, IsFailure, counts_of, first_refusal}
 
 -- the files of a row are without fault, and this holds of their bytes
 abbrev pub HasTexts : Files → Row → (List (List ℕ) → Type 0) → Type 0

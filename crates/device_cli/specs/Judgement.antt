@@ -1,6 +1,6 @@
 -- What a verifier says of a report: its verdict, and after an accept what the report shows of the
 -- device's own memory.
-use Rattle.std.specs.Prelude.{◌≡◌, ◌++◌, ◌+◌, ◌&&◌, ℕ, Bool, true, false, List, [], Option, Some, None, not, if◌then◌else◌}
+use Rattle.std.specs.Prelude.{◌≡◌, ◌++◌, ◌+◌, ◌&&◌, ℕ, Bool, false, List, [], Option, Some, None, not, if◌then◌else◌}
 use Rattle.std.specs.Str.{bytes_eq}
 use Rattle.bus_signals.specs.Report.{ReportFields}
 use Rattle.part_definitions.specs.Hmac.{hmac}
@@ -13,19 +13,13 @@ use Rattle.report_verifier.specs.declared.evidence.Exhibit.TheVariants.{Pair}
 use Rattle.report_verifier.specs.declared.expect.Expect.{Expect}
 use Rattle.report_verifier.specs.Collision.{colliding_pair}
 use Rattle.report_verifier.specs.Comparison.{expected_key, expected_bytes, own_bytes}
-use Rattle.report_verifier.specs.Policy.{PolicyFields, expected_at}
+use Rattle.report_verifier.specs.Policy.{expected_at}
 use Rattle.report_verifier.specs.Verdict.{verdict}
 use Rattle.device_cli.specs.declared.judgement.Tally.{Tally}
 use Rattle.device_cli.specs.declared.judgement.Verifier.{Verifier}
+use Rattle.device_cli.specs.Judge.{Judge}
 use Rattle.device_cli.specs.VerdictLine.{verdict_line}
 use Rattle.device_cli.specs.Verify.{is_accept}
-
--- what reports are judged by
-pub record Judge : Type 0 where
-  pub digest : List ℕ → List ℕ
-  pub key : List ℕ
-  pub image : ℕ → Option ℕ
-  pub policy : PolicyFields
 
 -- what the code's value stands for
 abbrev pub judge_of : (List ℕ → List ℕ) → Verifier → Judge

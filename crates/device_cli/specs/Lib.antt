@@ -1,12 +1,16 @@
+pub mod Acceptance
 pub mod Answer
 pub mod Assembly
 pub mod Command
 pub mod Dump
+pub mod Example
 pub mod FileKinds
 pub mod ImageListing
 pub mod Input
+pub mod Judge
 pub mod Judgement
 pub mod Limit
+pub mod Load
 pub mod Play
 pub mod PlayLaws
 pub mod Reading
@@ -14,5 +18,7 @@ pub mod Round
 pub mod RoundText
 pub mod Row
 pub mod Status
+pub mod TextSummary
 pub mod VerdictLine
 pub mod Verify
+pub mod Work

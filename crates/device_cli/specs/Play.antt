@@ -41,6 +41,7 @@ played_in steps (key ∷ image ∷ script ∷ more) =
       key = key_in key;
       image = (powered_with (key_in key) (bytes_in image)).image;
       play = steps_of steps (script_in script);
+      judge = None;
     })
 played_in steps files = None
 

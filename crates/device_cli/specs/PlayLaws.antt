@@ -9,6 +9,7 @@ use Rattle.device_trace.specs.Trace.{byte_after}
 use Rattle.key_isolation.specs.Agreement.{ReleaseAlike}
 use Rattle.mac_coverage.specs.Coverage.{Gives32Bytes, MacCoversReport}
 use Rattle.sha2.specs.Sha256.{sha256}
+use Rattle.device_cli.specs.Acceptance.{EachAcceptHasGrounds}
 use Rattle.device_cli.specs.Answer.{HasTexts}
 use Rattle.device_cli.specs.Reading.{Files}
 use Rattle.device_cli.specs.Row.{Outcome, Played, Row}
@@ -32,10 +33,15 @@ pub record ObeysLaws (digest : List ℕ → List ℕ) (key : List ℕ) (image : 
   pub whole_runs : EachReport (with_key digest key image) play
       (ExecMeansWholeRun (with_key digest key image))
 
--- a play under SHA-256, which gives 32 bytes of every message
-abbrev pub IsLawful : Played → Type 0
-IsLawful played =
-    Gives32Bytes sha256 × ObeysLaws sha256 played.key played.image played.play
+-- a play under SHA-256
+pub record IsLawful (played : Played) : Type 0 where
+  -- which gives 32 bytes of every message
+  pub gives : Gives32Bytes sha256
+  pub laws : ObeysLaws sha256 played.key played.image played.play
+  -- where its reports are judged: for each accept, either the device's own metadata, code and
+  -- output are the expected ones, or two unequal lists with one digest are shown
+  pub accepts : IfSome played.judge (λ judge.
+      EachAcceptHasGrounds judge (with_key sha256 played.key played.image) played.play)
 
 -- the files of a row are without fault, this holds of what the row makes of them, and the play that
 -- it is made of obeys the laws

@@ -1,5 +1,5 @@
 -- The command `round`: its files, and what is put.
-use Rattle.std.specs.Prelude.{◌≡◌, ℕ, List, [], ◌∷◌, Option, None, option_map}
+use Rattle.std.specs.Prelude.{◌≡◌, ℕ, List, [], ◌∷◌, Option, Some, None, option_map}
 use Rattle.std.specs.Result.{result_ok}
 use Rattle.text_scan.specs.Decimal.{decimal_of}
 use Rattle.bus_signals.specs.declared.event.Event.{Event}
@@ -9,11 +9,11 @@ use Rattle.report_verifier.specs.Policy.{PolicyFields}
 use Rattle.device_cli.specs.declared.round.Round.{Round}
 use Rattle.device_cli.specs.declared.round.RoundInputs.{RoundInputs}
 use Rattle.device_cli.specs.FileKinds.{key_file, image_file, script_file, policy_file, key_in, bytes_in, script_in, policy_in}
-use Rattle.device_cli.specs.Judgement.{Judge}
+use Rattle.device_cli.specs.Judge.{Judge}
 use Rattle.device_cli.specs.Limit.{most_steps}
 use Rattle.device_cli.specs.Play.{ArePlayInputs, start_of, steps_of, plain, played_in}
 use Rattle.device_cli.specs.RoundText.{round_text, round_has_pair, all_are_accepted}
-use Rattle.device_cli.specs.Row.{Outcome, Row}
+use Rattle.device_cli.specs.Row.{Outcome, Played, Row}
 
 -- what is put of a round
 abbrev pub outcome_with : Judge → Start → List (List Event) → Outcome
@@ -35,6 +35,17 @@ round_outcome steps (key ∷ image ∷ script ∷ policy ∷ []) =
     (start_of (key_in key) (bytes_in image)) (steps_of steps (script_in script))
 round_outcome steps files = plain []
 
+-- a play whose reports this judge judges
+abbrev pub judged_by : Judge → Played → Played
+judged_by judge played = record played { judge = Some judge }
+
+-- the play, and who judges its reports
+abbrev pub judged_in : ℕ → List (List ℕ) → Option Played
+judged_in steps (key ∷ image ∷ script ∷ policy ∷ []) =
+    option_map (judged_by (judge_with (key_in key) (bytes_in image) (policy_in policy)))
+    (played_in steps (key ∷ image ∷ script ∷ []))
+judged_in steps files = None
+
 -- `round IMAGE SCRIPT KEY POLICY STEPS`: the key is read first, then the image, the script, the
 -- policy
 abbrev pub round_row : List ℕ → List ℕ → List ℕ → List ℕ → ℕ → Row
@@ -42,7 +53,7 @@ round_row image script key policy steps =
     record {
       files = key_file key ∷ image_file image ∷ script_file script ∷ policy_file policy ∷ [];
       outcome = round_outcome steps;
-      played = played_in steps;
+      played = judged_in steps;
     }
 
 -- the row that the arguments after `round` spell; the number of steps is a decimal in 1..10,000,000

@@ -4,6 +4,7 @@ use Rattle.bus_signals.specs.declared.event.Event.{Event}
 use Rattle.text_scan.specs.declared.fault_at.FaultAt.{FaultAt}
 use Rattle.text_scan.specs.declared.fault_kind.FaultKind.TheVariants.{TooLong}
 use Rattle.device_cli.specs.declared.status.Status.{Status}
+use Rattle.device_cli.specs.Judge.{Judge}
 
 -- a kind of file: its longest length, the first fault of its bytes in its grammar, and the answer
 -- that names a fault
@@ -24,11 +25,13 @@ pub record Outcome : Type 0 where
   pub is_accepted : Bool
   pub has_pair : Bool
 
--- a play of a device: the key and the image that it is powered on with, and the events of its steps
+-- a play of a device: the key and the image that it is powered on with, the events of its steps,
+-- and who judges its reports, if they are judged
 pub record Played : Type 0 where
   pub key : List ℕ
   pub image : ℕ → ℕ
   pub play : List (List Event)
+  pub judge : Option Judge
 
 -- a command: its files in the order in which they are read; what is put, made of their bytes in
 -- that order; and the play that it is put of, if it is one

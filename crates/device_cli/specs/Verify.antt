@@ -10,7 +10,7 @@ use Rattle.report_verifier.specs.Verdict.{verdict}
 use Rattle.device_cli.specs.declared.verify.Verify.{Verify}
 use Rattle.device_cli.specs.declared.verify_inputs.ReportInputs.{ReportInputs}
 use Rattle.device_cli.specs.declared.verify_inputs.VerifyInputs.{VerifyInputs}
-use Rattle.device_cli.specs.Row.{File, Outcome, Row}
+use Rattle.device_cli.specs.Row.{Outcome, Row}
 use Rattle.device_cli.specs.FileKinds.{key_file, image_file, policy_file, reports_file, key_in, bytes_in, policy_in, reports_in}
 use Rattle.device_cli.specs.Play.{plain, AreDeviceInputs}
 use Rattle.device_cli.specs.VerdictLine.{verdict_line}

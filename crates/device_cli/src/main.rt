@@ -10,27 +10,31 @@ mod assembled_image;
 mod assembly;
 mod command;
 mod dump;
+mod example;
 mod image_listing;
 mod input;
 mod judgement;
+mod law;
+mod line_tally;
+mod load;
+mod load_script;
 mod play;
 mod play_inputs;
 mod play_text;
 mod round;
-#[cfg(test)]
-mod round_row;
 mod round_text;
 mod run;
 mod status;
 mod task;
 #[cfg(test)]
 mod tests;
+mod text_summary;
 mod verdict_line;
 mod verdict_text;
 mod verify;
 mod verify_inputs;
-#[cfg(test)]
-mod worked_row;
+mod work;
+mod work_line;
 
 use crate::run::run;
 use crate::status::Status;
@@ -45,6 +49,7 @@ usage: foldgneiss play IMAGE SCRIPT KEY STEPS
        foldgneiss verify IMAGE POLICY KEY REPORTS
        foldgneiss round IMAGE SCRIPT KEY POLICY STEPS
        foldgneiss asm SOURCE
+       foldgneiss work SEED
 
 play    Plays STEPS bus steps (1 to 10000000) of the firmware in IMAGE (Intel
         HEX), with the events of SCRIPT and the device key in KEY (128
@@ -59,6 +64,9 @@ round   Prints what play prints, and after each report its verdict; after an
         `accept` where the device's own memory is not what was expected though
         the MACs agree, `collision HH.. HH..` with two lists of one digest.
 asm     Prints the image of an assembler source as Intel HEX.
+work    Plays a load that is drawn from SEED (0 to 4294967295), 1000000 steps of
+        attestation and disturbance, and prints one line: how many lines of each
+        kind its text has, and the text's SHA-256.
 
   --help     prints this
   --version  prints the version

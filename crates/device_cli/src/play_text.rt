@@ -21,7 +21,7 @@ use play_script::Script;
 use report_text::{print_end, print_report, print_reset, print_sent};
 
 /// Puts the lines of one step.
-pub fn print_step<W: Sink>(
+fn print_step<W: Sink>(
     step: u64,
     sent: Option<u8>,
     reset: Option<Rule>,
@@ -84,7 +84,7 @@ fn print_broken_rule<W: Sink>(step: u64, reset: Option<Rule>, sink: &mut W) -> R
 
 /// Puts the lines of the last step, which has this number.
 #[inline(always)]
-fn print_last_step<D: Digest32, W: Sink>(
+pub fn print_last_step<D: Digest32, W: Sink>(
     step: u64,
     live: &Live<D>,
     sink: &mut W,

@@ -1,15 +1,21 @@
-ghost use Rattle.std.specs.Prelude.{◌≡◌, ◌≤◌, [], ℕ, List, IfOk};
+ghost use Rattle.std.specs.Prelude.{◌≡◌, ◌<◌, ◌≤◌, ◌+◌, ◌++◌, [], ℕ, List, IfOk, IsTrue};
+ghost use Rattle.bus_signals.specs.declared.event.Event.{Event};
+ghost use Rattle.bus_signals.specs.Bounds.{are_valid};
 ghost use Rattle.outside_edge.specs.Sink.{Puts};
-ghost use Rattle.device_trace.specs.Start.{with_key};
-ghost use Rattle.device_trace.specs.Trace.{play_of};
+ghost use Rattle.device_trace.specs.Start.{Start, with_key};
+ghost use Rattle.device_trace.specs.Text.{last_byte_sent, last_report, sent_lines, reset_lines, report_lines};
+ghost use Rattle.device_trace.specs.Trace.{byte_after, play_of, trace};
 ghost use Rattle.play_script.specs.Script.{events_of};
-ghost use Rattle.device_core.specs.Device.{HeldStandsFor, steps_of};
-ghost use Rattle.device_cli.specs.Judgement.{judge_of};
+ghost use Rattle.device_core.specs.Device.{HasStepped, HeldStandsFor, LiveStandsFor, steps_of};
+ghost use Rattle.device_core.specs.Silence.{last_rule};
+ghost use Rattle.mac_coverage.specs.Coverage.{Gives32Bytes, IsDeviceKey, IsOfBytes};
+ghost use Rattle.device_cli.specs.Acceptance.{EachAcceptHasGrounds};
+ghost use Rattle.device_cli.specs.Judgement.{judge_of, judgement_lines, judgement_has_pair, tally_after};
 ghost use Rattle.device_cli.specs.Limit.{most_steps};
 ghost use Rattle.device_cli.specs.RoundText.{round_text, round_has_pair, all_are_accepted, CountsWriteFaults, StopsOnlyAtPair};
 
 use crate::judgement::{Tally, Verifier, judge_last};
-use crate::play_text::print_step;
+use crate::play_text::print_last_step;
 use crate::status::Status;
 use device_core::{Device, Held, Live};
 use hmac_core::Digest32;
@@ -17,6 +23,41 @@ use outside_edge::Sink;
 use play_script::Script;
 use report_text::print_end;
 use std::alloc::Global;
+
+// Puts the lines of the last step, which has this number, and what is said of its report.
+fn print_judged_step<D: Digest32, W: Sink>(
+    alloc: Global,
+    verifier: &Verifier<'_>,
+    step: u64,
+    live: &Live<D>,
+    tally: Tally,
+    sink: &mut W,
+) -> Result<Tally, Status>
+    requires stepped { HasStepped live.now }
+    requires few { tally.verdicts < most_steps }
+    ensures tally { (start : Start) (play : List (List Event))
+        → LiveStandsFor D.has_taken D.digest_of live.now start play
+        → IfOk result (λ new. new
+        ≡ tally_after (judge_of D.digest_of verifier.now) tally (last_report start play)) }
+    ensures one_more { IfOk result (λ new. new.verdicts ≤ tally.verdicts + 1) }
+    ensures puts { (start : Start) (play : List (List Event))
+        → LiveStandsFor D.has_taken D.digest_of live.now start play
+        → Puts W.stands sink.old sink.new
+        ((sent_lines step (last_byte_sent (trace start play))
+        ++ reset_lines step (last_rule (trace start play))
+        ++ report_lines (last_report start play))
+        ++ judgement_lines (judge_of D.digest_of verifier.now) tally.verdicts
+        (byte_after start play) (last_report start play)) result }
+    ensures memory { (start : Start) (play : List (List Event))
+        → LiveStandsFor D.has_taken D.digest_of live.now start play
+        → StopsOnlyAtPair result
+        (judgement_has_pair (judge_of D.digest_of verifier.now) tally.verdicts
+        (byte_after start play) (last_report start play)) }
+    ensures counts { CountsWriteFaults W.faults sink.old sink.new result }
+{
+    print_last_step(step, live, sink)?;
+    judge_last::<D, W>(alloc, verifier, tally, live.report(), live.memory(), sink)
+}
 
 /// Plays a script's first steps on a device at power-on, judges its reports, and puts the text of
 /// that round. It gives whether every report was accepted. Memory is taken for a pair that collides
@@ -46,17 +87,26 @@ pub fn round_on<D: Digest32, W: Sink>(
         → StopsOnlyAtPair result
         (round_has_pair (judge_of D.digest_of verifier.now) (with_key D.digest_of key image)
         (play_of (events_of script.now) steps)) }
+    ensures accepts { (image : ℕ → ℕ)
+        → HeldStandsFor D.has_taken D.digest_of device
+        (with_key D.digest_of verifier.now.key.now image) []
+        → IsDeviceKey verifier.now.key.now
+        → IsOfBytes image
+        → Gives32Bytes D.digest_of
+        → IsTrue (are_valid verifier.now.policy.now.bounds)
+        → EachAcceptHasGrounds (judge_of D.digest_of verifier.now)
+        (with_key D.digest_of verifier.now.key.now image) (play_of (events_of script.now) steps) }
     ensures counts { CountsWriteFaults W.faults sink.old sink.new result }
 {
     let mut live = Live::Held(device);
+    let mut playback = script.playback();
     let mut tally = Tally {
         verdicts: 0,
         all_accept: true,
     };
     for step in 0..steps {
-        live = live.step(script.events_at(step));
-        print_step(step, live.sent(), live.entry().reset, live.report(), sink)?;
-        tally = judge_last::<D, W>(alloc, verifier, tally, live.report(), live.memory(), sink)?;
+        live = live.step(playback.pass(step));
+        tally = print_judged_step::<D, W>(alloc, verifier, step, &live, tally, sink)?;
     }
     print_end(steps, live.next_pc(), live.exec(), sink)?;
     Ok(tally.all_accept)

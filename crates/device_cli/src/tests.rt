@@ -1,6 +1,18 @@
+//! The whole program over files and byte sinks in memory.
+
+mod attested_row;
+mod dump_row;
+mod edge_image;
+mod failing_edge;
+mod listing_row;
+mod play_row;
+mod round_row;
+mod verify_row;
+mod work_row;
+
 use crate::run::run;
 use crate::status::Status;
-use outside_edge::{MemShelf, MemSink, NeverFailShelf, NeverFailSink};
+use outside_edge::{MemShelf, MemSink};
 use std::alloc::{AllocError, Global};
 use std::test::Fail;
 use text_scan::{FaultAt, FaultKind};
@@ -8,11 +20,32 @@ use text_scan::{FaultAt, FaultKind};
 /// Sends the letter A, and then jumps to itself.
 pub const LETTER_A: &[u8] = b":08C00000B24041007600FF3F51\n:02FFFE0000C041\n:00000001FF\n";
 
-const LETTER_A_TEXT: &[u8] = b"tx 4 41\nend 5 pc c006 exec 0\n";
+pub const LETTER_A_TEXT: &[u8] = b"tx 4 41\nend 5 pc c006 exec 0\n";
 
 /// The bytes 00 to 3f.
 pub const KEY: &[u8] = b"000102030405060708090a0b0c0d0e0f101112131415161718191a1b1c1d1e1f\
 202122232425262728292a2b2c2d2e2f303132333435363738393a3b3c3d3e3f\n";
+
+/// The program begins at C000.
+const VECTOR_AND_END: &str = ":02FFFE0000C041\n:00000001FF\n";
+
+/// Receives a challenge, sets the bounds, runs the region that copies the pins, and calls the ROM.
+pub const MEASURED: &str = ":10C000003140002232C23540400292B37200FD2717\n\
+:10C01000D54274000000155335906002F623B240FB\n\
+:10C0200040C06002B24046C06202B24000036402F7\n\
+:10C03000B24000036602B01240C0B01200A0FF3F41\n\
+:08C04000924220000003304190\n";
+
+pub const MEASURED_SCRIPT: &str =
+    "at 0 rx 000102030405060708090a0b0c0d0e0f101112131415161718191a1b1c1d1e1f\nat 0 p1 1234\n";
+
+/// Its report up to the MAC, and the MAC's digits but the last, which is c. The MAC is from another
+/// program (HMAC of Python's library).
+pub const MEASURED_REPORT: &str = "report 557 exec 1 \
+chal 000102030405060708090a0b0c0d0e0f101112131415161718191a1b1c1d1e1f \
+er c040 c046 or 0300 0300 data 3412 mac ";
+
+pub const MEASURED_MAC: &str = "284a196506045ee45937fae57138147665e982308b52f63a952bbf1f9e18063";
 
 /// The limit of an image and of a script.
 const LIMIT: usize = 1_048_576;
@@ -26,8 +59,25 @@ pub fn arguments(alloc: Global, texts: &[&str]) -> Result<Vec<String>, AllocErro
     Ok(arguments)
 }
 
+/// A text of these parts.
+pub fn text_of(alloc: Global, parts: &[&str]) -> Result<Vec<u8>, AllocError> {
+    let mut text = Vec::new(alloc);
+    for part in parts {
+        text.extend_from_slice(part.as_bytes())?;
+    }
+    Ok(text)
+}
+
+/// An image of these records, of the reset vector C000, and of the end record.
+pub fn image_of(alloc: Global, records: &str) -> Result<Vec<u8>, AllocError> {
+    text_of(alloc, &[records, VECTOR_AND_END])
+}
+
 /// Files by their names.
-fn held(alloc: Global, files: &[(&str, &[u8])]) -> Result<Vec<(String, Vec<u8>)>, AllocError> {
+pub fn named_files(
+    alloc: Global,
+    files: &[(&str, &[u8])],
+) -> Result<Vec<(String, Vec<u8>)>, AllocError> {
     let mut all = Vec::new(alloc);
     for (name, bytes) in files {
         all.push((String::from_str(alloc, name)?, bytes.to_vec(alloc)?))?;
@@ -42,20 +92,43 @@ pub fn files(
     script: &[u8],
     key: &[u8],
 ) -> Result<Vec<(String, Vec<u8>)>, AllocError> {
-    held(alloc, &[("i", image), ("s", script), ("k", key)])
+    named_files(alloc, &[("i", image), ("s", script), ("k", key)])
 }
 
-/// A run of these words over these files, and the bytes that it put.
+// A run of these words over these files, and the bytes that it put.
+fn run_over(
+    alloc: Global,
+    arguments: &[String],
+    files: Vec<(String, Vec<u8>)>,
+) -> Result<(Status, Vec<u8>), AllocError> {
+    let mut shelf = MemShelf::new(files, 4096, Vec::new(alloc));
+    let mut sink = MemSink::new(Vec::new(alloc), 100_000, 4096, Vec::new(alloc))?;
+    let status = run(alloc, arguments, &mut shelf, &mut sink);
+    Ok((status, sink.held().to_vec(alloc)?))
+}
+
+/// Likewise, with words and files as constants have them.
 pub fn run_on(
     alloc: Global,
     words: &[&str],
     files: &[(&str, &[u8])],
 ) -> Result<(Status, Vec<u8>), AllocError> {
-    let mut shelf = MemShelf::new(held(alloc, files)?, 4096, Vec::new(alloc));
-    let mut sink = MemSink::new(Vec::new(alloc), 100_000, 4096, Vec::new(alloc))?;
+    let files = named_files(alloc, files)?;
     let arguments = arguments(alloc, words)?;
-    let status = run(alloc, arguments.as_slice(), &mut shelf, &mut sink);
-    Ok((status, sink.held().to_vec(alloc)?))
+    run_over(alloc, arguments.as_slice(), files)
+}
+
+/// A run of `COMMAND i s k STEPS` under the key 00 to 3f, and the bytes that it put.
+pub fn run_under_key(
+    alloc: Global,
+    command: &str,
+    image: &[u8],
+    script: &str,
+    steps: &str,
+) -> Result<(Status, Vec<u8>), AllocError> {
+    let files = files(alloc, image, script.as_bytes(), KEY)?;
+    let arguments = arguments(alloc, &[command, "i", "s", "k", steps])?;
+    run_over(alloc, arguments.as_slice(), files)
 }
 
 /// A run of `play i s k STEPS`, and the bytes that it put.
@@ -154,7 +227,7 @@ fn refuses_arguments_that_are_no_command(rt: HostRuntime) -> Result<(), Fail> {
 }
 
 /// The image with line ends after it, up to a length.
-fn padded(alloc: Global, length: usize) -> Result<Vec<u8>, AllocError> {
+fn image_of_length(alloc: Global, length: usize) -> Result<Vec<u8>, AllocError> {
     let mut image = LETTER_A.to_vec(alloc)?;
     for _ in LETTER_A.len()..length {
         image.push(b'\n')?;
@@ -164,11 +237,11 @@ fn padded(alloc: Global, length: usize) -> Result<Vec<u8>, AllocError> {
 
 #[test]
 fn an_image_has_at_most_its_limit(rt: HostRuntime) -> Result<(), Fail> {
-    let most = padded(rt.alloc(), LIMIT)?;
+    let most = image_of_length(rt.alloc(), LIMIT)?;
     let (status, put) = play(rt.alloc(), most.as_slice(), b"", KEY, "5")?;
     assert_eq!(rt; status, Status::Done);
     assert_eq!(rt; put.as_slice(), LETTER_A_TEXT);
-    let more = padded(rt.alloc(), LIMIT + 1)?;
+    let more = image_of_length(rt.alloc(), LIMIT + 1)?;
     let (status, put) = play(rt.alloc(), more.as_slice(), b"", KEY, "5")?;
     assert_eq!(rt; status, bad_image(0, FaultKind::TooLong));
     assert_eq!(rt; put.len(), 0);
@@ -192,8 +265,10 @@ fn cut_answer(length: usize) -> Status {
 fn a_cut_image_is_refused_at_its_last_line(rt: HostRuntime) -> Result<(), Fail> {
     assert_eq!(rt; LETTER_A.len(), 56);
     for length in 0..57 {
-        let (status, _) = play(rt.alloc(), &LETTER_A[..length], b"", KEY, "5")?;
+        let (status, put) = play(rt.alloc(), &LETTER_A[..length], b"", KEY, "5")?;
         assert_eq!(rt; status, cut_answer(length));
+        let text = if length < 55 { b"" } else { LETTER_A_TEXT };
+        assert_eq!(rt; put.as_slice(), text);
     }
     Ok(())
 }
@@ -210,46 +285,6 @@ fn a_file_that_is_not_held_is_absent(rt: HostRuntime) -> Result<(), Fail> {
         assert_eq!(rt; status, Status::Absent);
         assert_eq!(rt; sink.held().len(), 0);
     }
-    Ok(())
-}
-
-#[test]
-fn a_failing_call_of_the_sink_leaves_a_prefix_of_the_text(rt: HostRuntime) -> Result<(), Fail> {
-    let alloc = rt.alloc();
-    let arguments = arguments(alloc, &["play", "i", "s", "k", "5"])?;
-    for call in 1..31u64 {
-        let mut shelf = MemShelf::new(files(alloc, LETTER_A, b"", KEY)?, 99, Vec::new(alloc));
-        let mut sink = MemSink::new(Vec::new(alloc), 99, 1, [call].to_vec(alloc)?)?;
-        let status = run(alloc, arguments.as_slice(), &mut shelf, &mut sink);
-        let expected = if call < 30 {
-            Status::WriteFault
-        } else {
-            Status::Done
-        };
-        assert_eq!(rt; status, expected);
-        assert_eq!(rt; sink.held(), &LETTER_A_TEXT[..call as usize - 1]);
-    }
-    Ok(())
-}
-
-#[test]
-fn a_failing_call_of_the_shelf_puts_nothing(rt: HostRuntime) -> Result<(), Fail> {
-    let alloc = rt.alloc();
-    let arguments = arguments(alloc, &["play", "i", "s", "k", "5"])?;
-    let mut failed = 0;
-    for call in 1..20u64 {
-        let failing = [call].to_vec(alloc)?;
-        let mut shelf = MemShelf::new(files(alloc, LETTER_A, b"", KEY)?, 50, failing);
-        let mut sink = MemSink::new(Vec::new(alloc), 99, 99, Vec::new(alloc))?;
-        match run(alloc, arguments.as_slice(), &mut shelf, &mut sink) {
-            Status::Done => break,
-            status => assert_eq!(rt; status, Status::ReadFault),
-        }
-        assert_eq!(rt; sink.held().len(), 0);
-        failed = call;
-    }
-    // Three pieces and the end of the key, two and the end of the image, the end of the script.
-    assert_eq!(rt; failed, 8);
     Ok(())
 }
 
@@ -292,20 +327,6 @@ fn a_failing_read_hides_no_fault_of_an_earlier_file(rt: HostRuntime) -> Result<(
             answer_over_failing_shelf(alloc, image, b"", key, call)?,
             status
         );
-    }
-    Ok(())
-}
-
-// The faults can't come: their arm is proved to be out of reach.
-#[test]
-fn over_those_that_never_fail_no_fault_is_answered(rt: HostRuntime) -> Result<(), Fail> {
-    let alloc = rt.alloc();
-    let arguments = arguments(alloc, &["play", "i", "s", "k", "5"])?;
-    let mut shelf = NeverFailShelf::new(files(alloc, LETTER_A, b"", KEY)?, 7);
-    let mut sink = NeverFailSink::new();
-    match run(alloc, arguments.as_slice(), &mut shelf, &mut sink) {
-        Status::ReadFault | Status::WriteFault => unreachable!(),
-        status => assert_eq!(rt; status, Status::Done),
     }
     Ok(())
 }

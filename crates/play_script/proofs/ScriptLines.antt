@@ -57,7 +57,8 @@ fault_is_first (At fault) all done greatest line lines whole h read =
 fault_is_first (Memory error) all done greatest line lines whole h read = tt
 
 -- the steps of an entry are its step
-within_more : (done : List TimedEvent) (greatest : ℕ) (entry : ℕ × List Event) → greatest ≤ entry.0
+pub within_more : (done : List TimedEvent) (greatest : ℕ) (entry : ℕ × List Event)
+    → greatest ≤ entry.0
     → All (λ earlier. earlier.0 ≤ greatest) done
     → All (λ earlier. earlier.0 ≤ entry.0) (done ++ timed_events entry)
 within_more done greatest entry order within =

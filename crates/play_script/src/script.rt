@@ -32,7 +32,8 @@ impl Model for Script {
 impl Script {
     ghost use Rattle.play_script.specs.Playback.{events_left};
 
-    pub(crate) fn new(alloc: Global) -> Script
+    /// Without events.
+    pub fn new(alloc: Global) -> Script
         ensures { result ≡ [] }
     {
         Script {
@@ -42,7 +43,7 @@ impl Script {
     }
 
     /// Puts an event after the others. Nothing changes where memory is short.
-    pub(crate) fn add(&mut self, step: u64, event: Event) -> Result<(), AllocError>
+    pub fn add(&mut self, step: u64, event: Event) -> Result<(), AllocError>
         requires { All (λ earlier. earlier.0 ≤ step) self.old }
         ensures ok { OnOk result (self.new ≡ self.old ++ (step, event) ∷ []) }
         ensures err { OnErr result (self.new ≡ self.old) }
@@ -66,7 +67,8 @@ impl Script {
         }
     }
 
-    fn add_arrivals(&mut self, step: u64, bytes: &[u8]) -> Result<(), AllocError>
+    /// Puts the arrival of each of these bytes after the other events.
+    pub fn add_arrivals(&mut self, step: u64, bytes: &[u8]) -> Result<(), AllocError>
         requires { All (λ earlier. earlier.0 ≤ step) self.old }
         ensures { OnOk result (self.new ≡ self.old ++ timed_events (step, map Rx bytes.now)) }
     {

@@ -5,7 +5,8 @@ use Rattle.report_verifier.specs.declared.expect.Expect.{Expect}
 use Rattle.report_verifier.specs.Policy.{expected_at}
 use Rattle.report_verifier.specs.Verdict.{verdict}
 use Rattle.outside_edge.proofs.SinkLemmas.{puts-failed}
-use Rattle.device_cli.specs.Judgement.{Judge, judge_of, verdict_at}
+use Rattle.device_cli.specs.Judge.{Judge}
+use Rattle.device_cli.specs.Judgement.{judge_of, verdict_at}
 use Rattle.device_cli.proofs.Judged.{evidence-fits, verdict-begun, evidence-begun, evidence-put, pair-of_report}
 use Rattle.device_cli.proofs.WriteCounts.{stops-later}
 use Rattle.device_cli.proofs.judgement.judge.Goals as goal

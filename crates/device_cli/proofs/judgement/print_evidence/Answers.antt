@@ -3,7 +3,8 @@ use Rattle.std.proofs.Math.Path.{subst}
 use Rattle.bus_signals.specs.Report.{fields_of}
 use Rattle.part_definitions.specs.Memory.{byte_at}
 use Rattle.outside_edge.specs.Sink.{Puts}
-use Rattle.device_cli.specs.Judgement.{Judge, judge_of}
+use Rattle.device_cli.specs.Judge.{Judge}
+use Rattle.device_cli.specs.Judgement.{judge_of}
 use Rattle.device_cli.specs.RoundText.{StopsOnlyAtPair}
 use Rattle.device_cli.specs.Verify.{is_accept}
 use Rattle.device_cli.proofs.Judged.{evidence-of, pair-of, fits-of}

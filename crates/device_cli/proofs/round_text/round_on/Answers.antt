@@ -1,18 +1,17 @@
-use Rattle.std.proofs.Common.{◌≡◌, ◌∙◌, ◌≤◌, ◌+◌, ◌∷◌, [], ℕ, suc, List, refl, arith, add-one, append-nil}
-use Rattle.std.specs.Prelude.{option_map}
-use Rattle.bus_signals.specs.Report.{fields_of}
-use Rattle.device_trace.specs.Logs.{exec_of}
+use Rattle.std.proofs.Common.{◌≡◌, ◌∙◌, [], ℕ, List, refl, arith, add-one, append-nil}
 use Rattle.device_trace.specs.Start.{Start, with_key}
 use Rattle.printed_lines.specs.Lines.{end_line}
-use Rattle.device_trace.specs.Trace.{play_of, logs_after, byte_after}
+use Rattle.device_trace.specs.Trace.{play_of}
 use Rattle.play_script.specs.Script.{events_of}
 use Rattle.device_core.specs.Device.{HeldStandsFor}
 use Rattle.outside_edge.proofs.SinkLemmas.{puts-failed}
-use Rattle.device_cli.specs.Judgement.{Judge, judge_of, judgement_lines}
+use Rattle.device_cli.specs.Judge.{Judge}
+use Rattle.device_cli.specs.Judgement.{judge_of}
 use Rattle.device_cli.specs.RoundText.{round_lines, round_text}
 use Rattle.device_cli.proofs.PutsLemmas.{prefix-append, takes-append, takes-nothing}
-use Rattle.device_cli.proofs.RoundLines.{printed_lines, round_lines-printed, round_text-begins, round_text-ended, last_report-told, step-taken, printed-begun, judged-begun, pair-shown}
-use Rattle.device_cli.proofs.Tallies.{tally-none, tally-more, verdicts-more}
+use Rattle.device_cli.proofs.Grounds.{each_accept-has_grounds}
+use Rattle.device_cli.proofs.RoundLines.{round_lines-last, round_text-begins, round_text-ended, pair-shown}
+use Rattle.device_cli.proofs.Tallies.{tally-none, tally-more}
 use Rattle.device_cli.proofs.WriteCounts.{counts-write, counts-passed, stops-later, stops-never}
 use Rattle.device_cli.proofs.round_text.round_on.Goals as goal
 
@@ -26,6 +25,7 @@ loop-step-init g c = (
   λ key image held. takes-nothing g.W.Sink.stands c.args.sink.now,
   λ key image held. tally-none (judge_of g.D.Digest32.digest_of c.args.verifier.now)
       (with_key g.D.Digest32.digest_of key image),
+  λ later from. c.playback-playback.ensures later,
 )
 
 pub loop-step-preserved : goal.loop-step-preserved
@@ -35,66 +35,34 @@ loop-step-preserved g c =
     let judge : Judge = judge_of digest c.args.verifier.now in
     let events = events_of c.args.script.now in
     let step = c.loop-step.step in
+    let passed = c.pass.ensures.events ∙ c.loop-step.invariant.6 step (omega arith) in
     let stands = λ (key : List ℕ) (image : ℕ → ℕ)
     (held : HeldStandsFor taken digest c.args.device (with_key digest key image) []).
-    rw c.events_at.ensures
+    rw passed
     at (c.step-live.ensures.stands key image (play_of events step)
     (c.loop-step.invariant.3 key image held)) in
-    let more : c.in_ok-tally.tally.verdicts ≤ c.loop-step.tally.verdicts + 1 =
-    verdicts-more judge c.loop-step.tally _ c.in_ok-tally.tally c.in_ok-tally.ensures.tally in
     rw add-one (
       rw (c.loop-step.invariant.0, add-one) at c.step-live.ensures.steps,
-      omega (arith, more, c.loop-step.invariant.1),
-      c.in_ok-tally.ensures.counts.quiet ∙ c.in_ok-print_step.ensures.counts.quiet
-          ∙ c.loop-step.invariant.2,
+      omega (arith, c.in_ok-tally.ensures.one_more, c.loop-step.invariant.1),
+      c.in_ok-tally.ensures.counts.quiet ∙ c.loop-step.invariant.2,
       stands,
       λ key image held.
           let start : Start = with_key digest key image in
-          let live = stands key image held in
-          let tallied = c.loop-step.invariant.5 key image held in
-          let logs = logs_after start (events step ∷ play_of events step) in
-          step-taken g.W.Sink.stands c.args.sink.now c.loop-step.sink c.print_step.new.sink
-          c.judge_last.new.sink (round_lines judge start (play_of events step)) _ _ _
-          (round_lines-printed judge start events step c.entry.result c.sent.result _ _
-          c.loop-step.tally.verdicts (c.entry.ensures.last start _ live) (c.sent.ensures start _
-          live)
-          (c.report.ensures.last start _ live) (c.report-in-loop-step.ensures.last start _ live)
-          tallied.verdicts)
-          (c.loop-step.invariant.4 key image held) c.in_ok-print_step.ensures.puts.all
-          (c.in_ok-tally.ensures.puts start.power (exec_of logs) logs.memory
-          (c.memory.ensures start _ live)
-          (rw (c.report-in-loop-step.ensures.last start _ live)
-          (last_report-told start (events step) (play_of events step)))).all,
+          takes-append g.W.Sink.stands c.args.sink.now c.loop-step.sink
+          c.print_judged_step.new.sink (round_lines judge start (play_of events step)) _ _
+          (round_lines-last judge start events step c.loop-step.tally.verdicts
+          (c.loop-step.invariant.5 key image held).verdicts)
+          (c.loop-step.invariant.4 key image held)
+          (c.in_ok-tally.ensures.puts start _ (stands key image held)).all,
       λ key image held.
           let start : Start = with_key digest key image in
-          rw c.in_ok-tally.ensures.tally
+          rw (c.in_ok-tally.ensures.tally start _ (stands key image held))
           (tally-more judge start (events step) (play_of events step) c.loop-step.tally _
-          (c.loop-step.invariant.5 key image held)
-          (c.report-in-loop-step.ensures.last start _ (stands key image held))),
+          (c.loop-step.invariant.5 key image held) refl),
+      λ later from.
+          c.pass.ensures.left later (omega arith)
+          ∙ c.loop-step.invariant.6 later (omega arith),
     )
-
-pub returns-in_err-print_step-clause-puts : goal.returns-in_err-print_step-clause-puts
-returns-in_err-print_step-clause-puts g c = λ key image held.
-    let digest = g.D.Digest32.digest_of in
-    let judge : Judge = judge_of digest c.args.verifier.now in
-    let start : Start = with_key digest key image in
-    let events = events_of c.args.script.now in
-    let step = c.loop-step.step in
-    let live = rw c.events_at.ensures
-    at (c.step-live.ensures.stands key image (play_of events step)
-    (c.loop-step.invariant.3 key image held)) in
-    let tallied = c.loop-step.invariant.5 key image held in
-    let begins = round_text-begins judge start events step c.args.steps _ (omega arith)
-    (round_lines-printed judge start events step c.entry.result c.sent.result _ _
-    c.loop-step.tally.verdicts (c.entry.ensures.last start _ live) (c.sent.ensures start _ live)
-    (c.report.ensures.last start _ live) refl
-    tallied.verdicts) in
-    puts-failed g.W.Sink.stands c.args.sink.now c.print_step.new.sink
-    (round_text judge start (play_of events c.args.steps))
-    c.from_residual.result c.from_residual.ensures.0
-    (printed-begun g.W.Sink.stands c.args.sink.now c.loop-step.sink c.print_step.new.sink
-    (round_lines judge start (play_of events step)) _ _ begins.0 _ begins.1
-    (c.loop-step.invariant.4 key image held) c.in_err-print_step.ensures.puts.prefix)
 
 pub returns-in_err-tally-clause-puts : goal.returns-in_err-tally-clause-puts
 returns-in_err-tally-clause-puts g c = λ key image held.
@@ -103,26 +71,20 @@ returns-in_err-tally-clause-puts g c = λ key image held.
     let start : Start = with_key digest key image in
     let events = events_of c.args.script.now in
     let step = c.loop-step.step in
-    let live = rw c.events_at.ensures
+    let passed = c.pass.ensures.events ∙ c.loop-step.invariant.6 step (omega arith) in
+    let live = rw passed
     at (c.step-live.ensures.stands key image (play_of events step)
     (c.loop-step.invariant.3 key image held)) in
-    let tallied = c.loop-step.invariant.5 key image held in
-    let logs = logs_after start (events step ∷ play_of events step) in
     let begins = round_text-begins judge start events step c.args.steps _ (omega arith)
-    (round_lines-printed judge start events step c.entry.result c.sent.result _ _
-    c.loop-step.tally.verdicts (c.entry.ensures.last start _ live) (c.sent.ensures start _ live)
-    (c.report.ensures.last start _ live) (c.report-in-loop-step.ensures.last start _ live)
-    tallied.verdicts) in
-    puts-failed g.W.Sink.stands c.args.sink.now c.judge_last.new.sink
+    (round_lines-last judge start events step c.loop-step.tally.verdicts
+    (c.loop-step.invariant.5 key image held).verdicts) in
+    puts-failed g.W.Sink.stands c.args.sink.now c.print_judged_step.new.sink
     (round_text judge start (play_of events c.args.steps))
-    c.from_residual-in_err-tally.result c.from_residual-in_err-tally.ensures.0
-    (judged-begun g.W.Sink.stands c.args.sink.now c.loop-step.sink c.print_step.new.sink
-    c.judge_last.new.sink (round_lines judge start (play_of events step)) _ _ begins.0 _ begins.1
-    (c.loop-step.invariant.4 key image held) c.in_ok-print_step.ensures.puts.all
-    (c.in_err-tally.ensures.puts start.power (exec_of logs) logs.memory
-    (c.memory.ensures start _ live)
-    (rw (c.report-in-loop-step.ensures.last start _ live)
-    (last_report-told start (events step) (play_of events step)))).prefix)
+    c.from_residual.result c.from_residual.ensures.0
+    (prefix-append g.W.Sink.stands c.args.sink.now c.loop-step.sink c.print_judged_step.new.sink
+    (round_lines judge start (play_of events step)) _ begins.0 _ begins.1
+    (c.loop-step.invariant.4 key image held)
+    (c.in_err-tally.ensures.puts start _ live).prefix)
 
 pub returns-in_err-print_end-clause-puts : goal.returns-in_err-print_end-clause-puts
 returns-in_err-print_end-clause-puts g c = λ key image held.
@@ -168,20 +130,6 @@ returns-clause-verdicts g c = λ key image held.
     let made : c.loop-step.step ≡ c.args.steps = omega arith in
     rw (← made) (c.loop-step.invariant.5 key image held).accepted
 
-pub returns-in_err-print_step-clause-counts : goal.returns-in_err-print_step-clause-counts
-returns-in_err-print_step-clause-counts g c =
-    counts-write g.W.Sink.faults c.args.sink.now c.loop-step.sink c.print_step.new.sink
-    c.from_residual.result c.from_residual.ensures.1 c.loop-step.invariant.2
-    c.in_err-print_step.ensures.counts.failed c.in_err-print_step.ensures.counts.counted
-
-pub returns-in_err-tally-clause-counts : goal.returns-in_err-tally-clause-counts
-returns-in_err-tally-clause-counts g c =
-    counts-passed g.W.Sink.faults c.args.sink.now c.print_step.new.sink c.judge_last.new.sink
-    c.in_err-tally.field-0.0 _ c.from_residual-in_err-tally.result
-    c.from_residual-in_err-tally.ensures.1 refl
-    (c.in_ok-print_step.ensures.counts.quiet ∙ c.loop-step.invariant.2)
-    c.in_err-tally.ensures.counts
-
 pub returns-in_err-print_end-clause-counts : goal.returns-in_err-print_end-clause-counts
 returns-in_err-print_end-clause-counts g c =
     counts-write g.W.Sink.faults c.args.sink.now c.loop-step.sink c.print_end.new.sink
@@ -189,32 +137,43 @@ returns-in_err-print_end-clause-counts g c =
     c.loop-step.invariant.2
     c.in_err-print_end.ensures.counts.failed c.in_err-print_end.ensures.counts.counted
 
-pub returns-in_err-tally-clause-memory : goal.returns-in_err-tally-clause-memory
-returns-in_err-tally-clause-memory g c = λ key image held.
-    let digest = g.D.Digest32.digest_of in
-    let judge : Judge = judge_of digest c.args.verifier.now in
-    let start : Start = with_key digest key image in
-    let events = events_of c.args.script.now in
-    let step = c.loop-step.step in
-    let live = rw c.events_at.ensures
-    at (c.step-live.ensures.stands key image (play_of events step)
-    (c.loop-step.invariant.3 key image held)) in
-    let tallied = c.loop-step.invariant.5 key image held in
-    let logs = logs_after start (events step ∷ play_of events step) in
-    stops-later c.in_err-tally.field-0.0 c.from_residual-in_err-tally.result _ _
-    c.from_residual-in_err-tally.ensures.1
-    (c.in_err-tally.ensures.memory start.power (exec_of logs) logs.memory
-    (c.memory.ensures start _ live)
-    (rw (c.report-in-loop-step.ensures.last start _ live)
-    (last_report-told start (events step) (play_of events step))))
-    (pair-shown judge start events step c.args.steps c.loop-step.tally.verdicts _ (omega arith)
-    (c.report-in-loop-step.ensures.last start _ live) tallied.verdicts)
-
-pub returns-in_err-print_step-clause-memory : goal.returns-in_err-print_step-clause-memory
-returns-in_err-print_step-clause-memory g c = λ key image held.
-    stops-never c.from_residual.result _ c.from_residual.ensures.1
-
 pub returns-in_err-print_end-clause-memory : goal.returns-in_err-print_end-clause-memory
 returns-in_err-print_end-clause-memory g c = λ key image held.
     stops-never c.from_residual-in_err-print_end.result _
     c.from_residual-in_err-print_end.ensures.1
+
+pub returns-in_err-tally-clause-accepts : goal.returns-in_err-tally-clause-accepts
+returns-in_err-tally-clause-accepts g c = λ image held device_key bytes gives valid.
+    each_accept-has_grounds (judge_of g.D.Digest32.digest_of c.args.verifier.now) image
+    (play_of (events_of c.args.script.now) c.args.steps) device_key bytes gives valid
+
+pub returns-in_err-print_end-clause-accepts : goal.returns-in_err-print_end-clause-accepts
+returns-in_err-print_end-clause-accepts g c = λ image held device_key bytes gives valid.
+    each_accept-has_grounds (judge_of g.D.Digest32.digest_of c.args.verifier.now) image
+    (play_of (events_of c.args.script.now) c.args.steps) device_key bytes gives valid
+
+pub returns-clause-accepts : goal.returns-clause-accepts
+returns-clause-accepts g c = λ image held device_key bytes gives valid.
+    each_accept-has_grounds (judge_of g.D.Digest32.digest_of c.args.verifier.now) image
+    (play_of (events_of c.args.script.now) c.args.steps) device_key bytes gives valid
+
+pub returns-in_err-tally-clause-counts : goal.returns-in_err-tally-clause-counts
+returns-in_err-tally-clause-counts g c =
+    counts-passed g.W.Sink.faults c.args.sink.now c.loop-step.sink c.print_judged_step.new.sink
+    c.in_err-tally.field-0.0 _ c.from_residual.result c.from_residual.ensures.1 refl
+    c.loop-step.invariant.2 c.in_err-tally.ensures.counts
+
+pub returns-in_err-tally-clause-memory : goal.returns-in_err-tally-clause-memory
+returns-in_err-tally-clause-memory g c = λ key image held.
+    let digest = g.D.Digest32.digest_of in
+    let start : Start = with_key digest key image in
+    let events = events_of c.args.script.now in
+    let step = c.loop-step.step in
+    let passed = c.pass.ensures.events ∙ c.loop-step.invariant.6 step (omega arith) in
+    let live = rw passed
+    at (c.step-live.ensures.stands key image (play_of events step)
+    (c.loop-step.invariant.3 key image held)) in
+    stops-later c.in_err-tally.field-0.0 c.from_residual.result _ _ c.from_residual.ensures.1
+    (c.in_err-tally.ensures.memory start _ live)
+    (pair-shown (judge_of digest c.args.verifier.now) start events step c.args.steps
+    c.loop-step.tally.verdicts (omega arith) (c.loop-step.invariant.5 key image held).verdicts)

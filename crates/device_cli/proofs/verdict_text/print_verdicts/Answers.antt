@@ -1,4 +1,4 @@
-use Rattle.std.proofs.Common.{◌≡◌, ◌∙◌, ◌+◌, ◌++◌, [], refl, sym, arith, append-nil, append_assoc}
+use Rattle.std.proofs.Common.{◌∙◌, ◌+◌, ◌++◌, [], refl, sym, arith, append-nil}
 use Rattle.std.proofs.lemmas.Result.{err_from_is_err_and}
 use Rattle.outside_edge.proofs.SinkLemmas.{takes_both, prefix_after, prefix_of_more}
 use Rattle.device_cli.specs.VerdictLine.{verdict_line}

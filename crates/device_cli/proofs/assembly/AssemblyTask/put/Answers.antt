@@ -1,4 +1,4 @@
-use Rattle.std.proofs.Common.{◌≡◌, ap}
+use Rattle.std.proofs.Common.{ap}
 use Rattle.mem_map.specs.Image.{byte_in}
 use Rattle.hex_loader.specs.HexText.{hex_text}
 use Rattle.device_cli.specs.Row.{Outcome}

@@ -1,10 +1,9 @@
-use Rattle.std.proofs.Common.{◌≡◌, ◌++◌, ap}
+use Rattle.std.proofs.Common.{ap}
 use Rattle.mem_map.specs.Image.{byte_in, powered_on}
 use Rattle.outside_edge.proofs.SinkLemmas.{takes_both, prefix_after, prefix_of_more}
 use Rattle.hex_loader.specs.HexText.{hex_text}
 use Rattle.device_trace.specs.Logs.{exec_of}
 use Rattle.device_trace.specs.Trace.{logs_after}
-use Rattle.sha2.specs.Sha256.{sha256}
 use Rattle.device_trace.specs.Text.{play_text}
 use Rattle.device_cli.specs.Dump.{dump_text, memory_after}
 use Rattle.device_cli.specs.Row.{Outcome}

@@ -1,6 +1,5 @@
-use Rattle.std.proofs.Common.{◌≡◌, ◌++◌, ap}
+use Rattle.std.proofs.Common.{ap}
 use Rattle.mem_map.specs.Image.{byte_in, powered_on}
-use Rattle.sha2.specs.Sha256.{sha256}
 use Rattle.device_trace.specs.Text.{play_text}
 use Rattle.device_cli.specs.Row.{Outcome}
 use Rattle.device_cli.specs.Play.{play_outcome, start_of, steps_of}

@@ -1,4 +1,4 @@
-use Rattle.std.proofs.Common.{◌≡◌, ◌∙◌, ap, inl}
+use Rattle.std.proofs.Common.{◌∙◌, ap, inl}
 use Rattle.std.proofs.Math.Path.{subst}
 use Rattle.mem_map.specs.Image.{byte_in, powered_on}
 use Rattle.device_cli.specs.declared.status.Status.{Status}

@@ -1,4 +1,4 @@
-use Rattle.std.proofs.Common.{◌≡◌, ap}
+use Rattle.std.proofs.Common.{ap}
 use Rattle.device_cli.specs.Answer.{answer_of}
 use Rattle.device_cli.specs.Row.{Outcome}
 use Rattle.device_cli.specs.Verify.{lines_from, verdicts_in, verify_outcome}

@@ -3,8 +3,7 @@
 use crate::judgement::Verifier;
 use crate::round_text::round_on;
 use crate::status::Status;
-use crate::tests::{KEY, run_on};
-use crate::worked_row::{MEASURED, MEASURED_SCRIPT, image, joined};
+use crate::tests::{KEY, MEASURED, MEASURED_SCRIPT, image_of, run_on, text_of};
 use device_core::power_on;
 use hex_loader::read_hex;
 use hmac_core::Constant;
@@ -14,11 +13,11 @@ use report_verifier::read_policy;
 use std::test::Fail;
 use text_scan::{FaultAt, FaultKind, read_key};
 
-const POLICY: &str = "er C040 C046\nor 0300 0300\n\
+pub const POLICY: &str = "er C040 C046\nor 0300 0300\n\
      chal 000102030405060708090a0b0c0d0e0f101112131415161718191a1b1c1d1e1f\n";
 
 /// Its report. The MACs are from another program (HMAC of Python's library).
-const REPORT: &str = "report 557 exec 1 \
+pub const REPORT: &str = "report 557 exec 1 \
      chal 000102030405060708090a0b0c0d0e0f101112131415161718191a1b1c1d1e1f \
      er c040 c046 or 0300 0300 data 3412 \
      mac 284a196506045ee45937fae57138147665e982308b52f63a952bbf1f9e18063c\n";
@@ -35,42 +34,79 @@ const WRITTEN: &str = "report 557 exec 0 \
      er c040 c046 or 0300 0300 data 0000 \
      mac c8b18ee24fbec2830e293a7ef961696f5aa1916a2ba7328b3b63f0d7ce2bebee\n";
 
-const ACCEPTED: &str = "verdict 1 accept\nend 560 pc c03e exec 1\n";
+pub const ACCEPTED: &str = "verdict 1 accept\nend 560 pc c03e exec 1\n";
 
 const DISTURBED: &str = "verdict 1 exec-zero\nend 560 pc c03e exec 0\n";
 
 const OTHER_BOUNDS: &str = "verdict 1 bounds-differ\nend 560 pc c03e exec 1\n";
 
+/// The same firmware with its output in the stack word that the call of the ROM pushes.
+const PUSHED: &str = ":10C000003140002232C23540400292B37200FD2717\n\
+:10C01000D54274000000155335906002F623B240FB\n\
+:10C0200040C06002B24046C06202B240FE216402DB\n\
+:10C03000B240FE216602B01240C0B01200A0FF3F25\n\
+:08C04000924220000003304190\n";
+
+const PUSHED_POLICY: &str = "er C040 C046\nor 21FE 21FE\n\
+     chal 000102030405060708090a0b0c0d0e0f101112131415161718191a1b1c1d1e1f\n";
+
+const PUSHED_REPORT: &str = "report 557 exec 0 \
+     chal 000102030405060708090a0b0c0d0e0f101112131415161718191a1b1c1d1e1f \
+     er c040 c046 or 21fe 21fe data 3ec0 \
+     mac 1acdee3604605b618b9b8cac4d1b74b3b15fbb84f3eb3caedb195cf1954ee1d4\n";
+
+const LONGER_POLICY: &str = "er C040 C046\nor 0300 0302\n\
+     chal 000102030405060708090a0b0c0d0e0f101112131415161718191a1b1c1d1e1f\n";
+
+/// Records, further lines of the script, policy, answer, the line of the report, and the rest.
+const ROWS: [(&str, &str, &str, Status, &str, &str); 6] = [
+    (MEASURED, "", POLICY, Status::Done, REPORT, ACCEPTED),
+    (
+        MEASURED,
+        "at 448 dma 0300 0400 1\n",
+        POLICY,
+        Status::Rejected,
+        READ,
+        DISTURBED,
+    ),
+    (
+        MEASURED,
+        "at 448 dma 0400 0300 1\n",
+        POLICY,
+        Status::Rejected,
+        WRITTEN,
+        DISTURBED,
+    ),
+    (
+        PUSHED,
+        "",
+        PUSHED_POLICY,
+        Status::Rejected,
+        PUSHED_REPORT,
+        DISTURBED,
+    ),
+    (
+        MEASURED,
+        "",
+        LONGER_POLICY,
+        Status::Rejected,
+        REPORT,
+        OTHER_BOUNDS,
+    ),
+    (MEASURED, "", "or 0300 0300\n", NO_ORDER, "", ""),
+];
+
+const NO_ORDER: Status = Status::BadPolicy(FaultAt {
+    line: 1,
+    kind: FaultKind::Order,
+});
+
 #[test]
 fn rounds_print_verdicts(rt: HostRuntime) -> Result<(), Fail> {
     let alloc = rt.alloc();
-    let image = image(alloc, MEASURED)?;
-    let no_order = Status::BadPolicy(FaultAt {
-        line: 1,
-        kind: FaultKind::Order,
-    });
-    let longer = "er C040 C046\nor 0300 0302\n\
-         chal 000102030405060708090a0b0c0d0e0f101112131415161718191a1b1c1d1e1f\n";
-    for (more, policy, status, report, rest) in [
-        ("", POLICY, Status::Done, REPORT, ACCEPTED),
-        (
-            "at 448 dma 0300 0400 1\n",
-            POLICY,
-            Status::Rejected,
-            READ,
-            DISTURBED,
-        ),
-        (
-            "at 448 dma 0400 0300 1\n",
-            POLICY,
-            Status::Rejected,
-            WRITTEN,
-            DISTURBED,
-        ),
-        ("", longer, Status::Rejected, REPORT, OTHER_BOUNDS),
-        ("", "or 0300 0300\n", no_order, "", ""),
-    ] {
-        let script = joined(alloc, &[MEASURED_SCRIPT.as_bytes(), more.as_bytes()])?;
+    for (records, more, policy, status, report, rest) in ROWS {
+        let image = image_of(alloc, records)?;
+        let script = text_of(alloc, &[MEASURED_SCRIPT, more])?;
         let files: [(&str, &[u8]); 4] = [
             ("i", &image),
             ("s", &script),
@@ -79,8 +115,8 @@ fn rounds_print_verdicts(rt: HostRuntime) -> Result<(), Fail> {
         ];
         let (answer, put) = run_on(alloc, &["round", "i", "s", "k", "p", "560"], &files)?;
         assert_eq!(rt; answer, status, "after {more}{policy}");
-        let text = joined(alloc, &[report.as_bytes(), rest.as_bytes()])?;
-        assert_eq!(rt; put.as_slice(), text.as_slice(), "after {more}{policy}");
+        let text = text_of(alloc, &[report, rest])?;
+        assert_eq!(rt; put, text, "after {more}{policy}");
     }
     Ok(())
 }
@@ -107,16 +143,10 @@ fn a_pair_is_printed_where_all_lists_collide(rt: HostRuntime) -> Result<(), Fail
     let Ok(key) = read_key(KEY) else {
         panic!(rt; "the key is in its form");
     };
-    let Ok(image) = read_hex(alloc, &image(alloc, MEASURED)?) else {
+    let Ok(image) = read_hex(alloc, &image_of(alloc, MEASURED)?) else {
         panic!(rt; "the image is in its form");
     };
-    let events = joined(
-        alloc,
-        &[
-            MEASURED_SCRIPT.as_bytes(),
-            b"at 300 dma 0400 c042 1\n".as_slice(),
-        ],
-    )?;
+    let events = text_of(alloc, &[MEASURED_SCRIPT, "at 300 dma 0400 c042 1\n"])?;
     let Ok(script) = read_script(alloc, &events) else {
         panic!(rt; "the script is in its form");
     };
