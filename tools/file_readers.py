@@ -1,0 +1,247 @@
+"""Readers of the program's files for tools/fuzz, written from docs/formats.md and apart from the program's own.
+
+Each gives the value of a file, or raises Fault with the first fault's line and kind.
+"""
+import string
+
+HEX = set(string.hexdigits.encode())
+RULES = b"X0 A1 A2 A3 A4 K1 K2 K3 K4 K5 K6 I1".split()
+VERDICTS = b"accept no-challenge chal-differs bounds-differ exec-zero mac-differs".split()
+COUNTS = {1: 0, 2: 2, 3: 4, 4: 2, 5: 4}
+
+
+class Fault(Exception):
+    def __init__(self, line, kind):
+        super().__init__(f"line {line}: {kind}")
+
+
+def lines_of(text):
+    """The lines with their numbers, without LF or CRLF."""
+    lines = text.split(b"\n")
+    last = lines.pop()
+    lines = [line[:-1] if line.endswith(b"\r") else line for line in lines]
+    return list(enumerate(lines + [last] if last else lines, 1))
+
+
+def limited(text, limit):
+    if len(text) > limit:
+        raise Fault(0, "TooLong")
+    return text
+
+
+def read_key(text):
+    limited(text, 256)
+    for end in (b"\r\n", b"\n"):
+        if text.endswith(end):
+            text = text[:-len(end)]
+            break
+    if len(text) != 128:
+        raise Fault(1, "Missing" if len(text) < 128 else "Extra")
+    if not HEX.issuperset(text):
+        raise Fault(1, "Digit")
+    return bytes.fromhex(text.decode())
+
+
+def is_place(place):
+    return 0x0200 <= place <= 0x21FF or 0xC000 <= place <= 0xFFFF
+
+
+def read_record(number, line):
+    """The type, the address and the bytes of a record."""
+    if line[:1] != b":":
+        raise Fault(number, "NoColon")
+    if not HEX.issuperset(line[1:]):
+        raise Fault(number, "Digit")
+    digits = line[1:].decode()
+    if len(digits) < 10 or len(digits) != 10 + 2 * int(digits[:2], 16):
+        raise Fault(number, "Count")
+    record = bytes.fromhex(digits)
+    if sum(record) % 256:
+        raise Fault(number, "Check")
+    if record[3] > 5:
+        raise Fault(number, "RecordType")
+    if COUNTS.get(record[3], record[0]) != record[0]:
+        raise Fault(number, "Count")
+    return record[3], int.from_bytes(record[1:3], "big"), record[4:-1]
+
+
+def read_image(text):
+    """The bytes by their places."""
+    limited(text, 1048576)
+    image, base, has_end = {}, 0, False
+    lines = lines_of(text)
+    for number, line in lines:
+        if not line:
+            continue
+        if has_end:
+            raise Fault(number, "AfterEnd")
+        kind, address, data = read_record(number, line)
+        if kind == 0:
+            if not all(is_place(base + address + at) for at in range(len(data))):
+                raise Fault(number, "Place")
+            image.update((base + address + at, byte) for at, byte in enumerate(data))
+        elif kind == 1:
+            has_end = True
+        elif kind in (2, 4):
+            base = int.from_bytes(data, "big") * (16 if kind == 2 else 65536)
+    if not has_end:
+        raise Fault(len(lines), "NoEnd")
+    return image
+
+
+class Words:
+    """The words of a line, read from the left."""
+
+    def __init__(self, number, words):
+        self.number, self.words = number, words
+
+    def fault(self, kind):
+        raise Fault(self.number, kind)
+
+    def take(self):
+        return self.words.pop(0) if self.words else self.fault("Missing")
+
+    def keyword(self, *names):
+        word = self.take()
+        return word if word in names else self.fault("Word")
+
+    def decimal(self, most):
+        word = self.take()
+        if not word.isdigit():
+            self.fault("Digit")
+        if len(word) > 10 or int(word) > most:
+            self.fault("Range")
+        return int(word)
+
+    def digits(self, is_right):
+        word = self.take()
+        if not HEX.issuperset(word):
+            self.fault("Digit")
+        return bytes.fromhex(word.decode()) if is_right(len(word)) else self.fault("Count")
+
+    def bytes(self, count):
+        return self.digits(lambda length: length == 2 * count)
+
+    def word(self):
+        return int.from_bytes(self.bytes(2), "big")
+
+    def any_bytes(self):
+        return self.digits(lambda length: length % 2 == 0)
+
+    def end(self):
+        if self.words:
+            self.fault("Extra")
+
+
+def texts_of(text, limit):
+    """The words of each line that has some and is no comment, and the number of lines."""
+    lines = lines_of(limited(text, limit))
+    for number, line in lines:
+        try:
+            line.decode()
+        except UnicodeDecodeError:
+            raise Fault(number, "Utf8") from None
+    split = [(number, [word for word in line.replace(b"\t", b" ").split(b" ") if word]) for number, line in lines]
+    return [Words(number, words) for number, words in split if words and words[0][:1] != b"#"], len(lines)
+
+
+def read_script(text):
+    last = 0
+    for words in texts_of(text, 1048576)[0]:
+        words.keyword(b"at")
+        step = words.decimal(9999999)
+        kind = words.keyword(b"rx", b"p1", b"dma", b"reset")
+        if kind == b"rx":
+            words.digits(lambda length: length >= 2 and length % 2 == 0)
+        elif kind == b"p1":
+            words.word()
+        elif kind == b"dma":
+            words.word(), words.word(), words.decimal(65535)
+        words.end()
+        if step < last:
+            words.fault("Order")
+        last = step
+
+
+def is_valid(bounds):
+    """Even, in order, each region wholly in RAM or in the program, and apart from each other, MAC and metadata."""
+    er_min, er_max, or_min, or_max = bounds
+    if any(bound % 2 for bound in bounds) or er_min > er_max or or_min > or_max:
+        return False
+    regions = [(er_min, er_max + 1), (or_min, or_max + 1)]
+    for first, last in regions:
+        if not (0x0200 <= first and last <= 0x21FF or 0xC000 <= first and last <= 0xFFDF):
+            return False
+        if first <= 0x021F or first <= 0x0269 and last >= 0x0240:
+            return False
+    return regions[0][1] < regions[1][0] or regions[1][1] < regions[0][0]
+
+
+def read_policy(text):
+    """The bounds and the challenges."""
+    lines, count = texts_of(text, 65536)
+    bounds, challenges = [], []
+    for words in lines:
+        kind = words.keyword(b"er", b"or", b"chal")
+        value = words.bytes(32) if kind == b"chal" else (words.word(), words.word())
+        words.end()
+        if len(bounds) != {b"er": 0, b"or": 2, b"chal": 4}[kind]:
+            words.fault("Order")
+        if kind == b"chal":
+            challenges.append(value)
+        else:
+            bounds.extend(value)
+        if kind == b"or" and not is_valid(bounds):
+            words.fault("Bounds")
+    if len(bounds) < 4:
+        raise Fault(count, "Missing")
+    return bounds, challenges
+
+
+def read_report(words):
+    step = words.decimal(4294967295)
+    words.keyword(b"exec")
+    is_set = words.decimal(1)
+    words.keyword(b"chal")
+    chal = words.bytes(32)
+    words.keyword(b"er")
+    bounds = [words.word(), words.word()]
+    words.keyword(b"or")
+    bounds += [words.word(), words.word()]
+    words.keyword(b"data")
+    has_none = words.words[:1] == [b"-"]
+    data = words.words.pop(0) if has_none else words.any_bytes()
+    words.keyword(b"mac")
+    mac = words.bytes(32)
+    words.end()
+    size = bounds[3] + 2 - bounds[2] if is_valid(bounds) else None
+    if size != (None if has_none else len(data)):
+        words.fault("Output")
+    return step, is_set, chal, bounds, data, mac
+
+
+def read_reports(text):
+    """The reports in their order."""
+    reports = []
+    for words in texts_of(text, 1048576)[0]:
+        kind = words.keyword(b"report", b"tx", b"reset", b"verdict", b"collision", b"end")
+        if kind == b"report":
+            reports.append(read_report(words))
+            continue
+        if kind == b"collision":
+            words.any_bytes(), words.any_bytes()
+        else:
+            words.decimal(4294967295)
+        if kind == b"tx":
+            words.bytes(1)
+        elif kind == b"reset":
+            words.keyword(*RULES)
+        elif kind == b"verdict":
+            words.keyword(*VERDICTS)
+        elif kind == b"end":
+            words.keyword(b"pc")
+            words.word()
+            words.keyword(b"exec")
+            words.decimal(1)
+        words.end()
+    return reports
