@@ -16,7 +16,7 @@ use Rattle.asm_bytes.specs.Statement.{size_of, bytes_of, named_instruction, word
 use Rattle.asm_bytes.proofs.OperandWords.{read_next, read_then}
 use Rattle.asm_bytes.proofs.InstructionWords.{HasWords, instruction_has_words}
 
-length-word_bytes : (words : List ℕ) → length (flat_map word_bytes words) ≡ 2 * length words
+pub length-word_bytes : (words : List ℕ) → length (flat_map word_bytes words) ≡ 2 * length words
 length-word_bytes [] = refl
 length-word_bytes (word ∷ words) = omega (arith, length-word_bytes words)
 

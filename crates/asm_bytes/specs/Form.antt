@@ -1,4 +1,5 @@
 -- The instruction of the processor that each mnemonic names (SLAU049).
+use Rattle.std.specs.Prelude.{Bool, true, false}
 use Rattle.word_arith.specs.declared.op2.Op2.TheVariants as op
 use Rattle.msp_decode.specs.declared.one.One.TheVariants as one
 use Rattle.msp_decode.specs.declared.cond.Cond.TheVariants as cond
@@ -65,3 +66,9 @@ form_of Setc = Two op.Bis (Constant gen.One) (Register R2)
 form_of Setn = Two op.Bis (Constant gen.Four) (Register R2)
 form_of Setz = Two op.Bis (Constant gen.Two) (Register R2)
 form_of Tst = Two op.Cmp (Constant gen.Zero) OnlyDest
+
+-- an emulated instruction is one of two operands that are not both written
+abbrev pub is_emulated : Form → Bool
+is_emulated (Two op First Second) = false
+is_emulated (Two op source dest) = true
+is_emulated form = false

@@ -61,8 +61,8 @@ fn on_status(op: Op2, bits: Gen) -> Form
 }
 
 impl Form {
-    ghost use Rattle.std.specs.Prelude.{◌≡◌};
-    ghost use Rattle.asm_bytes.specs.Form.{form_of};
+    ghost use Rattle.std.specs.Prelude.{◌≡◌, IsTrue};
+    ghost use Rattle.asm_bytes.specs.Form.{form_of, is_emulated};
 
     /// The form of a mnemonic. That of an emulated instruction is the processor's that it stands
     /// for (SLAU049, the chapter on the 16-bit RISC CPU).
@@ -97,6 +97,16 @@ impl Form {
             Mnemonic::Jge => Form::Jump(Cond::Ge),
             Mnemonic::Jl => Form::Jump(Cond::L),
             Mnemonic::Jmp => Form::Jump(Cond::Always),
+            _ => Form::of_emulated(mnemonic),
+        }
+    }
+
+    // That of an instruction of the processor that stands under a second name.
+    fn of_emulated(mnemonic: Mnemonic) -> Form
+        requires { IsTrue (is_emulated (form_of mnemonic)) }
+        ensures { result ≡ form_of mnemonic }
+    {
+        match mnemonic {
             Mnemonic::Adc => with_constant(Op2::Addc, Gen::Zero),
             Mnemonic::Br => Form::Two(Op2::Mov, SourceRole::First, DestRole::Register(Reg::R0)),
             Mnemonic::Clr => with_constant(Op2::Mov, Gen::Zero),
@@ -125,6 +135,7 @@ impl Form {
             Mnemonic::Setn => on_status(Op2::Bis, Gen::Four),
             Mnemonic::Setz => on_status(Op2::Bis, Gen::Two),
             Mnemonic::Tst => with_constant(Op2::Cmp, Gen::Zero),
+            _ => unreachable!(),
         }
     }
 }

@@ -3,8 +3,7 @@ use Rattle.std.proofs.Common.{◌≡◌, ◌∙◌, ap, sym, refl, ℕ, List, []
 use Rattle.text_scan.specs.declared.fault_at.FaultAt.{FaultAt}
 use Rattle.text_scan.specs.declared.fault_kind.FaultKind.{FaultKind}
 use Rattle.text_scan.specs.Reader.{◌>>=◌, in_line}
-use Rattle.text_scan.specs.Utf8.{utf8_of}
-use Rattle.text_scan.proofs.TextUtf8.{utf8_of-whole}
+use Rattle.text_scan.proofs.WholeText.{text_read, text_refused, later_read, later_fault}
 use Rattle.asm_text.specs.declared.statement.Statement.{Statement}
 use Rattle.asm_text.specs.Meaning.{said_in, IsSource, IsFirstFault, IsFaultOf}
 use Rattle.asm_text.specs.Operand.{all_of}
@@ -15,17 +14,6 @@ abbrev then_later : List PlacedLine → Statement → Result (List Statement) Fa
 then_later lines statement =
     all_of (map statement_of lines) >>= (λ later. Ok (statement ∷ later))
 
-read_later : (statement : Statement) (later : Result (List Statement) FaultAt)
-    (statements : List Statement) → (later >>= (λ l. Ok (statement ∷ l))) ≡ Ok statements
-    → (l : List Statement) × (later ≡ Ok l) × (statements ≡ statement ∷ l)
-read_later statement (Ok l) statements h = (l, refl, cc h)
-read_later statement (Err fault) statements h = absurd (cc h)
-
-fault_later : (statement : Statement) (later : Result (List Statement) FaultAt) (fault : FaultAt)
-    → (later >>= (λ l. Ok (statement ∷ l))) ≡ Err fault → later ≡ Err fault
-fault_later statement (Ok l) fault h = absurd (cc h)
-fault_later statement (Err other) fault h = h
-
 said_first : (line : PlacedLine) (lines : List PlacedLine) (statements : List Statement)
     (found : Result Statement FaultKind) → said_in line ≡ found
     → ((later : List Statement) → all_of (map statement_of lines) ≡ Ok later
@@ -34,7 +22,8 @@ said_first : (line : PlacedLine) (lines : List PlacedLine) (statements : List St
     → map said_in (line ∷ lines) ≡ map Ok statements
 said_first line lines statements (Err kind) is later h = absurd (cc h)
 said_first line lines statements (Ok statement) is later h =
-    let rest = read_later statement (all_of (map statement_of lines)) statements h in
+    let rest = later_read (λ (later : List Statement). statement ∷ later)
+    (all_of (map statement_of lines)) statements h in
     rw rest.2 (cc (is, later rest.0 rest.1))
 
 all_said : (lines : List PlacedLine) (statements : List Statement)
@@ -61,7 +50,8 @@ fault_first line lines fault (Err kind) is later h =
       kind = is ∙ ap (λ (f : FaultAt). Err f.kind) same;
     }
 fault_first line lines fault (Ok statement) is later h =
-    let rest = later (fault_later statement (all_of (map statement_of lines)) fault h) in record {
+    let rest = later (later_fault (λ (l : List Statement). statement ∷ l)
+    (all_of (map statement_of lines)) fault h) in record {
       before = line ∷ rest.before;
       line = rest.line;
       after = rest.after;
@@ -78,32 +68,18 @@ first_fault [] fault h = absurd (cc h)
 first_fault (line ∷ lines) fault h =
     fault_first line lines fault (said_in line) refl (first_fault lines fault) h
 
-read_text : (text : List ℕ) (statements : List Statement) (sound : Result Unit FaultAt)
-    → utf8_of text ≡ sound
-    → (sound >>= (λ _. all_of (map statement_of (placed_lines text)))) ≡ Ok statements
-    → IsSource text statements
-read_text text statements (Err fault) is h = absurd (cc h)
-read_text text statements (Ok u) is h = record {
-  utf8 = (utf8_of-whole text).0 is;
-  each = all_said (placed_lines text) statements h;
-}
-
 pub source_of-lines : (text : List ℕ) (statements : List Statement)
     → source_of text ≡ Ok statements → IsSource text statements
 unfolding source_of
-source_of-lines text statements h = read_text text statements (utf8_of text) refl h
-
-refused_text : (text : List ℕ) (fault : FaultAt) (sound : Result Unit FaultAt)
-    → utf8_of text ≡ sound
-    → (sound >>= (λ _. all_of (map statement_of (placed_lines text)))) ≡ Err fault
-    → IsFaultOf text fault
-refused_text text fault (Err other) is h =
-    let same : other ≡ fault = cc h in
-    inl (λ whole. cc ((utf8_of-whole text).1 whole, is), is ∙ ap (λ (f : FaultAt). Err f) same)
-refused_text text fault (Ok u) is h =
-    inr ((utf8_of-whole text).0 is, first_fault (placed_lines text) fault h)
+source_of-lines text statements h =
+    let sound = text_read text (all_of (map statement_of (placed_lines text))) statements h in
+    record { utf8 = sound.0; each = all_said (placed_lines text) statements sound.1 }
 
 pub source_of-fault : (text : List ℕ) (fault : FaultAt) → source_of text ≡ Err fault
     → IsFaultOf text fault
 unfolding source_of
-source_of-fault text fault h = refused_text text fault (utf8_of text) refl h
+source_of-fault text fault h =
+    elim (text_refused text (all_of (map statement_of (placed_lines text))) fault h) [
+      | inl broken ↦ inl broken
+      | inr sound ↦ inr (sound.0, first_fault (placed_lines text) fault sound.1)
+    ]

@@ -47,32 +47,24 @@ left-cons place at line below =
     (λ passed. tokens_behind passed (place + at + 1) (drop (suc at) line)))
     (sym (drop-cons line at 0 below)) refl
 
+-- what the first of them give
+left-piece : (place at : ℕ) (line : List ℕ) (piece : Piece) → at < length line
+    → piece_of (place + at) (drop at line) ≡ piece
+    → left_at place at line
+    ≡ with_later piece (λ passed. tokens_behind passed (place + at + 1) (drop (suc at) line))
+left-piece place at line piece below is =
+    left-cons place at line below
+    ∙ ap (λ found. with_later found
+    (λ passed. tokens_behind passed (place + at + 1) (drop (suc at) line))) is
+
 pub left-blank : (place at : ℕ) (line : List ℕ) → at < length line
     → piece_of (place + at) (drop at line) ≡ pieces.Blank
     → left_at place at line ≡ left_at place (at + 1) line
 left-blank place at line below is =
     let there : place + at + 1 ≡ place + (at + 1) = omega arith in
-    left-cons place at line below
-    ∙ ap (λ piece. with_later piece
-    (λ passed. tokens_behind passed (place + at + 1) (drop (suc at) line))) is
+    left-piece place at line pieces.Blank below is
     ∙ ap (λ (n : ℕ). tokens_behind 0 (place + at + 1) (drop n line)) (sym (add-one at))
     ∙ ap (λ (p : ℕ). tokens_behind 0 p (drop (at + 1) line)) there
-
-pub left-comment : (place at : ℕ) (line : List ℕ) → at < length line
-    → piece_of (place + at) (drop at line) ≡ pieces.Comment
-    → left_at place at line ≡ Ok []
-left-comment place at line below is =
-    left-cons place at line below
-    ∙ ap (λ piece. with_later piece
-    (λ passed. tokens_behind passed (place + at + 1) (drop (suc at) line))) is
-
-pub left-stray : (place at : ℕ) (line : List ℕ) → at < length line
-    → piece_of (place + at) (drop at line) ≡ pieces.Stray
-    → left_at place at line ≡ Err Syntax
-left-stray place at line below is =
-    left-cons place at line below
-    ∙ ap (λ piece. with_later piece
-    (λ passed. tokens_behind passed (place + at + 1) (drop (suc at) line))) is
 
 pub left-token : (place at count : ℕ) (line : List ℕ) (token : Token) → at < length line
     → 0 < count
@@ -82,9 +74,7 @@ left-token place at count line token below some is =
     let next : ℕ = place + at + 1 + (count - 1) in
     let there : next ≡ place + (at + count) = omega (arith, some) in
     let index : suc at + (count - 1) ≡ at + count = omega (arith, some) in
-    left-cons place at line below
-    ∙ ap (λ piece. with_later piece
-    (λ passed. tokens_behind passed (place + at + 1) (drop (suc at) line))) is
+    left-piece place at line (pieces.Token token count) below is
     ∙ ap (token_before token)
     (tokens_behind-passed (count - 1) (place + at + 1) (drop (suc at) line)
     ∙ ap (λ (rest : List ℕ). tokens_behind 0 next rest) (drop-drop (count - 1) (suc at) line)
@@ -127,14 +117,14 @@ pub read_to-comment : {whole : Result (List Token) FaultKind} {place at : ℕ} {
     {done : List Token} → ReadTo whole place at line done → at < length line
     → piece_of (place + at) (drop at line) ≡ pieces.Comment → whole ≡ Ok done
 read_to-comment {place = place} {at = at} {line = line} {done = done} to below is =
-    to.so_far ∙ ap (behind done) (left-comment place at line below is)
+    to.so_far ∙ ap (behind done) (left-piece place at line pieces.Comment below is)
     ∙ ap (λ all. Ok all) (append-nil done)
 
 pub read_to-stray : {whole : Result (List Token) FaultKind} {place at : ℕ} {line : List ℕ}
     {done : List Token} → ReadTo whole place at line done → at < length line
     → piece_of (place + at) (drop at line) ≡ pieces.Stray → whole ≡ Err Syntax
 read_to-stray {place = place} {at = at} {line = line} {done = done} to below is =
-    to.so_far ∙ ap (behind done) (left-stray place at line below is)
+    to.so_far ∙ ap (behind done) (left-piece place at line pieces.Stray below is)
 
 left-none : (place at : ℕ) (line : List ℕ) → length line ≤ at → left_at place at line ≡ Ok []
 unfolding tokens_behind
@@ -147,23 +137,23 @@ read_to-end {place = place} {at = at} {line = line} {done = done} to over =
     ∙ ap (λ all. Ok all) (append-nil done)
 
 -- the piece that a call gave
-pub given_piece : (P : AllocError → Type 0) (r : Result Piece AllocError)
-    (s : Result Piece WordFault) (piece : Piece) (place at : ℕ) (line : List ℕ)
+pub given_piece : {piece : Piece} (P : AllocError → Type 0) (r : Result Piece AllocError)
+    (s : Result Piece WordFault) (place at : ℕ) (line : List ℕ)
     → MatchResult r (λ y. s ≡ Ok y) P → is_ok s ≡ is_ok r → s ≡ Ok piece
     → IfOk r (λ p. p ≡ piece_of (place + at) (take (length line - at) (drop at line)))
     → piece_of (place + at) (drop at line) ≡ piece
-given_piece P r s piece place at line cases variant is said =
+given_piece {piece = piece} P r s place at line cases variant is said =
     let read : piece ≡ piece_of (place + at) (take (length line - at) (drop at line)) =
     rw (ok_of_map_err P r s piece cases variant is) at said in
     ap (piece_of (place + at)) (sym (take_rest line at)) ∙ sym read
 
-pub given_within : (P : AllocError → Type 0) (r : Result Piece AllocError)
-    (s : Result Piece WordFault) (token : Token) (count place at : ℕ) (line : List ℕ)
+pub given_within : {token : Token} {count at : ℕ} (P : AllocError → Type 0)
+    (r : Result Piece AllocError) (s : Result Piece WordFault) (line : List ℕ)
     → MatchResult r (λ y. s ≡ Ok y) P → is_ok s ≡ is_ok r → s ≡ Ok (pieces.Token token count)
     → IfOk r (λ p. IsWithin p (length (take (length line - at) (drop at line))))
     → at ≤ length line
     → (0 < count) × (at + count ≤ length line)
-given_within P r s token count place at line cases variant is said within =
+given_within {token = token} {count = count} {at = at} P r s line cases variant is said within =
     let fits : (0 < count) × (count ≤ length (take (length line - at) (drop at line))) =
     rw (ok_of_map_err P r s (pieces.Token token count) cases variant is) at said in
     let long : length (drop at line) ≡ length line - at = length-drop at line in

@@ -1,5 +1,5 @@
 -- What stands in an image are bytes.
-use Rattle.std.proofs.Common.{◌≡◌, ◌<◌, ◌+◌, ◌*◌, ◌/◌, ◌%◌, ◌||◌, ◌==◌, ◌∙◌, ℕ, Bool, true, false, reverse, sum, zero, suc, List, [], ◌∷◌, length, take, drop, slice_index, Option, Some, None, unwrap_or, Result, Ok, Err, refl, ap, sym, arith, if◌then◌else◌, IfSome}
+use Rattle.std.proofs.Common.{◌≡◌, ◌<◌, ◌+◌, ◌*◌, ◌/◌, ◌%◌, ◌||◌, ◌==◌, ℕ, Bool, true, false, reverse, sum, zero, suc, List, [], ◌∷◌, length, take, drop, slice_index, Option, Some, None, unwrap_or, Result, Ok, Err, refl, arith, if◌then◌else◌, IfSome}
 use Rattle.std.specs.Option.{option_or}
 use Rattle.std.specs.Result.{result_unwrap_or}
 use Rattle.std.specs.Str.Lines.{lines}
@@ -8,7 +8,8 @@ use Rattle.text_scan.specs.declared.fault_at.FaultAt.{FaultAt}
 use Rattle.text_scan.specs.declared.fault_kind.FaultKind.{FaultKind}
 use Rattle.text_scan.specs.Hexadecimal.{hex_bytes_of}
 use Rattle.text_scan.proofs.HexBytes.{hex_bytes_of-ok}
-use Rattle.hex_loader.specs.HexImage.{byte_among, byte_placed, byte_after, base_after, hex_byte, hex_fault, image_or_fault, image_of}
+use Rattle.mem_map.specs.PlacedBytes.{byte_among}
+use Rattle.hex_loader.specs.HexImage.{byte_placed, byte_after, base_after, hex_byte, hex_fault, image_or_fault, image_of}
 use Rattle.hex_loader.specs.HexRecord.{Meaning, Places, Ends, SetsBase, Starts, with_count, record_of_type, record_of, record_or_fault, record_in, big_endian}
 
 no_bytes : IsBytes []

@@ -9,7 +9,8 @@ use mathlib.Core.List.{reverse_aux}
 use Rattle.hex.specs.Hex.{decode_pairs, encode_upper, IsBytes}
 use Rattle.part_definitions.specs.Memory.{is_image_place}
 use Rattle.hex_loader.specs.HexRecord.{Places, Ends, record_in}
-use Rattle.hex_loader.specs.HexImage.{base_after, has_ended, byte_after, byte_among, are_image_places, first_fault}
+use Rattle.mem_map.specs.PlacedBytes.{byte_among}
+use Rattle.hex_loader.specs.HexImage.{base_after, has_ended, byte_after, are_image_places, first_fault}
 use Rattle.hex_loader.specs.HexText.{is_record_start, record_bytes, line_of, line_at, lines_below, end_line, hex_text}
 use Rattle.mem_map.specs.ImagePlace.{IsImage}
 use Rattle.hex_loader.specs.ReadBack.{IsReadBack}

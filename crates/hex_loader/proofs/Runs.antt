@@ -1,14 +1,14 @@
 -- Which places the runs of an image cover.
 use Rattle.std.proofs.Common.{◌≡◌, ◌∙◌, ◌≤◌, ◌<◌, ◌+◌, ◌-◌, ◌%◌, ◌⊎◌, ℕ, zero, suc, Bool, true, false, eqb, List, [], ◌∷◌, length, Option, Some, None, refl, ap, arith, inl, inr}
 use Rattle.std.specs.Prelude.{is_none, IsSome, ◌||◌}
-use Rattle.std.proofs.lemmas.Bool.{cases_lt}
+use Rattle.std.proofs.lemmas.Bool.{and_from, cases_lt}
 use Rattle.std.proofs.lemmas.Bool.Decides.{eqb_tells}
 use Rattle.hex.specs.Hex.{IsBytes}
 use Rattle.part_definitions.specs.Memory.{is_image_place}
-use Rattle.hex_loader.specs.HexImage.{byte_among, are_image_places}
+use Rattle.mem_map.specs.PlacedBytes.{byte_among}
+use Rattle.hex_loader.specs.HexImage.{are_image_places}
 use Rattle.hex_loader.specs.HexText.{is_record_start, run_after, run, record_bytes}
 use Rattle.mem_map.specs.ImagePlace.{IsImage}
-use Rattle.hex_loader.proofs.Placing.{and_both}
 
 -- a byte among those of a run is the image's
 pub run-sound : (image : ℕ → Option ℕ) (first most place byte : ℕ)
@@ -151,7 +151,7 @@ run-places image is first (suc most) =
     elim (image first) as (λ o. image first ≡ o
     → are_image_places first (run_after o (run image (first + 1) most)) ≡ true) [
       | None ↦ λ none. refl
-      | Some byte ↦ λ held. and_both (is_image_place first)
+      | Some byte ↦ λ held. and_from (is_image_place first)
           (are_image_places (first + 1) (run image (first + 1) most)) (is first byte held).0
           (run-places image is (first + 1) most)
     ] refl

@@ -1,5 +1,5 @@
 -- The image of an Intel HEX text, or its first fault. Lists of lines have the newest line first.
-use Rattle.std.specs.Prelude.{◌+◌, ◌==◌, ◌&&◌, ◌||◌, ℕ, Bool, true, false, List, [], ◌∷◌, length, reverse, if◌then◌else◌, Option, Some, None, unwrap_or, Result, Ok, Err}
+use Rattle.std.specs.Prelude.{◌+◌, ◌&&◌, ◌||◌, ℕ, Bool, true, false, List, [], ◌∷◌, length, reverse, if◌then◌else◌, Option, Some, None, unwrap_or, Result, Ok, Err}
 use Rattle.std.specs.Option.{option_or}
 use Rattle.std.specs.Str.Lines.{lines}
 use Rattle.text_scan.specs.declared.fault_at.FaultAt.{FaultAt}
@@ -8,6 +8,7 @@ use Rattle.text_scan.specs.declared.fault_kind.FaultKind.TheVariants.{AfterEnd, 
 use Rattle.part_definitions.specs.Memory.{is_image_place}
 use Rattle.mem_map.specs.declared.image.Image.{Image}
 use Rattle.mem_map.specs.Image.{byte_in}
+use Rattle.mem_map.specs.PlacedBytes.{byte_among}
 use Rattle.hex_loader.specs.HexRecord.{Meaning, Places, Ends, SetsBase, record_in}
 
 -- the base that a record sets
@@ -29,12 +30,6 @@ base_after (line ∷ earlier) = unwrap_or (base_of (record_in line)) (base_after
 abbrev pub has_ended : List (List ℕ) → Bool
 has_ended [] = false
 has_ended (line ∷ earlier) = is_end (record_in line) || has_ended earlier
-
--- which of these bytes, from the first place upwards, is at a place
-abbrev pub byte_among : ℕ → List ℕ → ℕ → Option ℕ
-byte_among first [] place = None
-byte_among first (byte ∷ bytes) place =
-    if place == first then Some byte else byte_among (first + 1) bytes place
 
 -- all of these bytes, from the first place upwards, are at places that an image may hold
 abbrev pub are_image_places : ℕ → List ℕ → Bool

@@ -6,7 +6,8 @@ ghost use Rattle.mem_map.specs.Image.{byte_in};
 ghost use Rattle.text_scan.specs.declared.fault_at.FaultAt.{FaultAt};
 ghost use Rattle.hex_loader.specs.HexRecord.{meaning, record_in};
 ghost use Rattle.text_scan.specs.Reader.{Reads};
-ghost use Rattle.hex_loader.specs.HexImage.{image_in, image_of, byte_among, are_image_places, base_after, has_ended, byte_after, line_fault, hex_fault, hex_byte};
+ghost use Rattle.mem_map.specs.PlacedBytes.{byte_among};
+ghost use Rattle.hex_loader.specs.HexImage.{image_in, image_of, are_image_places, base_after, has_ended, byte_after, line_fault, hex_fault, hex_byte};
 
 use crate::hex_record::{HexRecord, MOST_BYTES, record_of_line};
 use mem_map::Image;

@@ -3,9 +3,7 @@ use Rattle.std.proofs.Common.{◌≡◌, ℕ, suc, ◌<◌, ◌+◌, ◌-◌, �
 use Rattle.std.proofs.Math.Nat.{suc-mod, mod-eq_of_lt, mod_self}
 
 suc-mod_within : (n period : ℕ) → n % period + 1 < period → suc n % period ≡ n % period + 1
-suc-mod_within n period within =
-    let below : suc (n % period) < period = omega arith in
-    rw (suc-mod n period) (mod-eq_of_lt below ∙ sym (add-one (n % period)))
+suc-mod_within n period within = grind (arith, suc-mod, mod-eq_of_lt)
 
 suc-mod_over : (n period : ℕ) → n % period + 1 ≡ period → suc n % period ≡ 0
 suc-mod_over n period over =
@@ -15,13 +13,9 @@ suc-mod_over n period over =
 -- a step more stays within the period
 pub mod_within : (steps period : ℕ) → 0 < steps → (steps - 1) % period + 1 < period
     → steps % period ≡ (steps - 1) % period + 1
-mod_within steps period some within =
-    let next : suc (steps - 1) ≡ steps = omega arith in
-    ap (λ m. m % period) (sym next) ∙ suc-mod_within (steps - 1) period within
+mod_within steps period some within = grind (arith, suc-mod_within)
 
 -- a step more ends the period
 pub mod_over : (steps period : ℕ) → 0 < steps → (steps - 1) % period + 1 ≡ period
     → steps % period ≡ 0
-mod_over steps period some over =
-    let next : suc (steps - 1) ≡ steps = omega arith in
-    ap (λ m. m % period) (sym next) ∙ suc-mod_over (steps - 1) period over
+mod_over steps period some over = grind (arith, suc-mod_over)

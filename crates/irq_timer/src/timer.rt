@@ -87,6 +87,7 @@ impl Timer {
     }
 
     // Counts one step.
+    #[tactic(auto, using(crate::proofs::Tick::ticked))]
     fn advance(&mut self)
         ensures { (events : List TimerEvent)
             → TimerStandsFor self.old events

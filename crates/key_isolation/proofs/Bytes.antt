@@ -14,6 +14,10 @@ pub same_if : {A : Type 0} (test : Bool) (x x' y y' : A)
 same_if true x x' y y' left right = left refl
 same_if false x x' y y' left right = right refl
 
+pub zero_either : (test : Bool) → ◌≡◌ {A = ℕ} (if test then 0 else 0) 0
+zero_either true = refl
+zero_either false = refl
+
 -- a write, with 0 in place of a byte of the exclusive stack
 abbrev pub hide_write : MemoryWrite → MemoryWrite
 hide_write write =

@@ -1,5 +1,5 @@
 -- A step of a call that is not refused, with and without the key.
-use Rattle.std.proofs.Common.{◌≡◌, ℕ, ◌+◌, ◌*◌, ◌/◌, ◌<◌, ◌≤◌, Bool, true, false, List, [], ◌∷◌, ◌++◌, length, Some, refl, ap, sym, ◌∙◌, arith}
+use Rattle.std.proofs.Common.{◌≡◌, ℕ, ◌+◌, ◌*◌, ◌/◌, ◌<◌, ◌≤◌, true, false, List, [], ◌∷◌, ◌++◌, length, Some, refl, ap, sym, ◌∙◌, arith}
 use Rattle.std.specs.Prelude.{◌==◌, ◌&&◌, ◌||◌, slice_index, if◌then◌else◌}
 use Rattle.std.proofs.lemmas.Bool.{cond-true, cond-false}
 use Rattle.std.proofs.lemmas.Bool.Decides.{nat_tests}
@@ -14,11 +14,11 @@ use Rattle.device_trace.specs.Blank.{touches_secrets, blank_access, blank_value}
 use Rattle.device_trace.specs.Logs.{Logs, exec_of, logged_byte, with_released_word}
 use Rattle.device_trace.specs.Signals.{value_read}
 use Rattle.device_trace.specs.Start.{Start, given_word}
-use Rattle.key_isolation.proofs.Bytes.{key_byte-hide}
+use Rattle.key_isolation.proofs.Bytes.{key_byte-hide, zero_either}
 use Rattle.key_isolation.proofs.Numbers.{key_word-zero}
 use Rattle.key_isolation.proofs.Hiding.{opened, hide}
 use Rattle.key_isolation.proofs.Reading.{value_read-hide}
-use Rattle.trace_facts.proofs.CallPlaces.{ItemFits, metadata_off, region_off}
+use Rattle.trace_facts.proofs.CallPlaces.{ItemFits, mac_place, metadata_off, region_off}
 
 -- a read of no secret
 pub record ReadsOpenly (start : Start) (released : List ℕ) (logs : Logs)
@@ -87,10 +87,6 @@ read_key start released logs passed i within fewer =
     }
 
 -- a word of the exclusive stack
-cond_zero : (test : Bool) → ◌≡◌ {A = ℕ} (if test then 0 else 0) 0
-cond_zero true = refl
-cond_zero false = refl
-
 write_stack : (start : Start) (released : List ℕ) (logs : Logs) (passed place number : ℕ)
     → 32 ≤ passed
     → touches (Read place Word) stack_region ≡ true
@@ -101,7 +97,7 @@ write_stack start released logs passed place number past stack off_mac =
       access =
           ap (λ (n : ℕ). Some (Write place Word n))
           (cond-true (touches (Read place Word) stack_region) 0 number stack);
-      value = cond_zero (touches_secrets (Read place Word));
+      value = zero_either (touches_secrets (Read place Word));
       hidden = λ fewer. cond-false (lies_in mac_region place) 0 0 off_mac;
       kept = λ past.
           cond-false (lies_in mac_region place) 0 0 off_mac
@@ -119,7 +115,7 @@ write_mac start released logs passed place number given past off same =
       access =
           ap (λ (n : ℕ). Some (Write place Word n))
           (cond-false (touches (Read place Word) stack_region) 0 number off ∙ sym same);
-      value = cond_zero (touches_secrets (Read place Word));
+      value = zero_either (touches_secrets (Read place Word));
       hidden = λ fewer. absurd (omega arith);
       kept = λ past. ap (λ (n : ℕ). if lies_in mac_region place then n else 0) same;
     }
@@ -138,9 +134,6 @@ above_mac place above = grind (arith, nat_tests)
 mac_off_stack : (i : ℕ) → i < 16
     → touches (Read ((0x200 + 2 * i) / 2 * 2) Word) stack_region ≡ false
 mac_off_stack i within = grind (arith, nat_tests)
-
-mac_place : (i : ℕ) → i < 16 → lies_in mac_region ((0x200 + 2 * i) / 2 * 2) ≡ true
-mac_place i within = grind (arith, nat_tests)
 
 -- the word that comes next is the one that is released
 next_given : (old : List ℕ) (number : ℕ) (more : List ℕ)

@@ -1,6 +1,5 @@
 -- What the DMA reads in a step that is not refused: no secret, so the same without the key.
-use Rattle.std.proofs.Common.{◌≡◌, ℕ, Bool, true, false, List, Option, Some, None, IfSome, map, refl, ap, sym, ◌∙◌}
-use Rattle.std.specs.Prelude.{if◌then◌else◌}
+use Rattle.std.proofs.Common.{◌≡◌, ℕ, Bool, false, List, Option, Some, None, IfSome, map, refl, ap, sym, ◌∙◌}
 use Rattle.std.proofs.lemmas.Bool.{cond-false, or_from}
 use Rattle.word_arith.specs.declared.size.Size.TheVariants.{Word}
 use Rattle.bus_signals.specs.Access.{IsFormed}
@@ -12,7 +11,7 @@ use Rattle.device_trace.specs.Blank.{touches_secrets, SameOutside, blank_access,
 use Rattle.device_trace.specs.Logs.{Logs, exec_of}
 use Rattle.device_trace.specs.Start.{Start}
 use Rattle.device_trace.specs.Step.{memory_read}
-use Rattle.key_isolation.proofs.Bytes.{hide_write, keyless, byte_at-hide}
+use Rattle.key_isolation.proofs.Bytes.{hide_write, keyless, byte_at-hide, zero_either}
 use Rattle.key_isolation.proofs.FlagBlank.{exec-blank}
 use Rattle.key_isolation.proofs.Hiding.{hide}
 use Rattle.key_isolation.proofs.Numbers.{number_at-outside}
@@ -23,10 +22,6 @@ pub record SameDma (left right : ℕ → ℕ) (access : Option Access) : Type 0 
   pub same : blank_access access ≡ access
   pub value : blank_value access (memory_read right access) ≡ memory_read left access
   pub kept : blank_value access (memory_read right access) ≡ memory_read right access
-
-zero_either : (test : Bool) → ◌≡◌ {A = ℕ} (if test then 0 else 0) 0
-zero_either true = refl
-zero_either false = refl
 
 reads_same : (left right : ℕ → ℕ) (access : Access)
     → blank_access (Some access) ≡ Some access → touches_secrets access ≡ false

@@ -1,10 +1,8 @@
 -- The logs of a play with the secrets hidden, and what stays of them.
-use Rattle.std.proofs.Common.{◌≡◌, ℕ, Bool, false, List, Option, Some, None, map, refl, ap, sym, ◌∙◌}
+use Rattle.std.proofs.Common.{arith, ◌≡◌, ℕ, Bool, false, List, Option, map, refl, ap, ◌∙◌}
 use Rattle.bus_signals.specs.declared.kind.Kind.{Kind}
-use Rattle.bus_signals.specs.declared.kind.Kind.TheVariants.{Boot, Cpu, Idle, Irq, Rom}
 use Rattle.part_definitions.specs.Attestation.{item_pc}
 use Rattle.part_definitions.specs.CpuRegisters.{allows_interrupts}
-use Rattle.part_definitions.specs.CpuState.{Boundary, Executing, Entering}
 use Rattle.part_definitions.specs.Interrupt.{accepted_vector}
 use Rattle.part_definitions.specs.Memory.{byte_at}
 use Rattle.part_definitions.specs.Serial.{serial_requests}
@@ -41,9 +39,7 @@ hide logs =
 -- readers of the progress
 pub last_registers-hide : (progress : Progress)
     → last_registers (hide_progress progress) ≡ last_registers progress
-last_registers-hide Held = refl
-last_registers-hide (Runs cpu) = refl
-last_registers-hide (InCall regs words) = refl
+last_registers-hide progress = grind arith
 
 pub next_pc_of-hide : (progress : Progress)
     → next_pc_of (hide_progress progress) ≡ next_pc_of progress
@@ -53,50 +49,28 @@ next_pc_of-hide (InCall regs words) = ap item_pc (call_item-hide words)
 
 kind_of-hide : (progress : Progress) (vector : Option ℕ)
     → kind_of (hide_progress progress) vector ≡ kind_of progress vector
-kind_of-hide Held vector = refl
-kind_of-hide (Runs cpu) vector = refl
-kind_of-hide (InCall regs words) vector = refl
+kind_of-hide progress vector = grind arith
 
 pub tells_irq-hide : (progress : Progress) → tells_irq (hide_progress progress) ≡ tells_irq progress
-tells_irq-hide Held = refl
-tells_irq-hide (Runs cpu) = refl
-tells_irq-hide (InCall regs words) = refl
+tells_irq-hide progress = grind arith
 
 pub fetches_opcode-hide : (kind : Kind) (progress : Progress)
     → fetches_opcode kind (hide_progress progress) ≡ fetches_opcode kind progress
-fetches_opcode-hide kind Held = refl
-fetches_opcode-hide kind (Runs cpu) = refl
-fetches_opcode-hide Boot (InCall regs words) = refl
-fetches_opcode-hide Cpu (InCall regs words) = refl
-fetches_opcode-hide Idle (InCall regs words) = refl
-fetches_opcode-hide Irq (InCall regs words) = refl
-fetches_opcode-hide Rom (InCall regs words) = refl
+fetches_opcode-hide kind progress = grind arith
 
 pub accepts_timer-hide : (progress : Progress) (kind : Kind) (vector : Option ℕ)
     → accepts_timer (hide_progress progress) kind vector ≡ accepts_timer progress kind vector
-accepts_timer-hide Held kind vector = refl
-accepts_timer-hide (Runs cpu) kind vector = refl
-accepts_timer-hide (InCall regs words) kind vector = refl
+accepts_timer-hide progress kind vector = grind arith
 
 from_boundary-hide : (regs : List ℕ) (kind : Kind) (vector : Option ℕ)
     → progress_from_boundary regs kind vector
     ≡ hide_progress (progress_from_boundary regs kind vector)
-from_boundary-hide regs Boot vector = refl
-from_boundary-hide regs Cpu vector = refl
-from_boundary-hide regs Idle vector = refl
-from_boundary-hide regs Irq None = refl
-from_boundary-hide regs Irq (Some vector) = refl
-from_boundary-hide regs Rom vector =
-    ap (λ (words : List ℕ). InCall regs words) (sym (hide_first-none 32))
+from_boundary-hide regs kind vector = grind (arith, hide_first-none)
 
 progress_within-hide : (progress : Progress) (kind : Kind) (vector : Option ℕ)
     → progress_within (hide_progress progress) kind vector
     ≡ hide_progress (progress_within progress kind vector)
-progress_within-hide Held kind vector = refl
-progress_within-hide (Runs (Boundary regs)) kind vector = from_boundary-hide regs kind vector
-progress_within-hide (Runs (Executing regs values)) kind vector = refl
-progress_within-hide (Runs (Entering regs chosen values)) kind vector = refl
-progress_within-hide (InCall regs words) kind vector = refl
+progress_within-hide progress kind vector = grind (arith, from_boundary-hide)
 
 -- readers of the logs
 pub vector_of-hide : (logs : Logs) → vector_of (hide logs) ≡ vector_of logs

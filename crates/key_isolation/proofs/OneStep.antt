@@ -20,6 +20,8 @@ use Rattle.device_trace.specs.Logs.{Logs, with_released_word, released_words_aft
 use Rattle.device_trace.specs.Progress.{Progress, Held, Runs, InCall, next_pc_of, running_access, access_of, after_return, call_after, next_progress}
 use Rattle.device_trace.specs.Signals.{value_read}
 use Rattle.device_trace.specs.Start.{Start, given_word}
+use Rattle.key_isolation.proofs.Bytes.{zero_either}
+use Rattle.trace_facts.proofs.Choices.{first_false}
 use Rattle.trace_facts.proofs.Sound.{IsWithin}
 use Rattle.key_isolation.proofs.HiddenWords.{hide_first, call_item-hide, hide_first-hidden, hide_first-kept}
 use Rattle.key_isolation.proofs.Hiding.{opened, hide_progress, hide}
@@ -59,10 +61,6 @@ unwritten : (key stack : Bool) → (key && true) ≡ false → stack ≡ false �
 unwritten true stack off rest = absurd (cc)
 unwritten false stack off rest = rest
 
-zero_either : (test : Bool) → ◌≡◌ {A = ℕ} (if test then 0 else 0) 0
-zero_either true = refl
-zero_either false = refl
-
 reads_same : (start : Start) (released : List ℕ) (logs : Logs) (access : Access)
     → blank_access (Some access) ≡ Some access → touches_secrets access ≡ false
     → SameAccess start released logs (Some access)
@@ -95,11 +93,6 @@ access_same start released logs (Some (Write place size number)) key stack =
     }
 
 -- outside the ROM the rules have less to say
-outside_ROM : (test rom : Bool) → rom ≡ false → (test && not rom) ≡ false → test ≡ false
-outside_ROM true true outside off = absurd (cc)
-outside_ROM true false outside off = absurd (cc)
-outside_ROM false rom outside off = refl
-
 runs_same : (start : Start) (released : List ℕ) (logs : Logs) (kind : Kind) (cpu : CpuState)
     → in_rom (cpu_pc cpu) ≡ false
     → KeepsSecrets (running_access kind cpu) (cpu_pc cpu)
@@ -108,9 +101,9 @@ runs_same : (start : Start) (released : List ℕ) (logs : Logs) (kind : Kind) (c
 runs_same start released logs kind cpu outside keeps =
     let access : Option Access = running_access kind cpu in
     let same = access_same start released logs access
-    (outside_ROM (some_touches access key_region && not (some_writes access))
-    (in_rom (cpu_pc cpu)) outside keeps.k1)
-    (outside_ROM (some_touches access stack_region) (in_rom (cpu_pc cpu)) outside keeps.k2) in
+    (first_false (some_touches access key_region && not (some_writes access))
+    (in_rom (cpu_pc cpu)) keeps.k1 outside)
+    (first_false (some_touches access stack_region) (in_rom (cpu_pc cpu)) keeps.k2 outside) in
     record {
       access = same.same;
       value = same.blanked;

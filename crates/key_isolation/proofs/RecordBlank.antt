@@ -1,6 +1,5 @@
 -- The record of a step without the key is the real one, blanked.
-use Rattle.std.proofs.Common.{◌≡◌, ℕ, Bool, true, false, List, ◌++◌, length, Option, Some, None, refl, ap, sym, ◌∙◌, subst}
-use Rattle.std.specs.Prelude.{if◌then◌else◌}
+use Rattle.std.proofs.Common.{◌≡◌, ℕ, Bool, List, ◌++◌, length, Option, Some, None, refl, ap, sym, ◌∙◌, subst}
 use Rattle.bus_signals.specs.declared.access.Access.{Access}
 use Rattle.bus_signals.specs.declared.access.Access.TheVariants.{Fetch, Read, Write}
 use Rattle.bus_signals.specs.declared.kind.Kind.{Kind}
@@ -17,6 +16,7 @@ use Rattle.device_trace.specs.Signals.{value_read, step_kind, proposed_access, s
 use Rattle.device_trace.specs.Start.{Start}
 use Rattle.device_trace.specs.Step.{without_number, dma_value_read, record_from, record_of}
 use Rattle.device_trace.proofs.Formed.{access_of-formed}
+use Rattle.key_isolation.proofs.Bytes.{zero_either}
 use Rattle.trace_facts.proofs.Unbroken.{BreaksNoRule, first_rule-none}
 use Rattle.trace_facts.proofs.Sound.{IsSound, progress_within-right}
 use Rattle.key_isolation.proofs.FlagBlank.{last_pc-blank}
@@ -34,10 +34,6 @@ pub record SameNumbers (now seen : Signals) (read read' dma_read dma_read' : ℕ
   pub dma_value : blank_value now.dma dma_read ≡ dma_read'
   pub dma_kept : blank_value now.dma dma_read ≡ dma_read
 
-cond_zero : (test : Bool) → ◌≡◌ {A = ℕ} (if test then 0 else 0) 0
-cond_zero true = refl
-cond_zero false = refl
-
 without_number-blank : (access : Option Access)
     → blank_access (without_number access) ≡ without_number access
 without_number-blank None = refl
@@ -45,11 +41,11 @@ without_number-blank (Some (Fetch place)) = refl
 without_number-blank (Some (Read place size)) = refl
 without_number-blank (Some (Write place size number)) =
     ap (λ (n : ℕ). Some (Write place size n))
-    (cond_zero (touches (Write place size 0) stack_region))
+    (zero_either (touches (Write place size 0) stack_region))
 
 pub blank_value-zero : (access : Option Access) → blank_value access 0 ≡ 0
 blank_value-zero None = refl
-blank_value-zero (Some access) = cond_zero (touches_secrets access)
+blank_value-zero (Some access) = zero_either (touches_secrets access)
 
 record_from-blank : (rule : Option Rule) (regs regs' : List ℕ) (now seen : Signals)
     (value value' dma_value dma_value' : ℕ)

@@ -1,9 +1,8 @@
 -- The rules see what a step is about to do but for the number that a write carries, and a fetched
 -- word only where no key rule is broken.
-use Rattle.std.proofs.Common.{◌≡◌, ℕ, Bool, true, false, Option, Some, None, refl, ap, sym, ◌∙◌}
+use Rattle.std.proofs.Common.{arith, ◌≡◌, ℕ, Bool, true, false, Option, Some, None, refl, ap, sym, ◌∙◌}
 use Rattle.std.specs.Prelude.{◌&&◌}
 use Rattle.bus_signals.specs.declared.access.Access.{Access}
-use Rattle.bus_signals.specs.declared.access.Access.TheVariants.{Fetch, Read, Write}
 use Rattle.bus_signals.specs.declared.rule.Rule.{Rule}
 use Rattle.bus_signals.specs.declared.rule.Rule.TheVariants.{X0, I1}
 use Rattle.bus_signals.specs.declared.signals.Signals.{Signals}
@@ -28,19 +27,13 @@ with_cpu now cpu = record now { cpu = cpu; word = 0 }
 key_rule-shape : (now : Signals) (cpu : Option Access)
     → key_rule (with_cpu now (without_number cpu)) ≡ key_rule (with_cpu now cpu)
 unfolding key_rule
-key_rule-shape now None = refl
-key_rule-shape now (Some (Fetch place)) = refl
-key_rule-shape now (Some (Read place size)) = refl
-key_rule-shape now (Some (Write place size number)) = refl
+key_rule-shape now cpu = grind arith
 
 atomicity_rule-shape : (last : Option ℕ) (now : Signals) (cpu : Option Access)
     → atomicity_rule last (with_cpu now (without_number cpu))
     ≡ atomicity_rule last (with_cpu now cpu)
 unfolding atomicity_rule
-atomicity_rule-shape last now None = refl
-atomicity_rule-shape last now (Some (Fetch place)) = refl
-atomicity_rule-shape last now (Some (Read place size)) = refl
-atomicity_rule-shape last now (Some (Write place size number)) = refl
+atomicity_rule-shape last now cpu = grind arith
 
 key_rule-word : (now : Signals) → key_rule (with_cpu now now.cpu) ≡ key_rule now
 unfolding key_rule

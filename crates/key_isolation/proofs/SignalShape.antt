@@ -1,5 +1,5 @@
 -- With the secrets hidden the next step is about to do the same, but for what the rules do not see.
-use Rattle.std.proofs.Common.{◌≡◌, ℕ, Bool, true, false, List, Option, Some, None, length, refl, ap, sym, ◌∙◌, subst, not}
+use Rattle.std.proofs.Common.{arith, ◌≡◌, ℕ, Bool, true, false, List, Option, Some, None, length, refl, ap, sym, ◌∙◌, subst, not}
 use Rattle.std.specs.Prelude.{◌&&◌, is_some}
 use Rattle.bus_signals.specs.declared.access.Access.{Access}
 use Rattle.bus_signals.specs.declared.bounds.Bounds.{Bounds}
@@ -8,7 +8,7 @@ use Rattle.bus_signals.specs.declared.kind.Kind.TheVariants.{Boot, Cpu, Idle, Ir
 use Rattle.bus_signals.specs.Access.{some_writes}
 use Rattle.bus_signals.specs.Map.{some_touches, key_region, stack_region}
 use Rattle.part_definitions.specs.Accesses.{fetch_at}
-use Rattle.part_definitions.specs.Attestation.{CallItem, KeyRead, MetadataRead, DerivedKeyWrite, RegionRead, InnerDigestWrite, MacWrite, ReturnRead, item_access, bounds_read, call_item}
+use Rattle.part_definitions.specs.Attestation.{CallItem, item_access, bounds_read, call_item}
 use Rattle.part_definitions.specs.CpuRegisters.{sp_of}
 use Rattle.part_definitions.specs.CpuState.{Boundary, Executing, Entering}
 use Rattle.part_definitions.specs.Monitors.{in_rom, key_rule}
@@ -29,13 +29,7 @@ use Rattle.key_isolation.proofs.SameRule.{SameSignals}
 item_access-shape : (sp : ℕ) (bounds : Bounds) (item : CallItem) (number number' : ℕ)
     → without_number (Some (item_access sp bounds item number'))
     ≡ without_number (Some (item_access sp bounds item number))
-item_access-shape sp bounds (KeyRead i) number number' = refl
-item_access-shape sp bounds (MetadataRead i) number number' = refl
-item_access-shape sp bounds (DerivedKeyWrite i) number number' = refl
-item_access-shape sp bounds (RegionRead i) number number' = refl
-item_access-shape sp bounds (InnerDigestWrite i) number number' = refl
-item_access-shape sp bounds (MacWrite i) number number' = refl
-item_access-shape sp bounds ReturnRead number number' = refl
+item_access-shape sp bounds item number number' = grind arith
 
 -- the access of a call with the key's words hidden, with any number
 pub item_access-hide : (sp : ℕ) (words : List ℕ) (number : ℕ)

@@ -1,13 +1,13 @@
 -- The text of a play is the same without the key.
-use Rattle.std.proofs.Common.{◌≡◌, ℕ, zero, suc, ◌+◌, ◌-◌, ◌<◌, ◌≤◌, Bool, true, false, List, [], ◌∷◌, ◌++◌, length, Option, Some, None, inl, inr, refl, ap, sym, ◌∙◌, arith, lit≤}
-use Rattle.std.specs.Prelude.{◌&&◌, if◌then◌else◌}
-use Rattle.std.proofs.lemmas.Bool.{and_parts}
+use Rattle.std.proofs.Common.{◌≡◌, ℕ, zero, suc, ◌+◌, ◌-◌, ◌<◌, ◌≤◌, Bool, false, List, [], ◌∷◌, ◌++◌, length, Option, Some, None, inl, inr, refl, ap, sym, ◌∙◌, arith, lit≤}
+use Rattle.std.specs.Prelude.{if◌then◌else◌}
 use Rattle.std.proofs.lemmas.Bool.Decides.{nat_tests}
 use Rattle.bus_signals.specs.declared.bounds.Bounds.{Bounds}
 use Rattle.bus_signals.specs.declared.bus_record.BusRecord.{BusRecord}
 use Rattle.bus_signals.specs.declared.event.Event.{Event}
-use Rattle.bus_signals.specs.Bounds.{is_valid_region, are_valid}
+use Rattle.bus_signals.specs.Bounds.{are_valid}
 use Rattle.bus_signals.specs.Report.{ReportFields}
+use Rattle.bus_signals.proofs.ValidRange.{IsValidRange, are_valid-ranges}
 use Rattle.part_definitions.specs.Memory.{bytes_from}
 use Rattle.part_definitions.specs.Region.{output_bytes}
 use Rattle.printed_lines.specs.Lines.{end_line}
@@ -20,7 +20,6 @@ use Rattle.device_trace.specs.Text.{finishes_call, byte_sent_in, reported_output
 use Rattle.device_trace.specs.Trace.{next_logs, logs_after}
 use Rattle.trace_facts.proofs.SoundPlay.{logs_after-sound}
 use Rattle.key_isolation.proofs.Bytes.{same_if}
-use Rattle.trace_facts.proofs.CallPlaces.{valid_range}
 use Rattle.key_isolation.proofs.FlagBlank.{exec-blank}
 use Rattle.key_isolation.proofs.Hiding.{opened, hide, next_pc_of-hide, logged_byte-hide, logged_bounds-hide}
 use Rattle.key_isolation.proofs.Induction.{play_hides, released_before}
@@ -60,12 +59,11 @@ program_bytes left right same place count low high =
     (λ p above below. program_open p (omega (arith, low, above)) (omega (arith, high, below)))
 
 valid_bytes : (left right : ℕ → ℕ) → SameOutside left right → (first last : ℕ)
-    → is_valid_region first last ≡ true
+    → IsValidRange first last
     → bytes_from left first (last + 2 - first) ≡ bytes_from right first (last + 2 - first)
-valid_bytes left right same first last valid =
-    let range = valid_range first last valid in
-    let ordered : first ≤ last = range.0 in
-    elim range.1 [
+valid_bytes left right same first last range =
+    let ordered : first ≤ last = range.ordered in
+    elim range.place [
       | inl ram ↦
           let low : 0x200 ≤ first = ram.0 in
           let high : last + 1 ≤ 0x21FF = ram.1 in
@@ -82,13 +80,9 @@ output-outside left right same bounds =
     same_if (are_valid bounds) (Some (output_bytes left bounds))
     (Some (output_bytes right bounds)) None None
     (λ valid.
-    let both = and_parts
-    (is_valid_region bounds.er_min bounds.er_max
-    && is_valid_region bounds.or_min bounds.or_max) _ valid in
-    let each = and_parts (is_valid_region bounds.er_min bounds.er_max)
-    (is_valid_region bounds.or_min bounds.or_max) both.0 in
     ap (λ (bytes : List ℕ). Some bytes)
-    (valid_bytes left right same bounds.or_min bounds.or_max each.1))
+    (valid_bytes left right same bounds.or_min bounds.or_max
+    (are_valid-ranges bounds valid).output))
     (λ invalid. refl)
 
 -- the report

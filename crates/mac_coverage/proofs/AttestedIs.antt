@@ -10,8 +10,10 @@ use Rattle.part_definitions.specs.Metadata.{bounds_in}
 use Rattle.part_definitions.specs.Region.{bounded_bytes, bytes_between, output_bytes}
 use Rattle.mac_coverage.specs.Attested.{attested_in}
 use Rattle.mac_coverage.proofs.Planned.{IsAttested, attested_bounds}
-use Rattle.mac_coverage.proofs.ValidPlaces.{AreValidRanges, IsFreePlace, IsValidRange, are_valid-ranges, range-free}
-use Rattle.mac_coverage.proofs.Words.{AreBytes, bytes_from-are, length-bytes_from, word-bytes_from}
+use Rattle.part_definitions.proofs.BytesFrom.{length-bytes_from}
+use Rattle.bus_signals.proofs.ValidRange.{AreValidRanges, IsValidRange, are_valid-ranges}
+use Rattle.mac_coverage.proofs.ValidPlaces.{IsFreePlace, range-free}
+use Rattle.mac_coverage.proofs.Words.{AreBytes, bytes_from-are, word-bytes_from}
 
 -- how many bytes and words there are from one word to another
 range-size : (first last : ℕ) → IsValidRange first last
@@ -83,10 +85,10 @@ both-word bytes bounds i ranges within =
     let output : List ℕ = output_bytes bytes bounds in
     let size : length code ≡ 2 * executable_words bounds =
     length-bytes_from bytes bounds.er_min (bounds.er_max + 2 - bounds.er_min)
-    ∙ range-size bounds.er_min bounds.er_max ranges.code in
+    ∙ range-size bounds.er_min bounds.er_max ranges.executable in
     elim (cases_lt i (executable_words bounds)) [
       | inl early ↦
-          let at = range-word bytes bounds.er_min bounds.er_max i ranges.code early in
+          let at = range-word bytes bounds.er_min bounds.er_max i ranges.executable early in
           let place : region_place bounds i ≡ bounds.er_min + 2 * i =
           cond-true (nat_lt i (executable_words bounds)) (bounds.er_min + 2 * i) _
           (lt-ltb i (executable_words bounds) early) in
@@ -146,7 +148,7 @@ rest-size bytes bounds = by_case (are_valid bounds) refl
     by_case true valid =
         let ranges : AreValidRanges bounds = are_valid-ranges bounds valid in
         let code = length-bytes_from bytes bounds.er_min (bounds.er_max + 2 - bounds.er_min)
-        ∙ range-size bounds.er_min bounds.er_max ranges.code in
+        ∙ range-size bounds.er_min bounds.er_max ranges.executable in
         let output = length-bytes_from bytes bounds.or_min (bounds.or_max + 2 - bounds.or_min)
         ∙ range-size bounds.or_min bounds.or_max ranges.output in
         let sum = length-append (bytes_between bytes bounds.er_min bounds.er_max)

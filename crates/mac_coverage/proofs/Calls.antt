@@ -19,7 +19,8 @@ use Rattle.device_trace.specs.Trace.{byte_after}
 use Rattle.mac_coverage.specs.Attested.{Attested, attested_in, without_exec_word, tag_of}
 use Rattle.mac_coverage.specs.Call.{mac_written}
 use Rattle.mac_coverage.specs.Coverage.{attested_before}
-use Rattle.mac_coverage.proofs.CallItems.{IsItemAt, is_last, item_after-at, not_last}
+use Rattle.trace_facts.proofs.ItemNumbers.{IsItemAt, item_after-at}
+use Rattle.mac_coverage.proofs.CallItems.{is_last, not_last}
 use Rattle.mac_coverage.proofs.Device.{Device, start_of}
 use Rattle.mac_coverage.proofs.MacStored.{MacStands, mac-alike}
 use Rattle.mac_coverage.proofs.Passed.{Passes, item-passes, mac_count}

@@ -1,5 +1,5 @@
 -- A step of the ROM after another leaves the EXEC flag.
-use Rattle.std.proofs.Common.{◌≡◌, ℕ, Bool, true, false, not, List, [], ◌∷◌, ◌++◌, Option, Some, None, refl, ap, sym, ◌∙◌}
+use Rattle.std.proofs.Common.{◌≡◌, ℕ, Bool, true, false, not, List, [], ◌∷◌, ◌++◌, append-nil, Option, Some, None, refl, ap, sym, ◌∙◌}
 use Rattle.std.specs.Prelude.{◌==◌, ◌&&◌, ◌||◌, is_some, option_to_list, if◌then◌else◌}
 use Rattle.std.specs.List.{list_any}
 use Rattle.std.proofs.lemmas.Bool.{and_left, and_right, false_from_ne_true, or_from}
@@ -15,7 +15,9 @@ use Rattle.bus_signals.specs.Map.{some_touches, touches, metadata_region}
 use Rattle.bus_signals.specs.Seen.{Seen}
 use Rattle.part_definitions.specs.Flag.{accesses_in, writes_to, runs_inside, ran_inside, fetches_at, clears_e1, clears_e2, clears_e3, clears_e4, clears_e5, clears_e6, clears_e7, clears_e8, clears_e9, clears, starts_run, last_pc, records_since_clear, exec}
 use Rattle.part_definitions.specs.Monitors.{in_rom, leaves_stack_and_mac}
-use Rattle.mac_coverage.proofs.ValidPlaces.{AreValidRanges, are_valid-ranges, rom_outside, writes_outside, writes_off_metadata}
+use Rattle.bus_signals.proofs.ValidRange.{AreValidRanges, are_valid-ranges}
+use Rattle.trace_facts.proofs.MissedPlace.{writes_nowhere}
+use Rattle.mac_coverage.proofs.ValidPlaces.{rom_outside, writes_outside, writes_off_metadata}
 
 -- a step of the ROM that was not refused: it writes to the stack and to the MAC alone, and the DMA
 -- has no access
@@ -27,21 +29,6 @@ pub record IsRomStep (entry : BusRecord) : Type 0 where
   pub within : (some_writes entry.cpu && leaves_stack_and_mac entry.cpu) ≡ false
 
 -- it writes to no place of a region that is apart
-writes_nowhere : (region : Region) (access : Option Access)
-    → ((one : Access) → leaves_stack_and_mac (Some one) ≡ false → touches one region ≡ false)
-    → (some_writes access && leaves_stack_and_mac access) ≡ false
-    → list_any (writes_to region) (option_to_list access) ≡ false
-writes_nowhere region None apart within = refl
-writes_nowhere region (Some access) apart within =
-    or_from (is_write access && touches access region) false
-    (off (is_write access) (leaves_stack_and_mac (Some access)) (touches access region) within
-    (apart access)) refl
-  where
-    off : (writes leaves touched : Bool) → (writes && leaves) ≡ false
-        → (leaves ≡ false → touched ≡ false) → (writes && touched) ≡ false
-    off true leaves touched none apart = apart none
-    off false leaves touched none apart = refl
-
 touches_nowhere : (region : Region) (access : Option Access)
     → ((one : Access) → leaves_stack_and_mac (Some one) ≡ false → touches one region ≡ false)
     → (some_writes access && leaves_stack_and_mac access) ≡ false
@@ -62,19 +49,20 @@ rom_step-keeps : (last : ℕ) (now : Seen) → IsRomStep now.entry → in_rom la
 rom_step-keeps last now step rom valid =
     let ranges : AreValidRanges now.bounds = are_valid-ranges now.bounds valid in
     let stays_out : runs_inside now ≡ false =
-    rom_outside now.bounds.er_min now.bounds.er_max now.entry.pc ranges.code step.code in
+    rom_outside now.bounds.er_min now.bounds.er_max now.entry.pc ranges.executable step.code in
     let was_out : ran_inside (Some last) (executable_region now.bounds) ≡ false =
-    rom_outside now.bounds.er_min now.bounds.er_max last ranges.code rom in
+    rom_outside now.bounds.er_min now.bounds.er_max last ranges.executable rom in
     let only_cpu : accesses_in now.entry ≡ option_to_list now.entry.cpu =
     ap (λ (dma : Option Access). option_to_list now.entry.cpu ++ option_to_list dma) step.no_dma
-    ∙ append-none (option_to_list now.entry.cpu) in
+    ∙ append-nil (option_to_list now.entry.cpu) in
     let no_write : (region : Region)
     → ((one : Access) → leaves_stack_and_mac (Some one) ≡ false → touches one region ≡ false)
     → list_any (writes_to region) (accesses_in now.entry) ≡ false =
     λ region apart. ap (list_any (writes_to region)) only_cpu
-    ∙ writes_nowhere region now.entry.cpu apart step.within in
+    ∙ writes_nowhere now.entry.cpu region
+    (touches_nowhere region now.entry.cpu apart step.within) in
     let off_code = λ (one : Access). writes_outside now.bounds.er_min now.bounds.er_max one
-    ranges.code in
+    ranges.executable in
     let off_output = λ (one : Access). writes_outside now.bounds.or_min now.bounds.or_max one
     ranges.output in
     let no_dma : (region : Region) → some_touches now.entry.dma region ≡ false =
@@ -99,11 +87,6 @@ rom_step-keeps last now step rom valid =
     (ap (λ (rule : Option Rule). is_some rule) step.none) in
     or_from _ _ (or_from _ _ (or_from _ _ (or_from _ _ (or_from _ _ (or_from _ _ (or_from _ _
     (or_from _ _ e1 e2) e3) e4) e5) e6) e7) e8) e9
-  where
-    append-none : (accesses : List Access) → accesses ++ [] ≡ accesses
-    append-none [] = refl
-    append-none (access ∷ accesses) =
-        ap (λ (rest : List Access). access ∷ rest) (append-none accesses)
 
 -- nor does it start a run
 rom_step-starts_none : (now : Seen) → IsRomStep now.entry → starts_run now ≡ false

@@ -1,5 +1,5 @@
 -- A step that writes to the exclusive stack and to the MAC alone leaves what is attested.
-use Rattle.std.proofs.Common.{◌≡◌, ℕ, ◌+◌, ◌-◌, ◌*◌, ◌/◌, ◌%◌, ◌<◌, Bool, true, false, not, List, [], ◌++◌, take, inl, inr, Option, Some, None, refl, ap, sym, ◌∙◌, arith}
+use Rattle.std.proofs.Common.{◌≡◌, ℕ, ◌+◌, ◌-◌, ◌*◌, ◌/◌, ◌<◌, Bool, true, false, not, List, [], ◌++◌, take, inl, inr, Option, Some, None, refl, ap, sym, ◌∙◌, arith}
 use Rattle.std.specs.Prelude.{◌==◌, ◌&&◌, ◌||◌, if◌then◌else◌}
 use Rattle.std.proofs.lemmas.Bool.{cases_Bool, cond-false, eqb-true, false_from_ne_true}
 use Rattle.std.proofs.lemmas.Bool.Decides.{nat_tests}
@@ -14,8 +14,10 @@ use Rattle.part_definitions.specs.Memory.{MemoryWrite, PowerOn, byte_at, first_b
 use Rattle.part_definitions.specs.Metadata.{bounds_in}
 use Rattle.part_definitions.specs.Monitors.{is_written_by_rom, leaves_stack_and_mac}
 use Rattle.part_definitions.specs.Region.{bounded_bytes, bytes_between, metadata_bytes, rest_bytes}
+use Rattle.trace_facts.proofs.MissedPlace.{MissesPlace, last_written-missed}
 use Rattle.mac_coverage.specs.Attested.{attested_in, without_exec_word}
-use Rattle.mac_coverage.proofs.ValidPlaces.{AreValidRanges, IsFreePlace, IsValidRange, are_valid-ranges, range-free}
+use Rattle.bus_signals.proofs.ValidRange.{AreValidRanges, IsValidRange, are_valid-ranges}
+use Rattle.mac_coverage.proofs.ValidPlaces.{IsFreePlace, range-free}
 use Rattle.mac_coverage.proofs.Words.{bytes_from-same, take-bytes_from}
 
 -- the byte written last to a place where the ROM does not write
@@ -33,20 +35,16 @@ high_elsewhere : (place p : ℕ) → is_written_by_rom p ≡ false
     → (place / 2 * 2 + 1 == p) ≡ false
 high_elsewhere place p off within = grind (arith, nat_tests)
 
-last_written-kept : (access : Option Access) (writes : List MemoryWrite) (p before : ℕ)
+rom-missed : (access : Option Access) (p : ℕ)
     → (some_writes access && leaves_stack_and_mac access) ≡ false
     → is_written_by_rom p ≡ false
-    → last_written (with_access access writes) p before ≡ last_written writes p before
-last_written-kept None writes p before within off = refl
-last_written-kept (Some (Fetch place)) writes p before within off = refl
-last_written-kept (Some (Read place size)) writes p before within off = refl
-last_written-kept (Some (Write place Byte number)) writes p before within off =
-    cond-false (place == p) (number % 256) (last_written writes p before)
-    (byte_elsewhere place p off within)
-last_written-kept (Some (Write place Word number)) writes p before within off =
-    cond-false (place / 2 * 2 + 1 == p) (number / 256 % 256) _ (high_elsewhere place p off within)
-    ∙ cond-false (place / 2 * 2 == p) (number % 256) (last_written writes p before)
-    (low_elsewhere place p off within)
+    → MissesPlace access p
+rom-missed None p within off = tt
+rom-missed (Some (Fetch place)) p within off = tt
+rom-missed (Some (Read place size)) p within off = tt
+rom-missed (Some (Write place Byte number)) p within off = byte_elsewhere place p off within
+rom-missed (Some (Write place Word number)) p within off =
+    (low_elsewhere place p off within, high_elsewhere place p off within)
 
 -- the flag shows in the EXEC word alone
 exec_place : (p : ℕ) → is_exec_word p ≡ false → (p == EXEC_WORD) ≡ false
@@ -79,7 +77,7 @@ pub byte_at-kept : (power : PowerOn) (exec : Bool) (access : Option Access)
     → byte_at power exec (with_access access writes) p ≡ byte_at power exec writes p
 byte_at-kept power exec access writes p within off =
     ap (λ (n : ℕ). if takes_write p then n else fixed_byte power exec p)
-    (last_written-kept access writes p (first_byte power p) within off)
+    (last_written-missed access writes p (first_byte power p) (rom-missed access p within off))
 
 pub byte_at-off_exec : (power : PowerOn) (before after : Bool) (writes : List MemoryWrite) (p : ℕ)
     → is_exec_word p ≡ false → byte_at power after writes p ≡ byte_at power before writes p
@@ -118,7 +116,7 @@ bounded-alike left right bounds alike =
     elim (cases_Bool (are_valid bounds)) [
       | inl valid ↦
           let ranges : AreValidRanges bounds = are_valid-ranges bounds valid in
-          let code = range-alike left right bounds.er_min bounds.er_max alike ranges.code in
+          let code = range-alike left right bounds.er_min bounds.er_max alike ranges.executable in
           let output = range-alike left right bounds.or_min bounds.or_max alike ranges.output in
           λ i. if are_valid bounds then code i ++ output i else []
       | inr invalid ↦

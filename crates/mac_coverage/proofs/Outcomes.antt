@@ -1,6 +1,6 @@
 -- What a step of the ROM leads to.
 use Rattle.std.proofs.Common.{◌≡◌, ℕ, ◌+◌, ◌≤◌, true, false, List, [], ◌∷◌, ◌++◌, inl, inr, Option, Some, None, length, refl, ap, sym, ◌∙◌, arith, subst}
-use Rattle.std.specs.Prelude.{◌==◌, ◌&&◌, is_none, is_some}
+use Rattle.std.specs.Prelude.{◌==◌, ◌&&◌, is_none, is_some, if◌then◌else◌}
 use Rattle.std.proofs.lemmas.Bool.{and_from, and_parts, and_right, cases_Bool, cond-false, cond-true}
 use Rattle.std.proofs.lemmas.List.{length_push}
 use Rattle.bus_signals.specs.declared.bus_record.BusRecord.{BusRecord}
@@ -11,11 +11,11 @@ use Rattle.bus_signals.specs.Kind.{is_rom}
 use Rattle.bus_signals.specs.Map.{ROM_ENTRY, ROM_EXIT}
 use Rattle.part_definitions.specs.Attestation.{bounds_read, call_item, is_return, region_words, word_passed}
 use Rattle.device_trace.specs.Logs.{Logs, progress_after, step_progress, vector_of, with_events, with_record}
-use Rattle.device_trace.specs.Progress.{InCall, after_return}
+use Rattle.device_trace.specs.Progress.{Progress, InCall, after_return}
 use Rattle.device_trace.specs.Signals.{step_kind}
 use Rattle.device_trace.specs.Text.{finishes_call}
 use Rattle.device_trace.specs.Trace.{logs_after, trace}
-use Rattle.trace_facts.proofs.ExecFlag.{reset_none}
+use Rattle.trace_facts.proofs.Choices.{none_there}
 use Rattle.mac_coverage.specs.Attested.{Attested}
 use Rattle.mac_coverage.specs.Call.{begins_call}
 use Rattle.mac_coverage.specs.Coverage.{MacCoversCall, attested_before}
@@ -31,29 +31,43 @@ pub record Outcome (device : Device) (play : List (List Event)) : Type 0 where
   pub covers : MacCoversCall device.digest device.key (start_of device) play
   pub next : PlayStands device play
 
--- after a step that goes on, one that returns and one that is refused
+abbrev word_in : Device → List (List Event) → List Event → ℕ
+word_in device play events =
+    word_passed (entry_at device play events).cpu (entry_at device play events).value
+
+-- after a step of a call, and so after one that goes on, one that returns and one that is refused
+step-next : (device : Device) (play : List (List Event)) (events : List Event)
+    (regs words : List ℕ) (next : Progress)
+    → IsTurnOfCall device play events regs words
+    → IsCallStep (start_of device) (heard device play events) regs words
+    (entry_at device play events)
+    → (if is_return (call_item words) then after_return regs (word_in device play events)
+    else InCall regs (words ++ word_in device play events ∷ []))
+    ≡ next
+    → OnCall (λ regs words. CallGoesOn device (events ∷ play) words) next
+    → PlayStands device (events ∷ play)
+unfolding logs_after
+step-next device play events regs words next turn step is stands =
+    subst (OnCall (λ regs words. CallGoesOn device (events ∷ play) words))
+    (sym (progress-call_step (start_of device) (heard device play events) regs words
+    (entry_at device play events) step turn.kind turn.progress
+    ∙ is))
+    stands
+
 goes_on-next : (device : Device) (play : List (List Event)) (events : List Event)
     (regs words : List ℕ)
     → IsTurnOfCall device play events regs words
     → IsCallStep (start_of device) (heard device play events) regs words
     (entry_at device play events)
     → is_return (call_item words) ≡ false
-    → CallGoesOn device (events ∷ play)
-    (words
-    ++ word_passed (entry_at device play events).cpu (entry_at device play events).value ∷ [])
+    → CallGoesOn device (events ∷ play) (words ++ word_in device play events ∷ [])
     → PlayStands device (events ∷ play)
-unfolding logs_after
 goes_on-next device play events regs words turn step goes_on call =
-    let word : ℕ = word_passed (entry_at device play events).cpu
-    (entry_at device play events).value in
-    let progress : (logs_after (start_of device) (events ∷ play)).progress
-    ≡ InCall regs (words ++ word ∷ []) =
-    progress-call_step (start_of device) (heard device play events) regs words
-    (entry_at device play events) step turn.kind turn.progress
-    ∙ cond-false (is_return (call_item words)) (after_return regs word)
-    (InCall regs (words ++ word ∷ []))
-    goes_on in
-    subst (OnCall (λ regs words. CallGoesOn device (events ∷ play) words)) (sym progress) call
+    let next : Progress = InCall regs (words ++ word_in device play events ∷ []) in
+    step-next device play events regs words next turn step
+    (cond-false (is_return (call_item words)) (after_return regs (word_in device play events)) next
+    goes_on)
+    call
 
 returns-next : (device : Device) (play : List (List Event)) (events : List Event)
     (regs words : List ℕ)
@@ -62,18 +76,10 @@ returns-next : (device : Device) (play : List (List Event)) (events : List Event
     (entry_at device play events)
     → is_return (call_item words) ≡ true
     → PlayStands device (events ∷ play)
-unfolding logs_after
 returns-next device play events regs words turn step returns =
-    let word : ℕ = word_passed (entry_at device play events).cpu
-    (entry_at device play events).value in
-    let progress : (logs_after (start_of device) (events ∷ play)).progress
-    ≡ after_return regs word =
-    progress-call_step (start_of device) (heard device play events) regs words
-    (entry_at device play events) step turn.kind turn.progress
-    ∙ cond-true (is_return (call_item words)) (after_return regs word)
-    (InCall regs (words ++ word ∷ []))
-    returns in
-    subst (OnCall (λ regs words. CallGoesOn device (events ∷ play) words)) (sym progress) tt
+    let next : Progress = after_return regs (word_in device play events) in
+    step-next device play events regs words next turn step
+    (cond-true (is_return (call_item words)) next _ returns) tt
 
 refused-next : (device : Device) (play : List (List Event)) (events : List Event)
     → is_some (entry_at device play events).reset ≡ true → PlayStands device (events ∷ play)
@@ -176,7 +182,7 @@ first_outcome device play events regs turn =
             next = refused-next device play events refused;
           }
       | inr kept ↦
-          let none = reset_none entry.reset kept in
+          let none = none_there entry.reset kept in
           let step = entry-step device play events regs [] turn none in
           let after : Attested = attested_before (start_of device) (events ∷ play) 0 in
           unrefused_outcome device play events regs [] after turn step
@@ -205,7 +211,7 @@ later_outcome device play events regs words turn call =
             next = refused-next device play events refused;
           }
       | inr kept ↦
-          let none = reset_none entry.reset kept in
+          let none = none_there entry.reset kept in
           let step = entry-step device play events regs words turn none in
           unrefused_outcome device play events regs words call.attested turn step so_far
           (λ begun. call.stands)

@@ -15,7 +15,8 @@ use Rattle.device_trace.specs.Logs.{Logs, logged_byte, with_released_word}
 use Rattle.device_trace.specs.Signals.{value_read}
 use Rattle.mac_coverage.specs.Attested.{Attested, attested_in, tag_of}
 use Rattle.mac_coverage.proofs.AttestedIs.{IsWordAt, bounds-attested, rest-word}
-use Rattle.mac_coverage.proofs.CallItems.{IsItemAt}
+use Rattle.trace_facts.proofs.CallPlaces.{mac_place}
+use Rattle.trace_facts.proofs.ItemNumbers.{IsItemAt}
 use Rattle.mac_coverage.proofs.Device.{Device, start_of, key_word-read, word-read}
 use Rattle.mac_coverage.proofs.MacStored.{MacStands, mac-more}
 use Rattle.mac_coverage.proofs.Planned.{attested_bounds, attested_words, first_mac_words, first_mac_words-more, planned_item}
@@ -46,9 +47,6 @@ stack_word i within = grind (arith, nat_tests)
 
 inner_word : (i : ℕ) → i < 16 → lies_in mac_region ((0x4020 + 2 * i) / 2 * 2) ≡ false
 inner_word i within = grind (arith, nat_tests)
-
-mac_word : (i : ℕ) → i < 16 → lies_in mac_region ((0x200 + 2 * i) / 2 * 2) ≡ true
-mac_word i within = grind (arith, nat_tests)
 
 -- before the MAC is written
 no_word_yet : (digest : List ℕ → List ℕ) (key : List ℕ) (attested : Attested) (passed : ℕ)
@@ -104,7 +102,7 @@ mac_write-passes : (digest : List ℕ → List ℕ) (key : List ℕ) (attested :
     → Passes digest key attested passed (MacWrite i) (write_at Word (0x200 + 2 * i) number) value
 mac_write-passes digest key attested passed number value i at below is =
     let place : ℕ = (0x200 + 2 * i) / 2 * 2 in
-    let inside : lies_in mac_region place ≡ true = mac_word i below in
+    let inside : lies_in mac_region place ≡ true = mac_place i below in
     let count : mac_count attested passed ≡ i = omega (arith, at) in
     let more : i + 1 ≡ mac_count attested (passed + 1) = omega (arith, at) in
     record {

@@ -1,6 +1,6 @@
 -- In every play the MAC covers the last call.
-use Rattle.std.proofs.Common.{◌≡◌, ℕ, ◌<◌, Bool, true, false, List, [], ◌∷◌, inl, inr, Option, Some, None, length, refl, ap, sym, ◌∙◌, arith, subst}
-use Rattle.std.specs.Prelude.{◌==◌, ◌&&◌, is_none, is_some, IsTrue, if◌then◌else◌}
+use Rattle.std.proofs.Common.{◌≡◌, ℕ, ◌<◌, true, false, List, [], ◌∷◌, inl, inr, Option, Some, None, length, refl, ap, sym, ◌∙◌, arith, subst}
+use Rattle.std.specs.Prelude.{◌==◌, ◌&&◌, is_none, is_some, IsTrue}
 use Rattle.std.proofs.lemmas.Bool.{and_parts, cases_Bool}
 use Rattle.bus_signals.specs.declared.bus_record.BusRecord.{BusRecord}
 use Rattle.bus_signals.specs.declared.event.Event.{Event}
@@ -17,6 +17,7 @@ use Rattle.device_trace.specs.Start.{Start, with_key}
 use Rattle.device_trace.specs.Step.{next_record}
 use Rattle.device_trace.specs.Text.{finishes_call, last_report, report_of}
 use Rattle.device_trace.specs.Trace.{byte_after, logs_after, trace}
+use Rattle.trace_facts.proofs.Choices.{some_where}
 use Rattle.mac_coverage.specs.Attested.{tag_of}
 use Rattle.mac_coverage.specs.Call.{ends_finished, ends_in_call, ends_refused, last_call}
 use Rattle.mac_coverage.specs.Coverage.{Gives32Bytes, IsDeviceKey, IsOfBytes, MacCoversCall, MacCoversReport, attested_before}
@@ -93,12 +94,6 @@ record Reports (start : Start) (play : List (List Event)) (report : ReportFields
   finished : ends_finished (trace start play) ≡ true
   mac : report.mac ≡ mac_bytes (byte_after start play)
 
-report_where : (finishes : Bool) (made report : ReportFields)
-    → (if finishes then Some made else None) ≡ Some report
-    → (finishes ≡ true) × (made ≡ report)
-report_where true made report is = (refl, cc)
-report_where false made report is = absurd (cc)
-
 some_or_none : (rule : Option Rule) → is_none rule ≡ true → is_some rule ≡ false
 some_or_none None none = refl
 some_or_none (Some rule) none = absurd (cc)
@@ -109,7 +104,7 @@ unfolding trace
 last_report-finishes start [] report is = absurd (cc)
 last_report-finishes start (events ∷ play) report is =
     let entry : BusRecord = next_record start (logs_after start play) events in
-    let both = report_where (finishes_call entry)
+    let both = some_where (finishes_call entry)
     (report_of start (logs_after start (events ∷ play)) (length play)) report is in
     let parts = and_parts (is_rom entry.kind && (entry.pc == ROM_EXIT)) (is_none entry.reset)
     both.0 in

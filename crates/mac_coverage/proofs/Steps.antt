@@ -23,6 +23,7 @@ use Rattle.device_trace.specs.Start.{Start}
 use Rattle.device_trace.specs.Step.{dma_value_read, record_from, record_of}
 use Rattle.trace_facts.proofs.ExecFlag.{LogsAreValid}
 use Rattle.trace_facts.proofs.NeverBroken.{item_pc-in_rom}
+use Rattle.trace_facts.proofs.Choices.{other_false, none_there}
 use Rattle.trace_facts.proofs.Unbroken.{BreaksNoRule, first_rule-none}
 use Rattle.mac_coverage.proofs.ExecKept.{IsRomStep, exec-rom_step}
 use Rattle.mac_coverage.proofs.MemoryKept.{AreAlike, byte_at-kept, byte_at-off_exec}
@@ -91,15 +92,6 @@ pub record IsCallStep (start : Start) (logs : Logs) (regs words : List ℕ)
       entry.value
       ≡ value_read start logs (Some (call_access start (length logs.released_words) regs words))
 
-off_other : (x y : Bool) → (x && y) ≡ false → y ≡ true → x ≡ false
-off_other true true off holds = absurd (cc)
-off_other true false off holds = absurd (cc)
-off_other false y off holds = refl
-
-none_there : {A : Type 0} (option : Option A) → is_some option ≡ false → option ≡ None
-none_there None off = refl
-none_there (Some x) off = absurd (cc)
-
 call_record : (start : Start) (logs : Logs) (reset : Bool) (regs words : List ℕ)
     (rule : Option Rule)
     → first_rule (last_pc logs.seen) (signals_of start logs reset) ≡ rule
@@ -127,9 +119,9 @@ call_record start logs reset regs words None first none kind is =
         none = refl;
         no_dma =
             none_there now.dma
-            (off_other (is_some now.dma) (in_rom now.pc) unbroken.key.k6 code);
+            (other_false (is_some now.dma) (in_rom now.pc) unbroken.key.k6 code);
         within =
-            off_other (some_writes now.cpu && leaves_stack_and_mac now.cpu) (in_rom now.pc)
+            other_false (some_writes now.cpu && leaves_stack_and_mac now.cpu) (in_rom now.pc)
             unbroken.key.k3 code;
       };
       cpu = access;

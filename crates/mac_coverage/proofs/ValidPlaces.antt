@@ -1,61 +1,18 @@
 -- The places of a valid region: the ROM does not write there, and neither the metadata nor the code
 -- of the ROM are there.
 use Rattle.std.proofs.Common.{◌≡◌, ℕ, ◌+◌, ◌%◌, ◌^◌, ◌<◌, ◌≤◌, Bool, true, false, not, List, [], ◌∷◌, ◌⊎◌, inl, inr, refl, sym, ◌∙◌, arith}
-use Rattle.std.specs.Prelude.{◌&&◌, ◌||◌, nat_le, nat_lt}
+use Rattle.std.specs.Prelude.{◌&&◌, nat_le}
 use Rattle.std.specs.List.{list_any}
-use Rattle.std.proofs.lemmas.Bool.{and_parts, or_cases, or_parts, or_from, leb-true, ltb-true, lt-leb, eqb-true, and_left, and_right, false_from_ne_true}
+use Rattle.std.proofs.lemmas.Bool.{and_parts, or_cases, or_parts, or_from, not-false, leb-true, lt-leb, and_left, and_right, false_from_ne_true}
 use Rattle.bus_signals.specs.declared.access.Access.{Access}
-use Rattle.bus_signals.specs.declared.bounds.Bounds.{Bounds}
-use Rattle.bus_signals.specs.declared.region.Region.{Region}
 use Rattle.bus_signals.specs.Access.{bytes_of}
-use Rattle.bus_signals.specs.Bounds.{words_region, is_even, is_part_of, is_disjoint, is_free_region, unwrapped_region, is_valid_region, are_valid}
-use Rattle.bus_signals.specs.Map.{lies_in, touches, ram_region, program_region, mac_region, metadata_region, stack_region}
+use Rattle.bus_signals.specs.Bounds.{words_region}
+use Rattle.bus_signals.specs.Map.{lies_in, touches, mac_region, metadata_region, stack_region}
+use Rattle.bus_signals.proofs.ValidRange.{IsValidRange}
 use Rattle.part_definitions.specs.Memory.{is_exec_word}
 use Rattle.part_definitions.specs.Monitors.{in_rom, is_written_by_rom}
-use Rattle.trace_facts.proofs.CallPlaces.{valid_range}
 
--- a valid region from one word to another
-pub record IsValidRange (first last : ℕ) : Type 0 where
-  pub first_even : first % 2 ≡ 0
-  pub last_even : last % 2 ≡ 0
-  pub ordered : first ≤ last
-  pub place : ((0x200 ≤ first) × (last + 1 ≤ 0x21FF)) ⊎ ((0xC000 ≤ first) × (last + 1 ≤ 0xFFDF))
-  pub off_mac : (last + 1 < 0x200) ⊎ (0x21F < first)
-  pub off_metadata : (last + 1 < 0x240) ⊎ (0x269 < first)
-
-apart : (inner outer : Region) → is_disjoint inner outer ≡ true
-    → (inner.last < outer.first) ⊎ (outer.last < inner.first)
-apart inner outer disjoint =
-    elim (or_cases (nat_lt inner.last outer.first) (nat_lt outer.last inner.first) disjoint) [
-      | inl before ↦ inl (ltb-true inner.last outer.first before)
-      | inr after ↦ inr (ltb-true outer.last inner.first after)
-    ]
-
-pub valid_region-range : (first last : ℕ) → is_valid_region first last ≡ true
-    → IsValidRange first last
-valid_region-range first last valid =
-    let region : Region = unwrapped_region first last in
-    let range = valid_range first last valid in
-    let parts = and_parts (is_even first && is_even last && nat_le first last)
-    (is_free_region region) valid in
-    let order = and_parts (is_even first && is_even last) (nat_le first last) parts.0 in
-    let even = and_parts (is_even first) (is_even last) order.0 in
-    let free =
-    and_parts ((is_part_of region ram_region || is_part_of region program_region)
-    && is_disjoint region mac_region)
-    (is_disjoint region metadata_region) parts.1 in
-    let place = and_parts (is_part_of region ram_region || is_part_of region program_region)
-    (is_disjoint region mac_region) free.0 in
-    record {
-      first_even = eqb-true (first % 2) 0 even.0;
-      last_even = eqb-true (last % 2) 0 even.1;
-      ordered = range.0;
-      place = range.1;
-      off_mac = apart region mac_region place.1;
-      off_metadata = apart region metadata_region free.1;
-    }
-
--- of a place in one
+-- of a place in a valid region
 pub record IsFreePlace (place : ℕ) : Type 0 where
   pub unwritten : is_written_by_rom place ≡ false
   pub off_metadata : lies_in metadata_region place ≡ false
@@ -112,38 +69,14 @@ range-free first last place range above below =
           ];
     }
 
--- the two regions of valid bounds
-pub record AreValidRanges (bounds : Bounds) : Type 0 where
-  pub code : IsValidRange bounds.er_min bounds.er_max
-  pub output : IsValidRange bounds.or_min bounds.or_max
-
-pub are_valid-ranges : (bounds : Bounds) → are_valid bounds ≡ true → AreValidRanges bounds
-are_valid-ranges bounds valid =
-    let both = and_parts
-    (is_valid_region bounds.er_min bounds.er_max
-    && is_valid_region bounds.or_min bounds.or_max) _ valid in
-    let each = and_parts (is_valid_region bounds.er_min bounds.er_max)
-    (is_valid_region bounds.or_min bounds.or_max) both.0 in
-    record {
-      code = valid_region-range bounds.er_min bounds.er_max each.0;
-      output = valid_region-range bounds.or_min bounds.or_max each.1;
-    }
-
 -- a place of a region as the flag sees it
-unwrapped : (first last : ℕ) → IsValidRange first last → (last + 1) % 2 ^ 16 ≡ last + 1
-unwrapped first last range =
-    elim range.place [
-      | inl ram ↦ (let high = ram.1 in omega (arith, high))
-      | inr program ↦ (let high = program.1 in omega (arith, high))
-    ]
-
 pub words_region-free : (first last place : ℕ) → IsValidRange first last
     → lies_in (words_region first last) place ≡ true → IsFreePlace place
 words_region-free first last place range within =
     let parts = and_parts (nat_le first place) (nat_le place ((last + 1) % 2 ^ 16)) within in
     let above : first ≤ place = leb-true first place parts.0 in
     let wrapped : place ≤ (last + 1) % 2 ^ 16 = leb-true place ((last + 1) % 2 ^ 16) parts.1 in
-    let same : (last + 1) % 2 ^ 16 ≡ last + 1 = unwrapped first last range in
+    let same : (last + 1) % 2 ^ 16 ≡ last + 1 = omega (arith, range.fits) in
     range-free first last place range above (omega (arith, wrapped, same))
 
 clash : {test : Bool} → test ≡ true → test ≡ false → ⊥
@@ -168,12 +101,8 @@ none_elsewhere : (test other : ℕ → Bool) (places : List ℕ)
 none_elsewhere test other [] apart none = refl
 none_elsewhere test other (place ∷ places) apart none =
     let parts = or_parts (not (test place)) (list_any (λ p. not (test p)) places) none in
-    or_from (other place) (list_any other places) (apart place (holds (test place) parts.0))
+    or_from (other place) (list_any other places) (apart place (not-false (test place) parts.0))
     (none_elsewhere test other places apart parts.1)
-  where
-    holds : (b : Bool) → not b ≡ false → b ≡ true
-    holds true off = refl
-    holds false off = absurd (cc)
 
 pub writes_outside : (first last : ℕ) (access : Access) → IsValidRange first last
     → list_any (λ place. not (is_written_by_rom place)) (bytes_of access) ≡ false

@@ -18,12 +18,6 @@ are_bytes list bytes i =
     ]
 
 -- the bytes of a memory from a place upwards
-pub length-bytes_from : (bytes : ℕ → ℕ) (place count : ℕ)
-    → length (bytes_from bytes place count) ≡ count
-length-bytes_from bytes place zero = refl
-length-bytes_from bytes place (suc count) =
-    ap (λ (n : ℕ). suc n) (length-bytes_from bytes (place + 1) count)
-
 pub byte-bytes_from : (bytes : ℕ → ℕ) (place count i : ℕ) → i < count
     → slice_index (bytes_from bytes place count) i ≡ bytes (place + i)
 byte-bytes_from bytes place zero i within = absurd (omega (arith, within))

@@ -8,7 +8,8 @@ use Rattle.asm_bytes.specs.Value.{Scope}
 use Rattle.asm_bytes.specs.Statement.{size_of, bytes_of}
 use Rattle.asm_bytes.proofs.StatementSize.{bytes_have_their_size}
 use Rattle.msp_asm.specs.FirstPass.{at_line, first_fault, first_pass_fault, is_among, is_placed, scope_after}
-use Rattle.msp_asm.specs.SecondPass.{byte_at, byte_among, byte_placed, scope_among}
+use Rattle.mem_map.specs.PlacedBytes.{byte_among}
+use Rattle.msp_asm.specs.SecondPass.{given_byte, byte_placed, scope_among}
 use Rattle.msp_asm.proofs.LinesSoFar.{neither, no_fault_at}
 use Rattle.msp_asm.proofs.FreePlaces.{count_after, scope_text, are_free, apart}
 
@@ -20,26 +21,26 @@ first_among : (first count place : ℕ) → place ≡ first → is_among first (
 first_among first count place same = grind (arith, nat_tests)
 
 -- bytes are at none of the other places
-byte_at-apart : (first : ℕ) (bytes : List ℕ) (place : ℕ)
+byte_among-apart : (first : ℕ) (bytes : List ℕ) (place : ℕ)
     → is_among first (length bytes) place ≡ false
-    → byte_at first bytes place ≡ None
-byte_at-apart first [] place other = refl
-byte_at-apart first (byte ∷ bytes) place other =
+    → byte_among first bytes place ≡ None
+byte_among-apart first [] place other = refl
+byte_among-apart first (byte ∷ bytes) place other =
     elim (eqb_tells place first) [
       | inl same ↦
           let among = first_among first (length bytes) place same.1 in absurd cc
       | inr differs ↦
           rw differs.0
-          (byte_at-apart (first + 1) bytes place (apart_more first (length bytes) place other))
+          (byte_among-apart (first + 1) bytes place (apart_more first (length bytes) place other))
     ]
 
-byte_among-apart : (read : Result (List ℕ) FaultKind) (first count place : ℕ)
+given_byte-apart : (read : Result (List ℕ) FaultKind) (first count place : ℕ)
     → IfOk read (λ bytes. length bytes ≡ count)
     → is_among first count place ≡ false
-    → byte_among first read place ≡ None
-byte_among-apart (Ok bytes) first count place is other =
-    byte_at-apart first bytes place (ap (λ n. is_among first n place) is ∙ other)
-byte_among-apart (Err kind) first count place is other = refl
+    → given_byte first read place ≡ None
+given_byte-apart (Ok bytes) first count place is other =
+    byte_among-apart first bytes place (ap (λ n. is_among first n place) is ∙ other)
+given_byte-apart (Err kind) first count place is other = refl
 
 -- how many bytes a statement has, is known before all names are
 pub sized : (text : List ℕ) (all earlier : List Statement) (s : Statement)
@@ -71,7 +72,7 @@ stays text all (s ∷ later) earlier place none taken =
     free.free so_far.0 refl in (
       ap (λ among. among || is_placed text before place) other ∙ so_far.0,
       ap (λ byte. option_or byte (byte_placed text all before place))
-          (byte_among-apart (bytes_of (scope_among text all before) s.body) scope.here count place
+          (given_byte-apart (bytes_of (scope_among text all before) s.body) scope.here count place
           (sized text all before s) other)
           ∙ so_far.1,
     )

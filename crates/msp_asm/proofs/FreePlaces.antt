@@ -1,7 +1,8 @@
 -- The places of a statement without a fault are free.
-use Rattle.std.proofs.Common.{◌≡◌, ◌∙◌, ◌<◌, ◌≤◌, ◌+◌, ◌&&◌, ◌||◌, ◌==◌, ◌%◌, not, ℕ, zero, suc, ap, refl, List, [], ◌∷◌, Bool, true, false, Option, Some, None, inl, inr, arith, if◌then◌else◌}
+use Rattle.std.proofs.Common.{◌≡◌, ◌∙◌, ◌<◌, ◌≤◌, ◌+◌, ◌&&◌, ◌==◌, ◌%◌, not, ℕ, zero, suc, ap, refl, List, [], ◌∷◌, Bool, true, false, Option, Some, None, inl, inr, arith, if◌then◌else◌}
 use Rattle.std.specs.List.{list_all, list_any}
 use Rattle.std.specs.Option.{option_or}
+use Rattle.std.proofs.lemmas.Bool.{and_parts, and_from, or_parts, not-true, not_from_false}
 use Rattle.std.proofs.lemmas.Bool.Decides.{eqb_tells, nat_tests}
 use Rattle.part_definitions.specs.Memory.{is_image_place}
 use Rattle.text_scan.specs.declared.fault_kind.FaultKind.{FaultKind}
@@ -58,14 +59,6 @@ are_free text earlier s none =
     (place_fault (is_placed text earlier) scope s.body) none)) in
     record { placed = both.0; free = both.1 }
 
-both_hold : (a b : Bool) → (a && b) ≡ true → (a ≡ true) × (b ≡ true)
-both_hold true b both = (refl, both)
-both_hold false b both = absurd cc
-
-none_holds : (a b : Bool) → (a || b) ≡ false → (a ≡ false) × (b ≡ false)
-none_holds true b none = absurd cc
-none_holds false b none = (refl, none)
-
 pub all_among : (test : ℕ → Bool) (first count place : ℕ)
     → list_all test (places_from first count) ≡ true
     → first ≤ place
@@ -73,26 +66,30 @@ pub all_among : (test : ℕ → Bool) (first count place : ℕ)
     → test place ≡ true
 all_among test first zero place all from below = absurd (omega arith)
 all_among test first (suc count) place all from below =
-    let both = both_hold (test first) (list_all test (places_from (first + 1) count)) all in
+    let both = and_parts (test first) (list_all test (places_from (first + 1) count)) all in
     elim (eqb_tells place first) [
       | inl same ↦ ap test same.1 ∙ both.0
       | inr other ↦
           all_among test (first + 1) count place both.1 (omega (arith, other.1)) (omega arith)
     ]
 
+none_all : (test : ℕ → Bool) (places : List ℕ) → list_any test places ≡ false
+    → list_all (λ place. not (test place)) places ≡ true
+none_all test [] none = refl
+none_all test (place ∷ places) none =
+    let both = or_parts (test place) (list_any test places) none in
+    and_from (not (test place)) (list_all (λ p. not (test p)) places)
+    (not_from_false (test place) both.0) (none_all test places both.1)
+
 none_among : (test : ℕ → Bool) (first count place : ℕ)
     → list_any test (places_from first count) ≡ false
     → first ≤ place
     → place < first + count
     → test place ≡ false
-none_among test first zero place none from below = absurd (omega arith)
-none_among test first (suc count) place none from below =
-    let both = none_holds (test first) (list_any test (places_from (first + 1) count)) none in
-    elim (eqb_tells place first) [
-      | inl same ↦ ap test same.1 ∙ both.0
-      | inr other ↦
-          none_among test (first + 1) count place both.1 (omega (arith, other.1)) (omega arith)
-    ]
+none_among test first count place none from below =
+    not-true (test place)
+    (all_among (λ p. not (test p)) first count place (none_all test (places_from first count) none)
+    from below)
 
 among_from : (first count place : ℕ) → is_among first count place ≡ true → first ≤ place
 among_from first count place among = grind (arith, nat_tests)

@@ -1,5 +1,6 @@
 -- Places that are taken one after the other.
 use Rattle.std.proofs.Common.{◌≡◌, ◌<◌, ◌+◌, ◌-◌, ℕ, zero, suc, sym, ap, ◌∙◌, Bool, true, false, ◌&&◌, ◌||◌, [], ◌∷◌, refl, arith, ◌==◌}
+use Rattle.std.proofs.Math.Bool.{or_assoc}
 use Rattle.std.specs.List.{list_all, list_any}
 use Rattle.msp_asm.specs.FirstPass.{places_from, is_among}
 
@@ -33,17 +34,14 @@ all_fails test all next count done below far fails =
     far ∙ ap (list_all test) (left_next next count done below)
     ∙ ap (λ b. b && list_all test (places_from (next + 1) (count - (done + 1)))) fails
 
-or_assoc : (a b c : Bool) → (a || (b || c)) ≡ ((a || b) || c)
-or_assoc true b c = refl
-or_assoc false b c = refl
-
 pub any_next : (test : ℕ → Bool) (all so_far was : Bool) (next count done : ℕ) → done < count
     → all ≡ (so_far || list_any test (places_from next (count - done)))
     → was ≡ test next
     → all ≡ ((so_far || was) || list_any test (places_from (next + 1) (count - (done + 1))))
 any_next test all so_far was next count done below far is =
     far ∙ ap (λ places. so_far || list_any test places) (left_next next count done below)
-    ∙ or_assoc so_far (test next) (list_any test (places_from (next + 1) (count - (done + 1))))
+    ∙ sym (or_assoc so_far (test next)
+    (list_any test (places_from (next + 1) (count - (done + 1)))))
     ∙ ap (λ b. (so_far || b) || list_any test (places_from (next + 1) (count - (done + 1))))
     (sym is)
 
@@ -66,7 +64,7 @@ pub taken_next : (taken old : ℕ → Bool) (new : Bool) (first done next place 
     → new ≡ (is_among first (done + 1) place || old place)
 taken_next taken old new first done next place is before after =
     after ∙ ap (λ b. (place == next) || b) before
-    ∙ or_assoc (place == next) (is_among first done place) (old place)
+    ∙ sym (or_assoc (place == next) (is_among first done place) (old place))
     ∙ ap (λ b. b || old place) (sym (among_next first done next place is))
 
 pub before_next : (taken old : ℕ → Bool) (was : Bool) (first done next : ℕ)

@@ -1,5 +1,5 @@
 -- One statement more in the second pass, and the end of it.
-use Rattle.std.proofs.Common.{◌≡◌, ◌∙◌, ℕ, ℤ, ap, sym, refl, List, ◌∷◌, reverse, Option, Some, None, Result, Ok, Err, IfOk, IsTrue, Bool, true, false, cond}
+use Rattle.std.proofs.Common.{◌≡◌, ◌∙◌, ◌<◌, ℕ, ℤ, ap, sym, refl, List, ◌∷◌, length, reverse, slice_index, take, Option, Some, None, Result, Ok, Err, IfOk, IsTrue, Bool, true, false, cond}
 use Rattle.std.specs.Option.{option_or}
 use Rattle.part_definitions.specs.Memory.{is_image_place}
 use Rattle.text_scan.specs.declared.text_fault.TextFault.{TextFault}
@@ -10,12 +10,14 @@ use Rattle.mem_map.specs.declared.image.Image.{Image}
 use Rattle.mem_map.specs.Image.{byte_in}
 use Rattle.mem_map.specs.ImagePlace.{IsImage}
 use Rattle.asm_bytes.specs.Value.{Scope}
+use Rattle.asm_bytes.specs.Names.{value_in}
 use Rattle.asm_bytes.specs.Statement.{bytes_of}
-use Rattle.msp_asm.specs.FirstPass.{first_fault, first_pass_fault}
-use Rattle.msp_asm.specs.SecondPass.{byte_among, byte_placed, scope_among, second_pass_fault, byte_of_image, image_or_fault, image_of}
-use Rattle.msp_asm.specs.Assembly.{AnswersAt, image_in}
+use Rattle.msp_asm.specs.declared.assembly.Layout.{Layout}
+use Rattle.msp_asm.specs.FirstPass.{first_fault, first_pass_fault, scope_after}
+use Rattle.msp_asm.specs.SecondPass.{given_byte, byte_placed, scope_among, second_pass_fault, byte_of_image, image_or_fault, image_of}
+use Rattle.msp_asm.specs.Assembly.{AnswersAt, LayoutStandsFor, image_in}
 
-pub same_scope : (text : List ℕ) (names other : List ℕ → Option ℤ) (here there : ℕ)
+same_scope : (text : List ℕ) (names other : List ℕ → Option ℤ) (here there : ℕ)
     → names ≡ other
     → here ≡ there
     → ◌≡◌ {A = Scope} (record { text = text; names = names; here = here })
@@ -24,18 +26,35 @@ same_scope text names other here there named placed =
     ap (λ (f : List ℕ → Option ℤ). record { text = text; names = f; here = here }) named
     ∙ ap (λ (n : ℕ). record { text = text; names = other; here = n }) placed
 
+-- what a statement is read in, by the layout
+pub layout-scope : (layout : Layout) (text : List ℕ) (statements : List Statement) (i : ℕ)
+    (scope : Scope)
+    → LayoutStandsFor layout text statements
+    → i < length statements
+    → scope ≡ record {
+      text = text;
+      names = value_in layout.names;
+      here = slice_index layout.places.items i;
+    }
+    → scope ≡ scope_among text (reverse statements) (reverse (take i statements))
+layout-scope layout text statements i scope stands below is =
+    is
+    ∙ same_scope text (value_in layout.names) (scope_after text (reverse statements)).names
+    (slice_index layout.places.items i) (scope_after text (reverse (take i statements))).here
+    stands.names (stands.places i below)
+
 -- the byte at a place with one statement more
 pub placed_more : (text : List ℕ) (all earlier : List Statement) (s : Statement) (scope : Scope)
     (old new : ℕ → Option ℕ) (place : ℕ)
     → scope ≡ scope_among text all earlier
     → old place ≡ byte_placed text all earlier place
-    → new place ≡ option_or (byte_among scope.here (bytes_of scope s.body) place) (old place)
+    → new place ≡ option_or (given_byte scope.here (bytes_of scope s.body) place) (old place)
     → new place ≡ byte_placed text all (s ∷ earlier) place
 unfolding byte_placed
 placed_more text all earlier s scope old new place is before after =
     after
-    ∙ ap (λ (it : Scope). option_or (byte_among it.here (bytes_of it s.body) place) (old place)) is
-    ∙ ap (option_or (byte_among (scope_among text all earlier).here
+    ∙ ap (λ (it : Scope). option_or (given_byte it.here (bytes_of it s.body) place) (old place)) is
+    ∙ ap (option_or (given_byte (scope_among text all earlier).here
     (bytes_of (scope_among text all earlier) s.body) place)) before
 
 -- an image has no byte where it may hold none

@@ -23,23 +23,25 @@ use Rattle.mem_map.specs.declared.image.Image.{Image}
 use Rattle.mem_map.specs.Image.{byte_in}
 use Rattle.msp_asm.specs.Assembly.{image_in}
 use Rattle.msp_asm.specs.FirstPass.{first_fault, first_pass_fault, is_placed, scope_after}
-use Rattle.msp_asm.specs.SecondPass.{byte_at, byte_among, byte_placed, byte_of_image, fault_of, image_or_fault, image_of, scope_among, second_pass_fault}
+use Rattle.mem_map.specs.PlacedBytes.{byte_among}
+use Rattle.msp_asm.specs.SecondPass.{given_byte, byte_placed, byte_of_image, fault_of, image_or_fault, image_of, scope_among, second_pass_fault}
 use Rattle.msp_asm.specs.Source.{source_image}
 use Rattle.msp_asm.specs.Standing.{HasBytes, HasBytesOf, HasInstruction, HasInstructionOf, OfEachStatement}
 use Rattle.msp_asm.proofs.LinesSoFar.{neither, no_fault_at}
 use Rattle.msp_asm.proofs.FreePlaces.{count_after, are_free, all_among, among_between}
 use Rattle.msp_asm.proofs.BytesStay.{sized, stays}
 
-byte_at-next : (first byte : ℕ) (bytes : List ℕ) (place : ℕ) → first + 1 ≤ place
-    → byte_at first (byte ∷ bytes) place ≡ byte_at (first + 1) bytes place
-byte_at-next first byte bytes place after =
+byte_among-next : (first byte : ℕ) (bytes : List ℕ) (place : ℕ) → first + 1 ≤ place
+    → byte_among first (byte ∷ bytes) place ≡ byte_among (first + 1) bytes place
+byte_among-next first byte bytes place after =
     elim (eqb_tells place first) [
       | inl same ↦ absurd (omega (arith, same.1))
       | inr other ↦ rw other.0 refl
     ]
 
-byte_at-first : (first byte : ℕ) (bytes : List ℕ) → byte_at first (byte ∷ bytes) first ≡ Some byte
-byte_at-first first byte bytes =
+byte_among-first : (first byte : ℕ) (bytes : List ℕ)
+    → byte_among first (byte ∷ bytes) first ≡ Some byte
+byte_among-first first byte bytes =
     elim (eqb_tells first first) [
       | inl same ↦ rw same.0 refl
       | inr other ↦ absurd (other.1 refl)
@@ -48,15 +50,15 @@ byte_at-first first byte bytes =
 -- bytes that an image has at their places stand in it
 has_bytes : (image other : ℕ → Option ℕ) (first : ℕ) (bytes : List ℕ)
     → ((place : ℕ) → first ≤ place → place < first + length bytes
-    → image place ≡ option_or (byte_at first bytes place) (other place))
+    → image place ≡ option_or (byte_among first bytes place) (other place))
     → HasBytes image first bytes
 has_bytes image other first [] placed = tt
 has_bytes image other first (byte ∷ bytes) placed = (
   placed first (omega arith) (omega arith)
-      ∙ ap (λ found. option_or found (other first)) (byte_at-first first byte bytes),
+      ∙ ap (λ found. option_or found (other first)) (byte_among-first first byte bytes),
   has_bytes image other (first + 1) bytes (λ place from below.
       placed place (omega arith) (omega arith)
-      ∙ ap (λ found. option_or found (other place)) (byte_at-next first byte bytes place from)),
+      ∙ ap (λ found. option_or found (other place)) (byte_among-next first byte bytes place from)),
 )
 
 -- the bytes of a statement among others
@@ -84,7 +86,7 @@ stand_among text all later earlier s image (Ok bytes) is sound none placed =
     in
     placed place (all_among is_image_place here count place free.placed from within)
     ∙ (stays text all later (s ∷ earlier) place none taken).1
-    ∙ ap (λ found. option_or (byte_among here found place) (byte_placed text all earlier place)) is)
+    ∙ ap (λ found. option_or (given_byte here found place) (byte_placed text all earlier place)) is)
 
 -- an image that was made, and nothing was at fault
 made : (fault : Option FaultAt) (bytes image : ℕ → Option ℕ) → image_or_fault fault bytes ≡ Ok image

@@ -1,8 +1,9 @@
 -- The second pass: the bytes. Lists of statements have the newest first.
-use Rattle.std.specs.Prelude.{◌+◌, ◌==◌, ℕ, List, [], ◌∷◌, reverse, if◌then◌else◌, Option, Some, None, Result, Ok, Err}
+use Rattle.std.specs.Prelude.{ℕ, List, [], ◌∷◌, reverse, if◌then◌else◌, Option, Some, None, Result, Ok, Err}
 use Rattle.std.specs.Option.{option_or}
 use Rattle.std.specs.Result.{result_err}
 use Rattle.part_definitions.specs.Memory.{is_image_place}
+use Rattle.mem_map.specs.PlacedBytes.{byte_among}
 use Rattle.text_scan.specs.declared.fault_at.FaultAt.{FaultAt}
 use Rattle.text_scan.specs.declared.fault_kind.FaultKind.{FaultKind}
 use Rattle.asm_text.specs.declared.statement.Statement.{Statement}
@@ -25,22 +26,17 @@ abbrev pub second_pass_fault : List ℕ → List Statement → List Statement �
 second_pass_fault text all earlier statement =
     result_err (bytes_of (scope_among text all earlier) statement.body)
 
--- which of these bytes, from the first place upwards, is at a place
-abbrev pub byte_at : ℕ → List ℕ → ℕ → Option ℕ
-byte_at first [] place = None
-byte_at first (byte ∷ bytes) place =
-    if place == first then Some byte else byte_at (first + 1) bytes place
-
-abbrev pub byte_among : ℕ → Result (List ℕ) FaultKind → ℕ → Option ℕ
-byte_among first (Ok bytes) place = byte_at first bytes place
-byte_among first (Err kind) place = None
+-- which of the bytes that a statement gives, if it has no fault
+abbrev pub given_byte : ℕ → Result (List ℕ) FaultKind → ℕ → Option ℕ
+given_byte first (Ok bytes) place = byte_among first bytes place
+given_byte first (Err kind) place = None
 
 -- the byte at a place is the one that the statement at that place gives
 unfoldable pub byte_placed : List ℕ → List Statement → List Statement → ℕ → Option ℕ
 byte_placed text all [] place = None
 byte_placed text all (statement ∷ earlier) place =
     let scope = scope_among text all earlier in
-    option_or (byte_among scope.here (bytes_of scope statement.body) place)
+    option_or (given_byte scope.here (bytes_of scope statement.body) place)
     (byte_placed text all earlier place)
 
 -- the first fault of a source's statements: of the first pass, and then of the second

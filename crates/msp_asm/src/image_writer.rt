@@ -2,7 +2,7 @@ ghost use Rattle.std.specs.Prelude.{◌≡◌, ◌==◌, ◌&&◌, ◌<◌, ◌+
 ghost use Rattle.std.specs.Option.{option_or};
 ghost use Rattle.part_definitions.specs.Memory.{is_image_place};
 ghost use Rattle.mem_map.specs.Image.{byte_in};
-ghost use Rattle.msp_asm.specs.SecondPass.{byte_at};
+ghost use Rattle.mem_map.specs.PlacedBytes.{byte_among};
 
 use mem_map::Image;
 
@@ -22,7 +22,7 @@ fn place_byte(image: &mut Image, place: u64, byte: u8)
 pub fn place_bytes(image: &mut Image, first: u32, bytes: &[u8])
     ensures { (place : ℕ) → IsTrue (is_image_place place)
         → byte_in image.new place
-        ≡ option_or (byte_at first bytes.now place) (byte_in image.old place) }
+        ≡ option_or (byte_among first bytes.now place) (byte_in image.old place) }
 {
     let mut place = u64::from(first);
     for byte in bytes {

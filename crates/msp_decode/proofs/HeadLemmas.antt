@@ -1,5 +1,5 @@
 -- The head that is computed from a word is the one that the word spells.
-use Rattle.std.proofs.Common.{◌≡◌, ℕ, ◌<◌, ◌≤◌, ◌/◌, ◌%◌, ◌^◌, ◌==◌, ◌&&◌, ◌||◌, ◌↔◌, ℤ, Bool, true, false, not, nat_lt, refl, ap, sym, ◌∙◌, subst, arith, Option, Some, None, if◌then◌else◌}
+use Rattle.std.proofs.Common.{◌≡◌, ℕ, ◌<◌, ◌≤◌, ◌/◌, ◌%◌, ◌^◌, ◌↔◌, ℤ, Bool, true, false, refl, ap, sym, ◌∙◌, subst, arith, Option, Some, None, if◌then◌else◌}
 use Rattle.std.specs.Prelude.{IsTrue}
 use Rattle.std.proofs.lemmas.Bool.Decides.{nat_tests}
 use Rattle.word_arith.specs.declared.size.Size.{Size}
@@ -11,8 +11,7 @@ use Rattle.msp_decode.specs.declared.dest_form.DestForm.{DestForm}
 use Rattle.msp_decode.specs.declared.head.Head.{Head}
 use Rattle.msp_decode.specs.declared.head.Head.TheVariants.{Two, One as OneOperand, Reti, Jump}
 use Rattle.msp_decode.specs.Table.{op2_number, one_number, cond_number, size_number, source_mode, source_register, dest_mode, dest_register, offset_number}
-use Rattle.msp_decode.specs.Field.{op2_of, one_of, cond_of, size_of, source_of, dest_of, offset_of}
-use Rattle.msp_decode.specs.Spelling.{has_form, has_range, has_size, takes_write, writes_operand, is_legal, word_of, Spells}
+use Rattle.msp_decode.specs.Spelling.{has_form, has_range, is_legal, word_of, Spells}
 use Rattle.msp_decode.specs.Head.{if_legal, one_head, two_head, jump_head, head_of}
 use Rattle.msp_decode.specs.Law.{HeadsAreSpelled}
 use Rattle.msp_decode.proofs.WordRange.{by_range}
@@ -22,42 +21,31 @@ use Rattle.msp_decode.proofs.TableLemmas.{op2_number-op2_of, op2_of-op2_number, 
 two_spelled : (word : ℕ) → 0x4000 ≤ word → word < 0x10000 → Spells word (two_head word)
 two_spelled word least fits = (
   has_form-source_of (word / 0x10 % 4) (word / 0x100 % 16) (omega arith),
-  (let op : op2_number (op2_of (word / 0x1000)) ≡ word / 0x1000 = op2_number-op2_of (word / 0x1000)
-      (omega arith) (omega arith) in
-      let size : size_number (size_of (word / 0x40 % 2)) ≡ word / 0x40 % 2 =
-      size_number-size_of (word / 0x40 % 2) (omega arith) in
-      let mode : source_mode (source_of (word / 0x10 % 4) (word / 0x100 % 16)) ≡ word / 0x10 % 4 =
-      source_mode-source_of (word / 0x10 % 4) (word / 0x100 % 16) (omega arith) in
-      let register : source_register (source_of (word / 0x10 % 4) (word / 0x100 % 16))
-      ≡ word / 0x100 % 16 =
-      source_register-source_of (word / 0x10 % 4) (word / 0x100 % 16) (omega arith) in
-      let dest : dest_mode (dest_of (word / 0x80 % 2) (word % 16)) ≡ word / 0x80 % 2 =
-      dest_mode-dest_of (word / 0x80 % 2) (word % 16) (omega arith) in
-      let last : dest_register (dest_of (word / 0x80 % 2) (word % 16)) ≡ word % 16 =
-      dest_register-dest_of (word / 0x80 % 2) (word % 16) (omega arith) in
-      rw (op, size, mode, register, dest, last) (omega arith)),
+  grind (
+    arith,
+    op2_number-op2_of,
+    size_number-size_of,
+    source_mode-source_of,
+    source_register-source_of,
+    dest_mode-dest_of,
+    dest_register-dest_of,
+  ),
 )
 
 one_is : (word : ℕ) → 0x1000 ≤ word → word < 0x1300 → word ≡ word_of (one_head word)
 one_is word least fits =
-    let op : one_number (one_of (word / 0x80 % 8)) ≡ word / 0x80 % 8 =
-    one_number-one_of (word / 0x80 % 8) (omega arith) in
-    let size : size_number (size_of (word / 0x40 % 2)) ≡ word / 0x40 % 2 =
-    size_number-size_of (word / 0x40 % 2) (omega arith) in
-    let mode : source_mode (source_of (word / 0x10 % 4) (word % 16)) ≡ word / 0x10 % 4 =
-    source_mode-source_of (word / 0x10 % 4) (word % 16) (omega arith) in
-    let register : source_register (source_of (word / 0x10 % 4) (word % 16)) ≡ word % 16 =
-    source_register-source_of (word / 0x10 % 4) (word % 16) (omega arith) in
-    rw (op, size, mode, register) (omega arith)
+    grind (
+      arith,
+      one_number-one_of,
+      size_number-size_of,
+      source_mode-source_of,
+      source_register-source_of,
+    )
 
 jump_spelled : (word : ℕ) → 0x2000 ≤ word → word < 0x4000 → Spells word (jump_head word)
 jump_spelled word least fits = (
   has_range-offset_of (word % 0x400) (omega arith),
-  (let condition : cond_number (cond_of (word / 0x400 % 8))
-      ≡ word / 0x400 % 8 = cond_number-cond_of (word / 0x400 % 8) (omega arith) in
-      let offset : offset_number (offset_of (word % 0x400)) ≡ word % 0x400 =
-      offset_number-offset_of (word % 0x400) (omega arith) in
-      rw (condition, offset) (omega arith)),
+  grind (arith, cond_number-cond_of, offset_number-offset_of),
 )
 
 -- the head that is read from the word of a head is that head
@@ -130,47 +118,26 @@ pub head_of-reti : head_of 0x1300 ≡ Some Reti
 unfolding head_of
 head_of-reti = refl
 
-below : (word bound : ℕ) → word < bound → nat_lt word bound ≡ true
-below word bound fits = grind (arith, nat_tests)
-
-not_below : (word bound : ℕ) → bound ≤ word → nat_lt word bound ≡ false
-not_below word bound fits = grind (arith, nat_tests)
-
-differs : (word other : ℕ) → other < word → (word == other) ≡ false
-differs word other above = grind (arith, nat_tests)
-
 pub head_of-low : (word : ℕ) → word < 0x1000 → head_of word ≡ None
 unfolding head_of
-head_of-low word fits = rw (below word 0x1000 fits) refl
+head_of-low word fits = grind (arith, nat_tests)
 
 pub head_of-one : (word : ℕ) → 0x1000 ≤ word → word < 0x1300
     → head_of word ≡ if_legal (one_head word)
 unfolding head_of
-head_of-one word least fits = rw (not_below word 0x1000 least, below word 0x1300 fits) refl
-
--- a word above 1300 is read by the rest of the table
-head_of-above : (word : ℕ) → 0x1300 < word
-    → head_of word
-    ≡ (if nat_lt word 0x2000 then None
-    else if nat_lt word 0x4000 then Some (jump_head word)
-    else Some (two_head word))
-unfolding head_of
-head_of-above word above =
-    let low : nat_lt word 0x1000 ≡ false = not_below word 0x1000 (omega arith) in
-    let one : nat_lt word 0x1300 ≡ false = not_below word 0x1300 (omega arith) in
-    rw (low, one, differs word 0x1300 above) refl
+head_of-one word least fits = grind (arith, nat_tests)
 
 pub head_of-gap : (word : ℕ) → 0x1300 < word → word < 0x2000 → head_of word ≡ None
-head_of-gap word above fits = rw (head_of-above word above, below word 0x2000 fits) refl
+unfolding head_of
+head_of-gap word above fits = grind (arith, nat_tests)
 
 pub head_of-jump : (word : ℕ) → 0x2000 ≤ word → word < 0x4000 → head_of word ≡ Some (jump_head word)
-head_of-jump word least fits =
-    rw (head_of-above word (omega arith), not_below word 0x2000 least, below word 0x4000 fits) refl
+unfolding head_of
+head_of-jump word least fits = grind (arith, nat_tests)
 
 pub head_of-two : (word : ℕ) → 0x4000 ≤ word → head_of word ≡ Some (two_head word)
-head_of-two word least =
-    let gap : nat_lt word 0x2000 ≡ false = not_below word 0x2000 (omega arith) in
-    rw (head_of-above word (omega arith), gap, not_below word 0x4000 least) refl
+unfolding head_of
+head_of-two word least = grind (arith, nat_tests)
 
 -- a head is given exactly where it is legal
 some_if : (test : Bool) (candidate head : Head)
@@ -184,8 +151,7 @@ if_legal-legal head legal = rw legal refl
 one_spelled : (word : ℕ) (head : Head) → 0x1000 ≤ word → word < 0x1300
     → if_legal (one_head word) ≡ Some head → Spells word head
 one_spelled word head least fits is =
-    let found : IsTrue (is_legal (one_head word)) × (one_head word ≡ head) =
-    some_if (is_legal (one_head word)) (one_head word) head is in
+    let found = some_if (is_legal (one_head word)) (one_head word) head is in
     subst (λ (h : Head). Spells word h) (found.1) (found.0, one_is word least fits)
 
 -- a word that gives no head gives no other
@@ -216,10 +182,6 @@ head_sound word head fits is =
     (λ least. read_as word (two_head word) head (head_of-two word least) is
     (two_spelled word least (omega arith)))
 
-and-left : (a b c : Bool) → IsTrue (a && b && c) → IsTrue a
-and-left true b c all = refl
-and-left false b c all = grind arith
-
 pub head_complete : (word : ℕ) (head : Head) → word < 2 ^ 16 → Spells word head
     → head_of word ≡ Some head
 head_complete word (Two op size source dest) fits spelled =
@@ -232,9 +194,7 @@ head_complete word (OneOperand op size source) fits spelled =
     let mode_fits = source_mode-lt source in
     let register_fits = source_register-lt source in
     let is : word ≡ word_of (OneOperand op size source) = spelled.1 in
-    let formed : IsTrue (has_form source) =
-    and-left (has_form source) (has_size op size)
-    (takes_write source || not (writes_operand op)) (spelled.0) in
+    let formed : IsTrue (has_form source) = grind (arith, spelled.0) in
     head_of-one word (omega (arith, is)) (omega (arith, is))
     ∙ ap if_legal (one_read op size source word formed is)
     ∙ if_legal-legal (OneOperand op size source) (spelled.0)

@@ -105,16 +105,7 @@ fields_illegal op bit mode register mode_fits illegal =
 -- what is illegal below 1300 has such fields
 word_fields : (word : ℕ) → 0x1000 ≤ word → word < 0x1300 → IsIllegalWord word
     → AreIllegal (word / 0x80 % 8) (word / 0x40 % 2) (word / 0x10 % 4) (word % 16)
-word_fields word least fits illegal = elim illegal [
-  | inl low ↦ absurd (omega (arith, low))
-  | inr others ↦ elim others [
-    | inl gap ↦ absurd (omega (arith, gap.0))
-    | inr fields ↦ elim fields [
-      | inl byte ↦ inl (byte.2)
-      | inr operand ↦ inr (omega (arith, operand.1), operand.2)
-    ]
-  ]
-]
+word_fields word least fits illegal = grind arith
 
 -- below 1300 a word gives no head exactly where it is illegal
 pub one_illegal : (word : ℕ) → 0x1000 ≤ word → word < 0x1300

@@ -9,9 +9,8 @@ use Rattle.text_scan.specs.declared.fault_kind.FaultKind.{FaultKind}
 use Rattle.text_scan.specs.declared.fault_kind.FaultKind.TheVariants.{Order}
 use Rattle.text_scan.specs.Line.{lines_of}
 use Rattle.text_scan.specs.Reader.{◌>>=◌, in_line}
-use Rattle.text_scan.specs.Utf8.{utf8_of}
 use Rattle.text_scan.specs.Word.{is_passed_over}
-use Rattle.text_scan.proofs.TextUtf8.{utf8_of-whole}
+use Rattle.text_scan.proofs.WholeText.{text_read, text_refused, later_read, later_fault}
 use Rattle.play_script.specs.Grammar.{entry_of, in_order, timed_events, script_lines, script_of}
 use Rattle.play_script.specs.Meaning.{Entry, entry_in, IsScript, IsFaultAfter, IsFaultOf}
 use Rattle.play_script.specs.Script.{TimedEvent}
@@ -23,20 +22,38 @@ says line = not (is_passed_over line.1)
 abbrev then_later : List (ℕ × List ℕ) → Entry → Result (List TimedEvent) FaultAt
 then_later lines entry = script_lines entry.0 lines >>= (λ later. Ok (timed_events entry ++ later))
 
--- lines that were read, with steps from `greatest` on
+-- entries of lines, with steps from `greatest` on
 
-record ReadFrom (greatest : ℕ) (lines : List (ℕ × List ℕ)) (script : List TimedEvent) : Type 0 where
-  entries : List Entry
+record AreAscending (greatest : ℕ) (lines : List (ℕ × List ℕ)) (entries : List Entry) : Type 0 where
   each : map entry_in lines ≡ map Ok entries
   above : All (λ entry. greatest ≤ entry.0) entries
   ascending : AllPairs (λ earlier later. earlier.0 ≤ later.0) entries
-  events : script ≡ flat_map timed_events entries
 
-read_later : (entry : Entry) (later : Result (List TimedEvent) FaultAt) (script : List TimedEvent)
-    → (later >>= (λ events. Ok (timed_events entry ++ events))) ≡ Ok script
-    → (events : List TimedEvent) × (later ≡ Ok events) × (script ≡ timed_events entry ++ events)
-read_later entry (Ok events) script h = (events, refl, cc h)
-read_later entry (Err fault) script h = cc h
+ascending-none : (greatest : ℕ) → AreAscending greatest [] []
+ascending-none greatest = record {
+  each = refl;
+  above = All-nil (λ e. greatest ≤ e.0);
+  ascending = λ i j d order below. absurd (omega arith);
+}
+
+ascending-first : (greatest : ℕ) (line : ℕ × List ℕ) (lines : List (ℕ × List ℕ)) (entry : Entry)
+    (entries : List Entry)
+    → entry_in line ≡ Ok entry → greatest ≤ entry.0 → AreAscending entry.0 lines entries
+    → AreAscending greatest (line ∷ lines) (entry ∷ entries)
+ascending-first greatest line lines entry entries is order rest = record {
+  each = cc (is, rest.each);
+  above = All-cons (λ e. greatest ≤ e.0) entry entries order
+      (λ k d h. omega (arith, rest.above k d h, order));
+  ascending = AllPairs-cons (λ earlier later. earlier.0 ≤ later.0) entry entries rest.above
+      rest.ascending;
+}
+
+-- lines that were read
+
+record ReadFrom (greatest : ℕ) (lines : List (ℕ × List ℕ)) (script : List TimedEvent) : Type 0 where
+  entries : List Entry
+  ordered : AreAscending greatest lines entries
+  events : script ≡ flat_map timed_events entries
 
 order_kept : (greatest number : ℕ) (entry : Entry) (below : Bool)
     (next : Entry → Result (List TimedEvent) FaultAt) (script : List TimedEvent)
@@ -63,11 +80,7 @@ read_first : (greatest : ℕ) (line : ℕ × List ℕ) (lines : List (ℕ × Lis
     → ReadFrom greatest (line ∷ lines) script
 read_first greatest line lines entry later script is order rest same = record {
   entries = entry ∷ rest.entries;
-  each = cc (is, rest.each);
-  above = All-cons (λ e. greatest ≤ e.0) entry rest.entries order
-      (λ k d h. omega (arith, rest.above k d h, order));
-  ascending = AllPairs-cons (λ earlier later. earlier.0 ≤ later.0) entry rest.entries rest.above
-      rest.ascending;
+  ordered = ascending-first greatest line lines entry rest.entries is order rest.ordered;
   events = same ∙ ap (λ (events : List TimedEvent). timed_events entry ++ events) rest.events;
 }
 
@@ -82,42 +95,33 @@ read_line : (greatest : ℕ) (line : ℕ × List ℕ) (lines : List (ℕ × List
 read_line greatest line lines script true is later h = rw is (later greatest script h)
 read_line greatest line lines script false is later h =
     let entry = read_entry greatest line (then_later lines) script (entry_in line) refl h in
-    let rest = read_later entry.0 (script_lines entry.0.0 lines) script entry.3 in
+    let rest = later_read (λ events. timed_events entry.0 ++ events)
+    (script_lines entry.0.0 lines) script entry.3 in
     rw is (read_first greatest line (filter says lines) entry.0 rest.0 script entry.1 entry.2
     (later entry.0.0 rest.0 rest.1) rest.2)
 
 read_lines : (greatest : ℕ) (lines : List (ℕ × List ℕ)) (script : List TimedEvent)
     → script_lines greatest lines ≡ Ok script → ReadFrom greatest (filter says lines) script
 unfolding script_lines
-read_lines greatest [] script h = record {
-  entries = [];
-  each = refl;
-  above = All-nil (λ e. greatest ≤ e.0);
-  ascending = λ i j d order below. absurd (omega arith);
-  events = cc h;
-}
+read_lines greatest [] script h =
+    record { entries = []; ordered = ascending-none greatest; events = cc h }
 read_lines greatest (line ∷ lines) script h =
     read_line greatest line lines script (is_passed_over line.1) refl
     (λ from events same. read_lines from lines events same) h
 
 -- a text that is read is a script
 
-read_text : (text : List ℕ) (script : List TimedEvent) (sound : Result Unit FaultAt) → utf8_of text
-    ≡ sound
-    → (sound >>= (λ _. script_lines 0 (lines_of text))) ≡ Ok script → IsScript text script
-read_text text script (Err fault) is h = cc h
-read_text text script (Ok u) is h =
-    let read = read_lines 0 (lines_of text) script h in record {
-      utf8 = (utf8_of-whole text).0 is;
-      entries = read.entries;
-      lines = record { each = read.each; ascending = read.ascending };
-      events = read.events;
-    }
-
 pub script_of-lines : (text : List ℕ) (script : List TimedEvent) → script_of text ≡ Ok script
     → IsScript text script
 unfolding script_of
-script_of-lines text script h = read_text text script (utf8_of text) refl h
+script_of-lines text script h =
+    let sound = text_read text (script_lines 0 (lines_of text)) script h in
+    let read = read_lines 0 (lines_of text) script sound.1 in record {
+      utf8 = sound.0;
+      entries = read.entries;
+      lines = record { each = read.ordered.each; ascending = read.ordered.ascending };
+      events = read.events;
+    }
 
 -- the first faulty line, where steps go on from `greatest`
 
@@ -132,9 +136,7 @@ record FaultFrom (greatest : ℕ) (lines : List (ℕ × List ℕ)) (fault : Faul
   after : List (ℕ × List ℕ)
   cut : lines ≡ before ++ line ∷ after
   entries : List Entry
-  each : map entry_in before ≡ map Ok entries
-  above : All (λ entry. greatest ≤ entry.0) entries
-  ascending : AllPairs (λ earlier later. earlier.0 ≤ later.0) entries
+  ordered : AreAscending greatest before entries
   number : fault.line ≡ line.0
   kind : IsFaultFrom greatest entries (entry_in line) fault.kind
 
@@ -147,9 +149,7 @@ fault_here greatest line lines fault number kind = record {
   after = lines;
   cut = refl;
   entries = [];
-  each = refl;
-  above = All-nil (λ e. greatest ≤ e.0);
-  ascending = λ i j d order below. absurd (omega arith);
+  ordered = ascending-none greatest;
   number = number;
   kind = kind;
 }
@@ -176,20 +176,10 @@ fault_first greatest line lines entry fault is order rest = record {
   after = rest.after;
   cut = ap (λ (more : List (ℕ × List ℕ)). line ∷ more) rest.cut;
   entries = entry ∷ rest.entries;
-  each = cc (is, rest.each);
-  above = All-cons (λ e. greatest ≤ e.0) entry rest.entries order
-      (λ k d h. omega (arith, rest.above k d h, order));
-  ascending = AllPairs-cons (λ earlier later. earlier.0 ≤ later.0) entry rest.entries rest.above
-      rest.ascending;
+  ordered = ascending-first greatest line rest.before entry rest.entries is order rest.ordered;
   number = rest.number;
   kind = fault_kept greatest entry rest.entries (entry_in rest.line) fault.kind rest.kind;
 }
-
--- the later lines have the fault
-fault_later : (entry : Entry) (later : Result (List TimedEvent) FaultAt) (fault : FaultAt)
-    → (later >>= (λ events. Ok (timed_events entry ++ events))) ≡ Err fault → later ≡ Err fault
-fault_later entry (Ok events) fault h = cc h
-fault_later entry (Err found) fault h = cc h
 
 order_fault : (greatest : ℕ) (line : ℕ × List ℕ) (lines : List (ℕ × List ℕ)) (entry : Entry)
     (below : Bool) (fault : FaultAt)
@@ -205,7 +195,8 @@ order_fault greatest line lines entry true fault is order later h =
     (rw is here)
 order_fault greatest line lines entry false fault is order later h =
     fault_first greatest line (filter says lines) entry fault is (ltb-false entry.0 greatest order)
-    (later entry.0 (fault_later entry (script_lines entry.0 lines) fault h))
+    (later entry.0
+    (later_fault (λ events. timed_events entry ++ events) (script_lines entry.0 lines) fault h))
 
 entry_fault : (greatest : ℕ) (line : ℕ × List ℕ) (lines : List (ℕ × List ℕ))
     (found : Result Entry FaultKind) (fault : FaultAt)
@@ -247,30 +238,25 @@ fault_after entries (Err error) kind h = h
 fault_after entries (Ok late) kind (inl below, is) = absurd (omega (arith, below))
 fault_after entries (Ok late) kind (inr any, is) = (any, is)
 
-text_fault : (text : List ℕ) (fault : FaultAt) (sound : Result Unit FaultAt) → utf8_of text ≡ sound
-    → (sound >>= (λ _. script_lines 0 (lines_of text))) ≡ Err fault → IsFaultOf text fault
-text_fault text fault (Err found) is h = inl (
-  λ utf8. cc (is, (utf8_of-whole text).1 utf8),
-  cc
-      (is, h),
-)
-text_fault text fault (Ok u) is h =
-    let found = lines_fault 0 (lines_of text) fault h in
-    inr (
-      (utf8_of-whole text).0 is,
-      record {
-        before = found.before;
-        line = found.line;
-        after = found.after;
-        cut = found.cut;
-        entries = found.entries;
-        sound = record { each = found.each; ascending = found.ascending };
-        number = found.number;
-        kind = fault_after found.entries (entry_in found.line) fault.kind found.kind;
-      },
-    )
-
 pub script_of-fault : (text : List ℕ) (fault : FaultAt) → script_of text ≡ Err fault
     → IsFaultOf text fault
 unfolding script_of
-script_of-fault text fault h = text_fault text fault (utf8_of text) refl h
+script_of-fault text fault h =
+    elim (text_refused text (script_lines 0 (lines_of text)) fault h) [
+      | inl broken ↦ inl broken
+      | inr sound ↦
+          let found = lines_fault 0 (lines_of text) fault sound.1 in
+          inr (
+            sound.0,
+            record {
+              before = found.before;
+              line = found.line;
+              after = found.after;
+              cut = found.cut;
+              entries = found.entries;
+              sound = record { each = found.ordered.each; ascending = found.ordered.ascending };
+              number = found.number;
+              kind = fault_after found.entries (entry_in found.line) fault.kind found.kind;
+            },
+          )
+    ]

@@ -1,6 +1,6 @@
 -- Where EXEC is set after a play, the executable region runs, has run whole, or sleeps.
-use Rattle.std.proofs.Common.{◌≡◌, ℕ, Bool, true, false, List, [], ◌∷◌, ◌⊎◌, inl, inr, length, Option, Some, None, refl, ap, sym, ◌∙◌, subst}
-use Rattle.std.specs.Prelude.{◌==◌, ◌&&◌, is_some, IsTrue, if◌then◌else◌}
+use Rattle.std.proofs.Common.{◌≡◌, ℕ, Bool, true, false, List, [], ◌∷◌, ◌⊎◌, inl, inr, length, Option, Some, None, ap, sym, ◌∙◌, subst}
+use Rattle.std.specs.Prelude.{◌==◌, ◌&&◌, is_some, IsTrue}
 use Rattle.std.specs.List.{list_any}
 use Rattle.std.proofs.lemmas.Bool.{cases_Bool, and_from, and_parts, or_parts, eqb-true}
 use Rattle.bus_signals.specs.declared.bounds.Bounds.{Bounds}
@@ -23,10 +23,12 @@ use Rattle.device_trace.specs.Step.{dma_value_read, record_from, record_of, asks
 use Rattle.device_trace.specs.Text.{finishes_call, report_of, last_report}
 use Rattle.device_trace.specs.Trace.{logs_after, trace}
 use Rattle.device_trace.specs.WholeRun.{WholeRun}
+use Rattle.trace_facts.proofs.ExecFlag.{exec-more, exec-none}
+use Rattle.trace_facts.proofs.Choices.{other_false, none_there, some_where}
 use Rattle.trace_facts.proofs.BoundsStay.{logged_bounds-stay}
 use Rattle.trace_facts.proofs.Fresh.{LogsAreFresh, logs_after-fresh}
 use Rattle.proof_of_execution.proofs.Entries.{Sleeps, region_entered, sleep_lasts}
-use Rattle.proof_of_execution.proofs.Kept.{Kept, clears-kept, exec-more, exec-none, reset_none, entered_at_start, other_false}
+use Rattle.proof_of_execution.proofs.Kept.{Kept, clears-kept, entered_at_start}
 use Rattle.proof_of_execution.proofs.Regions.{inside-open}
 use Rattle.proof_of_execution.proofs.Runs.{Inside, Outside, run_starts, run_goes_on, run_ends, stays_outside}
 
@@ -182,7 +184,7 @@ record_state start logs reset history fresh before set =
     let kept : Kept (last_pc logs.seen) now = clears-kept (last_pc logs.seen) now more.0 in
     let clean = or_parts (list_any (writes_to metadata_region) (accesses_in entry))
     (is_some entry.reset) kept.e9 in
-    let none : entry.reset ≡ None = reset_none entry.reset clean.1 in
+    let none : entry.reset ≡ None = none_there entry.reset clean.1 in
     let after : Progress =
     progress_after entry.reset entry.kind (step_progress logs entry.kind) entry.cpu entry.value in
     let stays : logged_bounds start (with_record start logs entry) ≡ logged_bounds start logs =
@@ -230,11 +232,6 @@ whole_at_exit bounds history progress pc at_exit state =
       | inr rest ↦ elim rest [ inl run ↦ run.whole | inr sleeps ↦ apart pc at_exit sleeps.1 ]
     ]
 
-report_where : (finishes : Bool) (made report : ReportFields)
-    → (if finishes then Some made else None) ≡ Some report → (finishes ≡ true) × (made ≡ report)
-report_where true made report is = (refl, cc)
-report_where false made report is = absurd (cc)
-
 last_state : (start : Start) (logs : Logs) (events : List Event) (history : List BusRecord)
     → (next_record start logs events).pc ≡ ROM_EXIT
     → LogsState start (with_record start (with_events logs events) (next_record start logs events))
@@ -258,7 +255,7 @@ report-whole_run start (events ∷ play) report is set =
     let entry : BusRecord = next_record start logs events in
     let after : Logs = with_record start (with_events logs events) entry in
     let made : ReportFields = report_of start after (length play) in
-    let both = report_where (finishes_call entry) made report is in
+    let both = some_where (finishes_call entry) made report is in
     let call = and_parts (is_rom entry.kind && (entry.pc == ROM_EXIT)) _ both.0 in
     let place = and_parts (is_rom entry.kind) (entry.pc == ROM_EXIT) call.0 in
     let set_after : exec_of after ≡ true = ap (λ (r : ReportFields). r.exec) both.1 ∙ set in

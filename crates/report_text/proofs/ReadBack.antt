@@ -1,18 +1,20 @@
 -- The line of a report is read as that report.
 use Rattle.std.proofs.Common.{◌≡◌, ◌∙◌, ℕ, ◌+◌, ◌-◌, ◌/◌, ◌%◌, ◌<◌, ◌≤◌, Bool, true, false, List, [], ◌∷◌, ◌++◌, Option, Some, None, IfSome, Ok, length, append_assoc, refl, ap, sym, arith}
-use Rattle.std.specs.Prelude.{◌==◌, ◌&&◌, codes, nat_le, IsUtf8}
+use Rattle.std.specs.Prelude.{◌==◌, codes, IsUtf8}
 use Rattle.std.specs.Fmt.{decimal}
 use Rattle.std.specs.List.{join_with_byte}
 use Rattle.std.specs.Str.{bytes_eq}
 use Rattle.std.specs.Str.Lines.{lines}
-use Rattle.std.proofs.lemmas.Bool.{and_parts, eqb-true, leb-true}
+use Rattle.std.proofs.lemmas.Bool.{and_parts, eqb-true}
+use Rattle.std.proofs.Math.Bool.{and-false}
 use Rattle.std.proofs.lemmas.Slice.Eq.{bytes_eq-Decides}
 use Rattle.std.proofs.lemmas.Str.{IsUtf8-append, IsUtf8-from_ascii}
 use Rattle.std.proofs.lemmas.Str.Ascii.{IsAscii-nil, IsAscii-cons}
 use Rattle.hex.specs.Hex.{encode_with, encode_lower, IsBytes}
 use Rattle.bus_signals.specs.declared.bounds.Bounds.{Bounds}
-use Rattle.bus_signals.specs.Bounds.{is_even, is_free_region, unwrapped_region, is_valid_region, are_valid, is_disjoint}
+use Rattle.bus_signals.specs.Bounds.{are_valid}
 use Rattle.bus_signals.specs.Report.{ReportFields}
+use Rattle.bus_signals.proofs.ValidRange.{are_valid-ranges}
 use Rattle.printed_lines.specs.Lines.{word_digits, flag_digit, output_word, report_line}
 use Rattle.text_scan.specs.LineFold.{state_after, text_fold}
 use Rattle.text_scan.specs.Line.{lines_of, numbered_lines}
@@ -23,7 +25,7 @@ use Rattle.text_scan.proofs.TextUtf8.{utf8_of-whole}
 use Rattle.report_text.specs.ReadBack.{IsBlock, AreWords, IsPrintable, IsReadBack}
 use Rattle.report_text.specs.ReportFile.{output_fits, with_line}
 use Rattle.report_text.specs.ReportLine.{count_of, exec_of, digest_of, ends_of, bounds_of, output_of, report_of, some_report_of, line_of}
-use Rattle.report_text.proofs.PlainWords.{ArePlain, IsPlainWord, decimal_of-decimal, even_bytes_of-digits, hex_bytes_of-digits, hex_word_of-digits, words_of-join, printed-join, printed_bounds, printed-ascii, plain-decimal, plain-encoded, two_bytes}
+use Rattle.text_scan.proofs.PlainWords.{ArePlain, IsPlainWord, decimal_of-decimal, even_bytes_of-digits, hex_bytes_of-digits, hex_word_of-digits, words_of-join, printed-join, printed_bounds, printed-ascii, plain-decimal, plain-encoded, two_bytes}
 
 -- the line, word by word
 
@@ -93,21 +95,6 @@ report_line-words report =
 
 -- the output is not empty
 
-ordered-bounds : (bounds : Bounds) → are_valid bounds ≡ true → bounds.or_min ≤ bounds.or_max
-ordered-bounds bounds valid =
-    let both = and_parts
-    (is_valid_region bounds.er_min bounds.er_max && is_valid_region bounds.or_min bounds.or_max)
-    (is_disjoint (unwrapped_region bounds.er_min bounds.er_max)
-    (unwrapped_region bounds.or_min bounds.or_max)) valid in
-    let region = (and_parts (is_valid_region bounds.er_min bounds.er_max)
-    (is_valid_region bounds.or_min bounds.or_max) both.0).1 in
-    let three = and_parts ((is_even bounds.or_min && is_even bounds.or_max)
-    && nat_le bounds.or_min bounds.or_max)
-    (is_free_region (unwrapped_region bounds.or_min bounds.or_max)) region in
-    leb-true bounds.or_min bounds.or_max
-    (and_parts (is_even bounds.or_min && is_even bounds.or_max)
-    (nat_le bounds.or_min bounds.or_max) three.0).1
-
 output-some :
     (bounds : Bounds) (bytes : List ℕ)
     → output_fits bounds (Some bytes) ≡ true
@@ -117,7 +104,7 @@ output-some bounds bytes fits =
     in
     let size : length bytes ≡ bounds.or_max + 2 - bounds.or_min =
     eqb-true (length bytes) (bounds.or_max + 2 - bounds.or_min) both.1 in
-    let order : bounds.or_min ≤ bounds.or_max = ordered-bounds bounds both.0 in
+    let order : bounds.or_min ≤ bounds.or_max = (are_valid-ranges bounds both.0).output.ordered in
     omega (arith, size, order)
 
 -- the value of each word
@@ -171,10 +158,6 @@ bounds_of-digits bounds rest words =
           words.er_max,
       ends_of-digits (codes "or") bounds.or_min bounds.or_max rest words.or_min words.or_max,
     ) refl
-
-and-false : (b : Bool) → (b && false) ≡ false
-and-false true = refl
-and-false false = refl
 
 -- digits of bytes are no dash
 no_dash : (bytes : List ℕ) → 0 < length bytes → bytes_eq (encode_lower bytes) (codes "-") ≡ false

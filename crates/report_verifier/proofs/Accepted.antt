@@ -21,7 +21,7 @@ use Rattle.report_verifier.specs.Expected.{expected_mac, expected_metadata, expe
 use Rattle.report_verifier.specs.PolicyGrammar.{bounds_with}
 use Rattle.report_verifier.specs.Verdict.{same_bounds}
 use Rattle.report_verifier.proofs.Pairs.{one_mac-collides}
-use Rattle.report_verifier.proofs.Regions.{length-bytes_from}
+use Rattle.part_definitions.proofs.BytesFrom.{length-bytes_from}
 use Rattle.report_verifier.proofs.Regrouped.{length-metadata, take-chal}
 
 -- an accept says that all four tests hold

@@ -56,6 +56,17 @@ bytes_eq-of :
 bytes_eq-of left right first second result is_left is_right test =
     ap (λ l. bytes_eq l right) (sym is_left) ∙ ap (bytes_eq first) (sym is_right) ∙ test
 
+-- two messages behind one pad
+padded_pair :
+    (masked pad first second left right : List ℕ)
+    → pad ≡ masked ++ []
+    → first ≡ left
+    → second ≡ right
+    → ◌≡◌ {A = List ℕ × List ℕ} (pad ++ first, pad ++ second) (masked ++ left, masked ++ right)
+padded_pair masked pad first second left right is_pad is_first is_second =
+    rw (is_pad, append_assoc masked [] first, append_assoc masked [] second, is_first, is_second)
+    refl
+
 -- equal inner digests: the inner inputs collide
 pub inner_pair_shows :
     {Fault : Type 0} (digest : List ℕ → List ℕ) (key left right first second pad : List ℕ)
@@ -69,17 +80,12 @@ pub inner_pair_shows :
     → Exhibits digest key left right result
 inner_pair_shows digest key left right first second pad result mac is_first is_second same is_pad
     shows =
-    let masked : List ℕ = with_mask 0x36 (key_block digest key) in
-    let tested = bytes_eq-of (inner_digest digest key left) (inner_digest digest key right) first
-    second true is_first is_second same in
-    let is_left : pad ++ left ≡ inner_input digest key left = ap (λ p. p ++ left) is_pad
-    ∙ append_assoc masked [] left in
-    let is_right : pad ++ right ≡ inner_input digest key right = ap (λ p. p ++ right) is_pad
-    ∙ append_assoc masked [] right in
-    let pair : (pad ++ left, pad ++ right) ≡ colliding_pair digest key left right =
-    ap (λ l. (l, pad ++ right)) is_left ∙ ap (λ r. (inner_input digest key left, r)) is_right
-    ∙ rw tested refl in
-    pair_shows digest key left right (pad ++ left) (pad ++ right) result mac pair shows
+    let left_digest : List ℕ = inner_digest digest key left in
+    let right_digest : List ℕ = inner_digest digest key right in
+    let tested = bytes_eq-of left_digest right_digest first second true is_first is_second same in
+    pair_shows digest key left right (pad ++ left) (pad ++ right) result mac
+    (padded_pair (with_mask 0x36 (key_block digest key)) pad left right left right is_pad refl refl
+    ∙ rw tested refl) shows
 
 -- unequal inner digests: the outer inputs collide
 pub outer_pair_shows :
@@ -94,19 +100,14 @@ pub outer_pair_shows :
     → Exhibits digest key left right result
 outer_pair_shows digest key left right first second pad result mac is_first is_second differ is_pad
     shows =
-    let masked : List ℕ = with_mask 0x5C (key_block digest key) in
-    let tested = bytes_eq-of (inner_digest digest key left) (inner_digest digest key right) first
-    second false is_first is_second differ in
-    let is_left : pad ++ first ≡ outer_input digest key (inner_digest digest key left) =
-    ap (λ p. p ++ first) is_pad ∙ append_assoc masked [] first ∙ ap (λ f. masked ++ f) is_first in
-    let is_right : pad ++ second ≡ outer_input digest key (inner_digest digest key right) =
-    ap (λ p. p ++ second) is_pad ∙ append_assoc masked [] second
-    ∙ ap (λ f. masked ++ f) is_second in
-    let pair : (pad ++ first, pad ++ second) ≡ colliding_pair digest key left right =
-    ap (λ l. (l, pad ++ second)) is_left
-    ∙ ap (λ r. (outer_input digest key (inner_digest digest key left), r)) is_right
-    ∙ rw tested refl in
-    pair_shows digest key left right (pad ++ first) (pad ++ second) result mac pair shows
+    let left_digest : List ℕ = inner_digest digest key left in
+    let right_digest : List ℕ = inner_digest digest key right in
+    let tested = bytes_eq-of left_digest right_digest first second false is_first is_second differ
+    in
+    pair_shows digest key left right (pad ++ first) (pad ++ second) result mac
+    (padded_pair (with_mask 0x5C (key_block digest key)) pad first second left_digest right_digest
+    is_pad is_first is_second
+    ∙ rw tested refl) shows
 
 -- what is shown of equal messages under one key
 pub Exhibits-same :

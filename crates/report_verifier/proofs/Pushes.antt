@@ -3,7 +3,7 @@ use Rattle.std.proofs.Common.{◌≡◌, ◌≤◌, ◌+◌, ◌-◌, ◌++◌, 
 use Rattle.part_definitions.specs.Memory.{bytes_from}
 use Rattle.part_definitions.specs.Region.{bytes_between}
 use Rattle.report_verifier.proofs.CodeBytes.{append-byte}
-use Rattle.report_verifier.proofs.Regions.{length-bytes_from}
+use Rattle.part_definitions.proofs.BytesFrom.{length-bytes_from, bytes_between-span}
 use Rattle.report_verifier.proofs.Regrouped.{append-six}
 
 -- one more piece behind the first ones, whose number of bytes is known
@@ -87,12 +87,6 @@ lent-pushed most bytes old piece new first count is fits push =
     ∙ ap (λ (l : List ℕ). old ++ l) is
 
 -- the bytes of a span that ends with the second byte of a word
-between-span :
-    (bytes : ℕ → ℕ) (first last : ℕ)
-    → first ≤ last
-    → bytes_from bytes first (last + 1 + 1 - first) ≡ bytes_between bytes first last
-between-span bytes first last ordered = ap (bytes_from bytes first) (omega (arith, ordered))
-
 -- code and output behind the metadata
 pub spans-pushed :
     (most : ℕ) (bytes : ℕ → ℕ) (old mid new : List ℕ) (er_min er_max or_min or_max : ℕ)
@@ -110,11 +104,11 @@ spans-pushed most bytes old mid new er_min er_max or_min or_max code output size
     let or : List ℕ = bytes_between bytes or_min or_max in
     let one : mid ≡ old ++ er =
     first (omega (arith, code, size, fits))
-    ∙ ap (λ (l : List ℕ). old ++ l) (between-span bytes er_min er_max code) in
+    ∙ ap (λ (l : List ℕ). old ++ l) (bytes_between-span bytes er_min er_max code) in
     let count : length er ≡ er_max + 2 - er_min =
     length-bytes_from bytes er_min (er_max + 2 - er_min) in
     let all : length mid ≡ length old + length er = ap length one ∙ length-append old er in
     let two : new ≡ mid ++ or =
     second (omega (arith, output, size, count, all, fits))
-    ∙ ap (λ (l : List ℕ). mid ++ l) (between-span bytes or_min or_max output) in
+    ∙ ap (λ (l : List ℕ). mid ++ l) (bytes_between-span bytes or_min or_max output) in
     two ∙ ap (λ (l : List ℕ). l ++ or) one ∙ append_assoc old er or

@@ -2,6 +2,7 @@
 use Rattle.std.proofs.Common.{◌≡◌, ◌∙◌, ap, sym, refl, subst, ℕ, zero, suc, ◌+◌, ◌*◌, ◌/◌, ◌%◌, arith, List, [], ◌∷◌, length, take, Option, Some, None}
 use Rattle.std.specs.Prelude.{flat_map}
 use Rattle.asm_bytes.specs.Statement.{word_bytes}
+use Rattle.asm_bytes.proofs.StatementSize.{length-word_bytes}
 use Rattle.msp_decode.specs.Completion.{extension_count, completion, words_of}
 use Rattle.msp_decode.specs.Law.{HeadsAreSpelled, WordsAreWritten}
 use Rattle.mem_map.specs.ImagePlace.{IsImage}
@@ -44,10 +45,6 @@ words-at image place (word ∷ words) is at (suc (suc k)) below =
     let there : place + 2 + k ≡ place + suc (suc k) = omega arith in
     ap image (sym there) ∙ words-at image (place + 2) words is at.1 k (omega arith)
 
-pub length-bytes : (words : List ℕ) → length (flat_map word_bytes words) ≡ 2 * length words
-length-bytes [] = refl
-length-bytes (word ∷ words) = omega (arith, length-bytes words)
-
 pub record HasBytes (image : ℕ → Option ℕ) (place : ℕ) (item : Item) : Type 0 where
   pub count : length (item_bytes item) ≡ item_size item
   pub at : AreAt image place (item_bytes item)
@@ -67,7 +64,7 @@ item-bytes law written image place item is standing =
       word = λ word found.
           record { count = refl; at = words-at image place (word ∷ []) is (found, tt) };
       instr = λ word first second head listed. record {
-        count = length-bytes (words_of (completion head first second));
+        count = length-word_bytes (words_of (completion head first second));
         at = subst (λ (words : List ℕ). AreAt image place (flat_map word_bytes words))
             (sym (written word first second head (listed.legal, listed.spelled)).1)
             (words-at image place (word ∷ take (extension_count head) (first ∷ second ∷ [])) is

@@ -18,6 +18,7 @@ use Rattle.word_arith.specs.declared.size.Size.{Size}
 use Rattle.word_arith.specs.declared.size.Size.TheVariants as sizes
 use Rattle.asm_bytes.specs.Operand.{all_ones, constant_of, immediate}
 use Rattle.asm_bytes.specs.Statement.{word_bytes}
+use Rattle.asm_bytes.proofs.StatementSize.{length-word_bytes}
 use Rattle.msp_decode.specs.Completion.{words_of, source_words, dest_words}
 use Rattle.msp_decode.specs.Law.{HeadsAreSpelled, WordsAreWritten}
 use Rattle.mem_map.specs.ImagePlace.{IsImage}
@@ -25,7 +26,7 @@ use Rattle.msp_disasm.specs.declared.item.Item.{Item}
 use Rattle.msp_disasm.specs.declared.item.Item.TheVariants as items
 use Rattle.msp_disasm.specs.Item.{item_at}
 use Rattle.source_round_trip.specs.Listing.{source_again, stays_within, instr_again, bytes_again, is_plain_source, is_plain_instr, is_plain, AreSameBytes}
-use Rattle.source_round_trip.proofs.ListedBytes.{item_bytes, length-bytes, item-bytes}
+use Rattle.source_round_trip.proofs.ListedBytes.{item_bytes, item-bytes}
 
 -- a plain source is read as itself
 
@@ -94,7 +95,7 @@ constant-shorter make bytes word count constant sized again long =
     omega (
       arith,
       ap length same,
-      length-bytes (words_of (make (source.Constant constant))),
+      length-word_bytes (words_of (make (source.Constant constant))),
       sized (source.Constant constant),
       sized (source.Immediate word),
       long,

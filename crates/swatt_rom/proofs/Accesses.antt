@@ -1,25 +1,18 @@
 -- What the phases of a call ask for.
-use Rattle.std.proofs.Common.{◌≡◌, ◌<◌, ◌==◌, ◌∙◌, if◌then◌else◌, ℕ, List, false, length, length-append, ap, sym, subst, refl, arith}
+use Rattle.std.proofs.Common.{◌≡◌, ◌<◌, ◌==◌, ◌∙◌, if◌then◌else◌, ℕ, List, false, length, length-append, ap, sym, subst, arith}
 use Rattle.word_arith.specs.declared.size.Size.TheVariants.{Word}
-use Rattle.part_definitions.specs.Accesses.{write_at}
-use Rattle.part_definitions.specs.Attestation.{CallItem, KeyRead, MetadataRead, DerivedKeyWrite, RegionRead, InnerDigestWrite, MacWrite, call_item, item_access, item_pc, bounds_read, region_words, written_word, word_of_bytes, is_return}
+use Rattle.std.specs.Prelude.{◌+◌, ◌*◌}
+use Rattle.bus_signals.specs.declared.access.Access.{Access}
+use Rattle.bus_signals.specs.Map.{key_region, metadata_region, mac_region, DERIVED_KEY, INNER_DIGEST}
+use Rattle.part_definitions.specs.Accesses.{read_at, write_at}
+use Rattle.part_definitions.specs.Attestation.{CallItem, KeyRead, MetadataRead, DerivedKeyWrite, RegionRead, InnerDigestWrite, MacWrite, call_item, item_access, item_pc, bounds_read, region_words, region_place, written_word, word_of_bytes, is_return}
 use Rattle.swatt_rom.specs.RomCall.{call_access}
 use Rattle.swatt_rom.specs.Phase.{PhaseStandsFor}
-use Rattle.swatt_rom.specs.declared.digest_words.DigestWords.{DigestWords}
 use Rattle.swatt_rom.specs.declared.word_buffer.WordBuffer.{WordBuffer}
 use Rattle.swatt_rom.specs.declared.phase.Phase.{Phase}
 use Rattle.swatt_rom.specs.declared.phase.Phase.TheVariants.{ReadsKey, ReadsMetadata, WritesDerivedKey, ReadsRegion, WritesInnerDigest, WritesMac}
 use Rattle.swatt_rom.proofs.WordsPassed.{region_in}
 use Rattle.swatt_rom.proofs.Items.{item_after-key, item_after-metadata, item_after-derived_key, item_after-region, item_after-inner_digest, item_after-mac}
-
--- a write of a digest's word, where the digest is equal
-pub write_at-bytes :
-    (place : ℕ) (writes : DigestWords) (digest : List ℕ)
-    → writes.bytes ≡ digest
-    → write_at Word place (word_of_bytes writes.bytes writes.next)
-    ≡ write_at Word place (word_of_bytes digest writes.next)
-write_at-bytes place writes digest same =
-    ap (λ bytes. write_at Word place (word_of_bytes bytes writes.next)) same
 
 -- the item of a phase
 abbrev pub item_of : {D : Type 0} → Phase D → CallItem
@@ -30,25 +23,28 @@ item_of (ReadsRegion region hash) = RegionRead region.next
 item_of (WritesInnerDigest inner mac) = InnerDigestWrite inner.next
 item_of (WritesMac mac) = MacWrite mac.next
 
+-- the access of a phase
+abbrev pub access_of : {D : Type 0} → Phase D → Access
+access_of (ReadsKey key) = read_at Word (key_region.first + 2 * length key.words.items)
+access_of (ReadsMetadata key metadata) =
+    read_at Word (metadata_region.first + 2 * length metadata.words.items)
+access_of (WritesDerivedKey key bounds hash) =
+    write_at Word (DERIVED_KEY + 2 * key.next) (word_of_bytes key.bytes key.next)
+access_of (ReadsRegion region hash) = read_at Word (region_place region.bounds region.next)
+access_of (WritesInnerDigest inner mac) =
+    write_at Word (INNER_DIGEST + 2 * inner.next) (word_of_bytes inner.bytes inner.next)
+access_of (WritesMac mac) =
+    write_at Word (mac_region.first + 2 * mac.next) (word_of_bytes mac.bytes mac.next)
+
 is_return-item_of : {D : Type 0} (phase : Phase D) → is_return (item_of phase) ≡ false
-is_return-item_of (ReadsKey key) = refl
-is_return-item_of (ReadsMetadata key metadata) = refl
-is_return-item_of (WritesDerivedKey key bounds hash) = refl
-is_return-item_of (ReadsRegion region hash) = refl
-is_return-item_of (WritesInnerDigest inner mac) = refl
-is_return-item_of (WritesMac mac) = refl
+is_return-item_of phase = grind arith
 
 -- the `pc` of each step but the first
 pub item_pc-item_of :
     {D : Type 0} (phase : Phase D)
     → ((key : WordBuffer 32) → phase ≡ ReadsKey key → ⊥)
     → 0xA002 ≡ item_pc (item_of phase)
-item_pc-item_of (ReadsKey key) other = absurd (other key refl)
-item_pc-item_of (ReadsMetadata key metadata) other = refl
-item_pc-item_of (WritesDerivedKey key bounds hash) other = refl
-item_pc-item_of (ReadsRegion region hash) other = refl
-item_pc-item_of (WritesInnerDigest inner mac) other = refl
-item_pc-item_of (WritesMac mac) other = refl
+item_pc-item_of phase other = grind arith
 
 pub item_pc-key : (i : ℕ) → (i == 0) ≡ false → 0xA002 ≡ item_pc (KeyRead i)
 item_pc-key i later = sym (ap (λ first. if first then 0xA000 else 0xA002) later)
@@ -86,12 +82,20 @@ module _ {D : Type 0} (has_taken : D → List ℕ → Type 0) (digest : List ℕ
   is_return-phase phase words stands =
       ap is_return (call_item-phase phase words stands) ∙ is_return-item_of phase
 
-  pub call_access-phase :
+  access_of-item :
       (sp : ℕ) (phase : Phase D) (words : List ℕ)
       → PhaseStandsFor has_taken digest phase words
-      → item_access sp (bounds_read words) (item_of phase)
+      → access_of phase
+      ≡ item_access sp (bounds_read words) (item_of phase)
       (written_word digest words (item_of phase))
-      ≡ call_access digest sp words
-  call_access-phase sp phase words stands =
-      sym (ap (λ item. item_access sp (bounds_read words) item (written_word digest words item))
+  access_of-item sp phase words stands = grind arith
+
+  -- the access of a phase that stands for these words is that of the call
+  pub access_of-phase :
+      (sp : ℕ) (phase : Phase D) (words : List ℕ)
+      → PhaseStandsFor has_taken digest phase words
+      → access_of phase ≡ call_access digest sp words
+  access_of-phase sp phase words stands =
+      access_of-item sp phase words stands
+      ∙ sym (ap (λ item. item_access sp (bounds_read words) item (written_word digest words item))
       (call_item-phase phase words stands))

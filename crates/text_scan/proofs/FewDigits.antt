@@ -1,9 +1,9 @@
 -- Lemmas on decimal numbers of few digits.
-use Rattle.std.proofs.Common.{◌≡◌, ℕ, ◌+◌, ◌-◌, ◌*◌, ◌^◌, ◌<◌, ◌≤◌, arith, List, length, take, get_or, Bool, true, false, refl}
-use Rattle.std.specs.Prelude.{nat_lt, nat_le, ◌&&◌}
+use Rattle.std.proofs.Common.{◌≡◌, ℕ, ◌+◌, ◌-◌, ◌*◌, ◌^◌, ◌<◌, ◌≤◌, arith, List, length, take, get_or, true}
+use Rattle.std.specs.Prelude.{nat_lt, nat_le}
 use Rattle.std.specs.List.{list_all}
 use Rattle.std.specs.Int.{IsInRange}
-use Rattle.std.proofs.lemmas.Bool.{false≢true, leb-true}
+use Rattle.std.proofs.lemmas.Bool.{and_parts, leb-true}
 use Rattle.std.proofs.Math.Nat.{pow-suc}
 use Rattle.std.proofs.lemmas.List.Sums.{AllPass-from_list_all}
 use Rattle.std.proofs.lemmas.Int.Digits.{digits_value_more}
@@ -17,17 +17,13 @@ pub one_more : (value digit count : ℕ) → value < 10 ^ count → digit ≤ 9
     → value * 10 + digit < 10 ^ (count + 1)
 one_more value digit count h small = grind (arith, pow-suc 10 count)
 
-and_both : (a b : Bool) → (a && b) ≡ true → (a ≡ true) × (b ≡ true)
-and_both true b h = (refl, h)
-and_both false b h = absurd (false≢true h)
-
 -- a character of a decimal word is one of `0` to `9`
 pub digit_at : (word : List ℕ) (i : ℕ) → is_decimal_word word ≡ true → i < length word
     → IsInRange 48 57 (get_or word i 0)
 digit_at word i h below =
-    let all = (and_both (nat_lt 0 (length word)) (list_all is_ascii_digit word) h).1 in
+    let all = (and_parts (nat_lt 0 (length word)) (list_all is_ascii_digit word) h).1 in
     let here = AllPass-from_list_all is_ascii_digit word all i 0 below in
-    let ends = and_both (nat_le 48 (get_or word i 0)) (nat_le (get_or word i 0) 57) here in
+    let ends = and_parts (nat_le 48 (get_or word i 0)) (nat_le (get_or word i 0) 57) here in
     (leb-true 48 (get_or word i 0) ends.0, leb-true (get_or word i 0) 57 ends.1)
 
 -- the value of one digit more

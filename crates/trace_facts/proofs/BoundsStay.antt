@@ -1,8 +1,8 @@
 -- The bounds stay as they are where no write touches the metadata.
-use Rattle.std.proofs.Common.{◌≡◌, ℕ, ◌+◌, ◌*◌, ◌/◌, ◌%◌, true, false, List, ◌++◌, Option, Some, None, refl, sym, ◌∙◌, arith}
+use Rattle.std.proofs.Common.{◌≡◌, ℕ, ◌+◌, ◌*◌, ◌/◌, true, false, List, ◌++◌, Option, Some, None, refl, sym, ◌∙◌, arith}
 use Rattle.std.specs.Prelude.{◌==◌, ◌||◌, option_to_list}
 use Rattle.std.specs.List.{list_any}
-use Rattle.std.proofs.lemmas.Bool.{cond-false, or_parts}
+use Rattle.std.proofs.lemmas.Bool.{or_parts}
 use Rattle.std.proofs.lemmas.Bool.Decides.{nat_tests}
 use Rattle.std.proofs.lemmas.List.Folds.{list_any-append}
 use Rattle.word_arith.specs.declared.size.Size.TheVariants.{Byte, Word}
@@ -15,6 +15,7 @@ use Rattle.part_definitions.specs.Flag.{accesses_in, writes_to}
 use Rattle.part_definitions.specs.Memory.{MemoryWrite, last_written, with_access}
 use Rattle.device_trace.specs.Logs.{Logs, logged_bounds, memory_after, with_record}
 use Rattle.device_trace.specs.Start.{Start}
+use Rattle.trace_facts.proofs.MissedPlace.{MissesPlace, last_written-missed}
 
 byte_elsewhere : (place p : ℕ)
     → lies_in metadata_region p ≡ true → ((lies_in metadata_region place || false) || false) ≡ false
@@ -35,21 +36,17 @@ high_elsewhere : (place p : ℕ)
     → (place / 2 * 2 + 1 == p) ≡ false
 high_elsewhere place p within off = grind (arith, nat_tests)
 
--- a byte of the metadata after an access that does not write there
-last_written-elsewhere : (access : Option Access) (writes : List MemoryWrite) (p before : ℕ)
+-- an access that does not write to the metadata
+metadata-missed : (access : Option Access) (p : ℕ)
     → lies_in metadata_region p ≡ true
     → list_any (writes_to metadata_region) (option_to_list access) ≡ false
-    → last_written (with_access access writes) p before ≡ last_written writes p before
-last_written-elsewhere None writes p before within off = refl
-last_written-elsewhere (Some (Fetch place)) writes p before within off = refl
-last_written-elsewhere (Some (Read place size)) writes p before within off = refl
-last_written-elsewhere (Some (Write place Byte number)) writes p before within off =
-    cond-false (place == p) (number % 256) (last_written writes p before)
-    (byte_elsewhere place p within off)
-last_written-elsewhere (Some (Write place Word number)) writes p before within off =
-    cond-false (place / 2 * 2 + 1 == p) (number / 256 % 256) _ (high_elsewhere place p within off)
-    ∙ cond-false (place / 2 * 2 == p) (number % 256) (last_written writes p before)
-    (low_elsewhere place p within off)
+    → MissesPlace access p
+metadata-missed None p within off = tt
+metadata-missed (Some (Fetch place)) p within off = tt
+metadata-missed (Some (Read place size)) p within off = tt
+metadata-missed (Some (Write place Byte number)) p within off = byte_elsewhere place p within off
+metadata-missed (Some (Write place Word number)) p within off =
+    (low_elsewhere place p within off, high_elsewhere place p within off)
 
 pub memory_after-elsewhere : (cpu dma : Option Access) (writes : List MemoryWrite) (p before : ℕ)
     → lies_in metadata_region p ≡ true
@@ -61,8 +58,8 @@ memory_after-elsewhere cpu dma writes p before within off =
     (list_any (writes_to metadata_region) (option_to_list dma))
     (sym (list_any-append (writes_to metadata_region) (option_to_list cpu) (option_to_list dma))
     ∙ off) in
-    last_written-elsewhere dma (with_access cpu writes) p before within parts.1
-    ∙ last_written-elsewhere cpu writes p before within parts.0
+    last_written-missed dma (with_access cpu writes) p before (metadata-missed dma p within parts.1)
+    ∙ last_written-missed cpu writes p before (metadata-missed cpu p within parts.0)
 
 bounds_after : (start : Start) (logs : Logs) (entry : BusRecord) (rule : Option Rule)
     → rule ≡ None

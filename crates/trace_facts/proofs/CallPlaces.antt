@@ -1,16 +1,17 @@
 -- Where the accesses of a call lie.
 use Rattle.std.proofs.Common.{◌≡◌, ℕ, ◌+◌, ◌-◌, ◌*◌, ◌/◌, ◌<◌, ◌≤◌, true, false, ◌⊎◌, arith, inl, inr}
-use Rattle.std.specs.Prelude.{◌&&◌, ◌||◌, nat_lt, nat_le}
-use Rattle.std.proofs.lemmas.Bool.{cond_both, and_parts, or_cases, ltb-true, ltb-false, leb-true}
+use Rattle.std.specs.Prelude.{nat_lt}
+use Rattle.std.proofs.lemmas.Bool.{cond_both, ltb-true, ltb-false}
 use Rattle.std.proofs.lemmas.Bool.Decides.{nat_tests}
 use Rattle.word_arith.specs.declared.size.Size.TheVariants.{Word}
 use Rattle.bus_signals.specs.declared.access.Access.TheVariants.{Read}
 use Rattle.bus_signals.specs.declared.bounds.Bounds.{Bounds}
-use Rattle.bus_signals.specs.declared.region.Region.{Region}
-use Rattle.bus_signals.specs.Bounds.{is_even, is_part_of, is_disjoint, is_free_region, unwrapped_region, is_valid_region, are_valid}
-use Rattle.bus_signals.specs.Map.{ram_region, program_region, mac_region, metadata_region}
+use Rattle.bus_signals.specs.Bounds.{are_valid}
+use Rattle.bus_signals.specs.Map.{lies_in, mac_region}
+use Rattle.bus_signals.proofs.ValidRange.{IsValidRange, are_valid-ranges}
 use Rattle.part_definitions.specs.Attestation.{CallItem, KeyRead, MetadataRead, DerivedKeyWrite, RegionRead, InnerDigestWrite, MacWrite, ReturnRead, words_between, executable_words, region_words, region_place, item_after}
 use Rattle.device_trace.specs.Blank.{touches_secrets}
+use Rattle.trace_facts.proofs.ItemNumbers.{IsItemAt, item_after-at}
 
 -- the item after so many words that passed, and its number
 abbrev pub ItemFits : ℕ → ℕ → CallItem → Type 0
@@ -22,41 +23,19 @@ ItemFits region passed (InnerDigestWrite i) = (i < 16) × (32 ≤ passed)
 ItemFits region passed (MacWrite i) = (i < 16) × (32 ≤ passed)
 ItemFits region passed ReturnRead = 32 ≤ passed
 
+item-fits : (region passed : ℕ) (item : CallItem)
+    → IsItemAt region passed item → ItemFits region passed item
+item-fits region passed (KeyRead i) at = (at.1, omega (arith, at.0, at.1))
+item-fits region passed (MetadataRead i) at = (at.1, omega (arith, at.0))
+item-fits region passed (DerivedKeyWrite i) at = (at.1, omega (arith, at.0))
+item-fits region passed (RegionRead i) at = (at.1, omega (arith, at.0))
+item-fits region passed (InnerDigestWrite i) at = (at.1, omega (arith, at.0))
+item-fits region passed (MacWrite i) at = (at.1, omega (arith, at.0))
+item-fits region passed ReturnRead at = omega (arith, at)
+
 pub item_after-fits : (region passed : ℕ) → ItemFits region passed (item_after region passed)
 item_after-fits region passed =
-    let Fits : CallItem → Type 0 = ItemFits region passed in
-    cond_both (nat_lt passed 32) (KeyRead passed) _ Fits
-    (λ key. (ltb-true passed 32 key, ltb-true passed 32 key))
-    (λ past_key.
-    let key : 32 ≤ passed = ltb-false passed 32 past_key in
-    cond_both (nat_lt passed 53) (MetadataRead (passed - 32)) _ Fits
-    (λ metadata. (let below : passed < 53 = ltb-true passed 53 metadata in omega arith, key))
-    (λ past_metadata.
-    cond_both (nat_lt passed 69) (DerivedKeyWrite (passed - 53)) _ Fits
-    (λ derived. (let below : passed < 69 = ltb-true passed 69 derived in omega arith, key))
-    (λ past_derived.
-    let start : 69 ≤ passed = ltb-false passed 69 past_derived in
-    cond_both (nat_lt passed (69 + region)) (RegionRead (passed - 69)) _ Fits
-    (λ reads. (
-      let below : passed < 69 + region =
-          ltb-true passed (69 + region) reads in omega arith,
-      key,
-    ))
-    (λ past_region.
-    cond_both (nat_lt passed (85 + region)) (InnerDigestWrite (passed - (69 + region))) _ Fits
-    (λ inner. (
-      let below : passed < 85 + region =
-          ltb-true passed (85 + region) inner in omega arith,
-      key,
-    ))
-    (λ past_inner.
-    cond_both (nat_lt passed (101 + region)) (MacWrite (passed - (85 + region))) ReturnRead Fits
-    (λ mac. (
-      let below : passed < 101 + region =
-          ltb-true passed (101 + region) mac in omega arith,
-      key,
-    ))
-    (λ past_mac. key))))))
+    item-fits region passed (item_after region passed) (item_after-at region passed)
 
 -- words of RAM and of the program are no secrets
 open_word : (place : ℕ)
@@ -69,41 +48,12 @@ open_word place (inr program) = let low = program.0 in let high =
 pub metadata_off : (i : ℕ) → i < 21 → touches_secrets (Read ((0x240 + 2 * i) / 2 * 2) Word) ≡ false
 metadata_off i within = open_word (0x240 + 2 * i) (inl (omega arith, omega arith))
 
--- a valid region lies in RAM or in the program
-part_of : (inner outer : Region) → is_part_of inner outer ≡ true
-    → (outer.first ≤ inner.first) × (inner.last ≤ outer.last)
-part_of inner outer part =
-    let parts = and_parts _ _ part in
-    (leb-true outer.first inner.first parts.0, leb-true inner.last outer.last parts.1)
-
-pub valid_range : (first last : ℕ) → is_valid_region first last ≡ true
-    → (first ≤ last)
-    × (((0x200 ≤ first) × (last + 1 ≤ 0x21FF)) ⊎ ((0xC000 ≤ first) × (last + 1 ≤ 0xFFDF)))
-valid_range first last valid =
-    let region : Region = unwrapped_region first last in
-    let parts = and_parts (is_even first && is_even last && nat_le first last)
-    (is_free_region region) valid in
-    let order = and_parts (is_even first && is_even last) (nat_le first last) parts.0 in
-    let free =
-    and_parts ((is_part_of region ram_region || is_part_of region program_region)
-    && is_disjoint region mac_region)
-    (is_disjoint region metadata_region) parts.1 in
-    let place = and_parts (is_part_of region ram_region || is_part_of region program_region)
-    (is_disjoint region mac_region) free.0 in (
-      leb-true first last order.1,
-      elim (or_cases (is_part_of region ram_region) (is_part_of region program_region) place.0) [
-        | inl ram ↦ inl (part_of region ram_region ram)
-        | inr program ↦ inr (part_of region program_region program)
-      ],
-    )
-
-word_of_region : (first last j : ℕ) → is_valid_region first last ≡ true
+word_of_region : (first last j : ℕ) → IsValidRange first last
     → j < words_between first last
     → touches_secrets (Read ((first + 2 * j) / 2 * 2) Word) ≡ false
-word_of_region first last j valid within =
-    let range = valid_range first last valid in
-    let ordered : first ≤ last = range.0 in
-    elim range.1 [
+word_of_region first last j range within =
+    let ordered : first ≤ last = range.ordered in
+    elim range.place [
       | inl ram ↦
           let low : 0x200 ≤ first = ram.0 in
           let high : last + 1 ≤ 0x21FF = ram.1 in
@@ -118,19 +68,15 @@ valid_place_off : (bounds : Bounds) (i : ℕ) → are_valid bounds ≡ true
     → i < executable_words bounds + words_between bounds.or_min bounds.or_max
     → touches_secrets (Read (region_place bounds i / 2 * 2) Word) ≡ false
 valid_place_off bounds i valid within =
-    let both = and_parts
-    (is_valid_region bounds.er_min bounds.er_max
-    && is_valid_region bounds.or_min bounds.or_max) _ valid in
-    let each = and_parts (is_valid_region bounds.er_min bounds.er_max)
-    (is_valid_region bounds.or_min bounds.or_max) both.0 in
+    let ranges = are_valid-ranges bounds valid in
     cond_both (nat_lt i (executable_words bounds)) (bounds.er_min + 2 * i)
     (bounds.or_min + 2 * (i - executable_words bounds))
     (λ place. touches_secrets (Read (place / 2 * 2) Word) ≡ false)
-    (λ executable. word_of_region bounds.er_min bounds.er_max i each.0
+    (λ executable. word_of_region bounds.er_min bounds.er_max i ranges.executable
     (ltb-true i (executable_words bounds) executable))
     (λ output.
     let past : executable_words bounds ≤ i = ltb-false i (executable_words bounds) output in
-    word_of_region bounds.or_min bounds.or_max (i - executable_words bounds) each.1
+    word_of_region bounds.or_min bounds.or_max (i - executable_words bounds) ranges.output
     (omega (arith, past, within)))
 
 pub region_off : (bounds : Bounds) (i : ℕ) → i < region_words bounds
@@ -141,3 +87,7 @@ region_off bounds i =
     (λ count. i < count → touches_secrets (Read (region_place bounds i / 2 * 2) Word) ≡ false)
     (λ valid within. valid_place_off bounds i valid within)
     (λ invalid within. absurd (omega (arith, within)))
+
+-- the words that the ROM writes last are the MAC's
+pub mac_place : (i : ℕ) → i < 16 → lies_in mac_region ((0x200 + 2 * i) / 2 * 2) ≡ true
+mac_place i within = grind (arith, nat_tests)

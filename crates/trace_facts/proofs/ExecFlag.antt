@@ -1,11 +1,10 @@
 -- Where EXEC is set, the bounds are valid.
-use Rattle.std.proofs.Common.{◌≡◌, Bool, true, false, List, [], ◌∷◌, ◌⊎◌, inl, inr, Option, Some, None, refl, ap, ◌∙◌}
+use Rattle.std.proofs.Common.{◌≡◌, Bool, true, false, List, [], ◌∷◌, ◌⊎◌, inl, inr, refl, ap, ◌∙◌}
 use Rattle.std.specs.Prelude.{◌==◌, ◌&&◌, is_some, if◌then◌else◌}
 use Rattle.std.specs.List.{list_any}
 use Rattle.std.proofs.lemmas.Bool.{and_parts, or_cases, or_parts}
 use Rattle.bus_signals.specs.declared.bus_record.BusRecord.{BusRecord}
 use Rattle.bus_signals.specs.declared.event.Event.{Event}
-use Rattle.bus_signals.specs.declared.rule.Rule.{Rule}
 use Rattle.bus_signals.specs.Bounds.{are_valid}
 use Rattle.bus_signals.specs.Map.{metadata_region}
 use Rattle.bus_signals.specs.Seen.{Seen}
@@ -14,6 +13,7 @@ use Rattle.device_trace.specs.Logs.{Logs, exec_of, logged_bounds, with_events, w
 use Rattle.device_trace.specs.Start.{Start}
 use Rattle.device_trace.specs.Step.{next_record}
 use Rattle.device_trace.specs.Trace.{logs_after}
+use Rattle.trace_facts.proofs.Choices.{none_there}
 use Rattle.trace_facts.proofs.BoundsStay.{logged_bounds-stay}
 
 -- where the flag is set after a record, this does not clear it, and it starts a run or the flag was
@@ -34,10 +34,6 @@ pub exec-none : exec [] ≡ true → ⊥
 unfolding exec
 exec-none set = cc
 
-pub reset_none : (rule : Option Rule) → is_some rule ≡ false → rule ≡ None
-reset_none None off = refl
-reset_none (Some rule) off = absurd (cc)
-
 -- after a step
 abbrev pub LogsAreValid : Start → Logs → Type 0
 LogsAreValid start logs = exec_of logs ≡ true → are_valid (logged_bounds start logs) ≡ true
@@ -52,7 +48,7 @@ with_record-valid start logs entry before set =
     let clean = or_parts (list_any (writes_to metadata_region) (accesses_in entry))
     (is_some entry.reset) last.1 in
     let stays : logged_bounds start (with_record start logs entry) ≡ logged_bounds start logs =
-    logged_bounds-stay start logs entry (reset_none entry.reset clean.1) clean.0 in
+    logged_bounds-stay start logs entry (none_there entry.reset clean.1) clean.0 in
     let valid : are_valid (logged_bounds start logs) ≡ true =
     elim more.1 [
       | inl starts ↦

@@ -1,8 +1,11 @@
 pub mod Unbroken
 pub mod Sound
 pub mod SoundPlay
+pub mod Choices
+pub mod ItemNumbers
 pub mod CallPlaces
 pub mod NeverBroken
 pub mod Fresh
+pub mod MissedPlace
 pub mod BoundsStay
 pub mod ExecFlag

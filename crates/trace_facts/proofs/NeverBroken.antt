@@ -37,20 +37,12 @@ names_a1 : (a3 a2 a1 a4 : Bool)
     → (if a3 then Some A3 else if a2 then Some A2 else if a1 then Some A1
     else if a4 then Some A4 else None) ≡ Some A1
     → a1 ≡ true
-names_a1 true a2 a1 a4 named = absurd (cc)
-names_a1 false true a1 a4 named = absurd (cc)
-names_a1 false false true a4 named = refl
-names_a1 false false false true named = absurd (cc)
-names_a1 false false false false named = absurd (cc)
+names_a1 a3 a2 a1 a4 named = grind (arith, nat_tests)
 
 names_no_k3 : (a3 a2 a1 a4 : Bool)
     → (if a3 then Some A3 else if a2 then Some A2 else if a1 then Some A1
     else if a4 then Some A4 else None) ≡ Some K3 → ⊥
-names_no_k3 true a2 a1 a4 named = absurd (cc)
-names_no_k3 false true a1 a4 named = absurd (cc)
-names_no_k3 false false true a4 named = absurd (cc)
-names_no_k3 false false false true named = absurd (cc)
-names_no_k3 false false false false named = absurd (cc)
+names_no_k3 a3 a2 a1 a4 named = grind (arith, nat_tests)
 
 abbrev key_chain : Bool → Bool → Bool → Bool → Bool → Bool → Option Rule
 key_chain k1 k2 k3 k4 k5 k6 =
@@ -63,22 +55,10 @@ key_chain k1 k2 k3 k4 k5 k6 =
     else None
 
 names_k3 : (k1 k2 k3 k4 k5 k6 : Bool) → key_chain k1 k2 k3 k4 k5 k6 ≡ Some K3 → k3 ≡ true
-names_k3 true k2 k3 k4 k5 k6 named = absurd (cc)
-names_k3 false true k3 k4 k5 k6 named = absurd (cc)
-names_k3 false false true k4 k5 k6 named = refl
-names_k3 false false false true k5 k6 named = absurd (cc)
-names_k3 false false false false true k6 named = absurd (cc)
-names_k3 false false false false false true named = absurd (cc)
-names_k3 false false false false false false named = absurd (cc)
+names_k3 k1 k2 k3 k4 k5 k6 named = grind (arith, nat_tests)
 
 names_no_a1 : (k1 k2 k3 k4 k5 k6 : Bool) → key_chain k1 k2 k3 k4 k5 k6 ≡ Some A1 → ⊥
-names_no_a1 true k2 k3 k4 k5 k6 named = absurd (cc)
-names_no_a1 false true k3 k4 k5 k6 named = absurd (cc)
-names_no_a1 false false true k4 k5 k6 named = absurd (cc)
-names_no_a1 false false false true k5 k6 named = absurd (cc)
-names_no_a1 false false false false true k6 named = absurd (cc)
-names_no_a1 false false false false false true named = absurd (cc)
-names_no_a1 false false false false false false named = absurd (cc)
+names_no_a1 k1 k2 k3 k4 k5 k6 named = grind (arith, nat_tests)
 
 or_else-some : (first second : Option Rule) (rule : Rule)
     → or_else first second ≡ Some rule
@@ -90,52 +70,55 @@ other_rule : (test : Bool) (named other : Rule) → rule_where test named ≡ So
 other_rule true named other is = cc
 other_rule false named other is = absurd (cc)
 
--- where the first rule is A1 or K3, its test holds, and the earlier rules of the ROM's entry do not
-first_rule-a1 : (last : Option ℕ) (now : Signals) → first_rule last now ≡ Some A1
-    → breaks_a1 last now ≡ true
-unfolding first_rule atomicity_rule key_rule
-first_rule-a1 last now named =
-    elim (or_else-some (rule_where (breaks_x0 now) X0) _ A1 named) [
-      | inl x0 ↦ absurd (let same = other_rule (breaks_x0 now) X0 A1 x0 in cc)
+-- a first rule that is neither X0 nor I1
+first_rule-in : (last : Option ℕ) (now : Signals) (rule : Rule)
+    → (X0 ≡ rule → ⊥)
+    → (I1 ≡ rule → ⊥)
+    → first_rule last now ≡ Some rule
+    → (atomicity_rule last now ≡ Some rule)
+    ⊎ ((atomicity_rule last now ≡ None) × (key_rule now ≡ Some rule))
+unfolding first_rule
+first_rule-in last now rule no_x0 no_i1 named =
+    elim (or_else-some (rule_where (breaks_x0 now) X0) _ rule named) [
+      | inl x0 ↦ absurd (no_x0 (other_rule (breaks_x0 now) X0 rule x0))
       | inr later ↦
-          elim (or_else-some (atomicity_rule last now) _ A1 later.1) [
-            | inl atomicity ↦
-                names_a1 (breaks_a3 now) (breaks_a2 last now) (breaks_a1 last now)
-                (breaks_a4 now) atomicity
+          elim (or_else-some (atomicity_rule last now) _ rule later.1) [
+            | inl atomicity ↦ inl atomicity
             | inr rest ↦
-                elim (or_else-some (key_rule now) (rule_where (breaks_i1 now) I1) A1 rest.1) [
-                  | inl key ↦
-                      absurd
-                      (names_no_a1 (breaks_k1 now) (breaks_k2 now) (breaks_k3 now) (breaks_k4 now)
-                      (breaks_k5 now)
-                      (breaks_k6 now) key)
-                  | inr i1 ↦ absurd (let same = other_rule (breaks_i1 now) I1 A1 i1.1 in cc)
+                elim (or_else-some (key_rule now) (rule_where (breaks_i1 now) I1) rule rest.1) [
+                  | inl key ↦ inr (rest.0, key)
+                  | inr i1 ↦ absurd (no_i1 (other_rule (breaks_i1 now) I1 rule i1.1))
                 ]
           ]
     ]
 
+-- where the first rule is A1 or K3, its test holds, and the earlier rules of the ROM's entry do not
+first_rule-a1 : (last : Option ℕ) (now : Signals) → first_rule last now ≡ Some A1
+    → breaks_a1 last now ≡ true
+unfolding atomicity_rule key_rule
+first_rule-a1 last now named =
+    elim (first_rule-in last now A1 (λ same. cc) (λ same. cc) named) [
+      | inl atomicity ↦
+          names_a1 (breaks_a3 now) (breaks_a2 last now) (breaks_a1 last now) (breaks_a4 now)
+          atomicity
+      | inr key ↦
+          absurd (names_no_a1 (breaks_k1 now) (breaks_k2 now) (breaks_k3 now) (breaks_k4 now)
+          (breaks_k5 now) (breaks_k6 now) key.1)
+    ]
+
 first_rule-k3 : (last : Option ℕ) (now : Signals)
     → first_rule last now ≡ Some K3 → (atomicity_rule last now ≡ None) × (breaks_k3 now ≡ true)
-unfolding first_rule atomicity_rule key_rule
+unfolding atomicity_rule key_rule
 first_rule-k3 last now named =
-    elim (or_else-some (rule_where (breaks_x0 now) X0) _ K3 named) [
-      | inl x0 ↦ absurd (let same = other_rule (breaks_x0 now) X0 K3 x0 in cc)
-      | inr later ↦
-          elim (or_else-some (atomicity_rule last now) _ K3 later.1) [
-            | inl atomicity ↦
-                absurd (names_no_k3 (breaks_a3 now) (breaks_a2 last now) (breaks_a1 last now)
-                (breaks_a4 now) atomicity)
-            | inr rest ↦
-                elim (or_else-some (key_rule now) (rule_where (breaks_i1 now) I1) K3 rest.1) [
-                  | inl key ↦ (
-                    rest.0,
-                    names_k3 (breaks_k1 now) (breaks_k2 now) (breaks_k3 now) (breaks_k4 now)
-                        (breaks_k5 now)
-                        (breaks_k6 now) key,
-                  )
-                  | inr i1 ↦ absurd (let same = other_rule (breaks_i1 now) I1 K3 i1.1 in cc)
-                ]
-          ]
+    elim (first_rule-in last now K3 (λ same. cc) (λ same. cc) named) [
+      | inl atomicity ↦
+          absurd (names_no_k3 (breaks_a3 now) (breaks_a2 last now) (breaks_a1 last now)
+          (breaks_a4 now) atomicity)
+      | inr key ↦ (
+        key.0,
+        names_k3 (breaks_k1 now) (breaks_k2 now) (breaks_k3 now) (breaks_k4 now) (breaks_k5 now)
+            (breaks_k6 now) key.1,
+      )
     ]
 
 -- A1: the ROM is left at its exit alone

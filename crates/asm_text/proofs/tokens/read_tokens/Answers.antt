@@ -6,25 +6,20 @@ use Rattle.asm_text.proofs.tokens.read_tokens.Goals as goal
 pub loop-at-preserved-in-Blank : goal.loop-at-preserved-in-Blank
 loop-at-preserved-in-Blank c =
     read_to-blank c.loop-at.invariant c.loop-at-test.true
-    (given_piece _ c.piece_of.result c.map_err.result c.in_ok-map_err.field-0 c.args.place
-    c.loop-at.at
-    c.args.line.now c.map_err.ensures.cases c.map_err.ensures.variant c.in_ok-map_err.was
+    (given_piece _ _ _ _ _ _ c.map_err.ensures.cases c.map_err.ensures.variant c.in_ok-map_err.was
     c.piece_of.ensures.piece
     ∙ c.in-Blank.is)
 
 pub returns-in-Comment : goal.returns-in-Comment
 returns-in-Comment c =
     read_to-comment c.loop-at.invariant c.loop-at-test.true
-    (given_piece _ c.piece_of.result c.map_err.result c.in_ok-map_err.field-0 c.args.place
-    c.loop-at.at
-    c.args.line.now c.map_err.ensures.cases c.map_err.ensures.variant c.in_ok-map_err.was
+    (given_piece _ _ _ _ _ _ c.map_err.ensures.cases c.map_err.ensures.variant c.in_ok-map_err.was
     c.piece_of.ensures.piece
     ∙ c.in-Comment.is)
 
 pub loop-at-preserved : goal.loop-at-preserved
 loop-at-preserved c =
-    let fits = given_within _ c.piece_of.result c.map_err.result c.in-Token.token c.in-Token.count
-    c.args.place c.loop-at.at c.args.line.now c.map_err.ensures.cases c.map_err.ensures.variant
+    let fits = given_within _ _ _ _ c.map_err.ensures.cases c.map_err.ensures.variant
     (c.in_ok-map_err.was ∙ ap (λ p. Ok p) c.in-Token.is) c.piece_of.ensures.within
     c.loop-at.invariant.within in
     let added : c.add.new.self ≡ c.loop-at.tokens ++ c.in-Token.token ∷ [] =
@@ -33,18 +28,14 @@ loop-at-preserved c =
     c.in_ok-map_err-in-Token.was) at c.add.ensures in
     read_to-token c.add.new.self c.in-Token.token c.in-Token.count c.loop-at.invariant
     c.loop-at-test.true fits.0 fits.1
-    (given_piece _ c.piece_of.result c.map_err.result c.in_ok-map_err.field-0 c.args.place
-    c.loop-at.at
-    c.args.line.now c.map_err.ensures.cases c.map_err.ensures.variant c.in_ok-map_err.was
+    (given_piece _ _ _ _ _ _ c.map_err.ensures.cases c.map_err.ensures.variant c.in_ok-map_err.was
     c.piece_of.ensures.piece
     ∙ c.in-Token.is) added
 
 pub returns-in-Stray : goal.returns-in-Stray
 returns-in-Stray c =
     read_to-stray c.loop-at.invariant c.loop-at-test.true
-    (given_piece _ c.piece_of.result c.map_err.result c.in_ok-map_err.field-0 c.args.place
-    c.loop-at.at
-    c.args.line.now c.map_err.ensures.cases c.map_err.ensures.variant c.in_ok-map_err.was
+    (given_piece _ _ _ _ _ _ c.map_err.ensures.cases c.map_err.ensures.variant c.in_ok-map_err.was
     c.piece_of.ensures.piece
     ∙ c.in-Stray.is)
 

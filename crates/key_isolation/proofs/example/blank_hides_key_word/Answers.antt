@@ -12,12 +12,7 @@ use Rattle.device_trace.specs.Step.{record_of, next_record}
 use Rattle.device_trace.specs.Trace.{logs_after, trace}
 use Rattle.key_isolation.proofs.example.blank_hides_key_word.Goals as goal
 
-pub returns-clause-real : goal.returns-clause-real
+pub returns : goal.returns
 unfolding alu_result shift_result head_of next_access entry_access key_rule atomicity_rule exec
     with_events with_record signals_at first_rule record_of next_record logs_after trace
-returns-clause-real c = refl
-
-pub returns-clause-hidden : goal.returns-clause-hidden
-unfolding alu_result shift_result head_of next_access entry_access key_rule atomicity_rule exec
-    with_events with_record signals_at first_rule record_of next_record logs_after trace
-returns-clause-hidden c = refl
+returns c = record { real = refl; hidden = refl }

@@ -12,12 +12,7 @@ use Rattle.device_trace.specs.Step.{record_of, next_record}
 use Rattle.device_trace.specs.Trace.{logs_after, trace}
 use Rattle.key_isolation.proofs.example.two_keys_release_alike.Goals as goal
 
-pub returns-clause-first : goal.returns-clause-first
+pub returns : goal.returns
 unfolding alu_result shift_result head_of next_access entry_access key_rule atomicity_rule exec
     with_events with_record signals_at first_rule record_of next_record logs_after trace
-returns-clause-first c = refl
-
-pub returns-clause-second : goal.returns-clause-second
-unfolding alu_result shift_result head_of next_access entry_access key_rule atomicity_rule exec
-    with_events with_record signals_at first_rule record_of next_record logs_after trace
-returns-clause-second c = refl
+returns c = record { first = refl; second = refl }

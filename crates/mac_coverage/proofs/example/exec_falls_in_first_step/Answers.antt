@@ -12,22 +12,7 @@ use Rattle.device_trace.specs.Step.{record_of, next_record}
 use Rattle.device_trace.specs.Trace.{logs_after, trace}
 use Rattle.mac_coverage.proofs.example.exec_falls_in_first_step.Goals as goal
 
-pub returns-clause-rest_before : goal.returns-clause-rest_before
+pub returns : goal.returns
 unfolding alu_result shift_result head_of next_access entry_access key_rule atomicity_rule exec
     with_events with_record signals_at first_rule record_of next_record logs_after trace
-returns-clause-rest_before c = refl
-
-pub returns-clause-rest_after : goal.returns-clause-rest_after
-unfolding alu_result shift_result head_of next_access entry_access key_rule atomicity_rule exec
-    with_events with_record signals_at first_rule record_of next_record logs_after trace
-returns-clause-rest_after c = refl
-
-pub returns-clause-exec_before : goal.returns-clause-exec_before
-unfolding alu_result shift_result head_of next_access entry_access key_rule atomicity_rule exec
-    with_events with_record signals_at first_rule record_of next_record logs_after trace
-returns-clause-exec_before c = refl
-
-pub returns-clause-exec_after : goal.returns-clause-exec_after
-unfolding alu_result shift_result head_of next_access entry_access key_rule atomicity_rule exec
-    with_events with_record signals_at first_rule record_of next_record logs_after trace
-returns-clause-exec_after c = refl
+returns c = record { rest_before = refl; rest_after = refl; exec_before = refl; exec_after = refl }

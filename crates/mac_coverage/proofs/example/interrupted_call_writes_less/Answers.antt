@@ -12,12 +12,7 @@ use Rattle.device_trace.specs.Step.{record_of, next_record}
 use Rattle.device_trace.specs.Trace.{logs_after, trace}
 use Rattle.mac_coverage.proofs.example.interrupted_call_writes_less.Goals as goal
 
-pub returns-clause-steps : goal.returns-clause-steps
+pub returns : goal.returns
 unfolding alu_result shift_result head_of next_access entry_access key_rule atomicity_rule exec
     with_events with_record signals_at first_rule record_of next_record logs_after trace
-returns-clause-steps c = refl
-
-pub returns-clause-words : goal.returns-clause-words
-unfolding alu_result shift_result head_of next_access entry_access key_rule atomicity_rule exec
-    with_events with_record signals_at first_rule record_of next_record logs_after trace
-returns-clause-words c = refl
+returns c = record { steps = refl; words = refl }

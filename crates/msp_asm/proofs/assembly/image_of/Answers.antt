@@ -1,15 +1,13 @@
-use Rattle.std.proofs.Common.{◌≡◌, ◌∙◌, ◌<◌, ap, sym, subst, Err, reverse, take, length}
+use Rattle.std.proofs.Common.{◌∙◌, ap, sym, subst, Err, reverse, take}
 use Rattle.std.specs.Result.{result_err}
 use Rattle.mem_map.specs.Image.{byte_in}
 use Rattle.asm_bytes.specs.Value.{Scope}
-use Rattle.asm_bytes.specs.Names.{value_in}
 use Rattle.asm_bytes.specs.Scope.{scope_in}
 use Rattle.asm_bytes.specs.Statement.{bytes_of}
-use Rattle.msp_asm.specs.FirstPass.{scope_after}
-use Rattle.msp_asm.specs.SecondPass.{scope_among, byte_placed, second_pass_fault}
+use Rattle.msp_asm.specs.SecondPass.{byte_placed, second_pass_fault}
 use Rattle.msp_asm.specs.FirstPassState.{AnswersFault}
 use Rattle.msp_asm.proofs.LinesSoFar.{earlier_more, sound_more, fault_of_all}
-use Rattle.msp_asm.proofs.SecondPassMore.{same_scope, placed_more}
+use Rattle.msp_asm.proofs.SecondPassMore.{layout-scope, placed_more}
 use Rattle.msp_asm.proofs.assembly.image_of.Goals as goal
 
 pub returns-in-Err-place_statement-clause-fault : goal.returns-in-Err-place_statement-clause-fault
@@ -17,18 +15,13 @@ returns-in-Err-place_statement-clause-fault c =
     let i = c.loop-i.i in
     let text = c.args.text.now in
     let statements = c.args.statements.now in
-    let all = reverse statements in
-    let earlier = reverse (take i statements) in
     let statement = c.index-statements-i.result in
-    let below : c.loop-i.i < length c.args.statements.now = c.loop-i-test.true in
-    let scope : scope_in c.scope-scope.result ≡ scope_among c.args.text.now
-    (reverse c.args.statements.now) (reverse (take c.loop-i.i c.args.statements.now)) =
-    c.scope-scope.ensures
-    ∙ same_scope text (value_in c.args.layout.now.names) (scope_after text all).names _
-    (scope_after text earlier).here c.requires.names (c.requires.places i below) in
+    let scope = layout-scope c.args.layout.now text statements i (scope_in c.scope-scope.result)
+    c.requires c.loop-i-test.true c.scope-scope.ensures in
     rw c.fault_in_line.ensures
-    (fault_of_all (second_pass_fault text all) statements i _ statement
-    c.in-Err-place_statement.fault below c.index-statements-i.is c.loop-i.invariant.sound
+    (fault_of_all (second_pass_fault text (reverse statements)) statements i _ statement
+    c.in-Err-place_statement.fault c.loop-i-test.true c.index-statements-i.is
+    c.loop-i.invariant.sound
     (subst (λ (it : Scope). AnswersFault (Err c.in-Err-place_statement.fault)
     (result_err (bytes_of it statement.body))) scope c.in-Err-place_statement.ensures.fault))
 
@@ -38,23 +31,19 @@ loop-i-preserved c =
     let text = c.args.text.now in
     let statements = c.args.statements.now in
     let all = reverse statements in
-    let earlier = reverse (take i statements) in
     let statement = c.index-statements-i.result in
-    let below : c.loop-i.i < length c.args.statements.now = c.loop-i-test.true in
-    let scope : scope_in c.scope-scope.result ≡ scope_among c.args.text.now
-    (reverse c.args.statements.now) (reverse (take c.loop-i.i c.args.statements.now)) =
-    c.scope-scope.ensures
-    ∙ same_scope text (value_in c.args.layout.now.names) (scope_after text all).names _
-    (scope_after text earlier).here c.requires.names (c.requires.places i below) in
-    let more = earlier_more statements i _ statement below c.index-statements-i.is in
+    let scope = layout-scope c.args.layout.now text statements i (scope_in c.scope-scope.result)
+    c.requires c.loop-i-test.true c.scope-scope.ensures in
+    let more = earlier_more statements i _ statement c.loop-i-test.true c.index-statements-i.is in
     record {
       sound = sound_more (second_pass_fault text all) statements i _ statement
-          c.in_default.field-0 below c.index-statements-i.is c.loop-i.invariant.sound
+          c.in_default.field-0 c.loop-i-test.true c.index-statements-i.is c.loop-i.invariant.sound
           (ap (λ (it : Scope). result_err (bytes_of it statement.body)) (sym scope)
           ∙ c.in_default.ensures.fault);
       bytes = λ place is.
-          placed_more text all earlier statement (scope_in c.scope-scope.result)
-          (byte_in c.loop-i.image) (byte_in c.place_statement.new.image) place scope
+          placed_more text all (reverse (take i statements)) statement
+          (scope_in c.scope-scope.result) (byte_in c.loop-i.image)
+          (byte_in c.place_statement.new.image) place scope
           (c.loop-i.invariant.bytes place is) (c.in_default.ensures.bytes place is)
           ∙ ap (λ lines. byte_placed text all lines place) (sym more);
     }

@@ -1,6 +1,6 @@
 use Rattle.std.proofs.Common.{◌∙◌, arith}
 use Rattle.mem_map.specs.Image.{byte_in}
-use Rattle.msp_asm.proofs.Placing.{byte_at-more}
+use Rattle.msp_asm.proofs.Placing.{placed-more}
 use Rattle.msp_asm.proofs.image_writer.place_bytes.Goals as goal
 
 pub loop-byte-preserved : goal.loop-byte-preserved
@@ -11,7 +11,7 @@ loop-byte-preserved c =
       at = omega (arith, at.invariant.at);
       bytes = λ place is.
           rw (c.place_byte.ensures place)
-          (byte_at-more bytes at.byte-index at.place place (byte_in at.image place)
+          (placed-more bytes at.byte-index at.place place (byte_in at.image place)
           c.loop-byte-test.true is
           ∙ at.invariant.bytes place is);
     }

@@ -8,56 +8,53 @@ use Rattle.std.specs.List.{list_all, join_with_byte}
 use Rattle.std.specs.Str.{IsAscii, all_ascii_digits}
 use Rattle.std.proofs.Math.Seq.{take-length, drop-length, take-append_seam, drop-append_seam, get_or-append_seam}
 use Rattle.std.proofs.Math.ListN.{get_or-append}
-use Rattle.std.proofs.lemmas.Bool.{leb-true, ltb-true, le-leb, lt-ltb, le-ltb, ne_eqb, false≢true}
+use Rattle.std.proofs.lemmas.Bool.{and_from, and_parts, leb-true, ltb-true, le-leb, lt-ltb, le-ltb, ne_eqb}
 use Rattle.std.proofs.lemmas.Fmt.{digits_decimal, decimal_is_IsNumeral, decimal_nonempty, length-decimal-le}
 use Rattle.std.proofs.lemmas.List.Folds.{list_all-append}
-use Rattle.std.proofs.lemmas.List.Sums.{AllPass-from_list_all}
+use Rattle.std.proofs.lemmas.List.Sums.{AllPass-from_list_all, list_all-from_AllPass}
 use Rattle.std.proofs.lemmas.Str.Ascii.{IsAscii-nil, IsAscii-cons}
 use Rattle.std.proofs.lemmas.Str.Parse.{numerals_by_value, tells_all_ascii_digits}
-use Rattle.hex.specs.Hex.{encode_with, encode_lower, lower_digits, IsBytes}
+use Rattle.hex.specs.Hex.{encode_lower, lower_digits, IsBytes}
 use Rattle.hex.proofs.HexLemmas.{length-encode_with, decode_of-encode_lower, decode_sized-encode_lower}
-use Rattle.printed_lines.specs.Lines.{word_digits}
 use Rattle.text_scan.specs.Decimal.{decimal_of}
 use Rattle.text_scan.specs.Hexadecimal.{even_bytes_of, hex_bytes_of, hex_word_of}
 use Rattle.text_scan.specs.Word.{is_blank, words_of}
+use Rattle.text_scan.proofs.EncodedDigits.{encoded_pass}
 use Rattle.text_scan.proofs.FirstWord.{words_of-blank, words_cut}
 
 abbrev pub is_plain : ℕ → Bool
 is_plain character = nat_le 33 character && nat_lt character 127
 
-both_true : (a b : Bool) → a ≡ true → b ≡ true → (a && b) ≡ true
-both_true a b x y = rw (x, y) refl
-
-and_both : (a b : Bool) → (a && b) ≡ true → (a ≡ true) × (b ≡ true)
-and_both true b h = (refl, h)
-and_both false b h = absurd (false≢true h)
-
 plain_bounds : (character : ℕ) → is_plain character ≡ true → (33 ≤ character) × (character < 127)
 plain_bounds character h =
-    let both = and_both (nat_le 33 character) (nat_lt character 127) h in
+    let both = and_parts (nat_le 33 character) (nat_lt character 127) h in
     (leb-true 33 character both.0, ltb-true character 127 both.1)
 
 plain-digit : (character : ℕ) → is_ascii_digit character ≡ true → is_plain character ≡ true
 plain-digit character h =
-    let both = and_both (nat_le 48 character) (nat_le character 57) h in
+    let both = and_parts (nat_le 48 character) (nat_le character 57) h in
     let low = leb-true 48 character both.0 in
     let high = leb-true character 57 both.1 in
-    both_true (nat_le 33 character) (nat_lt character 127)
+    and_from (nat_le 33 character) (nat_lt character 127)
     (le-leb 33 character (omega (arith, low))) (lt-ltb character 127 (omega (arith, high)))
 
 -- digits of a decimal, as one test of all of them and as the other
 digits_each : (word : List ℕ) → all_ascii_digits word ≡ true → list_all is_ascii_digit word ≡ true
 digits_each [] h = refl
 digits_each (digit ∷ word) h =
-    let both = and_both (is_ascii_digit digit) (all_ascii_digits word) h in
-    both_true (is_ascii_digit digit) (list_all is_ascii_digit word) both.0 (digits_each word both.1)
+    let both = and_parts (is_ascii_digit digit) (all_ascii_digits word) h in
+    and_from (is_ascii_digit digit) (list_all is_ascii_digit word) both.0 (digits_each word both.1)
+
+-- a test that another one implies
+all_imply : (test other : ℕ → Bool)
+    → ((character : ℕ) → test character ≡ true → other character ≡ true)
+    → (word : List ℕ) → list_all test word ≡ true → list_all other word ≡ true
+all_imply test other implied word all =
+    list_all-from_AllPass other word
+    (λ k d below. implied (get_or word k d) (AllPass-from_list_all test word all k d below))
 
 plain_each : (word : List ℕ) → list_all is_ascii_digit word ≡ true → list_all is_plain word ≡ true
-plain_each [] h = refl
-plain_each (digit ∷ word) h =
-    let both = and_both (is_ascii_digit digit) (list_all is_ascii_digit word) h in
-    both_true (is_plain digit) (list_all is_plain word) (plain-digit digit both.0)
-    (plain_each word both.1)
+plain_each word h = all_imply is_ascii_digit is_plain plain-digit word h
 
 digits-decimal : (number : ℕ) → number < 2 ^ 64 → list_all is_ascii_digit (decimal number) ≡ true
 digits-decimal number small =
@@ -65,24 +62,7 @@ digits-decimal number small =
     (digits_decimal (numerals_by_value (λ ds. all_ascii_digits ds ≡ true) tells_all_ascii_digits)
     number small)
 
--- a test that all sixteen digits pass
-encoded_pass : (test : ℕ → Bool) → list_all test lower_digits ≡ true → (bytes : List ℕ)
-    → IsBytes bytes
-    → list_all test (encode_with lower_digits bytes) ≡ true
-unfolding encode_with
-encoded_pass test digits [] fits = refl
-encoded_pass test digits (byte ∷ bytes) fits =
-    let high : byte / 16 < 16 = omega (arith, fits 0) in
-    let low : byte % 16 < 16 = omega arith in
-    both_true (test (get_or lower_digits (byte / 16) 0))
-    (list_all test (get_or lower_digits (byte % 16) 0 ∷ encode_with lower_digits bytes))
-    (AllPass-from_list_all test lower_digits digits (byte / 16) 0 high)
-    (both_true (test (get_or lower_digits (byte % 16) 0))
-    (list_all test (encode_with lower_digits bytes))
-    (AllPass-from_list_all test lower_digits digits (byte % 16) 0 low)
-    (encoded_pass test digits bytes (λ i. fits (suc i))))
-
-one_byte : (byte : ℕ) → byte < 256 → IsBytes (byte ∷ [])
+pub one_byte : (byte : ℕ) → byte < 256 → IsBytes (byte ∷ [])
 one_byte byte small zero = small
 one_byte byte small (suc i) = omega arith
 
@@ -113,25 +93,30 @@ decimal_of-decimal most number within few =
 pub even_bytes_of-digits :
     (bytes : List ℕ) → IsBytes bytes → even_bytes_of (encode_lower bytes) ≡ Ok bytes
 even_bytes_of-digits bytes fits =
-    rw (encoded_pass is_ascii_hexdigit refl bytes fits, decode_of-encode_lower bytes fits) refl
+    rw (
+      encoded_pass lower_digits is_ascii_hexdigit refl refl bytes fits,
+      decode_of-encode_lower bytes fits,
+    ) refl
 
 pub hex_bytes_of-digits :
     (count : ℕ) (bytes : List ℕ) → length bytes ≡ count → IsBytes bytes
     → hex_bytes_of count (encode_lower bytes) ≡ Ok bytes
 hex_bytes_of-digits count bytes size fits =
     rw (
-      encoded_pass is_ascii_hexdigit refl bytes fits,
+      encoded_pass lower_digits is_ascii_hexdigit refl refl bytes fits,
       decode_sized-encode_lower bytes count size fits,
     ) refl
 
 word-bytes : (word : ℕ) → word < 65536 → from_be_bytes w16 (word / 256 ∷ word % 256 ∷ []) ≡ word
 word-bytes word small = omega arith
 
-pub hex_word_of-digits : (word : ℕ) → word < 65536 → hex_word_of (word_digits word) ≡ Ok word
+pub hex_word_of-digits :
+    (word : ℕ) → word < 65536
+    → hex_word_of (encode_lower (word / 256 ∷ word % 256 ∷ [])) ≡ Ok word
 hex_word_of-digits word small =
     let bytes : List ℕ = word / 256 ∷ word % 256 ∷ [] in
     rw (
-      encoded_pass is_ascii_hexdigit refl bytes (two_bytes word small),
+      encoded_pass lower_digits is_ascii_hexdigit refl refl bytes (two_bytes word small),
       decode_sized-encode_lower
           bytes 2 refl (two_bytes word small),
     )
@@ -195,15 +180,14 @@ words_of-join (word ∷ next ∷ words) plain =
 abbrev pub is_printed : ℕ → Bool
 is_printed character = nat_le 32 character && nat_lt character 127
 
+plain-printed : (character : ℕ) → is_plain character ≡ true → is_printed character ≡ true
+plain-printed character h =
+    let bounds = plain_bounds character h in
+    and_from (nat_le 32 character) (nat_lt character 127)
+    (le-leb 32 character (omega (arith, bounds.0))) (lt-ltb character 127 bounds.1)
+
 printed-word : (word : List ℕ) → list_all is_plain word ≡ true → list_all is_printed word ≡ true
-printed-word [] h = refl
-printed-word (character ∷ word) h =
-    let both = and_both (is_plain character) (list_all is_plain word) h in
-    let bounds = plain_bounds character both.0 in
-    both_true (is_printed character) (list_all is_printed word)
-    (both_true (nat_le 32 character) (nat_lt character 127)
-    (le-leb 32 character (omega (arith, bounds.0))) (lt-ltb character 127 bounds.1))
-    (printed-word word both.1)
+printed-word word h = all_imply is_plain is_printed plain-printed word h
 
 pub printed-join : (words : List (List ℕ)) → ArePlain words
     → list_all is_printed (join_with_byte 32 words) ≡ true
@@ -211,22 +195,22 @@ printed-join [] plain = refl
 printed-join (word ∷ []) plain = printed-word word plain.0.1
 printed-join (word ∷ next ∷ words) plain =
     list_all-append is_printed word (32 ∷ join_with_byte 32 (next ∷ words))
-    ∙ both_true (list_all is_printed word) (list_all is_printed
+    ∙ and_from (list_all is_printed word) (list_all is_printed
     (32 ∷ join_with_byte 32 (next ∷ words)))
     (printed-word word plain.0.1) (printed-join (next ∷ words) plain.1)
 
 pub printed_bounds : (line : List ℕ) → list_all is_printed line ≡ true → (k : ℕ) → k < length line
     → 14 ≤ get_or line k 0
 printed_bounds line h k below =
-    let both = and_both (nat_le 32 (get_or line k 0)) (nat_lt (get_or line k 0) 127)
+    let both = and_parts (nat_le 32 (get_or line k 0)) (nat_lt (get_or line k 0) 127)
     (AllPass-from_list_all is_printed line h k 0 below) in
     omega (arith, leb-true 32 (get_or line k 0) both.0)
 
 pub printed-ascii : (line : List ℕ) → list_all is_printed line ≡ true → IsAscii line
 printed-ascii [] h = IsAscii-nil
 printed-ascii (character ∷ line) h =
-    let both = and_both (is_printed character) (list_all is_printed line) h in
-    let high = ltb-true character 127 (and_both (nat_le 32 character) (nat_lt character 127)
+    let both = and_parts (is_printed character) (list_all is_printed line) h in
+    let high = ltb-true character 127 (and_parts (nat_le 32 character) (nat_lt character 127)
     both.0).1 in
     IsAscii-cons character line (omega (arith, high)) (printed-ascii line both.1)
 
@@ -241,6 +225,6 @@ pub plain-encoded : (bytes : List ℕ) → IsBytes bytes → 0 < length bytes
     → IsPlainWord (encode_lower bytes)
 plain-encoded bytes fits some = (
   omega (arith, length-encode_with lower_digits bytes, some),
-  encoded_pass is_plain refl bytes
+  encoded_pass lower_digits is_plain refl refl bytes
       fits,
 )
