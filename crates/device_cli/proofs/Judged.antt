@@ -21,7 +21,7 @@ use Rattle.report_verifier.specs.Comparison.{OutputFits, expected_key, expected_
 use Rattle.report_verifier.specs.Expected.{expected_mac, output_of}
 use Rattle.report_verifier.specs.Policy.{expected_at}
 use Rattle.report_verifier.specs.Verdict.{same_bounds, verdict}
-use Rattle.report_verifier.proofs.Regions.{length-bytes_from}
+use Rattle.part_definitions.proofs.BytesFrom.{length-bytes_from}
 use Rattle.device_cli.specs.VerdictLine.{verdict_line}
 use Rattle.device_cli.specs.Verify.{is_accept}
 use Rattle.device_cli.specs.Judge.{Judge}

@@ -20,7 +20,7 @@ use Rattle.device_trace.specs.Step.{next_record}
 use Rattle.device_trace.specs.Trace.{logs_after}
 use Rattle.device_trace.specs.Text.{byte_sent_in, finishes_call, report_of, sent_lines, reset_lines, report_lines, step_lines, lines_of, end_of, play_text}
 use Rattle.device_core.proofs.Reports.{output-within}
-use Rattle.mac_coverage.proofs.Words.{length-bytes_from}
+use Rattle.part_definitions.proofs.BytesFrom.{length-bytes_from}
 use Rattle.device_cli.specs.TextSummary.{counts_in, occurrences, wrapped}
 
 length-step : (step : ℕ) → step < 2 ^ 64 → length (decimal step) ≤ 20

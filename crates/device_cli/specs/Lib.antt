@@ -18,6 +18,7 @@ pub mod Round
 pub mod RoundText
 pub mod Row
 pub mod Status
+pub mod StepLines
 pub mod TextSummary
 pub mod VerdictLine
 pub mod Verify

@@ -3,15 +3,15 @@ ghost use Rattle.bus_signals.specs.Report.{fields_of};
 ghost use Rattle.outside_edge.specs.Sink.{Puts, CountsFaults};
 ghost use Rattle.bus_signals.specs.declared.event.Event.{Event};
 ghost use Rattle.device_trace.specs.Start.{Start, with_key};
-ghost use Rattle.device_trace.specs.Text.{last_byte_sent, last_report, sent_lines, reset_lines, report_lines, play_text};
-ghost use Rattle.device_trace.specs.Trace.{trace, play_of};
+ghost use Rattle.device_trace.specs.Text.{sent_lines, reset_lines, report_lines, play_text};
+ghost use Rattle.device_trace.specs.Trace.{play_of};
 ghost use Rattle.play_script.specs.Script.{events_of};
 ghost use Rattle.key_isolation.specs.Agreement.{ReleaseAlike};
 ghost use Rattle.mac_coverage.specs.Coverage.{IsDeviceKey, IsOfBytes};
 ghost use Rattle.device_cli.specs.Limit.{most_steps};
 ghost use Rattle.device_cli.specs.PlayLaws.{ObeysLaws};
 ghost use Rattle.device_core.specs.Device.{HasStepped, HeldStandsFor, LiveStandsFor, steps_of};
-ghost use Rattle.device_core.specs.Silence.{last_rule};
+ghost use Rattle.device_cli.specs.StepLines.{step_lines};
 
 use bus_signals::{ReportView, Rule};
 use device_core::{Device, Held, Live};
@@ -82,7 +82,19 @@ fn print_broken_rule<W: Sink>(step: u64, reset: Option<Rule>, sink: &mut W) -> R
     }
 }
 
-/// Puts the lines of the last step, which has this number.
+// Puts the lines of the last step, which has this number.
+#[inline(never)]
+fn print_lines<D: Digest32, W: Sink>(step: u64, live: &Live<D>, sink: &mut W) -> Result<(), Failed>
+    requires { HasStepped live.now }
+    ensures puts { (start : Start) (play : List (List Event))
+        → LiveStandsFor D.has_taken D.digest_of live.now start play
+        → Puts W.stands sink.old sink.new (step_lines start play step) result }
+    ensures counts { CountsFaults W.faults sink.old sink.new result }
+{
+    print_step(step, live.sent(), live.entry().reset, live.report(), sink)
+}
+
+/// Puts the lines of the last step, which has this number. Most steps have none.
 #[inline(always)]
 pub fn print_last_step<D: Digest32, W: Sink>(
     step: u64,
@@ -92,17 +104,13 @@ pub fn print_last_step<D: Digest32, W: Sink>(
     requires { HasStepped live.now }
     ensures puts { (start : Start) (play : List (List Event))
         → LiveStandsFor D.has_taken D.digest_of live.now start play
-        → Puts W.stands sink.old sink.new
-        (sent_lines step (last_byte_sent (trace start play))
-        ++ reset_lines step (last_rule (trace start play))
-        ++ report_lines (last_report start play))
-        result }
+        → Puts W.stands sink.old sink.new (step_lines start play step) result }
     ensures counts { CountsFaults W.faults sink.old sink.new result }
 {
     if live.is_silent() {
         Ok(())
     } else {
-        print_step(step, live.sent(), live.entry().reset, live.report(), sink)
+        print_lines(step, live, sink)
     }
 }
 

@@ -1,5 +1,7 @@
 -- The last record of a play, and how many there are.
-use Rattle.std.proofs.Common.{ap, ◌-◌, ◌≡◌, ◌&&◌, ℕ, Bool, true, false, not, List, [], ◌∷◌, length, Some, None, is_none, All, refl, arith}
+use Rattle.std.proofs.Common.{ap, ◌-◌, ◌≡◌, ◌==◌, ◌&&◌, ℕ, Bool, true, false, not, List, [], ◌∷◌, length, Some, None, is_none, All, refl, sym, ◌∙◌, arith}
+use Rattle.std.proofs.lemmas.Bool.{eqb-true}
+use Rattle.std.proofs.lemmas.List.{nil_from_length}
 use Rattle.bus_signals.specs.declared.bus_record.BusRecord.{BusRecord}
 use Rattle.bus_signals.specs.declared.event.Event.{Event}
 use Rattle.device_trace.specs.Formed.{AccessesAreFormed}
@@ -112,3 +114,10 @@ silent-None start play last =
       last_report-None start play last,
     )
     refl
+
+-- none came
+pub no_events :
+    (events : List Event) (none : Bool)
+    → none ≡ (length events == 0) → none ≡ true → events ≡ []
+no_events events none same is =
+    nil_from_length events (eqb-true (length events) 0 (sym same ∙ is))

@@ -1,5 +1,6 @@
 -- A step by its signals.
-use Rattle.std.proofs.Common.{◌≡◌, ℕ, Bool, List, refl}
+use Rattle.std.proofs.Common.{◌≡◌, ℕ, Bool, true, List, Option, None, Some, is_none, refl}
+use Rattle.bus_signals.specs.declared.rule.Rule.{Rule}
 use Rattle.bus_signals.specs.declared.signals.Signals.{Signals}
 use Rattle.part_definitions.specs.Dma.{dma_access}
 use Rattle.part_definitions.specs.Flag.{last_pc}
@@ -36,3 +37,7 @@ pub record_of-same :
     (dma_value_read start logs now)
 unfolding record_of
 record_of-same start logs reset regs now same here = rw (same, here) refl
+
+pub no_rule : (broken : Option Rule) → is_none broken ≡ true → broken ≡ None
+no_rule None none = refl
+no_rule (Some rule) none = absurd cc

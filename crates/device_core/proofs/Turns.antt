@@ -9,7 +9,7 @@ use Rattle.part_definitions.specs.Attestation.{CallItem, KeyRead, MetadataRead, 
 use Rattle.bus_signals.specs.declared.bounds.Bounds.{Bounds}
 use Rattle.part_definitions.specs.CpuRegisters.{clear_registers, pc_of}
 use Rattle.part_definitions.specs.CpuState.{CpuState, Boundary, Executing, Entering, registers_of, cpu_pc, cpu_takes, is_at_boundary, is_entering}
-use Rattle.part_definitions.specs.NextAccess.{next_access}
+use Rattle.part_definitions.specs.NextAccess.{next_access, is_illegal}
 use Rattle.part_definitions.specs.Words.{even}
 use Rattle.device_trace.specs.Logs.{Logs, vector_of, step_progress, is_timer_vector}
 use Rattle.device_trace.specs.Progress.{Held, Runs, InCall, progress_from_boundary, boundary_kind, call_access, running_access, fetches_opcode}
@@ -76,10 +76,12 @@ pub boundary-kind :
 boundary-kind logs regs kind runs same = sym same ∙ rw runs refl
 
 pub not_rom :
-    (kind : Kind) → (kind ≡ Boot) ⊎ ((kind ≡ Idle) ⊎ (kind ≡ Irq)) → is_rom kind ≡ false
+    (kind : Kind) → (kind ≡ Boot) ⊎ ((kind ≡ Cpu) ⊎ ((kind ≡ Idle) ⊎ (kind ≡ Irq)))
+    → is_rom kind ≡ false
 not_rom kind (inl boot) = rw boot refl
-not_rom kind (inr (inl idle)) = rw idle refl
-not_rom kind (inr (inr irq)) = rw irq refl
+not_rom kind (inr (inl cpu)) = rw cpu refl
+not_rom kind (inr (inr (inl idle))) = rw idle refl
+not_rom kind (inr (inr (inr irq))) = rw irq refl
 
 pub begun-turn :
     (start : Start) (logs : Logs) (regs : List ℕ)
@@ -317,6 +319,34 @@ takes-value start logs reset turn (Executing regs values) value same within fetc
     refl
 takes-value start logs reset turn (Entering regs vector values) value same within fetches answer =
     inr refl
+
+-- no interrupt could be accepted
+pub none_from :
+    (vector : Option ℕ) (some : Bool)
+    → some ≡ is_some vector → not some ≡ true → vector ≡ None
+none_from None some same quiet = refl
+none_from (Some vector) some same quiet = absurd cc
+
+takes-awake :
+    (kind : Kind) (word : ℕ)
+    → kind ≡ Cpu
+    → (kind ≡ Idle) ⊎ (not (is_illegal word) ≡ true)
+    → not (is_illegal word) ≡ true
+takes-awake kind word cpu (inl idle) = absurd cc
+takes-awake kind word cpu (inr taken) = taken
+
+-- at an opcode fetch it takes the word
+pub takes-opcode :
+    (start : Start) (logs : Logs) (reset : Bool) (turn : Turn) (regs : List ℕ) (word : ℕ)
+    → TurnStandsFor regs turn start logs
+    → step_progress logs (step_kind logs) ≡ Runs (Boundary regs)
+    → turn.kind ≡ Cpu
+    → FetchesOpcode turn.kind turn.opcode (Boundary regs)
+    → answer_in (record_of start logs reset) ≡ Some word
+    → not (is_illegal word) ≡ true
+takes-opcode start logs reset turn regs word same within cpu fetches answer =
+    takes-awake turn.kind word cpu
+    (takes-value start logs reset turn (Boundary regs) word same within fetches answer)
 
 -- the return read passes its value
 pub word_passed-return :

@@ -1,14 +1,18 @@
 -- What the bus stands for, between two steps and within one.
-use Rattle.std.specs.Prelude.{Bool, ◌≡◌, ◌&&◌, ℕ, List, [], ◌∷◌, length, Option, Some, None, is_some}
+use Rattle.std.specs.Prelude.{Bool, false, ◌≡◌, ◌&&◌, ℕ, List, [], ◌∷◌, length, Option, Some, None, is_some}
+use Rattle.bus_signals.specs.declared.access.Access.{Access}
 use Rattle.bus_signals.specs.declared.bus_record.BusRecord.{BusRecord}
 use Rattle.bus_signals.specs.declared.rule.Rule.{Rule}
+use Rattle.bus_signals.specs.declared.signals.Signals.{Signals}
 use Rattle.bus_signals.specs.Seen.{Seen}
+use Rattle.part_definitions.specs.Dma.{dma_access}
+use Rattle.part_definitions.specs.Flag.{exec}
 use Rattle.mem_map.specs.Memory.{MemoryStandsFor}
-use Rattle.device_trace.specs.Logs.{Logs, exec_of, vector_of, step_progress, accepts_timer, with_record}
+use Rattle.device_trace.specs.Logs.{Logs, exec_of, logged_bounds, vector_of, step_progress, accepts_timer, with_record}
 use Rattle.device_trace.specs.Progress.{next_pc_of, last_registers, tells_irq, fetches_opcode}
-use Rattle.device_trace.specs.Signals.{step_kind, proposed_access}
+use Rattle.device_trace.specs.Signals.{step_kind, proposed_access, signals_of, word_fetched, value_read}
 use Rattle.device_trace.specs.Start.{Start}
-use Rattle.device_trace.specs.Step.{record_of}
+use Rattle.device_trace.specs.Step.{record_of, record_from, dma_value_read}
 use Rattle.device_core.specs.Monitors.{MonitorsStandFor}
 use Rattle.device_core.specs.Peripherals.{PeripheralsStandFor}
 use Rattle.device_core.specs.declared.bus.Bus.{Bus}
@@ -52,3 +56,77 @@ answer_in entry = value_unless entry.reset entry.value
 -- the logs after a step whose events came already, and in which the script asks for a reset or not
 abbrev pub logs_after_step : Start → Logs → Bool → Logs
 logs_after_step start logs reset = with_record start logs (record_of start logs reset)
+
+-- what the bus answers to this turn, in which the DMA asks for this access
+abbrev pub AnswersTurn : Bus → List ℕ → Turn → Option Access → Bool → Option ℕ → Type 0
+AnswersTurn bus regs turn dma script_reset answer =
+    (start : Start) (logs : Logs)
+    → BusStandsFor bus start logs
+    → TurnStandsFor regs turn start logs
+    → dma ≡ dma_access logs.peripherals.dma
+    → answer ≡ answer_in (record_of start logs script_reset)
+
+-- the bus makes the step of this turn, or refuses it
+abbrev pub MakesTurn : Bus → List ℕ → Turn → Option Access → Bool → Bus → Type 0
+MakesTurn old regs turn dma script_reset new =
+    (start : Start) (logs : Logs)
+    → BusStandsFor old start logs
+    → TurnStandsFor regs turn start logs
+    → dma ≡ dma_access logs.peripherals.dma
+    → BusStandsFor new start (logs_after_step start logs script_reset)
+
+-- these are the signals of the step that comes next, from these registers, in which the script
+-- asks for a reset or not
+pub record SignalsStandFor (regs : List ℕ) (is_accepted : Bool) (now : Signals) (start : Start)
+    (logs : Logs) (script_reset : Bool) : Type 0 where
+  pub same_regs : regs ≡ last_registers logs.progress
+  pub same_signals : now ≡ signals_of start logs script_reset
+  pub same_acceptance : is_accepted ≡ accepts_timer logs.progress now.kind (vector_of logs)
+
+-- what the bus answers to these signals
+abbrev pub AnswersSignals : Bus → List ℕ → Bool → Signals → Option ℕ → Type 0
+AnswersSignals bus regs is_accepted now answer =
+    (start : Start) (logs : Logs) (script_reset : Bool)
+    → BusStandsFor bus start logs
+    → SignalsStandFor regs is_accepted now start logs script_reset
+    → answer ≡ answer_in (record_of start logs script_reset)
+
+-- the bus makes the step of these signals, or refuses it
+abbrev pub MakesSignals : Bus → List ℕ → Bool → Signals → Bus → Type 0
+MakesSignals old regs is_accepted now new =
+    (start : Start) (logs : Logs) (script_reset : Bool)
+    → BusStandsFor old start logs
+    → SignalsStandFor regs is_accepted now start logs script_reset
+    → BusStandsFor new start (logs_after_step start logs script_reset)
+
+-- what the processor reads in a step with these signals
+abbrev pub ReadsValue : Bus → Signals → ℕ → Type 0
+ReadsValue bus now value =
+    (start : Start) (logs : Logs)
+    → BusStandsFor bus start logs
+    → now.word ≡ word_fetched start logs now.cpu
+    → value ≡ value_read start logs now.cpu
+
+-- the logs after a step with these signals that breaks no rule
+abbrev pub logs_performed : Start → Logs → List ℕ → Signals → Logs
+logs_performed start logs regs now =
+    with_record start logs
+    (record_from regs now None (value_read start logs now.cpu) (dma_value_read start logs now))
+
+-- the bus makes such a step
+abbrev pub Performs : Bus → List ℕ → Bool → Signals → Bus → Type 0
+Performs old regs is_accepted now new =
+    (start : Start) (logs : Logs)
+    → BusStandsFor old start logs
+    → now.word ≡ word_fetched start logs now.cpu
+    → now.dma ≡ dma_access logs.peripherals.dma
+    → is_accepted ≡ accepts_timer logs.progress now.kind (vector_of logs)
+    → BusStandsFor new start (logs_performed start logs regs now)
+
+-- the EXEC flag is not set, and a record with this `pc` does not set it
+abbrev pub StaysClear : Start → Logs → ℕ → Type 0
+StaysClear start logs pc =
+    (entry : BusRecord)
+    → entry.pc ≡ pc
+    → (exec_of logs ≡ false)
+    × (exec (record { entry = entry; bounds = logged_bounds start logs } ∷ logs.seen) ≡ false)

@@ -1,19 +1,19 @@
 -- What a machine stands for, at each stage.
-use Rattle.std.specs.Prelude.{◌≡◌, ◌⊎◌, ℕ, Bool, true, List, Option, Some}
+use Rattle.std.specs.Prelude.{◌≡◌, ◌⊎◌, ℕ, Bool, true, List, Option, Some, None}
 use Rattle.part_definitions.specs.CpuRegisters.{sp_of}
 use Rattle.part_definitions.specs.CpuState.{CpuState, Boundary, Executing, Entering, clear_cpu, registers_of, entry_begun}
 use Rattle.msp_exec.specs.Course.{CpuStandsFor}
 use Rattle.swatt_rom.specs.RomCall.{NoCall, InCall as RomInCall}
 use Rattle.swatt_rom.specs.Rom.{RomStandsFor}
 use Rattle.bus_signals.specs.declared.kind.Kind.{Kind}
-use Rattle.bus_signals.specs.declared.kind.Kind.TheVariants.{Idle, Irq, Rom}
+use Rattle.bus_signals.specs.declared.kind.Kind.TheVariants.{Cpu, Idle, Irq, Rom}
 use Rattle.device_trace.specs.Logs.{Logs, step_progress, vector_of}
 use Rattle.device_trace.specs.Progress.{Held, Runs, InCall, boundary_kind}
 use Rattle.device_trace.specs.Signals.{step_kind}
 use Rattle.device_trace.specs.Start.{Start, with_key}
 use Rattle.device_trace.specs.Trace.{next_logs}
 use Rattle.bus_signals.specs.declared.event.Event.{Event}
-use Rattle.device_core.specs.Bus.{BusStandsFor, TurnStandsFor}
+use Rattle.device_core.specs.Bus.{BusStandsFor, TurnStandsFor, logs_after_step}
 use Rattle.device_core.specs.declared.machine.Machine.{Machine}
 use Rattle.device_core.specs.declared.turn.Turn.{Turn}
 use Rattle.device_core.specs.declared.stage.Stage.{Stage}
@@ -73,6 +73,16 @@ MakesStep taken digest stood events stage machine =
     → MachineStandsFor taken digest stage machine (with_key digest key image)
     (next_logs (with_key digest key image) logs events)
 
+-- likewise after the events of the step, in which the script asks for a reset or not
+abbrev pub Goes :
+    {D : Type 0} → (D → List ℕ → Type 0) → (List ℕ → List ℕ)
+    → (Start → Logs → Type 0) → Bool → Stage → Machine D → Type 0
+Goes taken digest stood script_reset stage machine =
+    (key : List ℕ) (image : ℕ → ℕ) (logs : Logs)
+    → stood (with_key digest key image) logs
+    → MachineStandsFor taken digest stage machine (with_key digest key image)
+    (logs_after_step (with_key digest key image) logs script_reset)
+
 -- at a boundary the processor fetches an opcode, or sleeps
 abbrev pub FetchesOpcode : Kind → Bool → CpuState → Type 0
 FetchesOpcode kind opcode (Boundary regs) = (kind ≡ Idle) ⊎ (opcode ≡ true)
@@ -94,6 +104,11 @@ pub record RunsWithin {D : Type 0} (taken : D → List ℕ → Type 0) (digest :
 abbrev pub state_begun : List ℕ → Kind → Option ℕ → CpuState
 state_begun regs Irq (Some vector) = entry_begun regs vector
 state_begun regs kind vector = Boundary regs
+
+-- at a boundary at which no interrupt could be accepted, no call begins and the processor is awake
+pub record Fetches (logs : Logs) (regs : List ℕ) : Type 0 where
+  pub uninterrupted : vector_of logs ≡ None
+  pub fetches : boundary_kind regs (vector_of logs) ≡ Cpu
 
 -- at a boundary at which a call begins, with some registers
 pub record BeginsCall {D : Type 0} (taken : D → List ℕ → Type 0) (digest : List ℕ → List ℕ)

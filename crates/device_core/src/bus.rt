@@ -1,5 +1,7 @@
-ghost use Rattle.std.specs.Prelude.{◌≡◌, ◌<◌, ◌^◌, ◌∷◌, ℕ, Bool, List, IfSome, IfOk, Some, None};
+ghost use Rattle.std.specs.Prelude.{◌≡◌, ◌<◌, ◌^◌, ◌∷◌, ℕ, Bool, true, List, Option, IfSome, IfOk, Some, None};
 ghost use Rattle.bus_signals.specs.Access.{IsFormed};
+ghost use Rattle.bus_signals.specs.declared.access.Access.{Access as AccessAsked};
+ghost use Rattle.bus_signals.specs.declared.bounds.Bounds.{Bounds as BoundsBefore};
 ghost use Rattle.bus_signals.specs.declared.event.Event.{Event};
 ghost use Rattle.bus_signals.specs.declared.rule.Rule.{Rule};
 ghost use Rattle.bus_signals.specs.declared.signals.Signals.{Signals};
@@ -23,7 +25,7 @@ use crate::peripherals::Peripherals;
 use crate::record::{record_of_refusal, record_of_step};
 use crate::turn::Turn;
 use bus_arbiter::{Proposal, exchange};
-use bus_signals::{Access, Bounds, BusMaster, BusRecord, Event, Rule, Signals};
+use bus_signals::{Access, Bounds, BusMaster, BusRecord, CR, Event, Rule, Signals};
 use mem_map::{Image, Memory};
 use std::alloc::{AllocError, Global};
 
@@ -94,7 +96,8 @@ fn make_accesses(memory: &mut Memory, peripherals: &Peripherals, now: &Signals) 
 }
 
 impl Bus {
-    ghost use Rattle.device_core.specs.Bus.{BusStandsFor, TurnStandsFor, PastStandsFor, answer_in, logs_after_step};
+    ghost use Rattle.device_core.specs.Bus.{BusStandsFor, PastStandsFor, AnswersTurn, MakesTurn, AnswersSignals, MakesSignals, ReadsValue, Performs, StaysClear, TurnStandsFor, logs_performed};
+    ghost use Rattle.device_core.specs.Peripherals.{peripherals_after_step};
     ghost use Rattle.device_core.specs.Past.{StepsFrom};
     ghost use Rattle.device_core.specs.Monitors.{MonitorsStandFor};
 
@@ -184,51 +187,158 @@ impl Bus {
         show_exec(&mut self.memory, was_set, self.monitors.exec());
     }
 
+    // The step ends with this record, which leaves the EXEC flag as it is.
+    #[inline(always)]
+    fn record_alone(&mut self, entry: BusRecord)
+        requires { self.old.past.steps < 2 ^ 63 }
+        ensures past_steps { StepsFrom self.old.past self.new.past }
+        ensures memory { self.new.memory ≡ self.old.memory }
+        ensures peripherals { self.new.peripherals ≡ self.old.peripherals }
+        ensures monitors { (bounds : BoundsBefore) (seen : List Seen)
+            → MonitorsStandFor self.old.monitors seen
+            → exec (record { entry = entry; bounds = bounds } ∷ seen) ≡ exec seen
+            → MonitorsStandFor self.new.monitors
+            (record { entry = entry; bounds = bounds } ∷ seen) }
+        ensures past { (bounds : BoundsBefore) (seen : List Seen)
+            → PastStandsFor self.old.past seen
+            → PastStandsFor self.new.past (record { entry = entry; bounds = bounds } ∷ seen) }
+    {
+        self.past.steps += 1;
+        let entry = self.past.last.insert(entry);
+        self.monitors.pass(entry);
+    }
+
+    // Makes the accesses of a step that breaks no rule.
+    #[inline(always)]
+    fn make(&mut self, is_accepted: bool, now: &Signals) -> Values
+        requires cpu { IfSome now.now.cpu IsFormed }
+        requires dma { IfSome now.now.dma IsFormed }
+        ensures monitors { self.new.monitors ≡ self.old.monitors }
+        ensures past { self.new.past ≡ self.old.past }
+        ensures cpu { (start : Start) (logs : Logs)
+            → BusStandsFor self.old start logs
+            → now.now.word ≡ word_fetched start logs now.now.cpu
+            → result.cpu ≡ value_read start logs now.now.cpu }
+        ensures dma { (start : Start) (logs : Logs)
+            → BusStandsFor self.old start logs
+            → result.dma ≡ dma_value_read start logs now.now }
+        ensures memory { (start : PowerOn) (flag : Bool) (writes : List MemoryWrite)
+            → MemoryStandsFor self.old.memory start flag writes
+            → MemoryStandsFor self.new.memory start flag
+            (memory_after None now.now.cpu now.now.dma writes) }
+        ensures peripherals { (logs : PeripheralLogs)
+            → PeripheralsStandFor self.old.peripherals logs
+            → PeripheralsStandFor self.new.peripherals
+            (peripherals_after_step None is_accepted now.now.cpu now.now.dma result.dma logs) }
+    {
+        let values = make_accesses(&mut self.memory, &self.peripherals, now);
+        self.peripherals
+            .serve(now.cpu, now.dma, values.dma, is_accepted);
+        values
+    }
+
     // Makes a step that breaks no rule. What the access of the processor read.
     #[inline(always)]
-    #[tactic(auto, unfolding(device_trace::specs::Logs::with_record))]
     fn perform(&mut self, regs: &[u16; 16], is_accepted: bool, now: &Signals) -> u16
         requires few { self.old.past.steps < 2 ^ 63 }
         requires cpu { IfSome now.now.cpu IsFormed }
         requires dma { IfSome now.now.dma IsFormed }
         ensures past_steps { StepsFrom self.old.past self.new.past }
-        ensures value { (start : Start) (logs : Logs)
-            → BusStandsFor self.old start logs
-            → now.now.word ≡ word_fetched start logs now.now.cpu
-            → result ≡ value_read start logs now.now.cpu }
+        ensures value { ReadsValue self.old now.now result }
+        ensures stands { Performs self.old regs.now is_accepted now.now self.new }
+    {
+        if self.stays_clear(now.pc) {
+            self.perform_alone(regs, is_accepted, now)
+        } else {
+            self.perform_watched(regs, is_accepted, *now)
+        }
+    }
+
+    // Whether the EXEC flag is not set, and a step with this `pc` does not set it.
+    #[inline(always)]
+    fn stays_clear(&self, pc: u16) -> bool
+        ensures { (start : Start) (logs : Logs)
+            → BusStandsFor self.now start logs
+            → result ≡ true
+            → StaysClear start logs pc }
+    {
+        self.monitors.exec.stays_clear(pc, self.memory.er_min())
+    }
+
+    // Likewise a step in which the EXEC flag is not set and stays so: nothing looks at the bounds.
+    #[inline(always)]
+    #[tactic(auto, unfolding(device_trace::specs::Logs::with_record))]
+    fn perform_alone(&mut self, regs: &[u16; 16], is_accepted: bool, now: &Signals) -> u16
+        requires few { self.old.past.steps < 2 ^ 63 }
+        requires cpu { IfSome now.now.cpu IsFormed }
+        requires dma { IfSome now.now.dma IsFormed }
+        ensures past_steps { StepsFrom self.old.past self.new.past }
+        ensures value { ReadsValue self.old now.now result }
         ensures stands { (start : Start) (logs : Logs)
+            → StaysClear start logs now.now.pc
             → BusStandsFor self.old start logs
             → now.now.word ≡ word_fetched start logs now.now.cpu
             → now.now.dma ≡ dma_access logs.peripherals.dma
             → is_accepted ≡ accepts_timer logs.progress now.now.kind (vector_of logs)
-            → BusStandsFor self.new start (with_record start logs
-            (record_from regs.now now.now None (value_read start logs now.now.cpu)
-            (dma_value_read start logs now.now))) }
+            → BusStandsFor self.new start (logs_performed start logs regs.now now.now) }
+    {
+        let values = self.make(is_accepted, now);
+        self.record_alone(record_of_step(regs, now, values.cpu, values.dma));
+        values.cpu
+    }
+
+    // Likewise any step. The signals are copied, so that other steps keep none in memory.
+    #[inline(never)]
+    #[tactic(auto, unfolding(device_trace::specs::Logs::with_record))]
+    fn perform_watched(&mut self, regs: &[u16; 16], is_accepted: bool, now: Signals) -> u16
+        requires few { self.old.past.steps < 2 ^ 63 }
+        requires cpu { IfSome now.cpu IsFormed }
+        requires dma { IfSome now.dma IsFormed }
+        ensures past_steps { StepsFrom self.old.past self.new.past }
+        ensures value { ReadsValue self.old now result }
+        ensures stands { Performs self.old regs.now is_accepted now self.new }
     {
         let bounds = self.memory.bounds();
-        let values = make_accesses(&mut self.memory, &self.peripherals, now);
-        self.peripherals
-            .serve(now.cpu, now.dma, values.dma, is_accepted);
-        self.record(record_of_step(regs, now, values.cpu, values.dma), &bounds);
+        let values = self.make(is_accepted, &now);
+        self.record(record_of_step(regs, &now, values.cpu, values.dma), &bounds);
         values.cpu
     }
 
     // Makes no access, and resets all that is reached over the bus but memory and pins.
     #[inline(never)]
     #[tactic(auto, unfolding(device_trace::specs::Logs::with_record))]
-    fn refuse(&mut self, regs: &[u16; 16], rule: Rule, now: Signals)
+    fn refuse(&mut self, regs: &[u16; 16], rule: Rule, now: &Signals)
         requires few { self.old.past.steps < 2 ^ 63 }
-        requires cpu { IfSome now.cpu IsFormed }
-        requires dma { IfSome now.dma IsFormed }
+        requires cpu { IfSome now.now.cpu IsFormed }
+        requires dma { IfSome now.now.dma IsFormed }
         ensures past_steps { StepsFrom self.old.past self.new.past }
         ensures stands { (start : Start) (logs : Logs) (value dma_value : ℕ)
             → BusStandsFor self.old start logs
             → BusStandsFor self.new start (with_record start logs
-            (record_from regs.now now (Some rule) value dma_value)) }
+            (record_from regs.now now.now (Some rule) value dma_value)) }
     {
         let bounds = self.memory.bounds();
         self.peripherals.clear();
-        self.record(record_of_refusal(regs, &now, rule), &bounds);
+        self.record(record_of_refusal(regs, now, rule), &bounds);
+    }
+
+    // Tries the rules one by one, and makes or refuses the step of these signals.
+    #[inline(never)]
+    fn act_by_rule(&mut self, regs: &[u16; 16], is_accepted: bool, now: Signals) -> Option<u16>
+        requires few { self.old.past.steps < 2 ^ 63 }
+        requires cpu { IfSome now.cpu IsFormed }
+        requires dma { IfSome now.dma IsFormed }
+        ensures past_steps { StepsFrom self.old.past self.new.past }
+        ensures answer { AnswersSignals self.old regs.now is_accepted now result }
+        ensures stands { MakesSignals self.old regs.now is_accepted now self.new }
+    {
+        match self.monitors.first_rule(&now) {
+            None => Some(self.perform_watched(regs, is_accepted, now)),
+            Some(rule) => {
+                self.refuse(regs, rule, &now);
+                None
+            }
+        }
     }
 
     /// Tries the rules, and makes the step of this turn where none is broken, in which the DMA asks
@@ -245,24 +355,53 @@ impl Bus {
         requires formed { IfSome turn.now.access IsFormed }
         requires dma_formed { IfSome dma IsFormed }
         ensures past_steps { StepsFrom self.old.past self.new.past }
-        ensures answer { (start : Start) (logs : Logs)
-            → BusStandsFor self.old start logs
-            → TurnStandsFor regs.now turn.now start logs
-            → dma ≡ dma_access logs.peripherals.dma
-            → result ≡ answer_in (record_of start logs script_reset) }
-        ensures stands { (start : Start) (logs : Logs)
-            → BusStandsFor self.old start logs
-            → TurnStandsFor regs.now turn.now start logs
-            → dma ≡ dma_access logs.peripherals.dma
-            → BusStandsFor self.new start (logs_after_step start logs script_reset) }
+        ensures answer { AnswersTurn self.old regs.now turn.now dma script_reset result }
+        ensures stands { MakesTurn self.old regs.now turn.now dma script_reset self.new }
+    {
+        if CR.contains(turn.pc) {
+            self.act_in_rom(regs, *turn, script_reset)
+        } else {
+            self.act_anywhere(regs, turn, dma, script_reset)
+        }
+    }
+
+    // Likewise in the ROM, apart from the other steps, which are shorter by that. It asks the DMA
+    // again, so that the others need not keep its access in memory.
+    #[inline(never)]
+    fn act_in_rom(&mut self, regs: &[u16; 16], turn: Turn, script_reset: bool) -> Option<u16>
+        requires few { self.old.past.steps < 2 ^ 63 }
+        requires formed { IfSome turn.access IsFormed }
+        ensures past_steps { StepsFrom self.old.past self.new.past }
+        ensures answer { (dma : Option AccessAsked)
+            → AnswersTurn self.old regs.now turn dma script_reset result }
+        ensures stands { (dma : Option AccessAsked)
+            → MakesTurn self.old regs.now turn dma script_reset self.new }
+    {
+        let dma = self.peripherals.dma.ask();
+        self.act_anywhere(regs, &turn, dma, script_reset)
+    }
+
+    // Likewise wherever `pc` is.
+    #[inline(always)]
+    fn act_anywhere(
+        &mut self,
+        regs: &[u16; 16],
+        turn: &Turn,
+        dma: Option<Access>,
+        script_reset: bool,
+    ) -> Option<u16>
+        requires few { self.old.past.steps < 2 ^ 63 }
+        requires formed { IfSome turn.now.access IsFormed }
+        requires dma_formed { IfSome dma IsFormed }
+        ensures past_steps { StepsFrom self.old.past self.new.past }
+        ensures answer { AnswersTurn self.old regs.now turn.now dma script_reset result }
+        ensures stands { MakesTurn self.old regs.now turn.now dma script_reset self.new }
     {
         let now = self.signals(turn, dma, script_reset);
-        match self.monitors.first_rule(&now) {
-            None => Some(self.perform(regs, turn.accepts_timer, &now)),
-            Some(rule) => {
-                self.refuse(regs, rule, now);
-                None
-            }
+        if self.monitors.permits(&now) {
+            Some(self.perform(regs, turn.accepts_timer, &now))
+        } else {
+            self.act_by_rule(regs, turn.accepts_timer, now)
         }
     }
 }

@@ -1,4 +1,4 @@
-ghost use Rattle.std.specs.Prelude.{◌≡◌, ◌⊎◌, ◌==◌, ◌<◌, ◌^◌, ◌&&◌, ℕ, List, IfOk, IfSome, true, false, is_some, if◌then◌else◌};
+ghost use Rattle.std.specs.Prelude.{◌≡◌, ◌⊎◌, ◌==◌, ◌<◌, ◌^◌, ◌&&◌, ℕ, List, IfOk, IfSome, true, false, is_some, None, if◌then◌else◌};
 ghost use Rattle.bus_signals.specs.Access.{IsFormed};
 ghost use Rattle.bus_signals.specs.Map.{ROM_ENTRY};
 ghost use Rattle.part_definitions.specs.CpuRegisters.{with_pc, with_sp, is_asleep};
@@ -68,6 +68,17 @@ fn kind_outside_rom(processor: &Cpu, vector: Option<u16>) -> Kind
     }
 }
 
+// Whether the processor is awake above the ROM, where an instruction begins if no interrupt comes.
+#[inline(always)]
+fn is_awake_above_rom(processor: &Cpu) -> bool
+    ensures { (state : CpuState)
+        → CpuStandsFor processor.now state
+        → result ≡ true
+        → boundary_kind (registers_of state) None ≡ Kind.Cpu }
+{
+    processor.pc() > CR.last && !processor.is_asleep()
+}
+
 fn is_rom_entry(pc: u16) -> bool
     ensures { result ≡ (pc == ROM_ENTRY) }
 {
@@ -77,7 +88,7 @@ fn is_rom_entry(pc: u16) -> bool
 impl<D: Digest32> Machine<D> {
     ghost use Rattle.device_core.specs.Bus.{BusStandsFor, logs_after_step};
     ghost use Rattle.device_core.specs.Past.{StepsFrom};
-    ghost use Rattle.device_core.specs.Machine.{HeldMachine, RunningMachine, RunsFrom, CallingMachine, RunsWithin, BeginsCall, CallsWithin, MachineStandsFor, MakesStep};
+    ghost use Rattle.device_core.specs.Machine.{HeldMachine, RunningMachine, RunsFrom, CallingMachine, RunsWithin, BeginsCall, CallsWithin, MachineStandsFor, MakesStep, Goes, Fetches};
 
     /// The machine at power-on.
     pub fn new(alloc: Global, key: &[u8; 64], image: &Image) -> Result<Machine<D>, AllocError>
@@ -219,11 +230,8 @@ impl<D: Digest32> Machine<D> {
     fn go_on_with_call(&mut self, script_reset: bool) -> Stage
         requires { self.old.bus.past.steps < 2 ^ 63 }
         ensures past { StepsFrom self.old.bus.past self.new.bus.past }
-        ensures stands { (key : List ℕ) (image : ℕ → ℕ) (logs : Logs)
-            → CallingMachine D.has_taken D.digest_of self.old (with_key D.digest_of key image) logs
-            → MachineStandsFor D.has_taken D.digest_of result self.new
-            (with_key D.digest_of key image)
-            (logs_after_step (with_key D.digest_of key image) logs script_reset) }
+        ensures stands { Goes D.has_taken D.digest_of
+            (CallingMachine D.has_taken D.digest_of self.old) script_reset result self.new }
     {
         let irq = self.vector().is_some();
         let turn = Turn::of_call(&self.call, irq);
@@ -235,11 +243,8 @@ impl<D: Digest32> Machine<D> {
     fn begin_call(&mut self, script_reset: bool) -> Stage
         requires { self.old.bus.past.steps < 2 ^ 63 }
         ensures past { StepsFrom self.old.bus.past self.new.bus.past }
-        ensures stands { (key : List ℕ) (image : ℕ → ℕ) (logs : Logs)
-            → BeginsCall D.has_taken D.digest_of self.old (with_key D.digest_of key image) logs
-            → MachineStandsFor D.has_taken D.digest_of result self.new
-            (with_key D.digest_of key image)
-            (logs_after_step (with_key D.digest_of key image) logs script_reset) }
+        ensures stands { Goes D.has_taken D.digest_of
+            (BeginsCall D.has_taken D.digest_of self.old) script_reset result self.new }
     {
         let irq = self.vector().is_some();
         self.call.begin(self.processor.sp());
@@ -285,35 +290,8 @@ impl<D: Digest32> Machine<D> {
         Turn::of_processor(&self.processor, kind, false, false, false)
     }
 
-    // A step that begins at a boundary, and no call: of this kind, with this interrupt, and with
-    // this access of the DMA.
-    #[inline(always)]
-    fn run_from_boundary(
-        &mut self,
-        kind: Kind,
-        vector: Option<u16>,
-        dma: Option<Access>,
-        script_reset: bool,
-    ) -> Stage
-        requires few { self.old.bus.past.steps < 2 ^ 63 }
-        requires dma_formed { IfSome dma IsFormed }
-        ensures past { StepsFrom self.old.bus.past self.new.bus.past }
-        ensures stands { (start : Start) (logs : Logs) (regs : List ℕ)
-            → RunsFrom D.has_taken D.digest_of self.old start logs (Boundary regs)
-            → vector ≡ vector_of logs
-            → kind ≡ boundary_kind regs (vector_of logs)
-            → is_rom kind ≡ false
-            → dma ≡ dma_access logs.peripherals.dma
-            → MachineStandsFor D.has_taken D.digest_of result self.new start
-            (logs_after_step start logs script_reset) }
-    {
-        let turn = self.turn_from_boundary(kind, vector);
-        self.run(&turn, dma, script_reset)
-    }
-
-    // Likewise: sleep, or the first step of an interrupt entry.
-    #[inline(never)]
-    fn sleep_or_enter(&mut self, kind: Kind, vector: Option<u16>, script_reset: bool) -> Stage
+    // A step that begins at a boundary, and no call: of this kind, with this interrupt.
+    fn run_from_boundary(&mut self, kind: Kind, vector: Option<u16>, script_reset: bool) -> Stage
         requires { self.old.bus.past.steps < 2 ^ 63 }
         ensures past { StepsFrom self.old.bus.past self.new.bus.past }
         ensures stands { (start : Start) (logs : Logs) (regs : List ℕ)
@@ -325,12 +303,14 @@ impl<D: Digest32> Machine<D> {
             (logs_after_step start logs script_reset) }
     {
         let dma = self.bus.peripherals.dma.ask();
-        self.run_from_boundary(kind, vector, dma, script_reset)
+        let turn = self.turn_from_boundary(kind, vector);
+        self.run(&turn, dma, script_reset)
     }
 
-    // A step that begins at a boundary.
+    // A step that begins at a boundary, in which the script asks for no reset and the DMA asks for
+    // this access.
     #[inline(always)]
-    fn go_from_boundary(&mut self, dma: Option<Access>, script_reset: bool) -> Stage
+    fn go_from_boundary(&mut self, dma: Option<Access>) -> Stage
         requires few { self.old.bus.past.steps < 2 ^ 63 }
         requires dma_formed { IfSome dma IsFormed }
         ensures past { StepsFrom self.old.bus.past self.new.bus.past }
@@ -340,19 +320,99 @@ impl<D: Digest32> Machine<D> {
             → dma ≡ dma_access logs.peripherals.dma
             → MachineStandsFor D.has_taken D.digest_of result self.new
             (with_key D.digest_of key image)
+            (logs_after_step (with_key D.digest_of key image) logs false) }
+    {
+        if self.fetches() {
+            self.fetch(dma)
+        } else {
+            self.go_from_any_boundary(false)
+        }
+    }
+
+    // Whether an interrupt could be accepted.
+    #[inline(always)]
+    fn is_interrupted(&self) -> bool
+        ensures { (start : Start) (logs : Logs) (state : CpuState)
+            → BusStandsFor self.now.bus start logs
+            → CpuStandsFor self.now.processor state
+            → registers_of state ≡ last_registers logs.progress
+            → result ≡ is_some (vector_of logs) }
+    {
+        self.processor.allows_interrupts() && self.bus.peripherals.has_request()
+    }
+
+    // At a boundary: whether an instruction above the ROM begins, as in most steps.
+    #[inline(always)]
+    fn fetches(&self) -> bool
+        ensures { (start : Start) (logs : Logs) (regs : List ℕ)
+            → RunsFrom D.has_taken D.digest_of self.now start logs (Boundary regs)
+            → result ≡ true
+            → Fetches logs regs }
+    {
+        is_awake_above_rom(&self.processor) && !self.is_interrupted()
+    }
+
+    // The turn of such an instruction: its opcode fetch.
+    #[inline(always)]
+    fn turn_of_fetch(&self) -> Turn
+        ensures formed { IfSome result.access IsFormed }
+        ensures kind { result.kind ≡ Kind.Cpu }
+        ensures runs { (start : Start) (logs : Logs) (regs : List ℕ)
+            → RunsFrom D.has_taken D.digest_of self.now start logs (Boundary regs)
+            → Fetches logs regs
+            → RunsWithin D.has_taken D.digest_of self.now result start logs (Boundary regs) }
+    {
+        Turn::of_opcode_fetch(&self.processor)
+    }
+
+    // The opcode fetch, in which the DMA asks for this access.
+    #[inline(always)]
+    fn fetch(&mut self, dma: Option<Access>) -> Stage
+        requires few { self.old.bus.past.steps < 2 ^ 63 }
+        requires dma_formed { IfSome dma IsFormed }
+        ensures past { StepsFrom self.old.bus.past self.new.bus.past }
+        ensures stands { (start : Start) (logs : Logs) (regs : List ℕ)
+            → RunsFrom D.has_taken D.digest_of self.old start logs (Boundary regs)
+            → Fetches logs regs
+            → dma ≡ dma_access logs.peripherals.dma
+            → MachineStandsFor D.has_taken D.digest_of result self.new start
+            (logs_after_step start logs false) }
+    {
+        let turn = self.turn_of_fetch();
+        let regs = self.processor.registers();
+        match self.bus.act(regs, &turn, dma, false) {
+            Some(word) => {
+                let _ = self.processor.begin(word);
+                Stage::Running
+            }
+            None => self.hold(),
+        }
+    }
+
+    // Any step that begins at a boundary.
+    #[inline(never)]
+    fn go_from_any_boundary(&mut self, script_reset: bool) -> Stage
+        requires { self.old.bus.past.steps < 2 ^ 63 }
+        ensures past { StepsFrom self.old.bus.past self.new.bus.past }
+        ensures stands { (key : List ℕ) (image : ℕ → ℕ) (logs : Logs) (regs : List ℕ)
+            → RunsFrom D.has_taken D.digest_of self.old (with_key D.digest_of key image) logs
+            (Boundary regs)
+            → MachineStandsFor D.has_taken D.digest_of result self.new
+            (with_key D.digest_of key image)
             (logs_after_step (with_key D.digest_of key image) logs script_reset) }
     {
         let vector = self.vector();
         let kind = boundary_kind(&self.processor, vector);
         match kind {
-            Kind::Cpu => self.run_from_boundary(kind, vector, dma, script_reset),
             Kind::Rom => self.begin_call(script_reset),
-            Kind::Boot | Kind::Idle | Kind::Irq => self.sleep_or_enter(kind, vector, script_reset),
+            Kind::Boot | Kind::Cpu | Kind::Idle | Kind::Irq => {
+                self.run_from_boundary(kind, vector, script_reset)
+            }
         }
     }
 
-    // A step in the middle of an instruction or an interrupt entry. The compiler makes one for each
-    // kind of access, which is shorter than one for all.
+    // A step in the middle of an instruction or an interrupt entry, in which the DMA asks for this
+    // access.
     #[inline(always)]
     fn run_in_the_middle(&mut self, dma: Option<Access>, script_reset: bool) -> Stage
         requires few { self.old.bus.past.steps < 2 ^ 63 }
@@ -366,16 +426,12 @@ impl<D: Digest32> Machine<D> {
             (logs_after_step start logs script_reset) }
     {
         let turn = self.turn_in_the_middle();
-        match turn.access {
-            Some(Access::Write(..)) => self.run(&turn, dma, script_reset),
-            Some(Access::Read(..)) => self.run(&turn, dma, script_reset),
-            Some(Access::Fetch(..)) | None => self.run(&turn, dma, script_reset),
-        }
+        self.run(&turn, dma, script_reset)
     }
 
-    // Likewise, apart from the steps of instructions.
+    // Likewise, whatever the DMA asks for.
     #[inline(never)]
-    fn go_on_entering(&mut self, script_reset: bool) -> Stage
+    fn go_on(&mut self, script_reset: bool) -> Stage
         requires { self.old.bus.past.steps < 2 ^ 63 }
         ensures past { StepsFrom self.old.bus.past self.new.bus.past }
         ensures stands { (start : Start) (logs : Logs) (state : CpuState)
@@ -388,44 +444,134 @@ impl<D: Digest32> Machine<D> {
         self.run_in_the_middle(dma, script_reset)
     }
 
-    // The step of a device that runs, after its events, in which the DMA asks for this access.
-    #[inline(always)]
-    fn go_beside(&mut self, dma: Option<Access>, script_reset: bool) -> Stage
-        requires few { self.old.bus.past.steps < 2 ^ 63 }
-        requires dma_formed { IfSome dma IsFormed }
-        ensures past { StepsFrom self.old.bus.past self.new.bus.past }
-        ensures stands { (key : List ℕ) (image : ℕ → ℕ) (logs : Logs)
-            → RunningMachine D.has_taken D.digest_of self.old (with_key D.digest_of key image) logs
-            → dma ≡ dma_access logs.peripherals.dma
-            → MachineStandsFor D.has_taken D.digest_of result self.new
-            (with_key D.digest_of key image)
-            (logs_after_step (with_key D.digest_of key image) logs script_reset) }
-    {
-        if self.processor.at_boundary() {
-            self.go_from_boundary(dma, script_reset)
-        } else if self.processor.is_entering() {
-            self.go_on_entering(script_reset)
-        } else {
-            self.run_in_the_middle(dma, script_reset)
-        }
-    }
-
-    // Likewise, whatever the DMA asks for. The compiler makes a step without an access of the DMA
-    // apart from one with it.
-    #[inline(always)]
+    // The step of a device that runs, after its events.
     fn go(&mut self, script_reset: bool) -> Stage
         requires { self.old.bus.past.steps < 2 ^ 63 }
         ensures past { StepsFrom self.old.bus.past self.new.bus.past }
-        ensures stands { (key : List ℕ) (image : ℕ → ℕ) (logs : Logs)
-            → RunningMachine D.has_taken D.digest_of self.old (with_key D.digest_of key image) logs
+        ensures stands { Goes D.has_taken D.digest_of
+            (RunningMachine D.has_taken D.digest_of self.old) script_reset result self.new }
+    {
+        if self.processor.at_boundary() {
+            self.go_from_any_boundary(script_reset)
+        } else {
+            self.go_on(script_reset)
+        }
+    }
+
+    // A step that begins at a boundary, without events and without an access of the DMA.
+    #[inline(never)]
+    fn begin_alone(&mut self) -> Stage
+        requires { self.old.bus.past.steps < 2 ^ 63 }
+        ensures past { StepsFrom self.old.bus.past self.new.bus.past }
+        ensures stands { (key : List ℕ) (image : ℕ → ℕ) (logs : Logs) (regs : List ℕ)
+            → RunsFrom D.has_taken D.digest_of self.old (with_key D.digest_of key image) logs
+            (Boundary regs)
+            → None ≡ dma_access logs.peripherals.dma
             → MachineStandsFor D.has_taken D.digest_of result self.new
             (with_key D.digest_of key image)
-            (logs_after_step (with_key D.digest_of key image) logs script_reset) }
+            (logs_after_step (with_key D.digest_of key image) logs false) }
+    {
+        self.go_from_boundary(None)
+    }
+
+    // Likewise with an access of the DMA. The compiler makes one for a write and one for a read.
+    #[inline(never)]
+    fn begin_beside_dma(&mut self) -> Stage
+        requires { self.old.bus.past.steps < 2 ^ 63 }
+        ensures past { StepsFrom self.old.bus.past self.new.bus.past }
+        ensures stands { (key : List ℕ) (image : ℕ → ℕ) (logs : Logs) (regs : List ℕ)
+            → RunsFrom D.has_taken D.digest_of self.old (with_key D.digest_of key image) logs
+            (Boundary regs)
+            → MachineStandsFor D.has_taken D.digest_of result self.new
+            (with_key D.digest_of key image)
+            (logs_after_step (with_key D.digest_of key image) logs false) }
     {
         match self.bus.peripherals.dma.ask() {
-            None => self.go_beside(None, script_reset),
-            Some(access) => self.go_beside(Some(access), script_reset),
+            Some(Access::Write(place, size, number)) => {
+                self.go_from_boundary(Some(Access::Write(place, size, number)))
+            }
+            Some(Access::Read(place, size)) => {
+                self.go_from_boundary(Some(Access::Read(place, size)))
+            }
+            Some(Access::Fetch(_)) | None => self.go_from_any_boundary(false),
         }
+    }
+
+    // A step in the middle of an instruction or an interrupt entry, without events and without an
+    // access of the DMA. The compiler makes one for each kind of access of an instruction.
+    #[inline(never)]
+    fn go_on_alone(&mut self) -> Stage
+        requires { self.old.bus.past.steps < 2 ^ 63 }
+        ensures past { StepsFrom self.old.bus.past self.new.bus.past }
+        ensures stands { (start : Start) (logs : Logs) (state : CpuState)
+            → RunsFrom D.has_taken D.digest_of self.old start logs state
+            → is_at_boundary state ≡ false
+            → None ≡ dma_access logs.peripherals.dma
+            → MachineStandsFor D.has_taken D.digest_of result self.new start
+            (logs_after_step start logs false) }
+    {
+        if self.processor.is_entering() {
+            return self.go_on(false);
+        }
+        let turn = self.turn_in_the_middle();
+        match turn.access {
+            Some(Access::Write(..)) => self.run(&turn, None, false),
+            Some(Access::Read(..)) => self.run(&turn, None, false),
+            Some(Access::Fetch(..)) | None => self.run(&turn, None, false),
+        }
+    }
+
+    // Likewise with an access of the DMA. The compiler makes one for a write and one for a read.
+    #[inline(never)]
+    fn go_on_beside_dma(&mut self) -> Stage
+        requires { self.old.bus.past.steps < 2 ^ 63 }
+        ensures past { StepsFrom self.old.bus.past self.new.bus.past }
+        ensures stands { (start : Start) (logs : Logs) (state : CpuState)
+            → RunsFrom D.has_taken D.digest_of self.old start logs state
+            → is_at_boundary state ≡ false
+            → MachineStandsFor D.has_taken D.digest_of result self.new start
+            (logs_after_step start logs false) }
+    {
+        if self.processor.is_entering() {
+            return self.go_on(false);
+        }
+        match self.bus.peripherals.dma.ask() {
+            Some(Access::Write(place, size, number)) => {
+                self.run_in_the_middle(Some(Access::Write(place, size, number)), false)
+            }
+            Some(Access::Read(place, size)) => {
+                self.run_in_the_middle(Some(Access::Read(place, size)), false)
+            }
+            Some(Access::Fetch(_)) | None => self.go_on(false),
+        }
+    }
+
+    // The step of a device that runs, without events.
+    #[inline(always)]
+    fn go_undisturbed(&mut self) -> Stage
+        requires { self.old.bus.past.steps < 2 ^ 63 }
+        ensures past { StepsFrom self.old.bus.past self.new.bus.past }
+        ensures stands { Goes D.has_taken D.digest_of
+            (RunningMachine D.has_taken D.digest_of self.old) false result self.new }
+    {
+        match (self.processor.at_boundary(), self.bus.peripherals.dma.ask()) {
+            (true, None) => self.begin_alone(),
+            (true, Some(_)) => self.begin_beside_dma(),
+            (false, None) => self.go_on_alone(),
+            (false, Some(_)) => self.go_on_beside_dma(),
+        }
+    }
+
+    // The step of a device that runs, with its events.
+    #[inline(never)]
+    fn hear_and_go(&mut self, events: &[Event]) -> Stage
+        requires { self.old.bus.past.steps < 2 ^ 63 }
+        ensures past { StepsFrom self.old.bus.past self.new.bus.past }
+        ensures stands { MakesStep D.has_taken D.digest_of
+            (RunningMachine D.has_taken D.digest_of self.old) events.now result self.new }
+    {
+        let script_reset = self.bus.hear(events);
+        self.go(script_reset)
     }
 
     /// The step of a held device, at whose beginning these events come.
@@ -447,8 +593,11 @@ impl<D: Digest32> Machine<D> {
         ensures stands { MakesStep D.has_taken D.digest_of
             (RunningMachine D.has_taken D.digest_of self.old) events.now result self.new }
     {
-        let script_reset = self.bus.hear(events);
-        self.go(script_reset)
+        if events.is_empty() {
+            self.go_undisturbed()
+        } else {
+            self.hear_and_go(events)
+        }
     }
 
     /// The step of a device in a call.

@@ -1,4 +1,5 @@
-ghost use Rattle.std.specs.Prelude.{◌≡◌, ◌∷◌, [], List, IfSome};
+ghost use Rattle.std.specs.Prelude.{◌≡◌, ◌∷◌, [], List, IfSome, is_none};
+ghost use Rattle.bus_signals.specs.declared.bounds.Bounds.{Bounds as SeenBounds};
 ghost use Rattle.bus_signals.specs.Access.{IsFormed};
 ghost use Rattle.bus_signals.specs.Seen.{Seen};
 ghost use Rattle.part_definitions.specs.Flag.{exec, last_pc};
@@ -56,6 +57,18 @@ impl Monitors {
         }
     }
 
+    /// Whether the step breaks no rule.
+    #[inline(always)]
+    pub fn permits(&self, now: &Signals) -> bool
+        requires cpu { IfSome now.now.cpu IsFormed }
+        requires dma { IfSome now.now.dma IsFormed }
+        ensures { (seen : List Seen)
+            → MonitorsStandFor self.now seen
+            → result ≡ is_none (first_rule (last_pc seen) now.now) }
+    {
+        self.first_rule(now).is_none()
+    }
+
     /// The next record, with the bounds as they stood before it.
     #[inline(always)]
     pub fn see(&mut self, entry: &BusRecord, bounds: &Bounds)
@@ -67,6 +80,18 @@ impl Monitors {
     {
         self.atomicity.see(entry);
         self.exec.see(entry, bounds);
+    }
+
+    /// Likewise, a record that leaves the EXEC flag as it is.
+    #[inline(always)]
+    pub fn pass(&mut self, entry: &BusRecord)
+        ensures { (bounds : SeenBounds) (seen : List Seen)
+            → MonitorsStandFor self.old seen
+            → exec (record { entry = entry.now; bounds = bounds } ∷ seen) ≡ exec seen
+            → MonitorsStandFor self.new (record { entry = entry.now; bounds = bounds } ∷ seen) }
+    {
+        self.atomicity.see(entry);
+        self.exec.pass(entry);
     }
 
     /// The EXEC flag.
@@ -83,7 +108,15 @@ impl Monitors {
 fn is_illegal(word: u16) -> bool
     ensures { result ≡ is_illegal word }
 {
-    word < 0x2000 && decode(word).is_none()
+    word < 0x2000 && is_undecodable(word)
+}
+
+// Likewise, by decoding it.
+#[inline(never)]
+fn is_undecodable(word: u16) -> bool
+    ensures { result ≡ is_illegal word }
+{
+    decode(word).is_none()
 }
 
 // An opcode fetch reads an illegal word.

@@ -1,4 +1,4 @@
-ghost use Rattle.std.specs.Prelude.{◌≡◌, ℕ, Bool, true, List, Option, IfOk, None, Some};
+ghost use Rattle.std.specs.Prelude.{◌≡◌, ◌||◌, ℕ, Bool, true, List, Option, IfOk, None, Some};
 ghost use Rattle.part_definitions.specs.Pins.{pins_read};
 ghost use Rattle.bus_signals.specs.declared.access.Access.{Access};
 ghost use Rattle.irq_timer.specs.Pins.{PinsStandFor};
@@ -155,6 +155,16 @@ impl Peripherals {
         }
     }
 
+    /// Whether a part asks for an interrupt.
+    #[inline(always)]
+    pub fn has_request(&self) -> bool
+        ensures { (logs : PeripheralLogs)
+            → PeripheralsStandFor self.now logs
+            → result ≡ (serial_requests logs.serial || timer_requests logs.timer) }
+    {
+        self.serial.request() || self.timer.request()
+    }
+
     // Likewise, where it allows any.
     #[inline(always)]
     fn pending_vector(&self) -> Option<u16>
@@ -258,6 +268,7 @@ fn write_serial(serial: &mut Serial, place: u16, size: Size, number: u16)
 }
 
 // A read or fetch at the serial port.
+#[inline(always)]
 fn take_byte(serial: &mut Serial, place: u16, size: Size)
     ensures { (events : List SerialEvent)
         → SerialStandsFor serial.old events
@@ -280,6 +291,7 @@ fn write_dma(dma: &mut Dma, place: u16, size: Size, number: u16)
 }
 
 // The engine's access takes what it reads.
+#[inline(always)]
 fn take_value(dma: &mut Dma, access: Option<Access>, value: u16)
     ensures { (events : List DmaEvent)
         → DmaStandsFor dma.old events

@@ -1,8 +1,9 @@
-ghost use Rattle.std.specs.Prelude.{◌≡◌, ℕ, List, Some, false, IfSome};
+ghost use Rattle.std.specs.Prelude.{◌≡◌, ℕ, List, Some, true, false, IfSome};
 ghost use Rattle.bus_signals.specs.Access.{IsFormed};
-ghost use Rattle.bus_signals.specs.declared.kind.Kind.TheVariants.{Rom as RomKind};
+ghost use Rattle.bus_signals.specs.declared.kind.Kind.TheVariants.{Cpu as CpuKind, Rom as RomKind};
 ghost use Rattle.part_definitions.specs.Attestation.{call_item, item_pc};
-ghost use Rattle.part_definitions.specs.CpuState.{CpuState, cpu_pc};
+ghost use Rattle.part_definitions.specs.CpuRegisters.{pc_of};
+ghost use Rattle.part_definitions.specs.CpuState.{CpuState, Boundary, cpu_pc};
 ghost use Rattle.msp_exec.specs.Course.{CpuStandsFor};
 ghost use Rattle.swatt_rom.specs.RomCall.{InCall, call_access};
 ghost use Rattle.swatt_rom.specs.Rom.{RomStandsFor};
@@ -77,6 +78,32 @@ impl Turn {
             irq,
             opcode,
             accepts_timer,
+        }
+    }
+
+    /// At a boundary where no interrupt could be accepted: an opcode fetch.
+    #[inline(always)]
+    pub fn of_opcode_fetch(processor: &Cpu) -> Turn
+        ensures value { (regs : List ℕ)
+            → CpuStandsFor processor.now (Boundary regs)
+            → result ≡ record {
+              kind = CpuKind;
+              pc = pc_of regs;
+              access = running_access CpuKind (Boundary regs);
+              irq = false;
+              opcode = true;
+              accepts_timer = false;
+            } }
+        ensures kind { result.kind ≡ CpuKind }
+        ensures formed { IfSome result.access IsFormed }
+    {
+        Turn {
+            kind: Kind::Cpu,
+            pc: processor.pc(),
+            access: Some(processor.opcode_fetch()),
+            irq: false,
+            opcode: true,
+            accepts_timer: false,
         }
     }
 

@@ -76,21 +76,24 @@ impl Activity {
         }
     }
 
-    /// What it does after the access was made and gave this value.
-    pub fn after(self, value: u16) -> Activity
+    /// The access was made and gave this value: it goes on to the next one, if there is one.
+    #[inline(always)]
+    pub fn advance(&mut self, value: u16)
         ensures { (transfer : Transfer)
-            → ActivityStandsFor self transfer
-            → ActivityStandsFor result (with_value transfer value) }
+            → ActivityStandsFor self.old transfer
+            → ActivityStandsFor self.new (with_value transfer value) }
     {
-        match self {
-            Activity::Idle => Activity::Idle,
-            Activity::Reads(job) => Activity::Writes(job, value),
-            Activity::Writes(job, _) if job.words == 1 => Activity::Idle,
-            Activity::Writes(job, _) => Activity::Reads(Job {
-                source: job.source.wrapping_add(2),
-                destination: job.destination.wrapping_add(2),
-                words: job.words - 1,
-            }),
+        match *self {
+            Activity::Idle => {}
+            Activity::Reads(job) => *self = Activity::Writes(job, value),
+            Activity::Writes(job, _) if job.words == 1 => *self = Activity::Idle,
+            Activity::Writes(job, _) => {
+                *self = Activity::Reads(Job {
+                    source: job.source.wrapping_add(2),
+                    destination: job.destination.wrapping_add(2),
+                    words: job.words - 1,
+                })
+            }
         }
     }
 }

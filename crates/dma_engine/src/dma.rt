@@ -108,6 +108,7 @@ impl BusMaster for Dma {
 
     ghost cleared = { λ events. DeviceReset ∷ events };
 
+    #[inline(always)]
     fn ask(&self) -> Option<Access>
         ensures access { Answers DmaStandsFor self.now dma_access result }
         ensures formed { IfSome result IsFormed }
@@ -115,10 +116,11 @@ impl BusMaster for Dma {
         self.activity.access()
     }
 
+    #[inline(always)]
     fn take(&mut self, value: u16)
         ensures { Takes DmaStandsFor self.old (DmaAccess value) self.new }
     {
-        self.activity = self.activity.after(value);
+        self.activity.advance(value);
     }
 
     fn clear(&mut self) {

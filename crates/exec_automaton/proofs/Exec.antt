@@ -1,9 +1,10 @@
 -- How the flag changes at a record.
-use Rattle.std.proofs.Common.{◌≡◌, ◌&&◌, ◌||◌, Bool, true, false, not, List, [], ◌∷◌, sym, ◌∙◌, if◌then◌else◌}
+use Rattle.std.proofs.Common.{◌≡◌, ◌==◌, ◌&&◌, ◌||◌, Bool, true, false, not, List, [], ◌∷◌, sym, ◌∙◌, ap, refl, if◌then◌else◌}
 use Rattle.std.proofs.Math.Bool.{and-true, and-false, or_comm}
 use Rattle.std.specs.List.{list_any}
 use Rattle.bus_signals.specs.Seen.{Seen}
-use Rattle.part_definitions.specs.Flag.{exec, clears, starts_run, last_pc, records_since_clear}
+use Rattle.bus_signals.specs.Bounds.{are_valid}
+use Rattle.part_definitions.specs.Flag.{exec, clears, starts_run, is_opcode_fetch, last_pc, records_since_clear}
 
 -- it is set where it was set before or the record starts a run, and the record does not clear it
 pub exec_cons : (now : Seen) (before : List Seen)
@@ -18,3 +19,26 @@ exec_cons now before =
       | true ↦ sym (and-false (was_set || starts_run now))
       | false ↦ or_comm (starts_run now) was_set ∙ sym (and-true (was_set || starts_run now))
     ]
+
+-- a record at another place than ERmin starts no run
+starts_run-elsewhere : (now : Seen)
+    → (now.entry.pc == now.bounds.er_min) ≡ false → starts_run now ≡ false
+starts_run-elsewhere now elsewhere =
+    let fetched : Bool = is_opcode_fetch now.entry in
+    let valid : Bool = are_valid now.bounds in
+    ap (λ here. fetched && here && valid) elsewhere
+    ∙ elim fetched as (λ fetched. (fetched && false && valid) ≡ false) [
+      | true ↦ refl
+      | false ↦ refl
+    ]
+
+-- a flag that is not set stays so at a record at another place than ERmin
+pub exec_elsewhere : (now : Seen) (before : List Seen)
+    → exec before ≡ false
+    → (now.entry.pc == now.bounds.er_min) ≡ false
+    → exec (now ∷ before) ≡ false
+exec_elsewhere now before unset elsewhere =
+    let kept : Bool = not (clears (last_pc before) now) in
+    exec_cons now before
+    ∙ ap (λ was_set. (was_set || starts_run now) && kept) unset
+    ∙ ap (λ starts. starts && kept) (starts_run-elsewhere now elsewhere)

@@ -7,13 +7,15 @@ ghost use Rattle.part_definitions.specs.Flag.{clears_e1, clears_e2, clears_e3, c
 
 use bus_signals::{Access, Bounds, BusRecord, META, Region, some_touches, some_writes};
 
-/// Whether a record, seen with these bounds after one with this `pc`, clears the flag.
+/// Whether a record, seen with these bounds after one with this `pc`, clears the flag. The bounds
+/// are copied, so that a caller that does not come here keeps none in memory.
 #[inline(never)]
-pub fn clears(last: Option<u16>, entry: &BusRecord, bounds: &Bounds) -> bool
+pub fn clears(last: Option<u16>, entry: &BusRecord, bounds: Bounds) -> bool
     requires cpu { IfSome entry.now.cpu IsFormed }
     requires dma { IfSome entry.now.dma IsFormed }
-    ensures { result ≡ clears last (record { entry = entry.now; bounds = bounds.now }) }
+    ensures { result ≡ clears last (record { entry = entry.now; bounds = bounds }) }
 {
+    let bounds = &bounds;
     clears_e1(entry, bounds)
         || clears_e2(last, entry, bounds)
         || clears_e3(last, entry, bounds)

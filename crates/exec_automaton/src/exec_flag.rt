@@ -1,4 +1,5 @@
-ghost use Rattle.std.specs.Prelude.{◌≡◌, ◌||◌, [], ◌∷◌, List, IfSome};
+ghost use Rattle.std.specs.Prelude.{◌≡◌, ◌||◌, [], ◌∷◌, true, false, List, IfSome};
+ghost use Rattle.bus_signals.specs.declared.bounds.Bounds.{Bounds};
 ghost use Rattle.bus_signals.specs.Access.{IsFormed};
 ghost use Rattle.bus_signals.specs.Seen.{Seen};
 ghost use Rattle.part_definitions.specs.Flag.{exec, starts_run};
@@ -39,7 +40,32 @@ impl ExecFlag {
             ExecFlagStandsFor self.now seen →
             result ≡ exec (record { entry = entry.now; bounds = bounds.now } ∷ seen) }
     {
-        self.may_be_set(entry, bounds) && !clears(self.last_pc, entry, bounds)
+        self.may_be_set(entry, bounds) && !clears(self.last_pc, entry, *bounds)
+    }
+
+    /// Whether the flag is not set, and no record with this `pc` sets it where ERmin is this.
+    #[inline(always)]
+    #[tactic(auto, using(crate::proofs::Exec::exec_elsewhere))]
+    pub fn stays_clear(&self, pc: u16, er_min: u16) -> bool
+        ensures { (now : Seen) (before : List Seen)
+            → ExecFlagStandsFor self.now before
+            → now.entry.pc ≡ pc
+            → now.bounds.er_min ≡ er_min
+            → result ≡ true
+            → (exec before ≡ false) × (exec (now ∷ before) ≡ false) }
+    {
+        !self.is_set && pc != er_min
+    }
+
+    /// The next record, which leaves the flag as it is.
+    #[inline(always)]
+    pub fn pass(&mut self, entry: &BusRecord)
+        ensures { (bounds : Bounds) (before : List Seen)
+            → ExecFlagStandsFor self.old before
+            → exec (record { entry = entry.now; bounds = bounds } ∷ before) ≡ exec before
+            → ExecFlagStandsFor self.new (record { entry = entry.now; bounds = bounds } ∷ before) }
+    {
+        self.last_pc = Some(entry.pc);
     }
 
     // The flag was set, or the next record starts a run.

@@ -1,4 +1,5 @@
-ghost use Rattle.std.specs.Prelude.{◌≡◌};
+ghost use Rattle.std.specs.Prelude.{◌≡◌, ◌&&◌};
+ghost use Rattle.bus_signals.specs.Bounds.{are_valid};
 ghost use Rattle.part_definitions.specs.Flag.{is_opcode_fetch, starts_run};
 
 use bus_signals::{Access, Bounds, BusRecord, Kind, valid};
@@ -8,11 +9,18 @@ use bus_signals::{Access, Bounds, BusRecord, Kind, valid};
 pub fn starts_run(entry: &BusRecord, bounds: &Bounds) -> bool
     ensures { result ≡ starts_run (record { entry = entry.now; bounds = bounds.now }) }
 {
-    entry.pc == bounds.er_min && is_opcode_fetch(entry) && valid(bounds)
+    entry.pc == bounds.er_min && is_valid_start(entry, *bounds)
+}
+
+// An opcode fetch, with valid bounds.
+#[inline(never)]
+fn is_valid_start(entry: &BusRecord, bounds: Bounds) -> bool
+    ensures { result ≡ (is_opcode_fetch entry.now && are_valid bounds) }
+{
+    is_opcode_fetch(entry) && valid(&bounds)
 }
 
 // An opcode fetch fetches at its own `pc`.
-#[inline(never)]
 fn is_opcode_fetch(entry: &BusRecord) -> bool
     ensures { result ≡ is_opcode_fetch entry.now }
 {

@@ -1,4 +1,4 @@
-ghost use Rattle.std.specs.Prelude.{◌≡◌, ◌<◌, ◌≤◌, ◌^◌, ◌+◌, ◌-◌, ◌&&◌, ◌||◌, ◌∷◌, [], ℕ, Bool, true, false, List, IfOk, IfSome, IsSome, IsTrue, ◌↔◌, nat_le, vec_len};
+ghost use Rattle.std.specs.Prelude.{◌≡◌, ◌<◌, ◌≤◌, ◌^◌, ◌+◌, ◌-◌, ◌*◌, ◌/◌, ◌&&◌, ◌||◌, ◌∷◌, [], ℕ, Bool, true, false, List, IfOk, IfSome, IsSome, IsTrue, ◌↔◌, nat_le, vec_len};
 ghost use Rattle.word_arith.specs.declared.size.Size.{Size};
 ghost use Rattle.part_definitions.specs.Memory.{PowerOn, MemoryWrite, byte_at, number_at, with_number, bytes_from, is_ram, is_program};
 ghost use Rattle.part_definitions.specs.Metadata.{bounds_in};
@@ -66,6 +66,23 @@ impl Memory {
         }
     }
 
+    // Both bytes of a word take writes, or none does.
+    #[inline(always)]
+    #[tactic(auto, using(crate::proofs::Word::word_taken, crate::proofs::Word::word_refused))]
+    fn set_word(&mut self, place: u16, low: u8, high: u8)
+        ensures { Writes self.old
+            (λ writes. record { place = place / 2 * 2 + 1; byte = high }
+            ∷ record { place = place / 2 * 2; byte = low }
+            ∷ writes) self.new }
+    {
+        let even = place / 2 * 2;
+        if takes_write(even) {
+            let even = usize::from(even);
+            self.bytes[even] = low;
+            self.bytes[even + 1] = high;
+        }
+    }
+
     /// The byte or the little-endian word at a place. The address of a word has bit 0 cleared.
     pub fn read(&self, place: u16, size: Size) -> u16
         ensures { Tells self.now (λ bytes. number_at bytes place size) result }
@@ -81,17 +98,14 @@ impl Memory {
 
     /// Writes a byte or a little-endian word. The address of a word has bit 0 cleared. Where the
     /// memory map takes no write nothing changes.
+    #[inline(always)]
     pub fn write(&mut self, place: u16, size: Size, value: u16)
         ensures { Writes self.old (with_number place size value) self.new }
     {
         let [low, high] = value.to_le_bytes();
         match size {
             Size::Byte => self.set_byte(place, low),
-            Size::Word => {
-                let even = place / 2 * 2;
-                self.set_byte(even, low);
-                self.set_byte(even + 1, high);
-            }
+            Size::Word => self.set_word(place, low, high),
         }
     }
 
@@ -104,12 +118,19 @@ impl Memory {
         self.bytes[usize::from(EXEC_WORD)] = u8::from(on);
     }
 
+    /// ERmin, the first address of the executable region, as the metadata has it.
+    pub fn er_min(&self) -> u16
+        ensures { Tells self.now (λ bytes. (bounds_in bytes).er_min) result }
+    {
+        self.read(ER_MIN, Size::Word)
+    }
+
     /// The bounds of the executable and the output region, as the metadata has them.
     pub fn bounds(&self) -> Bounds
         ensures { Tells self.now bounds_in result }
     {
         Bounds {
-            er_min: self.read(ER_MIN, Size::Word),
+            er_min: self.er_min(),
             er_max: self.read(ER_MAX, Size::Word),
             or_min: self.read(OR_MIN, Size::Word),
             or_max: self.read(OR_MAX, Size::Word),

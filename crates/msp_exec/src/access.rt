@@ -41,6 +41,7 @@ pub fn write_at(size: Size, place: u16, number: u16) -> Access
 }
 
 /// What an instruction asks of the bus; `number` is its result, once it is written.
+#[inline(always)]
 pub fn bus_access(head: &Head, access: CpuAccess, working: &Working, number: u16) -> Access
     ensures value { result ≡ latched_access head.now access working.now number }
     ensures formed { IsFormed result }

@@ -1,6 +1,8 @@
 ghost use Rattle.std.specs.Prelude.{◌≡◌, ◌∷◌, [], true, false, not, List, ℕ, Some, IsTrue};
 ghost use Rattle.bus_signals.specs.Access.{IsFormed};
 ghost use Rattle.part_definitions.specs.CpuRegisters.{sp_of, with_pc, with_sp, allows_interrupts, is_asleep};
+ghost use Rattle.part_definitions.specs.CpuAccesses.{accesses_of};
+ghost use Rattle.part_definitions.specs.Operands.{working_at_start};
 ghost use Rattle.part_definitions.specs.NextAccess.{Asks, is_illegal, next_access, walk};
 ghost use Rattle.part_definitions.specs.CpuState.{CpuState, Boundary, clear_cpu, registers_of, cpu_pc, is_at_boundary, is_entering, cpu_access, cpu_after, cpu_takes, entry_begun};
 ghost use Rattle.msp_exec.specs.declared.phase.Phase.TheVariants.{Boundary as AtBoundary};
@@ -8,7 +10,7 @@ ghost use Rattle.msp_exec.specs.Order.{accesses_from};
 ghost use Rattle.msp_exec.specs.Course.{is_entry, takes_value, instruction_course, entry_course, cpu_course, CpuStandsFor, Follows};
 
 use crate::access::{bus_access, fetch_at, read_at, write_at};
-use crate::instruction::{end, learn, start};
+use crate::instruction::{end, end_apart, learn, start};
 use crate::phase::{EntryAccess, Phase};
 use crate::register::{enter_handler, lowered_sp, pc_in, set_pc, set_sp, sp_in, sr_in};
 use bus_signals::{Access, BusMaster};
@@ -174,6 +176,18 @@ impl Cpu {
         self.phase_access()
     }
 
+    /// The access that it asks for at a boundary: an opcode fetch.
+    #[inline(always)]
+    #[tactic(auto, unfolding(part_definitions::specs::NextAccess::next_access))]
+    pub fn opcode_fetch(&self) -> Access
+        ensures value { (regs : List ℕ)
+            → CpuStandsFor self.now (Boundary regs)
+            → cpu_access (Boundary regs) ≡ Some result }
+        ensures formed { IsFormed result }
+    {
+        fetch_at(pc_in(&self.regs))
+    }
+
     #[inline(always)]
     fn complete(&mut self)
         ensures regs { self.new.regs ≡ self.old.working.regs }
@@ -192,7 +206,7 @@ impl Cpu {
             (walk self.old.head (accesses_from self.old.head next) self.old.working) }
     {
         if matches!(next, None | Some(CpuAccess::WriteResult)) {
-            self.number = end(&mut self.working, &self.head);
+            self.number = end_apart(&mut self.working, &self.head);
         }
         match next {
             None => self.complete(),
@@ -200,10 +214,29 @@ impl Cpu {
         }
     }
 
-    /// Begins the instruction of a word, if it is not illegal.
+    // Begins an instruction. One that has no access but its opcode fetch is completed at once.
+    #[inline(always)]
+    fn begin_head(&mut self, head: &Head)
+        ensures { Follows self.new self.old.regs false
+            (walk head.now (accesses_of head.now)
+            (working_at_start head.now self.old.working.regs)) }
+    {
+        match start(&mut self.working, head) {
+            None => {
+                let _ = end(&mut self.working, head);
+                self.complete();
+            }
+            Some(access) => {
+                self.head = *head;
+                self.advance(Some(access));
+            }
+        }
+    }
+
+    // Begins the instruction of a word, if it is not illegal.
     #[inline(always)]
     #[tactic(auto, unfolding(part_definitions::specs::NextAccess::next_access))]
-    fn begin(&mut self, word: u16) -> bool
+    fn begin_spelt(&mut self, word: u16) -> bool
         ensures taken { result ≡ not (is_illegal word) }
         ensures follows { result ≡ true
             → Follows self.new self.old.regs false
@@ -212,12 +245,46 @@ impl Cpu {
     {
         match decode(word) {
             Some(head) => {
-                self.head = head;
-                let next = start(&mut self.working, &self.head);
-                self.advance(next);
+                self.begin_head(&head);
                 true
             }
             None => false,
+        }
+    }
+
+    // Likewise, for words below 2000.
+    #[inline(never)]
+    fn begin_apart(&mut self, word: u16) -> bool
+        ensures taken { result ≡ not (is_illegal word) }
+        ensures follows { result ≡ true
+            → Follows self.new self.old.regs false
+            (λ values. next_access self.old.working.regs (word ∷ values)) }
+        ensures refused { result ≡ false → self.new ≡ self.old }
+    {
+        self.begin_spelt(word)
+    }
+
+    /// At a boundary: takes the word that was fetched, and begins its instruction. An illegal word
+    /// is not taken: then the answer is false, and nothing changes.
+    // The compiler makes one for two operands and one for jumps, which is shorter than one for all.
+    #[inline(never)]
+    pub fn begin(&mut self, word: u16) -> bool
+        ensures taken { result ≡ not (is_illegal word) }
+        ensures follows { result ≡ true
+            → Follows self.new self.old.regs false
+            (λ values. next_access self.old.working.regs (word ∷ values)) }
+        ensures stands { (regs : List ℕ)
+            → CpuStandsFor self.old (Boundary regs)
+            → result ≡ true
+            → CpuStandsFor self.new (cpu_after (Boundary regs) word) }
+        ensures refused { result ≡ false → self.new ≡ self.old }
+    {
+        if word >= 0x4000 {
+            self.begin_spelt(word)
+        } else if word >= 0x2000 {
+            self.begin_spelt(word)
+        } else {
+            self.begin_apart(word)
         }
     }
 

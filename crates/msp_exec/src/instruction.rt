@@ -1,12 +1,18 @@
-ghost use Rattle.std.specs.Prelude.{◌≡◌};
+ghost use Rattle.std.specs.Prelude.{◌≡◌, ℕ, true};
+ghost use Rattle.word_arith.specs.Op2.{alu_result};
+ghost use Rattle.word_arith.specs.declared.flags.Flags.{Flags};
+ghost use Rattle.word_arith.specs.declared.size.Size.{Size};
 ghost use Rattle.part_definitions.specs.CpuAccesses.{result_accesses, accesses_of};
 ghost use Rattle.part_definitions.specs.Operands.{size_of, working_at_start};
 ghost use Rattle.part_definitions.specs.Instruction.{result_of, after_value, registers_after};
 ghost use Rattle.msp_exec.specs.Order.{after_source, after_index, after_read, accesses_after, accesses_from};
+ghost use Rattle.msp_exec.specs.TwoOperands.{result_of_two, registers_after_two};
 
 use crate::operand::{add_increment, add_index, constant_word, destination_in};
-use crate::outcome::{jump, leave_one, leave_two, operand_outcome};
-use crate::register::{flags_in, operand_in, pass_word, pop, push, set_pc, set_sr, word_in};
+use crate::outcome::{jump, leave_number, leave_one, operand_outcome};
+use crate::register::{
+    flags_in, keep_flags, operand_in, pass_word, pop, push, set_flags, set_pc, set_sr, word_in,
+};
 use msp_decode::{DestForm, Head, One, SourceForm};
 use part_definitions::{CpuAccess, Working};
 use word_arith::{Op2, Size, alu};
@@ -155,27 +161,67 @@ pub fn learn(working: &mut Working, head: &Head, access: CpuAccess, value: u16) 
     }
 }
 
+// Whether an operation leaves the flags as they were.
+#[tactic(auto, unfolding(word_arith::specs::Op2::alu_result))]
+fn keeps_flags(op: Op2) -> bool
+    ensures { (size : Size) (source destination : ℕ) (flags : Flags)
+        → result ≡ true → (alu_result op size source destination flags).1 ≡ flags }
+{
+    matches!(op, Op2::Mov | Op2::Bic | Op2::Bis)
+}
+
+// Both operands are known. The answer is the result.
+#[inline(always)]
+fn end_two(working: &mut Working, op: Op2, size: Size, form: DestForm) -> u16
+    ensures number { result ≡ (result_of_two op size form working.old).0 }
+    ensures after { working.new
+        ≡ record working.old { regs = registers_after_two op size form working.old } }
+{
+    let destination = destination_in(size, form, working);
+    let flags = flags_in(&working.regs);
+    let (number, flags) = alu(op, size, working.source, destination, flags);
+    if keeps_flags(op) {
+        keep_flags(&mut working.regs);
+    } else {
+        set_flags(&mut working.regs, flags);
+    }
+    leave_number(&mut working.regs, op, form, number);
+    number
+}
+
+// Likewise. The compiler makes one for each operation, which is shorter than one for all.
+#[inline(never)]
+fn end_each_of_two(working: &mut Working, op: Op2, size: Size, form: DestForm) -> u16
+    ensures number { result ≡ (result_of_two op size form working.old).0 }
+    ensures after { working.new
+        ≡ record working.old { regs = registers_after_two op size form working.old } }
+{
+    match op {
+        Op2::Mov => end_two(working, Op2::Mov, size, form),
+        Op2::Add => end_two(working, Op2::Add, size, form),
+        Op2::Addc => end_two(working, Op2::Addc, size, form),
+        Op2::Subc => end_two(working, Op2::Subc, size, form),
+        Op2::Sub => end_two(working, Op2::Sub, size, form),
+        Op2::Cmp => end_two(working, Op2::Cmp, size, form),
+        Op2::Dadd => end_two(working, Op2::Dadd, size, form),
+        Op2::Bit => end_two(working, Op2::Bit, size, form),
+        Op2::Bic => end_two(working, Op2::Bic, size, form),
+        Op2::Bis => end_two(working, Op2::Bis, size, form),
+        Op2::Xor => end_two(working, Op2::Xor, size, form),
+        Op2::And => end_two(working, Op2::And, size, form),
+    }
+}
+
 /// All operands are known: leaves the registers as they are after the instruction. The answer is
 /// the result, 0 of RETI and of jumps.
-#[inline(never)]
+#[inline(always)]
 pub fn end(working: &mut Working, head: &Head) -> u16
     ensures number { result ≡ (result_of head.now working.old).0 }
     ensures after { working.new
         ≡ record working.old { regs = registers_after head.now working.old } }
 {
     match *head {
-        Head::Two(op, size, _, form) => {
-            let destination = destination_in(size, form, working);
-            let (number, flags) = alu(
-                op,
-                size,
-                working.source,
-                destination,
-                flags_in(&working.regs),
-            );
-            leave_two(&mut working.regs, op, form, number, flags);
-            number
-        }
+        Head::Two(op, size, _, form) => end_each_of_two(working, op, size, form),
         Head::One(op, size, form) => {
             let (number, flags) = operand_outcome(
                 op,
@@ -192,4 +238,14 @@ pub fn end(working: &mut Working, head: &Head) -> u16
             0
         }
     }
+}
+
+/// Likewise, for the callers that share its code.
+#[inline(never)]
+pub fn end_apart(working: &mut Working, head: &Head) -> u16
+    ensures number { result ≡ (result_of head.now working.old).0 }
+    ensures after { working.new
+        ≡ record working.old { regs = registers_after head.now working.old } }
+{
+    end(working, head)
 }

@@ -1,4 +1,6 @@
-ghost use Rattle.std.specs.Prelude.{◌≡◌};
+ghost use Rattle.std.specs.Prelude.{◌≡◌, ℕ, List};
+ghost use Rattle.word_arith.specs.declared.flags.Flags.{Flags};
+ghost use Rattle.part_definitions.specs.CpuRegisters.{with_flags};
 ghost use Rattle.part_definitions.specs.Instruction.{operand_result, after_two, after_one, is_taken, jump_target, after_jump};
 
 use crate::register::{flags_in, pc_in, set_flags, set_pc, set_register};
@@ -18,11 +20,13 @@ pub fn operand_outcome(op: One, size: Size, operand: u16, flags: Flags) -> (u16,
     }
 }
 
-/// Leaves flags and result of two operands; CMP and BIT have no result.
-pub fn leave_two(regs: &mut [u16; 16], op: Op2, form: DestForm, number: u16, flags: Flags)
-    ensures { regs.new ≡ after_two op form (number, flags) regs.old }
+/// Leaves the result of two operands, once the flags are left; CMP and BIT have none.
+#[inline(always)]
+pub fn leave_number(regs: &mut [u16; 16], op: Op2, form: DestForm, number: u16)
+    ensures { (flags : Flags) (before : List ℕ)
+        → regs.old ≡ with_flags before flags
+        → regs.new ≡ after_two op form (number, flags) before }
 {
-    set_flags(regs, flags);
     match (op, form) {
         (Op2::Cmp | Op2::Bit, _) | (_, DestForm::Indexed(_)) => {}
         (_, DestForm::Register(register)) => set_register(regs, register, number),
@@ -69,6 +73,7 @@ fn jump_target(pc: u16, offset: i16) -> u16
     pc.wrapping_add(words).wrapping_add(words)
 }
 
+#[inline(always)]
 pub fn jump(regs: &mut [u16; 16], condition: Cond, offset: i16)
     ensures { regs.new ≡ after_jump condition offset regs.old }
 {

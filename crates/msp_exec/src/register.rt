@@ -136,6 +136,13 @@ pub fn set_flags(regs: &mut [u16; 16], flags: Flags)
     set_sr(regs, status_with(sr_in(regs), flags));
 }
 
+/// Leaves the flags as they are. SR loses the bits that it does not have.
+pub fn keep_flags(regs: &mut [u16; 16])
+    ensures { regs.new ≡ with_flags regs.old (flags_in regs.old) }
+{
+    set_sr(regs, sr_in(regs));
+}
+
 /// The registers with which a handler begins that stands at this word.
 pub fn enter_handler(regs: &mut [u16; 16], word: u16)
     ensures { regs.new ≡ handler_registers regs.old word }

@@ -1,37 +1,6 @@
-use Rattle.std.proofs.Common.{None}
-use Rattle.device_trace.specs.Logs.{exec_of, memory_after, with_record}
 use Rattle.device_core.proofs.bus.Bus.perform.Goals as goal
 
-pub returns-clause-value : goal.returns-clause-value
-returns-clause-value c = λ start logs stands word.
-    c.make_accesses-values.ensures.cpu start logs stands.same_memory stands.same_peripherals word
-
-pub returns-clause-stands : goal.returns-clause-stands
-unfolding with_record
-returns-clause-stands c = λ start logs stands word asked accepted.
-    let value =
-    c.make_accesses-values.ensures.cpu start logs stands.same_memory stands.same_peripherals
-    word in
-    let dma =
-    c.make_accesses-values.ensures.dma start logs stands.same_memory in
-    let bounds = c.bounds-bounds.ensures start.power (exec_of logs) logs.memory stands.same_memory
-    in
-    let entry = c.record_of_step.ensures.value in
-    let memory =
-    c.make_accesses-values.ensures.memory start.power (exec_of logs) logs.memory
-    stands.same_memory in
-    record {
-      same_memory =
-          rw (entry, value, dma, bounds) at
-          (c.record.ensures.memory start.power
-          (memory_after None c.args.now.now.cpu c.args.now.now.dma logs.memory) logs.seen memory
-          stands.same_monitors);
-      same_peripherals =
-          rw c.record.ensures.peripherals
-          (rw (accepted, dma) at (c.serve.ensures logs.peripherals stands.same_peripherals));
-      same_monitors =
-          rw (entry, value, dma, bounds) at
-          (c.record.ensures.monitors logs.seen stands.same_monitors);
-      same_past =
-          rw (entry, value, dma, bounds) at (c.record.ensures.past logs.seen stands.same_past);
-    }
+pub returns-then-stays_clear-clause-stands : goal.returns-then-stays_clear-clause-stands
+returns-then-stays_clear-clause-stands c = λ start logs stands word asked accepted.
+    c.perform_alone.ensures.stands start logs
+    (c.stays_clear.ensures start logs stands c.if-stays_clear.true) stands word asked accepted

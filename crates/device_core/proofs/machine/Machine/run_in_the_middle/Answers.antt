@@ -1,16 +1,6 @@
 use Rattle.device_core.proofs.machine.Machine.run_in_the_middle.Goals as goal
 
-pub returns-in-Some-Write-clause-stands : goal.returns-in-Some-Write-clause-stands
-returns-in-Some-Write-clause-stands g c = λ start logs state from middle dma.
+pub returns-clause-stands : goal.returns-clause-stands
+returns-clause-stands g c = λ start logs state from middle dma.
     c.run.ensures.stands start logs state
-    (c.turn_in_the_middle-turn.ensures.runs start logs state from middle) dma
-
-pub returns-in-Some-Read-clause-stands : goal.returns-in-Some-Read-clause-stands
-returns-in-Some-Read-clause-stands g c = λ start logs state from middle dma.
-    c.run-in-Some-Read.ensures.stands start logs state
-    (c.turn_in_the_middle-turn.ensures.runs start logs state from middle) dma
-
-pub returns-in-Some-Fetch-clause-stands : goal.returns-in-Some-Fetch-clause-stands
-returns-in-Some-Fetch-clause-stands g c = λ start logs state from middle dma.
-    c.run-in-Some-Fetch.ensures.stands start logs state
     (c.turn_in_the_middle-turn.ensures.runs start logs state from middle) dma

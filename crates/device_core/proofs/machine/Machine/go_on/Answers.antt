@@ -1,4 +1,4 @@
-use Rattle.device_core.proofs.machine.Machine.go_on_entering.Goals as goal
+use Rattle.device_core.proofs.machine.Machine.go_on.Goals as goal
 
 pub returns-clause-stands : goal.returns-clause-stands
 returns-clause-stands g c = λ start logs state from middle.
