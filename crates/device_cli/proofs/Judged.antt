@@ -1,11 +1,11 @@
 -- What an accept says of a report, and what a comparison shows.
-use Rattle.std.proofs.Common.{◌≡◌, ◌+◌, ◌-◌, ◌≤◌, ◌&&◌, ℕ, Bool, true, false, List, Option, Some, None, Ok, IfSome, length, refl, ap, arith}
+use Rattle.std.proofs.Common.{◌≡◌, ◌∙◌, ◌+◌, ◌-◌, ◌≤◌, ◌&&◌, ℕ, Bool, true, false, List, Option, Some, None, Result, Ok, IfSome, length, refl, ap, arith}
 use Rattle.std.specs.Prelude.{not, if◌then◌else◌, ◌==◌}
 use Rattle.std.specs.Str.{bytes_eq}
 use Rattle.std.proofs.lemmas.Bool.{false≢true, and_parts, eqb-true}
 use Rattle.std.proofs.lemmas.Slice.Eq.{bytes_eq-Decides}
-use Rattle.outside_edge.specs.Sink.{Takes, TakesPrefix}
-use Rattle.outside_edge.proofs.SinkLemmas.{prefix_of_more, prefix_after, takes_both}
+use Rattle.outside_edge.specs.Sink.{Takes, TakesPrefix, Puts}
+use Rattle.outside_edge.proofs.SinkLemmas.{prefix_of_more, puts_after}
 use Rattle.bus_signals.specs.declared.bounds.Bounds.{Bounds}
 use Rattle.bus_signals.specs.Bounds.{are_valid}
 use Rattle.bus_signals.specs.Report.{ReportFields}
@@ -150,68 +150,72 @@ accepted-fits judge i bytes report told accepts =
     accepted_on-fits judge.digest judge.key judge.image bytes (expected_at judge.policy i) report
     told accepts
 
--- of a verdict and of what is expected, as the code has them
-pub evidence-fits :
-    (judge : Judge) (i : ℕ) (bytes : ℕ → ℕ) (report : ReportFields) (decided : Decision)
-    (expect : Option Expect)
-    → decided ≡ verdict_at judge i report
+-- a verdict and what is expected, as the code has them
+pub record IsJudged (judge : Judge) (i : ℕ) (report : ReportFields) (decided : Decision)
+    (expect : Option Expect) : Type 0 where
+  pub decision : decided ≡ verdict_at judge i report
+  pub expectation : expect ≡ expected_at judge.policy i
+
+pub is-judged :
+    (judge : Judge) (i : ℕ) (report : ReportFields) {decided : Decision}
+    {expect given : Option Expect}
     → expect ≡ expected_at judge.policy i
+    → given ≡ expect
+    → decided ≡ verdict judge.digest judge.key judge.image given report
+    → IsJudged judge i report decided expect
+is-judged judge i report expected same is = record {
+  decision = is
+      ∙ ap (λ (expect : Option Expect). verdict judge.digest judge.key judge.image expect report)
+      (same ∙ expected);
+  expectation = expected;
+}
+
+pub evidence-fits :
+    (judge : Judge) (i : ℕ) (bytes : ℕ → ℕ) (report : ReportFields) {decided : Decision}
+    {expect : Option Expect}
+    → IsJudged judge i report decided expect
     → TellsOutput bytes (Some report)
     → is_accept decided ≡ true
     → IfSome expect (λ expect. OutputFits expect.bounds report.output)
-evidence-fits judge i bytes report decided expect is told tells accepts =
-    rw told (accepted-fits judge i bytes report tells (rw is at accepts))
+evidence-fits judge i bytes report is tells accepts =
+    rw is.expectation
+    (accepted-fits judge i bytes report tells (rw is.decision at accepts))
 
 -- a verdict was begun
 pub verdict-begun :
     {S : Type 0} (stands : S → List ℕ → Type 0) (old new : S) (judge : Judge) (i : ℕ)
-    (bytes : ℕ → ℕ) (report : ReportFields) (decided : Decision)
-    → decided ≡ verdict_at judge i report
+    (bytes : ℕ → ℕ) (report : ReportFields) {decided : Decision} {expect : Option Expect}
+    → IsJudged judge i report decided expect
     → TakesPrefix stands old new (verdict_line (i + 1) decided)
     → TakesPrefix stands old new (judgement_lines judge i bytes (Some report))
-verdict-begun stands old new judge i bytes report decided is begun =
+verdict-begun stands old new judge i bytes report is begun =
     prefix_of_more stands old new (verdict_line (i + 1) (verdict_at judge i report))
     (evidence_lines judge (expected_at judge.policy i) (verdict_at judge i report) report.output
     bytes)
-    (rw is at begun)
+    (rw is.decision at begun)
 
--- and what it shows, behind it
-pub evidence-begun :
-    {S : Type 0} (stands : S → List ℕ → Type 0) (old mid new : S) (judge : Judge) (i : ℕ)
-    (bytes : ℕ → ℕ) (report : ReportFields) (decided : Decision) (expect : Option Expect)
-    → decided ≡ verdict_at judge i report
-    → expect ≡ expected_at judge.policy i
-    → Takes stands old mid (verdict_line (i + 1) decided)
-    → TakesPrefix stands mid new (evidence_lines judge expect decided report.output bytes)
-    → TakesPrefix stands old new (judgement_lines judge i bytes (Some report))
-evidence-begun stands old mid new judge i bytes report decided expect is told first begun =
-    prefix_after stands old mid new (verdict_line (i + 1) (verdict_at judge i report))
-    (evidence_lines judge (expected_at judge.policy i) (verdict_at judge i report) report.output
-    bytes)
-    (rw is at first) (rw (told, is) at begun)
-
+-- and what it shows was put behind it
 pub evidence-put :
-    {S : Type 0} (stands : S → List ℕ → Type 0) (old mid new : S) (judge : Judge) (i : ℕ)
-    (bytes : ℕ → ℕ) (report : ReportFields) (decided : Decision) (expect : Option Expect)
-    → decided ≡ verdict_at judge i report
-    → expect ≡ expected_at judge.policy i
+    {S V E : Type 0} (stands : S → List ℕ → Type 0) (old mid new : S) (judge : Judge) (i : ℕ)
+    (bytes : ℕ → ℕ) (report : ReportFields) {decided : Decision} {expect : Option Expect}
+    (result : Result V E)
+    → IsJudged judge i report decided expect
     → Takes stands old mid (verdict_line (i + 1) decided)
-    → Takes stands mid new (evidence_lines judge expect decided report.output bytes)
-    → Takes stands old new (judgement_lines judge i bytes (Some report))
-evidence-put stands old mid new judge i bytes report decided expect is told first second =
-    takes_both stands old mid new (verdict_line (i + 1) (verdict_at judge i report))
+    → Puts stands mid new (evidence_lines judge expect decided report.output bytes) result
+    → Puts stands old new (judgement_lines judge i bytes (Some report)) result
+evidence-put stands old mid new judge i bytes report result is first more =
+    puts_after stands old mid new (verdict_line (i + 1) (verdict_at judge i report))
     (evidence_lines judge (expected_at judge.policy i) (verdict_at judge i report) report.output
     bytes)
-    (rw is at first) (rw (told, is) at second)
+    result (rw is.decision at first) (rw (is.expectation, is.decision) at more)
 
 pub pair-of_report :
-    (judge : Judge) (i : ℕ) (bytes : ℕ → ℕ) (report : ReportFields) (decided : Decision)
-    (expect : Option Expect)
-    → decided ≡ verdict_at judge i report
-    → expect ≡ expected_at judge.policy i
+    (judge : Judge) (i : ℕ) (bytes : ℕ → ℕ) (report : ReportFields) {decided : Decision}
+    {expect : Option Expect}
+    → IsJudged judge i report decided expect
     → is_pair_shown judge expect decided report.output bytes ≡ true
     → judgement_has_pair judge i bytes (Some report) ≡ true
-pair-of_report judge i bytes report decided expect is told shown = rw (told, is) at shown
+pair-of_report judge i bytes report is shown = rw (is.expectation, is.decision) at shown
 
 -- an accept, where something is expected
 pub evidence-of :

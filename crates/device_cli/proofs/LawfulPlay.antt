@@ -12,7 +12,10 @@ use Rattle.text_scan.proofs.HexBytes.{key_of-ok}
 use Rattle.hex_loader.proofs.ImageBytes.{image_of-bytes}
 use Rattle.hmac_core.proofs.Sha256Bytes.{sha256-bytes}
 use Rattle.sha2.proofs.Facts256.{length-sha256}
+use Rattle.outside_edge.specs.Sink.{Puts}
 use Rattle.device_trace.specs.Start.{with_key}
+use Rattle.device_trace.specs.Text.{play_text}
+use Rattle.key_isolation.specs.Agreement.{ReleaseAlike}
 use Rattle.key_isolation.proofs.TwoKeys.{same_text, same_memory}
 use Rattle.mac_coverage.specs.Coverage.{Gives32Bytes, IsDeviceKey, IsOfBytes}
 use Rattle.mac_coverage.proofs.Plays.{report-covered}
@@ -36,6 +39,17 @@ use Rattle.device_cli.specs.Round.{judge_with, judged_in}
 use Rattle.device_cli.specs.PlayLaws.{ObeysLaws, IsLawful, HasLawfulOutcome}
 use Rattle.device_cli.specs.Reading.{Files, AreRead}
 use Rattle.device_cli.specs.Row.{File, Outcome, Played, first_fault}
+
+-- what is put of a play is put of it with another key as well
+pub other_key-put : {S V E : Type 0} {stands : S → List ℕ → Type 0} {old new : S}
+    {result : Result V E} (digest : List ℕ → List ℕ) (key other : List ℕ) (image : ℕ → ℕ)
+    (play : List (List Event))
+    → ReleaseAlike (with_key digest key image) (with_key digest other image) play
+    → Puts stands old new (play_text (with_key digest key image) play) result
+    → Puts stands old new (play_text (with_key digest other image) play) result
+other_key-put digest key other image play alike puts =
+    rw (same_text (with_key digest key image) (with_key digest other image) play refl alike)
+    at puts
 
 pub obeys_laws : (digest : List ℕ → List ℕ) (key : List ℕ) (image : ℕ → ℕ)
     (play : List (List Event)) → IsDeviceKey key → IsOfBytes image

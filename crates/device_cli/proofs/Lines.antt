@@ -1,5 +1,5 @@
 -- The text of a play, step by step.
-use Rattle.std.proofs.Common.{◌≡◌, ◌≤◌, ◌+◌, ◌-◌, ◌++◌, ◌&&◌, ◌∷◌, ◌∙◌, [], ℕ, zero, suc, Bool, true, List, Option, Some, None, is_none, unwrap_or, length, refl, ap, sym, arith, append_assoc, append-nil}
+use Rattle.std.proofs.Common.{◌≡◌, ◌≤◌, ◌+◌, ◌-◌, ◌++◌, ◌&&◌, ◌∷◌, ◌∙◌, [], ℕ, zero, suc, Bool, true, List, Result, Option, Some, None, is_none, unwrap_or, length, refl, ap, sym, arith, append_assoc, append-nil}
 use Rattle.bus_signals.specs.declared.bus_record.BusRecord.{BusRecord}
 use Rattle.bus_signals.specs.declared.event.Event.{Event}
 use Rattle.bus_signals.specs.declared.rule.Rule.{Rule}
@@ -12,6 +12,8 @@ use Rattle.device_trace.specs.Trace.{trace, last_record, logs_after, play_of}
 use Rattle.device_trace.specs.Text.{byte_sent_in, last_byte_sent, report_in, last_report, sent_lines, reset_lines, report_lines, step_lines, lines_of, play_text}
 use Rattle.device_core.specs.Silence.{last_rule, is_silent}
 use Rattle.printed_lines.specs.Lines.{end_line}
+use Rattle.outside_edge.specs.Sink.{Takes, Puts}
+use Rattle.device_cli.proofs.PutsLemmas.{puts-append}
 
 pub length-play_of :
     (events_at : ℕ → List Event) (steps : ℕ) → length (play_of events_at steps) ≡ steps
@@ -204,7 +206,7 @@ play_text-begins start events_at fewer steps lines within printed =
     )
 
 -- the whole text, once all steps are made
-pub play_text-ended :
+play_text-ended :
     (start : Start) (events_at : ℕ → List Event) (made steps pc : ℕ) (exec : Bool)
     → made ≡ steps
     → pc ≡ next_pc_of (logs_after start (play_of events_at made)).progress
@@ -213,3 +215,18 @@ pub play_text-ended :
     ≡ lines_of start (play_of events_at made) ++ end_line steps pc exec
 play_text-ended start events_at made steps pc exec same here flag =
     rw (here, flag, same) (play_text-lines start events_at steps)
+
+pub play_text-put :
+    {S V E : Type 0} (stands : S → List ℕ → Type 0) (old mid new : S) (start : Start)
+    (events_at : ℕ → List Event) (made steps pc : ℕ) (exec : Bool) (result : Result V E)
+    → made ≡ steps
+    → pc ≡ next_pc_of (logs_after start (play_of events_at made)).progress
+    → exec ≡ exec_of (logs_after start (play_of events_at made))
+    → Takes stands old mid (lines_of start (play_of events_at made))
+    → Puts stands mid new (end_line steps pc exec) result
+    → Puts stands old new (play_text start (play_of events_at steps)) result
+play_text-put stands old mid new start events_at made steps pc exec result same here flag takes
+    ends =
+    puts-append stands old mid new (lines_of start (play_of events_at made))
+    (end_line steps pc exec) (play_text start (play_of events_at steps)) result
+    (play_text-ended start events_at made steps pc exec same here flag) takes ends

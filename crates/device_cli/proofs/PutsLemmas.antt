@@ -1,7 +1,7 @@
 -- A text that is put in pieces.
-use Rattle.std.proofs.Common.{◌≡◌, ◌++◌, [], List, ℕ, append-nil}
-use Rattle.outside_edge.specs.Sink.{Takes, TakesPrefix}
-use Rattle.outside_edge.proofs.SinkLemmas.{takes_both, prefix_after, prefix_of_more}
+use Rattle.std.proofs.Common.{◌≡◌, ◌++◌, [], List, Result, ℕ, append-nil}
+use Rattle.outside_edge.specs.Sink.{Takes, TakesPrefix, Puts}
+use Rattle.outside_edge.proofs.SinkLemmas.{takes_both, prefix_after, prefix_of_more, puts_after}
 
 -- nothing
 pub takes-nothing : {S : Type 0} (stands : S → List ℕ → Type 0) (same : S)
@@ -29,3 +29,14 @@ prefix-append stands old mid new before piece rest text begins takes begun =
     rw begins
     (prefix_after stands old mid new before (piece ++ rest) takes
     (prefix_of_more stands mid new piece rest begun))
+
+-- a text whose end is put after the rest of it
+pub puts-append :
+    {S V E : Type 0} (stands : S → List ℕ → Type 0) (old mid new : S) (before piece text : List ℕ)
+    (result : Result V E)
+    → text ≡ before ++ piece
+    → Takes stands old mid before
+    → Puts stands mid new piece result
+    → Puts stands old new text result
+puts-append stands old mid new before piece text result joins takes more =
+    rw joins (puts_after stands old mid new before piece result takes more)

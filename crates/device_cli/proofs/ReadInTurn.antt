@@ -150,15 +150,15 @@ kept-both files faults misses old mid new first second =
     }
 
 -- the first files were refused
-pub first-refused : {S A B : Type 0} (files : S → Files) (faults misses : S → ℕ) (old new : S)
-    (first more : List File) (stands : A → List (List ℕ) → Type 0)
-    (both : B → List (List ℕ) → Type 0) (status : Status) (result : Result B Status)
+pub first-refused : {S A B : Type 0} {files : S → Files} {faults misses : S → ℕ} {old new : S}
+    {first : List File} (more : List File) {stands : A → List (List ℕ) → Type 0}
+    {both : B → List (List ℕ) → Type 0} {status : Status} (result : Result B Status)
     → Reads {V = A} files faults misses old new first stands (Err status)
     → IsErrAnd result (λ error. error ≡ status)
     → Reads files faults misses old new (first ++ more) both result
-first-refused files faults misses old new first more stands both status (Ok value) reads is =
-    absurd is
-first-refused files faults misses old new first more stands both status (Err error) reads is =
+first-refused more (Ok value) reads is = absurd is
+first-refused {files = files} {faults = faults} {misses = misses} {old = old} {new = new}
+    {first = first} more {status = status} (Err error) reads is =
     rw is (record {
       values = tt;
       refusal = IsRefusal-more (files old) (counts_of faults misses old new) first more status
@@ -168,18 +168,17 @@ first-refused files faults misses old new first more stands both status (Err err
     })
 
 -- the others were, after the first were read
-pub more-refused : {S A B C : Type 0} (files : S → Files) (faults misses : S → ℕ)
-    (old mid new : S) (first more : List File) (stands : A → List (List ℕ) → Type 0)
-    (others : B → List (List ℕ) → Type 0) (both : C → List (List ℕ) → Type 0) (value : A)
-    (status : Status) (result : Result C Status)
+pub more-refused : {S A B C : Type 0} {files : S → Files} {faults misses : S → ℕ}
+    {old mid new : S} {first more : List File} {stands : A → List (List ℕ) → Type 0}
+    {others : B → List (List ℕ) → Type 0} {both : C → List (List ℕ) → Type 0} {value : A}
+    {status : Status} (result : Result C Status)
     → Reads files faults misses old mid first stands (Ok value)
     → Reads {V = B} files faults misses mid new more others (Err status)
     → IsErrAnd result (λ error. error ≡ status)
     → Reads files faults misses old new (first ++ more) both result
-more-refused files faults misses old mid new first more stands others both value status (Ok result)
-    reads refused is = absurd is
-more-refused files faults misses old mid new first more stands others both value status (Err error)
-    reads refused is =
+more-refused (Ok result) reads refused is = absurd is
+more-refused {files = files} {faults = faults} {misses = misses} {old = old} {mid = mid} {new = new}
+    {first = first} {more = more} {status = status} (Err error) reads refused is =
     rw is (record {
       values = tt;
       refusal = IsRefusal-after files faults misses old mid new first more reads.values.0 status
@@ -191,16 +190,16 @@ more-refused files faults misses old mid new first more stands others both value
     })
 
 -- all of them were read
-pub both-read : {S A B C : Type 0} (files : S → Files) (faults misses : S → ℕ) (old mid new : S)
-    (first more : List File) (stands : A → List (List ℕ) → Type 0)
-    (others : B → List (List ℕ) → Type 0) (both : C → List (List ℕ) → Type 0) (one : A) (two : B)
+pub both-read : {S A B C : Type 0} {files : S → Files} {faults misses : S → ℕ} {old mid new : S}
+    {first more : List File} {stands : A → List (List ℕ) → Type 0}
+    {others : B → List (List ℕ) → Type 0} {both : C → List (List ℕ) → Type 0} {one : A} {two : B}
     (all : C)
     → Reads files faults misses old mid first stands (Ok one)
     → Reads files faults misses mid new more others (Ok two)
     → ((texts rest : List (List ℕ)) → stands one texts → others two rest → both all (texts ++ rest))
     → Reads files faults misses old new (first ++ more) both (Ok all)
-both-read files faults misses old mid new first more stands others both one two all reads next
-    joined =
+both-read {files = files} {faults = faults} {misses = misses} {old = old} {mid = mid} {new = new}
+    {first = first} {more = more} all reads next joined =
     record {
       values = (
         reads.values.0 ++ next.values.0,

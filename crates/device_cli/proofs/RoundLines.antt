@@ -1,5 +1,5 @@
 -- The text of a round, step by step.
-use Rattle.std.proofs.Common.{◌≡◌, ◌≤◌, ◌+◌, ◌-◌, ◌++◌, ◌∷◌, ◌∙◌, [], ℕ, zero, suc, Bool, true, false, List, Some, None, length, refl, ap, sym, arith, append_assoc, append-nil}
+use Rattle.std.proofs.Common.{◌≡◌, ◌≤◌, ◌+◌, ◌-◌, ◌++◌, ◌∷◌, ◌∙◌, [], ℕ, zero, suc, Bool, true, false, List, Result, Some, None, length, refl, ap, sym, arith, append_assoc, append-nil}
 use Rattle.std.specs.Prelude.{◌||◌, if◌then◌else◌}
 use Rattle.std.proofs.lemmas.Bool.{false≢true}
 use Rattle.std.proofs.lemmas.List.{append_cancel_left}
@@ -11,11 +11,13 @@ use Rattle.device_trace.specs.Step.{next_record}
 use Rattle.device_trace.specs.Trace.{trace, logs_after, byte_after, play_of}
 use Rattle.device_trace.specs.Text.{last_byte_sent, finishes_call, report_of, last_report, sent_lines, reset_lines, report_lines, step_lines, lines_of}
 use Rattle.printed_lines.specs.Lines.{end_line}
+use Rattle.outside_edge.specs.Sink.{Takes, Puts}
 use Rattle.device_cli.specs.Judge.{Judge}
 use Rattle.device_cli.specs.Judgement.{judgement_lines, judgement_has_pair, TellsOutput}
 use Rattle.device_cli.specs.RoundText.{reports_in, round_lines, round_has_pair, round_text}
 use Rattle.device_core.specs.Silence.{last_rule}
 use Rattle.device_cli.proofs.Lines.{length-play_of, lines_of-last}
+use Rattle.device_cli.proofs.PutsLemmas.{puts-append}
 
 lines_of-cons :
     (start : Start) (events : List Event) (play : List (List Event))
@@ -155,7 +157,7 @@ round_text-begins judge start events_at fewer steps lines within printed =
     )
 
 -- the whole text, once all steps are made
-pub round_text-ended :
+round_text-ended :
     (judge : Judge) (start : Start) (events_at : ℕ → List Event) (made steps pc : ℕ) (exec : Bool)
     → made ≡ steps
     → pc ≡ next_pc_of (logs_after start (play_of events_at made)).progress
@@ -164,6 +166,22 @@ pub round_text-ended :
     ≡ round_lines judge start (play_of events_at made) ++ end_line steps pc exec
 round_text-ended judge start events_at made steps pc exec same here flag =
     rw (here, flag, same) (round_text-lines judge start events_at steps)
+
+pub round_text-put :
+    {S V E : Type 0} (stands : S → List ℕ → Type 0) (old mid new : S) (judge : Judge)
+    (start : Start) (events_at : ℕ → List Event) (made steps pc : ℕ) (exec : Bool)
+    (result : Result V E)
+    → made ≡ steps
+    → pc ≡ next_pc_of (logs_after start (play_of events_at made)).progress
+    → exec ≡ exec_of (logs_after start (play_of events_at made))
+    → Takes stands old mid (round_lines judge start (play_of events_at made))
+    → Puts stands mid new (end_line steps pc exec) result
+    → Puts stands old new (round_text judge start (play_of events_at steps)) result
+round_text-put stands old mid new judge start events_at made steps pc exec result same here flag
+    takes ends =
+    puts-append stands old mid new (round_lines judge start (play_of events_at made))
+    (end_line steps pc exec) (round_text judge start (play_of events_at steps)) result
+    (round_text-ended judge start events_at made steps pc exec same here flag) takes ends
 
 round_has_pair-cons :
     (judge : Judge) (start : Start) (events : List Event) (play : List (List Event))

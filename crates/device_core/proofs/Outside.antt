@@ -4,16 +4,18 @@ use Rattle.bus_signals.specs.declared.bus_record.BusRecord.{BusRecord}
 use Rattle.bus_signals.specs.declared.event.Event.{Event}
 use Rattle.device_trace.specs.Blank.{blank, blank_record}
 use Rattle.device_trace.specs.Start.{Start, with_key}
-use Rattle.device_trace.specs.Trace.{trace, last_record, logs_after}
+use Rattle.device_trace.specs.Logs.{Logs}
+use Rattle.device_trace.specs.Trace.{trace, last_record, logs_after, next_logs}
 use Rattle.key_isolation.specs.Agreement.{ReleaseAlike}
 use Rattle.key_isolation.proofs.TwoKeys.{same_history, same_memory}
-use Rattle.device_core.specs.Device.{LiveStandsFor, HasStepped, machine_of, steps_made}
+use Rattle.device_core.specs.Device.{LiveStandsAt, LiveStandsFor, HasStepped, machine_of, steps_made}
+use Rattle.device_core.specs.Machine.{MachineStandsFor, MakesStep}
 use Rattle.device_core.specs.Outside.{LooksLike}
 use Rattle.device_core.specs.Past.{StepsFrom}
 use Rattle.device_core.specs.Step.{IsStep}
 use Rattle.device_core.specs.declared.live.Live.{Live}
 use Rattle.device_core.specs.declared.machine.Machine.{Machine}
-use Rattle.device_core.specs.declared.past.Past.{Past}
+use Rattle.device_core.specs.declared.stage.Stage.{Stage}
 use Rattle.device_core.proofs.Lives.{live-bus, live-last}
 
 last_record-blank : (history : List BusRecord)
@@ -63,17 +65,27 @@ is_step taken digest before count events live stands steps recorded =
 abbrev steps_in : {D : Type 0} → Machine D → ℕ
 steps_in machine = machine.bus.past.steps
 
--- likewise, by what its machine did
+-- likewise, by the step that its machine made, which was lent to it
 pub is_machine_step :
     {D : Type 0} (taken : D → List ℕ → Type 0) (digest : List ℕ → List ℕ)
-    (before : Start → List (List Event) → Type 0) (events : List Event) (live : Live D)
-    (past : Past) (machine : Machine D)
-    → ((key : List ℕ) (image : ℕ → ℕ) (play : List (List Event))
-    → before (with_key digest key image) play
-    → LiveStandsFor taken digest live (with_key digest key image) (events ∷ play))
-    → machine_of live ≡ machine → StepsFrom past machine.bus.past
-    → IsStep taken digest before past.steps events live
-is_machine_step taken digest before events live past machine stands same made =
-    is_step taken digest before past.steps events live stands
-    (ap steps_in same ∙ made.0)
+    (stood : Machine D → Start → Logs → Type 0) (old lent new : Machine D) (events : List Event)
+    (stage : Stage) (live : Live D)
+    → lent ≡ old
+    → ((start : Start) (logs : Logs)
+    → MachineStandsFor taken digest stage new start logs → LiveStandsAt taken digest live start logs)
+    → machine_of live ≡ new
+    → MakesStep taken digest (stood lent) events stage new
+    → StepsFrom lent.bus.past new.bus.past
+    → IsStep taken digest (λ start play. stood old start (logs_after start play)) (steps_in old)
+    events live
+unfolding logs_after
+is_machine_step taken digest stood old lent new events stage live from stands same makes made =
+    is_step taken digest (λ start play. stood old start (logs_after start play)) (steps_in old)
+    events live
+    (λ key image play before.
+    let start : Start = with_key digest key image in
+    stands start (next_logs start (logs_after start play) events)
+    (makes key image (logs_after start play)
+    (subst (λ machine. stood machine start (logs_after start play)) (sym from) before)))
+    (ap steps_in same ∙ (made.0 ∙ ap (λ machine. steps_in machine + 1) from))
     (subst (λ here. IsSome here.bus.past.last) (sym same) made.1)

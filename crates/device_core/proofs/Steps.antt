@@ -10,6 +10,8 @@ use Rattle.device_trace.specs.Progress.{last_registers}
 use Rattle.device_trace.specs.Signals.{signals_at, signals_of, step_kind, word_fetched, value_read}
 use Rattle.device_trace.specs.Start.{Start}
 use Rattle.device_trace.specs.Step.{dma_value_read, record_from, record_of}
+use Rattle.device_core.specs.Bus.{TurnStandsFor, SignalsStandFor}
+use Rattle.device_core.specs.declared.turn.Turn.{Turn}
 
 pub signals-word :
     (start : Start) (logs : Logs) (reset : Bool) (now : Signals)
@@ -38,6 +40,29 @@ pub record_of-same :
 unfolding record_of
 record_of-same start logs reset regs now same here = rw (same, here) refl
 
+-- likewise where the first rule that it breaks is known
+pub record_of-tried :
+    (start : Start) (logs : Logs) (reset : Bool) (regs : List ℕ) (now : Signals)
+    (rule : Option Rule)
+    → now ≡ signals_of start logs reset → regs ≡ last_registers logs.progress
+    → first_rule (last_pc logs.seen) now ≡ rule
+    → record_of start logs reset
+    ≡ record_from regs now rule (value_read start logs now.cpu) (dma_value_read start logs now)
+record_of-tried start logs reset regs now rule same here tried =
+    rw (record_of-same start logs reset regs now same here, tried) refl
+
 pub no_rule : (broken : Option Rule) → is_none broken ≡ true → broken ≡ None
 no_rule None none = refl
 no_rule (Some rule) none = absurd cc
+
+-- the signals of a turn are those of the step
+pub signals-stand :
+    (start : Start) (logs : Logs) (reset : Bool) (regs : List ℕ) (turn : Turn) (now : Signals)
+    → now ≡ signals_of start logs reset → TurnStandsFor regs turn start logs
+    → SignalsStandFor regs turn.accepts_timer now start logs reset
+signals-stand start logs reset regs turn now same here =
+    record {
+      same_regs = here.same_regs;
+      same_signals = same;
+      same_acceptance = rw (signals-kind start logs reset now same) here.same_acceptance;
+    }

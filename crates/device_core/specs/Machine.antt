@@ -1,7 +1,9 @@
 -- What a machine stands for, at each stage.
-use Rattle.std.specs.Prelude.{◌≡◌, ◌⊎◌, ℕ, Bool, true, List, Option, Some, None}
+use Rattle.std.specs.Prelude.{◌≡◌, ◌⊎◌, ℕ, Bool, true, false, List, Option, Some, None}
 use Rattle.part_definitions.specs.CpuRegisters.{sp_of}
-use Rattle.part_definitions.specs.CpuState.{CpuState, Boundary, Executing, Entering, clear_cpu, registers_of, entry_begun}
+use Rattle.part_definitions.specs.CpuState.{CpuState, Boundary, Executing, Entering, clear_cpu, registers_of, is_at_boundary, entry_begun}
+use Rattle.part_definitions.specs.Dma.{dma_access}
+use Rattle.bus_signals.specs.declared.access.Access.{Access}
 use Rattle.msp_exec.specs.Course.{CpuStandsFor}
 use Rattle.swatt_rom.specs.RomCall.{NoCall, InCall as RomInCall}
 use Rattle.swatt_rom.specs.Rom.{RomStandsFor}
@@ -40,6 +42,19 @@ pub record RunningMachine {D : Type 0} (taken : D → List ℕ → Type 0) (dige
     (machine : Machine D) (start : Start) (logs : Logs) : Type 0 where
   pub state : CpuState
   pub same : RunsFrom taken digest machine start logs state
+
+-- running, and at a boundary
+pub record BoundaryMachine {D : Type 0} (taken : D → List ℕ → Type 0) (digest : List ℕ → List ℕ)
+    (machine : Machine D) (start : Start) (logs : Logs) : Type 0 where
+  pub regs : List ℕ
+  pub same : RunsFrom taken digest machine start logs (Boundary regs)
+
+-- running, and in the middle of an instruction or an interrupt entry
+pub record MiddleMachine {D : Type 0} (taken : D → List ℕ → Type 0) (digest : List ℕ → List ℕ)
+    (machine : Machine D) (start : Start) (logs : Logs) : Type 0 where
+  pub state : CpuState
+  pub same : RunsFrom taken digest machine start logs state
+  pub middle : is_at_boundary state ≡ false
 
 -- in a call: the processor waits at a boundary with these registers, and these words passed
 pub record CallingMachine {D : Type 0} (taken : D → List ℕ → Type 0) (digest : List ℕ → List ℕ)
@@ -82,6 +97,10 @@ Goes taken digest stood script_reset stage machine =
     → stood (with_key digest key image) logs
     → MachineStandsFor taken digest stage machine (with_key digest key image)
     (logs_after_step (with_key digest key image) logs script_reset)
+
+-- and the DMA asks for this access
+abbrev pub Beside : Option Access → (Start → Logs → Type 0) → Start → Logs → Type 0
+Beside dma stood start logs = stood start logs × (dma ≡ dma_access logs.peripherals.dma)
 
 -- at a boundary the processor fetches an opcode, or sleeps
 abbrev pub FetchesOpcode : Kind → Bool → CpuState → Type 0

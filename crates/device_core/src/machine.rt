@@ -88,7 +88,7 @@ fn is_rom_entry(pc: u16) -> bool
 impl<D: Digest32> Machine<D> {
     ghost use Rattle.device_core.specs.Bus.{BusStandsFor, logs_after_step};
     ghost use Rattle.device_core.specs.Past.{StepsFrom};
-    ghost use Rattle.device_core.specs.Machine.{HeldMachine, RunningMachine, RunsFrom, CallingMachine, RunsWithin, BeginsCall, CallsWithin, MachineStandsFor, MakesStep, Goes, Fetches};
+    ghost use Rattle.device_core.specs.Machine.{HeldMachine, RunningMachine, RunsFrom, CallingMachine, RunsWithin, BeginsCall, CallsWithin, MachineStandsFor, BoundaryMachine, MiddleMachine, MakesStep, Goes, Beside, Fetches};
 
     /// The machine at power-on.
     pub fn new(alloc: Global, key: &[u8; 64], image: &Image) -> Result<Machine<D>, AllocError>
@@ -314,13 +314,8 @@ impl<D: Digest32> Machine<D> {
         requires few { self.old.bus.past.steps < 2 ^ 63 }
         requires dma_formed { IfSome dma IsFormed }
         ensures past { StepsFrom self.old.bus.past self.new.bus.past }
-        ensures stands { (key : List ℕ) (image : ℕ → ℕ) (logs : Logs) (regs : List ℕ)
-            → RunsFrom D.has_taken D.digest_of self.old (with_key D.digest_of key image) logs
-            (Boundary regs)
-            → dma ≡ dma_access logs.peripherals.dma
-            → MachineStandsFor D.has_taken D.digest_of result self.new
-            (with_key D.digest_of key image)
-            (logs_after_step (with_key D.digest_of key image) logs false) }
+        ensures stands { Goes D.has_taken D.digest_of
+            (Beside dma (BoundaryMachine D.has_taken D.digest_of self.old)) false result self.new }
     {
         if self.fetches() {
             self.fetch(dma)
@@ -394,12 +389,8 @@ impl<D: Digest32> Machine<D> {
     fn go_from_any_boundary(&mut self, script_reset: bool) -> Stage
         requires { self.old.bus.past.steps < 2 ^ 63 }
         ensures past { StepsFrom self.old.bus.past self.new.bus.past }
-        ensures stands { (key : List ℕ) (image : ℕ → ℕ) (logs : Logs) (regs : List ℕ)
-            → RunsFrom D.has_taken D.digest_of self.old (with_key D.digest_of key image) logs
-            (Boundary regs)
-            → MachineStandsFor D.has_taken D.digest_of result self.new
-            (with_key D.digest_of key image)
-            (logs_after_step (with_key D.digest_of key image) logs script_reset) }
+        ensures stands { Goes D.has_taken D.digest_of
+            (BoundaryMachine D.has_taken D.digest_of self.old) script_reset result self.new }
     {
         let vector = self.vector();
         let kind = boundary_kind(&self.processor, vector);
@@ -418,12 +409,8 @@ impl<D: Digest32> Machine<D> {
         requires few { self.old.bus.past.steps < 2 ^ 63 }
         requires dma_formed { IfSome dma IsFormed }
         ensures past { StepsFrom self.old.bus.past self.new.bus.past }
-        ensures stands { (start : Start) (logs : Logs) (state : CpuState)
-            → RunsFrom D.has_taken D.digest_of self.old start logs state
-            → is_at_boundary state ≡ false
-            → dma ≡ dma_access logs.peripherals.dma
-            → MachineStandsFor D.has_taken D.digest_of result self.new start
-            (logs_after_step start logs script_reset) }
+        ensures stands { Goes D.has_taken D.digest_of
+            (Beside dma (MiddleMachine D.has_taken D.digest_of self.old)) script_reset result self.new }
     {
         let turn = self.turn_in_the_middle();
         self.run(&turn, dma, script_reset)
@@ -434,11 +421,8 @@ impl<D: Digest32> Machine<D> {
     fn go_on(&mut self, script_reset: bool) -> Stage
         requires { self.old.bus.past.steps < 2 ^ 63 }
         ensures past { StepsFrom self.old.bus.past self.new.bus.past }
-        ensures stands { (start : Start) (logs : Logs) (state : CpuState)
-            → RunsFrom D.has_taken D.digest_of self.old start logs state
-            → is_at_boundary state ≡ false
-            → MachineStandsFor D.has_taken D.digest_of result self.new start
-            (logs_after_step start logs script_reset) }
+        ensures stands { Goes D.has_taken D.digest_of
+            (MiddleMachine D.has_taken D.digest_of self.old) script_reset result self.new }
     {
         let dma = self.bus.peripherals.dma.ask();
         self.run_in_the_middle(dma, script_reset)
@@ -463,13 +447,8 @@ impl<D: Digest32> Machine<D> {
     fn begin_alone(&mut self) -> Stage
         requires { self.old.bus.past.steps < 2 ^ 63 }
         ensures past { StepsFrom self.old.bus.past self.new.bus.past }
-        ensures stands { (key : List ℕ) (image : ℕ → ℕ) (logs : Logs) (regs : List ℕ)
-            → RunsFrom D.has_taken D.digest_of self.old (with_key D.digest_of key image) logs
-            (Boundary regs)
-            → None ≡ dma_access logs.peripherals.dma
-            → MachineStandsFor D.has_taken D.digest_of result self.new
-            (with_key D.digest_of key image)
-            (logs_after_step (with_key D.digest_of key image) logs false) }
+        ensures stands { Goes D.has_taken D.digest_of
+            (Beside None (BoundaryMachine D.has_taken D.digest_of self.old)) false result self.new }
     {
         self.go_from_boundary(None)
     }
@@ -479,12 +458,8 @@ impl<D: Digest32> Machine<D> {
     fn begin_beside_dma(&mut self) -> Stage
         requires { self.old.bus.past.steps < 2 ^ 63 }
         ensures past { StepsFrom self.old.bus.past self.new.bus.past }
-        ensures stands { (key : List ℕ) (image : ℕ → ℕ) (logs : Logs) (regs : List ℕ)
-            → RunsFrom D.has_taken D.digest_of self.old (with_key D.digest_of key image) logs
-            (Boundary regs)
-            → MachineStandsFor D.has_taken D.digest_of result self.new
-            (with_key D.digest_of key image)
-            (logs_after_step (with_key D.digest_of key image) logs false) }
+        ensures stands { Goes D.has_taken D.digest_of
+            (BoundaryMachine D.has_taken D.digest_of self.old) false result self.new }
     {
         match self.bus.peripherals.dma.ask() {
             Some(Access::Write(place, size, number)) => {
@@ -503,12 +478,8 @@ impl<D: Digest32> Machine<D> {
     fn go_on_alone(&mut self) -> Stage
         requires { self.old.bus.past.steps < 2 ^ 63 }
         ensures past { StepsFrom self.old.bus.past self.new.bus.past }
-        ensures stands { (start : Start) (logs : Logs) (state : CpuState)
-            → RunsFrom D.has_taken D.digest_of self.old start logs state
-            → is_at_boundary state ≡ false
-            → None ≡ dma_access logs.peripherals.dma
-            → MachineStandsFor D.has_taken D.digest_of result self.new start
-            (logs_after_step start logs false) }
+        ensures stands { Goes D.has_taken D.digest_of
+            (Beside None (MiddleMachine D.has_taken D.digest_of self.old)) false result self.new }
     {
         if self.processor.is_entering() {
             return self.go_on(false);
@@ -526,11 +497,8 @@ impl<D: Digest32> Machine<D> {
     fn go_on_beside_dma(&mut self) -> Stage
         requires { self.old.bus.past.steps < 2 ^ 63 }
         ensures past { StepsFrom self.old.bus.past self.new.bus.past }
-        ensures stands { (start : Start) (logs : Logs) (state : CpuState)
-            → RunsFrom D.has_taken D.digest_of self.old start logs state
-            → is_at_boundary state ≡ false
-            → MachineStandsFor D.has_taken D.digest_of result self.new start
-            (logs_after_step start logs false) }
+        ensures stands { Goes D.has_taken D.digest_of
+            (MiddleMachine D.has_taken D.digest_of self.old) false result self.new }
     {
         if self.processor.is_entering() {
             return self.go_on(false);

@@ -1,15 +1,13 @@
-use Rattle.std.proofs.Common.{◌≡◌, ◌∙◌, [], ℕ, List, refl, arith, add-one, append-nil}
+use Rattle.std.proofs.Common.{◌≡◌, ◌∙◌, [], ℕ, List, refl, arith, add-one}
 use Rattle.device_trace.specs.Start.{Start, with_key}
 use Rattle.device_trace.specs.Text.{lines_of, play_text}
-use Rattle.printed_lines.specs.Lines.{end_line}
 use Rattle.device_trace.specs.Trace.{play_of}
 use Rattle.play_script.specs.Script.{events_of}
 use Rattle.device_core.specs.Device.{HeldStandsFor}
 use Rattle.device_cli.proofs.PutsLemmas.{prefix-append, takes-append, takes-nothing}
 use Rattle.outside_edge.proofs.SinkLemmas.{puts-failed, counts-failed}
-use Rattle.device_cli.proofs.Lines.{lines_of-last, play_text-begins, play_text-ended}
-use Rattle.key_isolation.proofs.TwoKeys.{same_text}
-use Rattle.device_cli.proofs.LawfulPlay.{obeys_laws}
+use Rattle.device_cli.proofs.Lines.{lines_of-last, play_text-begins, play_text-put}
+use Rattle.device_cli.proofs.LawfulPlay.{obeys_laws, other_key-put}
 use Rattle.device_cli.proofs.play_text.play_on.Goals as goal
 
 pub loop-step-init : goal.loop-step-init
@@ -73,33 +71,23 @@ returns-in_err-print_last_step-clause-puts g c = λ key image held.
 pub returns-in_err-print_end-clause-puts : goal.returns-in_err-print_end-clause-puts
 returns-in_err-print_end-clause-puts g c = λ key image held.
     let start : Start = with_key g.D.Digest32.digest_of key image in
-    let made : c.loop-step.step ≡ c.args.steps = omega arith in
     let live = c.loop-step.invariant.1 key image held in
-    let text = play_text-ended start (events_of c.args.script.now) c.loop-step.step c.args.steps
-    c.next_pc.result c.exec.result made (c.next_pc.ensures start _ live)
-    (c.exec.ensures start _ live) in
-    puts-failed g.W.Sink.stands c.args.sink.now c.print_end.new.sink
-    (play_text start (play_of (events_of c.args.script.now) c.args.steps))
+    puts-failed g.W.Sink.stands c.args.sink.now c.print_end.new.sink _
     c.from_residual-in_err-print_end.result c.from_residual-in_err-print_end.ensures.0
-    (prefix-append g.W.Sink.stands c.args.sink.now c.loop-step.sink c.print_end.new.sink
-    (lines_of start (play_of (events_of c.args.script.now) c.loop-step.step))
-    (end_line c.args.steps c.next_pc.result c.exec.result) [] _
-    (rw append-nil text)
-    (c.loop-step.invariant.2 key image held) c.in_err-print_end.ensures.puts.prefix)
+    (play_text-put g.W.Sink.stands c.args.sink.now c.loop-step.sink c.print_end.new.sink start
+    (events_of c.args.script.now) c.loop-step.step c.args.steps c.next_pc.result c.exec.result
+    _ (omega arith) (c.next_pc.ensures start _ live) (c.exec.ensures start _ live)
+    (c.loop-step.invariant.2 key image held) c.in_err-print_end.ensures.puts).prefix
 
 pub returns-clause-puts : goal.returns-clause-puts
 returns-clause-puts g c = λ key image held.
     let start : Start = with_key g.D.Digest32.digest_of key image in
-    let made : c.loop-step.step ≡ c.args.steps = omega arith in
     let live = c.loop-step.invariant.1 key image held in
-    let text = play_text-ended start (events_of c.args.script.now) c.loop-step.step c.args.steps
-    c.next_pc.result c.exec.result made (c.next_pc.ensures start _ live)
-    (c.exec.ensures start _ live) in
     record {
-      all = takes-append g.W.Sink.stands c.args.sink.now c.loop-step.sink c.print_end.new.sink
-          (lines_of start (play_of (events_of c.args.script.now) c.loop-step.step))
-          (end_line c.args.steps c.next_pc.result c.exec.result) _ text
-          (c.loop-step.invariant.2 key image held) c.in_ok-print_end.ensures.puts.all;
+      all = (play_text-put g.W.Sink.stands c.args.sink.now c.loop-step.sink c.print_end.new.sink
+          start (events_of c.args.script.now) c.loop-step.step c.args.steps c.next_pc.result c.exec.result
+          _ (omega arith) (c.next_pc.ensures start _ live) (c.exec.ensures start _ live)
+          (c.loop-step.invariant.2 key image held) c.in_ok-print_end.ensures.puts).all;
       prefix = tt;
     }
 
@@ -125,36 +113,27 @@ returns-in_err-print_end-clause-counts g c =
 pub returns-in_err-print_last_step-clause-hides_key :
     goal.returns-in_err-print_last_step-clause-hides_key
 returns-in_err-print_last_step-clause-hides_key g c = λ key other image held alike.
-    rw (same_text (with_key g.D.Digest32.digest_of key image)
-    (with_key g.D.Digest32.digest_of other image)
-    (play_of (events_of c.args.script.now) c.args.steps) refl alike)
-    at (returns-in_err-print_last_step-clause-puts g c key image held)
+    other_key-put g.D.Digest32.digest_of key other image _ alike
+    (returns-in_err-print_last_step-clause-puts g c key image held)
 
 pub returns-in_err-print_last_step-clause-laws : goal.returns-in_err-print_last_step-clause-laws
-returns-in_err-print_last_step-clause-laws g c = λ key image held device_key bytes.
-    obeys_laws g.D.Digest32.digest_of key image
-    (play_of (events_of c.args.script.now) c.args.steps) device_key bytes
+returns-in_err-print_last_step-clause-laws g c = λ key image held.
+    obeys_laws g.D.Digest32.digest_of key image _
 
 pub returns-in_err-print_end-clause-hides_key : goal.returns-in_err-print_end-clause-hides_key
 returns-in_err-print_end-clause-hides_key g c = λ key other image held alike.
-    rw (same_text (with_key g.D.Digest32.digest_of key image)
-    (with_key g.D.Digest32.digest_of other image)
-    (play_of (events_of c.args.script.now) c.args.steps) refl alike)
-    at (returns-in_err-print_end-clause-puts g c key image held)
+    other_key-put g.D.Digest32.digest_of key other image _ alike
+    (returns-in_err-print_end-clause-puts g c key image held)
 
 pub returns-in_err-print_end-clause-laws : goal.returns-in_err-print_end-clause-laws
-returns-in_err-print_end-clause-laws g c = λ key image held device_key bytes.
-    obeys_laws g.D.Digest32.digest_of key image
-    (play_of (events_of c.args.script.now) c.args.steps) device_key bytes
+returns-in_err-print_end-clause-laws g c = λ key image held.
+    obeys_laws g.D.Digest32.digest_of key image _
 
 pub returns-clause-hides_key : goal.returns-clause-hides_key
 returns-clause-hides_key g c = λ key other image held alike.
-    rw (same_text (with_key g.D.Digest32.digest_of key image)
-    (with_key g.D.Digest32.digest_of other image)
-    (play_of (events_of c.args.script.now) c.args.steps) refl alike)
-    at (returns-clause-puts g c key image held)
+    other_key-put g.D.Digest32.digest_of key other image _ alike
+    (returns-clause-puts g c key image held)
 
 pub returns-clause-laws : goal.returns-clause-laws
-returns-clause-laws g c = λ key image held device_key bytes.
-    obeys_laws g.D.Digest32.digest_of key image
-    (play_of (events_of c.args.script.now) c.args.steps) device_key bytes
+returns-clause-laws g c = λ key image held.
+    obeys_laws g.D.Digest32.digest_of key image _

@@ -1,6 +1,5 @@
-use Rattle.std.proofs.Common.{◌≡◌, ◌∙◌, [], ℕ, List, refl, arith, add-one, append-nil}
+use Rattle.std.proofs.Common.{◌≡◌, ◌∙◌, [], ℕ, List, refl, arith, add-one}
 use Rattle.device_trace.specs.Start.{Start, with_key}
-use Rattle.printed_lines.specs.Lines.{end_line}
 use Rattle.device_trace.specs.Trace.{play_of}
 use Rattle.play_script.specs.Script.{events_of}
 use Rattle.device_core.specs.Device.{HeldStandsFor}
@@ -10,7 +9,7 @@ use Rattle.device_cli.specs.Judgement.{judge_of}
 use Rattle.device_cli.specs.RoundText.{round_lines, round_text}
 use Rattle.device_cli.proofs.PutsLemmas.{prefix-append, takes-append, takes-nothing}
 use Rattle.device_cli.proofs.Grounds.{each_accept-has_grounds}
-use Rattle.device_cli.proofs.RoundLines.{round_lines-last, round_text-begins, round_text-ended, pair-shown}
+use Rattle.device_cli.proofs.RoundLines.{round_lines-last, round_text-begins, round_text-put, pair-shown}
 use Rattle.device_cli.proofs.Tallies.{tally-none, tally-more}
 use Rattle.device_cli.proofs.WriteCounts.{counts-write, counts-passed, stops-later, stops-never}
 use Rattle.device_cli.proofs.round_text.round_on.Goals as goal
@@ -71,8 +70,7 @@ returns-in_err-tally-clause-puts g c = λ key image held.
     let start : Start = with_key digest key image in
     let events = events_of c.args.script.now in
     let step = c.loop-step.step in
-    let passed = c.pass.ensures.events ∙ c.loop-step.invariant.6 step (omega arith) in
-    let live = rw passed
+    let live = rw (c.pass.ensures.events ∙ c.loop-step.invariant.6 step (omega arith))
     at (c.step-live.ensures.stands key image (play_of events step)
     (c.loop-step.invariant.3 key image held)) in
     let begins = round_text-begins judge start events step c.args.steps _ (omega arith)
@@ -88,40 +86,26 @@ returns-in_err-tally-clause-puts g c = λ key image held.
 
 pub returns-in_err-print_end-clause-puts : goal.returns-in_err-print_end-clause-puts
 returns-in_err-print_end-clause-puts g c = λ key image held.
-    let digest = g.D.Digest32.digest_of in
-    let judge : Judge = judge_of digest c.args.verifier.now in
-    let start : Start = with_key digest key image in
-    let events = events_of c.args.script.now in
-    let made : c.loop-step.step ≡ c.args.steps = omega arith in
+    let start : Start = with_key g.D.Digest32.digest_of key image in
     let live = c.loop-step.invariant.3 key image held in
-    let text = round_text-ended judge start events c.loop-step.step c.args.steps
-    c.next_pc.result c.exec.result made (c.next_pc.ensures start _ live) (c.exec.ensures start _
-    live) in
-    puts-failed g.W.Sink.stands c.args.sink.now c.print_end.new.sink
-    (round_text judge start (play_of events c.args.steps))
+    puts-failed g.W.Sink.stands c.args.sink.now c.print_end.new.sink _
     c.from_residual-in_err-print_end.result c.from_residual-in_err-print_end.ensures.0
-    (prefix-append g.W.Sink.stands c.args.sink.now c.loop-step.sink c.print_end.new.sink
-    (round_lines judge start (play_of events c.loop-step.step))
-    (end_line c.args.steps c.next_pc.result c.exec.result) [] _
-    (rw append-nil text)
-    (c.loop-step.invariant.4 key image held) c.in_err-print_end.ensures.puts.prefix)
+    (round_text-put g.W.Sink.stands c.args.sink.now c.loop-step.sink c.print_end.new.sink
+    (judge_of g.D.Digest32.digest_of c.args.verifier.now) start (events_of c.args.script.now)
+    c.loop-step.step c.args.steps c.next_pc.result c.exec.result _ (omega arith)
+    (c.next_pc.ensures start _ live) (c.exec.ensures start _ live)
+    (c.loop-step.invariant.4 key image held) c.in_err-print_end.ensures.puts).prefix
 
 pub returns-clause-puts : goal.returns-clause-puts
 returns-clause-puts g c = λ key image held.
-    let digest = g.D.Digest32.digest_of in
-    let judge : Judge = judge_of digest c.args.verifier.now in
-    let start : Start = with_key digest key image in
-    let events = events_of c.args.script.now in
-    let made : c.loop-step.step ≡ c.args.steps = omega arith in
+    let start : Start = with_key g.D.Digest32.digest_of key image in
     let live = c.loop-step.invariant.3 key image held in
-    let text = round_text-ended judge start events c.loop-step.step c.args.steps
-    c.next_pc.result c.exec.result made (c.next_pc.ensures start _ live) (c.exec.ensures start _
-    live) in
     record {
-      all = takes-append g.W.Sink.stands c.args.sink.now c.loop-step.sink c.print_end.new.sink
-          (round_lines judge start (play_of events c.loop-step.step))
-          (end_line c.args.steps c.next_pc.result c.exec.result) _ text
-          (c.loop-step.invariant.4 key image held) c.in_ok-print_end.ensures.puts.all;
+      all = (round_text-put g.W.Sink.stands c.args.sink.now c.loop-step.sink c.print_end.new.sink
+          (judge_of g.D.Digest32.digest_of c.args.verifier.now) start (events_of c.args.script.now)
+          c.loop-step.step c.args.steps c.next_pc.result c.exec.result _ (omega arith)
+          (c.next_pc.ensures start _ live) (c.exec.ensures start _ live)
+          (c.loop-step.invariant.4 key image held) c.in_ok-print_end.ensures.puts).all;
       prefix = tt;
     }
 
@@ -143,19 +127,16 @@ returns-in_err-print_end-clause-memory g c = λ key image held.
     c.from_residual-in_err-print_end.ensures.1
 
 pub returns-in_err-tally-clause-accepts : goal.returns-in_err-tally-clause-accepts
-returns-in_err-tally-clause-accepts g c = λ image held device_key bytes gives valid.
-    each_accept-has_grounds (judge_of g.D.Digest32.digest_of c.args.verifier.now) image
-    (play_of (events_of c.args.script.now) c.args.steps) device_key bytes gives valid
+returns-in_err-tally-clause-accepts g c = λ image held.
+    each_accept-has_grounds (judge_of g.D.Digest32.digest_of c.args.verifier.now) image _
 
 pub returns-in_err-print_end-clause-accepts : goal.returns-in_err-print_end-clause-accepts
-returns-in_err-print_end-clause-accepts g c = λ image held device_key bytes gives valid.
-    each_accept-has_grounds (judge_of g.D.Digest32.digest_of c.args.verifier.now) image
-    (play_of (events_of c.args.script.now) c.args.steps) device_key bytes gives valid
+returns-in_err-print_end-clause-accepts g c = λ image held.
+    each_accept-has_grounds (judge_of g.D.Digest32.digest_of c.args.verifier.now) image _
 
 pub returns-clause-accepts : goal.returns-clause-accepts
-returns-clause-accepts g c = λ image held device_key bytes gives valid.
-    each_accept-has_grounds (judge_of g.D.Digest32.digest_of c.args.verifier.now) image
-    (play_of (events_of c.args.script.now) c.args.steps) device_key bytes gives valid
+returns-clause-accepts g c = λ image held.
+    each_accept-has_grounds (judge_of g.D.Digest32.digest_of c.args.verifier.now) image _
 
 pub returns-in_err-tally-clause-counts : goal.returns-in_err-tally-clause-counts
 returns-in_err-tally-clause-counts g c =
@@ -169,8 +150,7 @@ returns-in_err-tally-clause-memory g c = λ key image held.
     let start : Start = with_key digest key image in
     let events = events_of c.args.script.now in
     let step = c.loop-step.step in
-    let passed = c.pass.ensures.events ∙ c.loop-step.invariant.6 step (omega arith) in
-    let live = rw passed
+    let live = rw (c.pass.ensures.events ∙ c.loop-step.invariant.6 step (omega arith))
     at (c.step-live.ensures.stands key image (play_of events step)
     (c.loop-step.invariant.3 key image held)) in
     stops-later c.in_err-tally.field-0.0 c.from_residual.result _ _ c.from_residual.ensures.1

@@ -1,9 +1,7 @@
 use Rattle.std.proofs.Common.{ap}
 use Rattle.mem_map.specs.Image.{byte_in, powered_on}
-use Rattle.outside_edge.proofs.SinkLemmas.{takes_both, prefix_after, prefix_of_more}
+use Rattle.outside_edge.proofs.SinkLemmas.{puts_after, prefix_of_more}
 use Rattle.hex_loader.specs.HexText.{hex_text}
-use Rattle.device_trace.specs.Logs.{exec_of}
-use Rattle.device_trace.specs.Trace.{logs_after}
 use Rattle.device_trace.specs.Text.{play_text}
 use Rattle.device_cli.specs.Dump.{dump_text, memory_after}
 use Rattle.device_cli.specs.Row.{Outcome}
@@ -38,39 +36,27 @@ returns-in_err-live-clause-puts g c = λ texts stands.
 
 pub returns-in_err-write_memory-clause-puts : goal.returns-in_err-write_memory-clause-puts
 returns-in_err-write_memory-clause-puts g c = λ texts stands.
-    let inputs = c.args.inputs.now in
     let steps = c.args.self.now.play.steps in
-    let key = inputs.device.key in
-    let image = (powered_on inputs.device.key inputs.device.image).image in
-    let start = start_of key (byte_in inputs.device.image) in
-    let play = steps_of steps inputs.script in
-    let live = c.in_ok-live.ensures.stands key image c.in_ok-device.ensures.stands in
+    let held = c.in_ok-device.ensures.stands in
     failed g.W.Sink.stands g.W.Sink.faults c.args.sink.now c.write_memory.new.sink
-    (play_outcome dump_text steps texts) (dump_text start play)
-    c.from_residual-in_err-write_memory.result
-    (ap (λ (outcome : Outcome). outcome.text) (play-outcome dump_text steps inputs texts stands))
+    (play_outcome dump_text steps texts) _ c.from_residual-in_err-write_memory.result
+    (ap (λ (outcome : Outcome). outcome.text)
+    (play-outcome dump_text steps c.args.inputs.now texts stands))
     c.from_residual-in_err-write_memory.ensures.1
-    (prefix_after g.W.Sink.stands c.args.sink.now c.play_on.new.sink c.write_memory.new.sink
-    (play_text start play) (hex_text (memory_after start play))
-    (c.in_ok-live.ensures.puts key image c.in_ok-device.ensures.stands).all
-    (c.in_err-write_memory.ensures.puts start.power (exec_of (logs_after start play))
-    (logs_after start play).memory (c.memory.ensures start play live)).prefix)
+    (puts_after g.W.Sink.stands c.args.sink.now c.play_on.new.sink c.write_memory.new.sink _ _ _
+    (c.in_ok-live.ensures.puts _ _ held).all
+    (c.in_err-write_memory.ensures.puts _ _ _
+    (c.memory.ensures _ _ (c.in_ok-live.ensures.stands _ _ held)))).prefix
     (rw c.in_ok-live.ensures.counts.quiet at c.in_err-write_memory.ensures.counts.failed)
 
 pub returns-clause-puts : goal.returns-clause-puts
 returns-clause-puts g c = λ texts stands.
-    let inputs = c.args.inputs.now in
     let steps = c.args.self.now.play.steps in
-    let key = inputs.device.key in
-    let image = (powered_on inputs.device.key inputs.device.image).image in
-    let start = start_of key (byte_in inputs.device.image) in
-    let play = steps_of steps inputs.script in
-    let live = c.in_ok-live.ensures.stands key image c.in_ok-device.ensures.stands in
+    let held = c.in_ok-device.ensures.stands in
     put g.W.Sink.stands g.W.Sink.faults c.args.sink.now c.write_memory.new.sink
-    (play_outcome dump_text steps texts) (dump_text start play)
-    (play-outcome dump_text steps inputs texts stands)
-    (takes_both g.W.Sink.stands c.args.sink.now c.play_on.new.sink c.write_memory.new.sink
-    (play_text start play) (hex_text (memory_after start play))
-    (c.in_ok-live.ensures.puts key image c.in_ok-device.ensures.stands).all
-    (c.in_ok-write_memory.ensures.puts start.power (exec_of (logs_after start play))
-    (logs_after start play).memory (c.memory.ensures start play live)).all)
+    (play_outcome dump_text steps texts) _
+    (play-outcome dump_text steps c.args.inputs.now texts stands)
+    (puts_after g.W.Sink.stands c.args.sink.now c.play_on.new.sink c.write_memory.new.sink _ _ _
+    (c.in_ok-live.ensures.puts _ _ held).all
+    (c.in_ok-write_memory.ensures.puts _ _ _
+    (c.memory.ensures _ _ (c.in_ok-live.ensures.stands _ _ held)))).all

@@ -2,15 +2,19 @@ use Rattle.std.proofs.Common.{◌∙◌, sym}
 use Rattle.device_core.proofs.machine.Machine.go_on_beside_dma.Goals as goal
 
 pub returns-in-Some-Write-clause-stands : goal.returns-in-Some-Write-clause-stands
-returns-in-Some-Write-clause-stands g c = λ start logs state from middle.
-    c.run_in_the_middle.ensures.stands start logs state from middle
-    (rw c.in-Some-Write.field-0-is at
-    (sym c.in-Some-Write.is
-    ∙ c.ask.ensures.access logs.peripherals.dma from.same_bus.same_peripherals.same_dma))
+returns-in-Some-Write-clause-stands g c = λ key image logs here.
+    c.run_in_the_middle.ensures.stands key image logs (
+      here,
+      rw c.in-Some-Write.field-0-is at
+          (sym c.in-Some-Write.is
+          ∙ c.ask.ensures.access logs.peripherals.dma here.same.same_bus.same_peripherals.same_dma),
+    )
 
 pub returns-in-Some-Read-clause-stands : goal.returns-in-Some-Read-clause-stands
-returns-in-Some-Read-clause-stands g c = λ start logs state from middle.
-    c.run_in_the_middle-in-Some-Read.ensures.stands start logs state from middle
-    (rw c.in-Some-Read.field-0-is at
-    (sym c.in-Some-Read.is
-    ∙ c.ask.ensures.access logs.peripherals.dma from.same_bus.same_peripherals.same_dma))
+returns-in-Some-Read-clause-stands g c = λ key image logs here.
+    c.run_in_the_middle-in-Some-Read.ensures.stands key image logs (
+      here,
+      rw c.in-Some-Read.field-0-is at
+          (sym c.in-Some-Read.is
+          ∙ c.ask.ensures.access logs.peripherals.dma here.same.same_bus.same_peripherals.same_dma),
+    )
