@@ -34,7 +34,7 @@ step_lines-told start step made newest logs sent rule report size byte broken to
     rw (byte, broken, told, size) refl
 
 -- one more step adds its lines
-lines_of-cons :
+pub lines_of-cons :
     (start : Start) (events : List Event) (play : List (List Event))
     → lines_of start (events ∷ play)
     ≡ lines_of start play

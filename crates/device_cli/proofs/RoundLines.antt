@@ -16,17 +16,8 @@ use Rattle.device_cli.specs.Judge.{Judge}
 use Rattle.device_cli.specs.Judgement.{judgement_lines, judgement_has_pair, TellsOutput}
 use Rattle.device_cli.specs.RoundText.{reports_in, round_lines, round_has_pair, round_text}
 use Rattle.device_core.specs.Silence.{last_rule}
-use Rattle.device_cli.proofs.Lines.{length-play_of, lines_of-last}
+use Rattle.device_cli.proofs.Lines.{length-play_of, lines_of-cons, lines_of-last}
 use Rattle.device_cli.proofs.PutsLemmas.{puts-append}
-
-lines_of-cons :
-    (start : Start) (events : List Event) (play : List (List Event))
-    → lines_of start (events ∷ play)
-    ≡ lines_of start play
-    ++ step_lines start (length play) (next_record start (logs_after start play) events)
-    (logs_after start (events ∷ play))
-unfolding lines_of
-lines_of-cons start events play = refl
 
 -- what the last step of a play sent, broke and reported are its lines
 abbrev pub last_lines : Start → List (List Event) → ℕ → List ℕ

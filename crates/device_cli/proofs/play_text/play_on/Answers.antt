@@ -1,4 +1,4 @@
-use Rattle.std.proofs.Common.{◌≡◌, ◌∙◌, [], ℕ, List, refl, arith, add-one}
+use Rattle.std.proofs.Common.{◌≡◌, ◌∙◌, [], ℕ, List, Ok, Err, refl, arith, add-one}
 use Rattle.device_trace.specs.Start.{Start, with_key}
 use Rattle.device_trace.specs.Text.{lines_of, play_text}
 use Rattle.device_trace.specs.Trace.{play_of}
@@ -24,10 +24,9 @@ pub loop-step-preserved : goal.loop-step-preserved
 loop-step-preserved g c =
     let taken = g.D.Digest32.has_taken in
     let digest = g.D.Digest32.digest_of in
-    let events = c.pass.ensures.events ∙ c.loop-step.invariant.4 c.loop-step.step (omega arith) in
     let stands = λ (key : List ℕ) (image : ℕ → ℕ)
     (held : HeldStandsFor taken digest c.args.device (with_key digest key image) []).
-    rw events
+    rw (c.pass.ensures.events, c.loop-step.invariant.4 c.loop-step.step (omega arith))
     at (c.step-live.ensures.stands key image
     (play_of (events_of c.args.script.now) c.loop-step.step)
     (c.loop-step.invariant.1 key image held)) in
@@ -51,9 +50,8 @@ loop-step-preserved g c =
 pub returns-in_err-print_last_step-clause-puts : goal.returns-in_err-print_last_step-clause-puts
 returns-in_err-print_last_step-clause-puts g c = λ key image held.
     let start : Start = with_key g.D.Digest32.digest_of key image in
-    let events = c.pass.ensures.events ∙ c.loop-step.invariant.4 c.loop-step.step (omega arith) in
     let live =
-    rw events
+    rw (c.pass.ensures.events, c.loop-step.invariant.4 c.loop-step.step (omega arith))
     at (c.step-live.ensures.stands key image
     (play_of (events_of c.args.script.now) c.loop-step.step)
     (c.loop-step.invariant.1 key image held)) in
@@ -76,8 +74,9 @@ returns-in_err-print_end-clause-puts g c = λ key image held.
     c.from_residual-in_err-print_end.result c.from_residual-in_err-print_end.ensures.0
     (play_text-put g.W.Sink.stands c.args.sink.now c.loop-step.sink c.print_end.new.sink start
     (events_of c.args.script.now) c.loop-step.step c.args.steps c.next_pc.result c.exec.result
-    _ (omega arith) (c.next_pc.ensures start _ live) (c.exec.ensures start _ live)
-    (c.loop-step.invariant.2 key image held) c.in_err-print_end.ensures.puts).prefix
+    (Err c.in_err-print_end.field-0.0) (omega arith) (c.next_pc.ensures start _ live)
+    (c.exec.ensures start _ live) (c.loop-step.invariant.2 key image held)
+    c.in_err-print_end.ensures.puts).prefix
 
 pub returns-clause-puts : goal.returns-clause-puts
 returns-clause-puts g c = λ key image held.
@@ -85,9 +84,10 @@ returns-clause-puts g c = λ key image held.
     let live = c.loop-step.invariant.1 key image held in
     record {
       all = (play_text-put g.W.Sink.stands c.args.sink.now c.loop-step.sink c.print_end.new.sink
-          start (events_of c.args.script.now) c.loop-step.step c.args.steps c.next_pc.result c.exec.result
-          _ (omega arith) (c.next_pc.ensures start _ live) (c.exec.ensures start _ live)
-          (c.loop-step.invariant.2 key image held) c.in_ok-print_end.ensures.puts).all;
+          start (events_of c.args.script.now) c.loop-step.step c.args.steps c.next_pc.result
+          c.exec.result (Ok tt) (omega arith) (c.next_pc.ensures start _ live)
+          (c.exec.ensures start _ live) (c.loop-step.invariant.2 key image held)
+          c.in_ok-print_end.ensures.puts).all;
       prefix = tt;
     }
 

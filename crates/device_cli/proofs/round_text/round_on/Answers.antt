@@ -1,4 +1,4 @@
-use Rattle.std.proofs.Common.{◌≡◌, ◌∙◌, [], ℕ, List, refl, arith, add-one}
+use Rattle.std.proofs.Common.{◌≡◌, ◌∙◌, [], ℕ, List, Ok, Err, refl, arith, add-one}
 use Rattle.device_trace.specs.Start.{Start, with_key}
 use Rattle.device_trace.specs.Trace.{play_of}
 use Rattle.play_script.specs.Script.{events_of}
@@ -34,10 +34,9 @@ loop-step-preserved g c =
     let judge : Judge = judge_of digest c.args.verifier.now in
     let events = events_of c.args.script.now in
     let step = c.loop-step.step in
-    let passed = c.pass.ensures.events ∙ c.loop-step.invariant.6 step (omega arith) in
     let stands = λ (key : List ℕ) (image : ℕ → ℕ)
     (held : HeldStandsFor taken digest c.args.device (with_key digest key image) []).
-    rw passed
+    rw (c.pass.ensures.events, c.loop-step.invariant.6 step (omega arith))
     at (c.step-live.ensures.stands key image (play_of events step)
     (c.loop-step.invariant.3 key image held)) in
     rw add-one (
@@ -70,7 +69,7 @@ returns-in_err-tally-clause-puts g c = λ key image held.
     let start : Start = with_key digest key image in
     let events = events_of c.args.script.now in
     let step = c.loop-step.step in
-    let live = rw (c.pass.ensures.events ∙ c.loop-step.invariant.6 step (omega arith))
+    let live = rw (c.pass.ensures.events, c.loop-step.invariant.6 step (omega arith))
     at (c.step-live.ensures.stands key image (play_of events step)
     (c.loop-step.invariant.3 key image held)) in
     let begins = round_text-begins judge start events step c.args.steps _ (omega arith)
@@ -92,9 +91,10 @@ returns-in_err-print_end-clause-puts g c = λ key image held.
     c.from_residual-in_err-print_end.result c.from_residual-in_err-print_end.ensures.0
     (round_text-put g.W.Sink.stands c.args.sink.now c.loop-step.sink c.print_end.new.sink
     (judge_of g.D.Digest32.digest_of c.args.verifier.now) start (events_of c.args.script.now)
-    c.loop-step.step c.args.steps c.next_pc.result c.exec.result _ (omega arith)
-    (c.next_pc.ensures start _ live) (c.exec.ensures start _ live)
-    (c.loop-step.invariant.4 key image held) c.in_err-print_end.ensures.puts).prefix
+    c.loop-step.step c.args.steps c.next_pc.result c.exec.result
+    (Err c.in_err-print_end.field-0.0) (omega arith) (c.next_pc.ensures start _ live)
+    (c.exec.ensures start _ live) (c.loop-step.invariant.4 key image held)
+    c.in_err-print_end.ensures.puts).prefix
 
 pub returns-clause-puts : goal.returns-clause-puts
 returns-clause-puts g c = λ key image held.
@@ -103,7 +103,7 @@ returns-clause-puts g c = λ key image held.
     record {
       all = (round_text-put g.W.Sink.stands c.args.sink.now c.loop-step.sink c.print_end.new.sink
           (judge_of g.D.Digest32.digest_of c.args.verifier.now) start (events_of c.args.script.now)
-          c.loop-step.step c.args.steps c.next_pc.result c.exec.result _ (omega arith)
+          c.loop-step.step c.args.steps c.next_pc.result c.exec.result (Ok tt) (omega arith)
           (c.next_pc.ensures start _ live) (c.exec.ensures start _ live)
           (c.loop-step.invariant.4 key image held) c.in_ok-print_end.ensures.puts).all;
       prefix = tt;
@@ -150,7 +150,7 @@ returns-in_err-tally-clause-memory g c = λ key image held.
     let start : Start = with_key digest key image in
     let events = events_of c.args.script.now in
     let step = c.loop-step.step in
-    let live = rw (c.pass.ensures.events ∙ c.loop-step.invariant.6 step (omega arith))
+    let live = rw (c.pass.ensures.events, c.loop-step.invariant.6 step (omega arith))
     at (c.step-live.ensures.stands key image (play_of events step)
     (c.loop-step.invariant.3 key image held)) in
     stops-later c.in_err-tally.field-0.0 c.from_residual.result _ _ c.from_residual.ensures.1
