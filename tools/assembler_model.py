@@ -1,8 +1,8 @@
-"""The assembler and the listing for tools/fuzz, written from docs/assembler.md and docs/formats.md and apart
-from the program's own.
+"""The assembler and the listing for tools/fuzz, written from docs/assembler.md and docs/formats.md
+and apart from the program's own.
 
-`assemble` gives the image of a source by its places, or raises Fault with the first fault's line and kind;
-`listing` and `hex_text` give the printed texts of an image.
+`assemble` gives the image of a source by its places, or raises Fault with the first fault's line
+and kind; `listing` and `hex_text` give the printed texts of an image.
 """
 import re
 
@@ -14,15 +14,18 @@ ONE = "rrc swpb rra sxt push call".split()
 JUMPS = "jne jeq jnc jc jn jge jl jmp".split()
 OTHER_JUMPS = {"jnz": "jne", "jz": "jeq", "jlo": "jnc", "jhs": "jc"}
 # Emulated instructions: of a destination, of no operand.
-ON_DESTINATION = {"adc": ("addc", 0), "clr": ("mov", 0), "dadc": ("dadd", 0), "dec": ("sub", 1), "decd": ("sub", 2),
-                  "inc": ("add", 1), "incd": ("add", 2), "inv": ("xor", -1), "sbc": ("subc", 0), "tst": ("cmp", 0)}
-ON_STATUS = {"clrc": ("bic", 1), "clrn": ("bic", 4), "clrz": ("bic", 2), "dint": ("bic", 8), "eint": ("bis", 8),
-             "setc": ("bis", 1), "setn": ("bis", 4), "setz": ("bis", 2)}
+ON_DESTINATION = {"adc": ("addc", 0), "clr": ("mov", 0), "dadc": ("dadd", 0), "dec": ("sub", 1),
+                  "decd": ("sub", 2), "inc": ("add", 1), "incd": ("add", 2), "inv": ("xor", -1),
+                  "sbc": ("subc", 0), "tst": ("cmp", 0)}
+ON_STATUS = {"clrc": ("bic", 1), "clrn": ("bic", 4), "clrz": ("bic", 2), "dint": ("bic", 8),
+             "eint": ("bis", 8), "setc": ("bis", 1), "setn": ("bis", 4), "setz": ("bis", 2)}
 WORDS = {"reti": 0x1300, "ret": 0x4130, "nop": 0x4303}
 WITH_BYTE_FORM = {*TWO, "rrc", "rra", "push", *ON_DESTINATION, "pop", "rla", "rlc"}
-MNEMONICS = {*TWO, *ONE, *JUMPS, *OTHER_JUMPS, *ON_DESTINATION, *ON_STATUS, *WORDS, "pop", "rla", "rlc", "br"}
+MNEMONICS = {*TWO, *ONE, *JUMPS, *OTHER_JUMPS, *ON_DESTINATION, *ON_STATUS, *WORDS,
+             "pop", "rla", "rlc", "br"}
 CONSTANTS = {0: (3, 0), 1: (3, 1), 2: (3, 2), -1: (3, 3), 4: (2, 2), 8: (2, 3)}
-TOKEN = re.compile(r"[ \t]*(?:(?P<word>[A-Za-z_.][A-Za-z0-9_.]*)|(?P<number>0x[0-9A-Fa-f]+|[0-9]+)(?![A-Za-z0-9_.])"
+TOKEN = re.compile(r"[ \t]*(?:(?P<word>[A-Za-z_.][A-Za-z0-9_.]*)"
+                   r"|(?P<number>0x[0-9A-Fa-f]+|[0-9]+)(?![A-Za-z0-9_.])"
                    r"|(?P<mark>[#&()@+,:$-])|\"(?P<text>[ !#-\[\]-~]*)\")")
 
 
@@ -189,7 +192,8 @@ def instruction(name, is_byte, operands):
         return "two", (0, is_byte, ("increment", None, 1), first)
     if name in ("rla", "rlc"):
         is_open = first[0] == "indexed" and first[2] == 3
-        return None if is_open else ("two", (TWO.index("add" if name == "rla" else "addc"), is_byte, first, first))
+        return None if is_open else (
+            "two", (TWO.index("add" if name == "rla" else "addc"), is_byte, first, first))
     core, value = ON_DESTINATION[name]
     return "two", (TWO.index(core), is_byte, constant(value), first)
 
@@ -221,7 +225,8 @@ def statement_of(number, line):
         statement = directive(word[1:], operands)
     else:
         name, dot, suffix = word.partition(".")
-        if name not in MNEMONICS or dot and suffix not in ("b", "w") or suffix == "b" and name not in WITH_BYTE_FORM:
+        if (name not in MNEMONICS or dot and suffix not in ("b", "w")
+                or suffix == "b" and name not in WITH_BYTE_FORM):
             raise Fault(number, "Mnemonic")
         statement = instruction(OTHER_JUMPS.get(name, name), suffix == "b", operands)
     if statement is None:
@@ -248,7 +253,8 @@ def size_of(statement):
         return 2 * len(parts)
     is_byte, operands = parts[1], parts[2:]
     extended = [operand for operand in operands
-                if operand[0] not in ("register", "indirect", "increment") and not generated(operand, is_byte)]
+                if operand[0] not in ("register", "indirect", "increment")
+                and not generated(operand, is_byte)]
     return 2 + 2 * len(extended)
 
 
@@ -279,7 +285,9 @@ class Scope:
         return value
 
     def encoded(self, operand, is_byte, place):
-        """Register, mode and extension words of an operand whose extension word stands at this place."""
+        """Register, mode and extension words of an operand whose extension word stands at this
+        place.
+        """
         form, terms, register = operand
         if form in ("register", "indirect", "increment"):
             return register, {"register": 0, "indirect": 2, "increment": 3}[form], []
@@ -318,7 +326,8 @@ class Scope:
         if kind == "byte":
             values = [self.value(terms, -128, 255) for terms in parts]
             return self.checked(bytes(value % 256 for value in values))
-        return self.checked(b"".join((word % 65536).to_bytes(2, "little") for word in self.words_of(kind, parts)))
+        return self.checked(b"".join(
+            (word % 65536).to_bytes(2, "little") for word in self.words_of(kind, parts)))
 
 
 def placed(statements):
@@ -338,7 +347,8 @@ def placed(statements):
             place = scope.checked(scope.value(parts, 0, 65535))
         elif kind:
             places = range(place, place + size_of(statement))
-            if places and kind not in ("byte", "text") and place % 2 or not all(map(is_place, places)):
+            if (places and kind not in ("byte", "text") and place % 2
+                    or not all(map(is_place, places))):
                 raise Fault(number, "Place")
             if not used.isdisjoint(places):
                 raise Fault(number, "Overlap")

@@ -1,4 +1,5 @@
-"""Readers of the program's files for tools/fuzz, written from docs/formats.md and apart from the program's own.
+"""Readers of the program's files for tools/fuzz, written from docs/formats.md and apart from the
+program's own.
 
 Each gives the value of a file, or raises Fault with the first fault's line and kind.
 """
@@ -141,8 +142,10 @@ def texts_of(text, limit):
             line.decode()
         except UnicodeDecodeError:
             raise Fault(number, "Utf8") from None
-    split = [(number, [word for word in line.replace(b"\t", b" ").split(b" ") if word]) for number, line in lines]
-    return [Words(number, words) for number, words in split if words and words[0][:1] != b"#"], len(lines)
+    split = [(number, [word for word in line.replace(b"\t", b" ").split(b" ") if word])
+             for number, line in lines]
+    return ([Words(number, words) for number, words in split if words and words[0][:1] != b"#"],
+            len(lines))
 
 
 def read_script(text):
@@ -164,7 +167,9 @@ def read_script(text):
 
 
 def is_valid(bounds):
-    """Even, in order, each region wholly in RAM or in the program, and apart from each other, MAC and metadata."""
+    """Even, in order, each region wholly in RAM or in the program, and apart from each other, MAC
+    and metadata.
+    """
     er_min, er_max, or_min, or_max = bounds
     if any(bound % 2 for bound in bounds) or er_min > er_max or or_min > or_max:
         return False
