@@ -1,5 +1,5 @@
 -- Lists that are gathered item by item.
-use Rattle.std.proofs.Common.{◌≡◌, ◌∙◌, ap, sym, refl, ◌+◌, ◌<◌, ℕ, suc, List, [], ◌∷◌, ◌++◌, length, drop, get_or, drop-cons, add-one, Result, Ok, Err, flat_map}
+use Rattle.std.proofs.Common.{◌≡◌, ◌∙◌, ap, sym, refl, ◌+◌, ◌<◌, ℕ, suc, List, ◌++◌, length, drop, get_or, drop-cons, add-one, Result, Ok, Err, flat_map}
 use Rattle.std.proofs.lemmas.List.{append_assoc}
 use Rattle.text_scan.specs.declared.fault_kind.FaultKind.{FaultKind}
 use Rattle.text_scan.specs.declared.word_fault.WordFault.{WordFault}
@@ -8,7 +8,6 @@ use Rattle.text_scan.specs.Reader.{◌>>=◌}
 use Rattle.asm_bytes.specs.StatementBytes.{AddsBytes}
 use Rattle.word_arith.specs.declared.size.Size.{Size}
 use Rattle.std.specs.Prelude.{ℤ}
-use Rattle.asm_bytes.specs.Value.{each}
 use Rattle.asm_bytes.specs.Statement.{value_bytes, all_bytes}
 
 -- a list so far, and what is left
@@ -17,42 +16,10 @@ abbrev pub followed_by : {A : Type 0} → List A → Result (List A) FaultKind
 followed_by done (Ok rest) = Ok (done ++ rest)
 followed_by done (Err kind) = Err kind
 
-pub nothing_done : {A : Type 0} (all : Result (List A) FaultKind) → all ≡ followed_by [] all
-nothing_done (Ok rest) = refl
-nothing_done (Err kind) = refl
-
 one_gathered : {A : Type 0} (done first : List A) (rest : Result (List A) FaultKind)
     → followed_by done (rest >>= (λ found. Ok (first ++ found))) ≡ followed_by (done ++ first) rest
 one_gathered done first (Ok rest) = ap Ok (sym (append_assoc done first rest))
 one_gathered done first (Err kind) = refl
-
--- with the next item
-pub each_more : {A B : Type 0} (f : A → Result B FaultKind) (all : Result (List B) FaultKind)
-    (items : List A) (i : ℕ) (d : A) (done : List B) (found : B)
-    → i < length items
-    → all ≡ followed_by done (each f (drop i items))
-    → f (get_or items i d) ≡ Ok found
-    → all ≡ followed_by (done ++ found ∷ []) (each f (drop (i + 1) items))
-each_more {B = B} f all items i d done found below so_far is =
-    so_far
-    ∙ ap (λ left. followed_by done (each f left)) (drop-cons items i d below)
-    ∙ ap (λ (first : Result B FaultKind). followed_by done
-    (first >>= (λ one. each f (drop (suc i) items) >>= (λ rest. Ok (one ∷ rest))))) is
-    ∙ one_gathered done (found ∷ []) (each f (drop (suc i) items))
-    ∙ ap (λ k. followed_by (done ++ found ∷ []) (each f (drop k items))) (sym (add-one i))
-
--- the fault of the next item
-pub each_fault : {A B : Type 0} (f : A → Result B FaultKind) (all : Result (List B) FaultKind)
-    (items : List A) (i : ℕ) (d : A) (done : List B) (kind : FaultKind)
-    → i < length items
-    → all ≡ followed_by done (each f (drop i items))
-    → f (get_or items i d) ≡ Err kind
-    → all ≡ Err kind
-each_fault {B = B} f all items i d done kind below so_far is =
-    so_far
-    ∙ ap (λ left. followed_by done (each f left)) (drop-cons items i d below)
-    ∙ ap (λ (first : Result B FaultKind). followed_by done
-    (first >>= (λ one. each f (drop (suc i) items) >>= (λ rest. Ok (one ∷ rest))))) is
 
 -- the bytes with those of the next value
 pub bytes_more : (size : Size) (all : Result (List ℕ) FaultKind) (values : List ℤ) (i : ℕ) (d : ℤ)

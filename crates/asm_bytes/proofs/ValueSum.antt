@@ -1,6 +1,6 @@
 -- The value of an expression, term by term.
-use Rattle.std.proofs.Common.{◌≡◌, ◌∙◌, ap, sym, refl, ◌+◌, ◌<◌, ℕ, suc, ℤ, pos, ◌+ℤ◌, List, Option, Some, None, Bool, length, drop, get_or, drop-cons, add-one}
-use Rattle.std.proofs.Math.IntN.{+ℤ_assoc, +ℤ_idl}
+use Rattle.std.proofs.Common.{◌≡◌, ◌∙◌, ap, sym, refl, ◌+◌, ◌<◌, ℕ, suc, ℤ, ◌+ℤ◌, List, Option, Some, None, Bool, length, drop, get_or, drop-cons, add-one}
+use Rattle.std.proofs.Math.IntN.{+ℤ_assoc}
 use Rattle.asm_text.specs.Expr.{SignedTerm}
 use Rattle.asm_bytes.specs.Value.{Scope, term_value, with_sign, with_term, value}
 
@@ -8,10 +8,6 @@ use Rattle.asm_bytes.specs.Value.{Scope, term_value, with_sign, with_term, value
 abbrev pub added_to : ℤ → Option ℤ → Option ℤ
 added_to total None = None
 added_to total (Some rest) = Some (total +ℤ rest)
-
-pub nothing_added : (all : Option ℤ) → all ≡ added_to (pos 0) all
-nothing_added None = refl
-nothing_added (Some found) = ap Some (sym (+ℤ_idl found))
 
 by_rest : (is_subtracted : Bool) (total found : ℤ) (rest : Option ℤ)
     → added_to total (with_term is_subtracted (Some found) rest)

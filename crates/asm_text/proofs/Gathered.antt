@@ -1,5 +1,5 @@
 -- Values that are read one by one, up to the first fault.
-use Rattle.std.proofs.Common.{◌≡◌, ◌∙◌, ap, sym, refl, List, [], ◌∷◌, ◌++◌, append_assoc, append-nil, Result, Ok, Err}
+use Rattle.std.proofs.Common.{◌≡◌, ◌∙◌, ap, sym, refl, List, [], ◌∷◌, ◌++◌, append_assoc, Result, Ok, Err}
 use Rattle.std.specs.Prelude.{map}
 use Rattle.text_scan.specs.Reader.{◌>>=◌}
 use Rattle.asm_text.specs.Operand.{all_of}
@@ -36,20 +36,3 @@ gathered-more read done more left rest item value so_far next is added =
     rw added (so_far ∙ ap (λ items. behind done (all_of (map read items))) next
     ∙ ap (λ first. behind done (all_of (first ∷ map read rest))) is
     ∙ behind-value done value (map read rest))
-
--- the next item has a fault
-pub gathered-fault : {Item Value Fault : Type 0} (read : Item → Result Value Fault)
-    {whole : Result (List Value) Fault} (done : List Value) (left rest : List Item) (item : Item)
-    (fault : Fault) → whole ≡ behind done (all_of (map read left))
-    → left ≡ item ∷ rest → read item ≡ Err fault → whole ≡ Err fault
-gathered-fault read done left rest item fault so_far next is =
-    so_far ∙ ap (λ items. behind done (all_of (map read items))) next
-    ∙ ap (λ first. behind done (all_of (first ∷ map read rest))) is
-
--- no item is left
-pub gathered-all : {Item Value Fault : Type 0} (read : Item → Result Value Fault)
-    {whole : Result (List Value) Fault} (done : List Value) (left : List Item)
-    → whole ≡ behind done (all_of (map read left)) → left ≡ [] → whole ≡ Ok done
-gathered-all read done left so_far none =
-    so_far ∙ ap (λ items. behind done (all_of (map read items))) none
-    ∙ ap (λ all. Ok all) (append-nil done)

@@ -10,9 +10,9 @@ use Rattle.text_scan.specs.declared.word_fault.WordFault.{WordFault}
 use Rattle.asm_text.specs.declared.piece.Piece.{Piece}
 use Rattle.asm_text.specs.declared.piece.Piece.TheVariants as pieces
 use Rattle.asm_text.specs.declared.token.Token.{Token}
-use Rattle.asm_text.specs.Token.{piece_of, IsWithin, token_before, with_later, tokens_behind, tokens_of}
+use Rattle.asm_text.specs.Token.{piece_of, IsWithin, token_before, with_later, tokens_behind}
 use Rattle.asm_text.proofs.Answered.{ok_of_map_err}
-use Rattle.asm_text.proofs.Gathered.{behind, behind-none}
+use Rattle.asm_text.proofs.Gathered.{behind}
 
 -- characters that are passed
 tokens_behind-passed : (passed place : ℕ) (line : List ℕ)
@@ -86,12 +86,6 @@ pub record ReadTo (whole : Result (List Token) FaultKind) (place at : ℕ) (line
     (done : List Token) : Type 0 where
   pub within : at ≤ length line
   pub so_far : whole ≡ behind done (left_at place at line)
-
-pub read_to-start : (place : ℕ) (line : List ℕ) → ReadTo (tokens_of place line) place 0 line []
-read_to-start place line = record {
-  within = omega arith;
-  so_far = behind-none (tokens_of place line) ∙ ap (behind []) (tokens_behind-passed 0 place line);
-}
 
 pub read_to-blank : {whole : Result (List Token) FaultKind} {place at : ℕ} {line : List ℕ}
     {done : List Token} → ReadTo whole place at line done → at < length line

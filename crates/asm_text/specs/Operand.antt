@@ -48,10 +48,10 @@ with_expr operand tokens = do
   Ok (operand expr)
 
 -- `E(Rn)` by its last three tokens and the others, else `E`
-abbrev pub place_operand : (tokens front last : List Token) → Result Operand FaultKind
-place_operand tokens front (Open ∷ Register register ∷ Close ∷ []) =
-    with_expr (λ expr. Indexed expr register) front
-place_operand tokens front last = with_expr Symbolic tokens
+abbrev pub place_operand : (tokens prefix last : List Token) → Result Operand FaultKind
+place_operand tokens prefix (Open ∷ Register register ∷ Close ∷ []) =
+    with_expr (λ expr. Indexed expr register) prefix
+place_operand tokens prefix last = with_expr Symbolic tokens
 
 -- `Rn` or `Rn+`, behind `@`
 abbrev pub pointer_of : List Token → Result Operand FaultKind

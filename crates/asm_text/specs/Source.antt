@@ -53,8 +53,7 @@ abbrev pub statement_of : PlacedLine → Result Statement FaultAt
 statement_of line = in_line line.1.0 (line_statement line.1.0 line.0 line.1.1)
 
 -- the statements of a source, one for each line, or its first fault, of which `Utf8` comes before
--- all
--- others
+-- all others
 unfoldable pub source_of : List ℕ → Result (List Statement) FaultAt
 source_of text = do
   sound ← utf8_of text

@@ -11,7 +11,7 @@ use Rattle.asm_text.specs.declared.mnemonic.Mnemonic.TheVariants.{Mov, Add, Addc
 use Rattle.asm_text.specs.declared.operand.Operand.{Operand}
 use Rattle.asm_text.specs.declared.operand.Operand.TheVariants.{Reg, Imm, Abs, Indexed, Symbolic, Indirect, IndirectInc}
 use Rattle.asm_text.specs.declared.operand_form.OperandForm.{OperandForm}
-use Rattle.asm_text.specs.declared.operand_form.OperandForm.TheVariants.{SourceAndDestination, Source, Destination, Modified, Doubled, Target, Nothing}
+use Rattle.asm_text.specs.declared.operand_form.OperandForm.TheVariants.{SourceAndDestination, Source, Destination, InPlace, DestinationTwice, Target, Nothing}
 use Rattle.asm_text.specs.declared.operation.Operation.{Operation}
 use Rattle.asm_text.specs.declared.operation.Operation.TheVariants.{Instr, Org, Word, Byte, Ascii, Equ}
 use Rattle.asm_text.specs.declared.span.Span.{Span}
@@ -24,8 +24,8 @@ use Rattle.asm_text.specs.Expr.{SignedTerm}
 -- the operands that an emulated instruction takes
 abbrev pub emulated_form : Mnemonic → OperandForm
 emulated_form Br = Source
-emulated_form Rla = Doubled
-emulated_form Rlc = Doubled
+emulated_form Rla = DestinationTwice
+emulated_form Rlc = DestinationTwice
 emulated_form Clrc = Nothing
 emulated_form Clrn = Nothing
 emulated_form Clrz = Nothing
@@ -52,10 +52,10 @@ form_of Bic = SourceAndDestination
 form_of Bis = SourceAndDestination
 form_of Xor = SourceAndDestination
 form_of And = SourceAndDestination
-form_of Rrc = Modified
-form_of Swpb = Modified
-form_of Rra = Modified
-form_of Sxt = Modified
+form_of Rrc = InPlace
+form_of Swpb = InPlace
+form_of Rra = InPlace
+form_of Sxt = InPlace
 form_of Push = Source
 form_of Call = Source
 form_of Jne = Target
@@ -107,8 +107,8 @@ fits SourceAndDestination (Some source) (Some destination) =
     is_source source && is_destination destination
 fits Source (Some operand) None = is_source operand
 fits Destination (Some operand) None = is_destination operand
-fits Modified (Some operand) None = is_modified operand
-fits Doubled (Some operand) None = is_doubled operand
+fits InPlace (Some operand) None = is_modified operand
+fits DestinationTwice (Some operand) None = is_doubled operand
 fits Target (Some operand) None = is_target operand
 fits Nothing None None = true
 fits form first second = false
@@ -214,9 +214,8 @@ abbrev pub is_ascii_directive : Option Operation → Bool
 is_ascii_directive (Some Ascii) = true
 is_ascii_directive operation = false
 
--- a statement behind its first word: what has no form comes before an unknown word, and that
--- before a
--- wrong number or form of operands
+-- a statement behind its first word: what has no form comes before an unknown word, and that before
+-- a wrong number or form of operands
 unfoldable pub operation_body : Option Operation → List Token → Result Body FaultKind
 operation_body operation rest =
     if is_ascii_directive operation then ascii_of rest

@@ -12,7 +12,7 @@ pub struct Expr {
     terms: Vec<(bool, Term)>,
 }
 
-// Seen as its terms in the order written, each with whether it is subtracted.
+// SeenRecord as its terms in the order written, each with whether it is subtracted.
 impl Model for Expr {
     ghost Value = { List SignedTerm };
 
@@ -28,7 +28,7 @@ impl Expr {
         }
     }
 
-    /// Puts a term after the others.
+    // Puts a term after the others.
     pub(crate) fn add(&mut self, is_subtracted: bool, term: Term) -> Result<(), AllocError>
         ensures { OnOk result (self.new ≡ self.old ++ (is_subtracted, term) ∷ []) }
     {

@@ -28,7 +28,7 @@ impl Exprs {
         }
     }
 
-    /// Puts an expression after the others.
+    // Puts an expression after the others.
     pub(crate) fn add(&mut self, expr: Expr) -> Result<(), AllocError>
         ensures { OnOk result (self.new ≡ self.old ++ expr ∷ []) }
     {

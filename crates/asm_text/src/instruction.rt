@@ -30,8 +30,8 @@ fn fits(form: OperandForm, first: Option<&Operand>, second: Option<&Operand>) ->
         }
         (OperandForm::Source, Some(operand), None) => is_source(operand),
         (OperandForm::Destination, Some(operand), None) => is_destination(operand),
-        (OperandForm::Modified, Some(operand), None) => is_modified(operand),
-        (OperandForm::Doubled, Some(operand), None) => is_doubled(operand),
+        (OperandForm::InPlace, Some(operand), None) => is_modified(operand),
+        (OperandForm::DestinationTwice, Some(operand), None) => is_doubled(operand),
         (OperandForm::Target, Some(operand), None) => is_target(operand),
         (OperandForm::Nothing, None, None) => true,
         _ => false,
@@ -54,7 +54,7 @@ fn form_of(mnemonic: Mnemonic) -> OperandForm
         | Mnemonic::Bis
         | Mnemonic::Xor
         | Mnemonic::And => OperandForm::SourceAndDestination,
-        Mnemonic::Rrc | Mnemonic::Swpb | Mnemonic::Rra | Mnemonic::Sxt => OperandForm::Modified,
+        Mnemonic::Rrc | Mnemonic::Swpb | Mnemonic::Rra | Mnemonic::Sxt => OperandForm::InPlace,
         Mnemonic::Push | Mnemonic::Call => OperandForm::Source,
         Mnemonic::Jne
         | Mnemonic::Jeq
@@ -75,7 +75,7 @@ fn emulated_form(mnemonic: Mnemonic) -> OperandForm
 {
     match mnemonic {
         Mnemonic::Br => OperandForm::Source,
-        Mnemonic::Rla | Mnemonic::Rlc => OperandForm::Doubled,
+        Mnemonic::Rla | Mnemonic::Rlc => OperandForm::DestinationTwice,
         Mnemonic::Clrc
         | Mnemonic::Clrn
         | Mnemonic::Clrz

@@ -12,7 +12,7 @@
 mod body;
 mod directive;
 mod expr;
-mod expression;
+mod expr_reader;
 mod exprs;
 mod instruction;
 mod law;
@@ -35,8 +35,6 @@ mod span;
 mod statement;
 mod statement_reader;
 mod term;
-#[cfg(test)]
-mod tests;
 mod token;
 mod tokens;
 mod word_piece;

@@ -5,9 +5,9 @@ pub enum OperandForm {
     Source,
     Destination,
     /// A destination, or a place that a register points to.
-    Modified,
+    InPlace,
     /// A destination that is a source too.
-    Doubled,
+    DestinationTwice,
     /// Where a jump goes.
     Target,
     Nothing,

@@ -2,7 +2,7 @@ ghost use Rattle.std.specs.Prelude.{◌≡◌};
 ghost use Rattle.text_scan.specs.Reader.{ReadsWord};
 ghost use Rattle.asm_text.specs.Operand.{pointer_of, place_of, operand_of};
 
-use crate::expression::read_expr;
+use crate::expr_reader::read_expr;
 use crate::operand::Operand;
 use crate::token::Token;
 use std::alloc::Global;
@@ -36,10 +36,10 @@ fn pointer_of(tokens: &[Token]) -> Result<Operand, FaultKind>
 fn read_place(alloc: Global, tokens: &[Token]) -> Result<Operand, WordFault>
     ensures { ReadsWord result (place_of tokens.now) }
 {
-    let (front, last) = tokens.split_at(tokens.len().saturating_sub(3));
+    let (prefix, last) = tokens.split_at(tokens.len().saturating_sub(3));
     match last {
         [Token::Open, Token::Register(register), Token::Close] => {
-            Ok(Operand::Indexed(read_expr(alloc, front)?, *register))
+            Ok(Operand::Indexed(read_expr(alloc, prefix)?, *register))
         }
         _ => Ok(Operand::Symbolic(read_expr(alloc, tokens)?)),
     }

@@ -14,7 +14,7 @@ pub struct Parts<'a> {
     rest: Option<&'a [Token]>,
 }
 
-// Seen as the parts that are left.
+// SeenRecord as the parts that are left.
 impl<'a> Model for Parts<'a> {
     ghost Value = { List (List Token) };
 

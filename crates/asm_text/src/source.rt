@@ -28,7 +28,7 @@ impl Source {
         }
     }
 
-    /// Puts a statement after the others.
+    // Puts a statement after the others.
     pub(crate) fn add(&mut self, statement: Statement) -> Result<(), AllocError>
         ensures { OnOk result (self.new ≡ self.old ++ statement ∷ []) }
     {

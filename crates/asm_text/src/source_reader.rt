@@ -8,7 +8,7 @@ use crate::statement::Statement;
 use crate::statement_reader::read_labelled;
 use crate::tokens::read_tokens;
 use std::alloc::Global;
-use text_scan::{FaultAt, Lines, TextFault, WordFault, check_utf8};
+use text_scan::{Lines, TextFault, WordFault, check_utf8};
 
 /// The statements of a source, or the first fault of its text: `Utf8` before all else, and then
 /// that of the first line with a fault, `Syntax` before `Mnemonic` before `Operand`. How long a
@@ -46,11 +46,7 @@ fn read_numbered(
     requires { place + length line.now < 2 ^ 64 }
     ensures { Reads result (statement_of (place, (number, line.now))) }
 {
-    match read_line(alloc, number, place, line) {
-        Ok(statement) => Ok(statement),
-        Err(WordFault::Kind(kind)) => Err(TextFault::At(FaultAt { line: number, kind })),
-        Err(WordFault::Memory(error)) => Err(TextFault::Memory(error)),
-    }
+    read_line(alloc, number, place, line).map_err(|fault| fault.in_line(number))
 }
 
 #[tactic(auto, unfolding(crate::specs::Source::line_statement))]

@@ -1,23 +1,24 @@
 ghost use Rattle.std.specs.Prelude.{◌≡◌, [], ◌∷◌, true, List, IfSome};
 ghost use Rattle.bus_signals.specs.declared.bounds.Bounds.{Bounds};
 ghost use Rattle.bus_signals.specs.Access.{IsFormed};
-ghost use Rattle.bus_signals.specs.Seen.{Seen};
+ghost use Rattle.bus_signals.specs.SeenRecord.{SeenRecord};
 ghost use Rattle.part_definitions.specs.Flag.{last_pc};
+ghost use Rattle.part_definitions.specs.Part.{Answers};
 ghost use Rattle.part_definitions.specs.Monitors.{in_rom, atomicity_rule};
 ghost use Rattle.part_definitions.specs.Monitors.{breaks_a1, breaks_a2, breaks_a3, breaks_a4};
 
 use bus_signals::{BusRecord, CR, KR, Kind, Rule, Signals, XS, some_reads, some_touches};
 
-/// Where a call of the ROM begins (VRASED's CRmin).
+// Where a call of the ROM begins (VRASED's CRmin).
 const ROM_ENTRY: u16 = CR.first;
 
-/// Where a call of the ROM ends (VRASED's CRmax).
+// Where a call of the ROM ends (VRASED's CRmax).
 const ROM_EXIT: u16 = CR.last - 1;
 
 /// The rules A1 to A4.
 #[derive(Clone, Copy, Debug)]
 pub struct AtomMonitor {
-    /// The last record was in the ROM, and not at its exit.
+    // The last record was in the ROM, and not at its exit.
     is_inside: bool,
 }
 
@@ -36,8 +37,8 @@ impl AtomMonitor {
     #[tactic(auto, unfolding(part_definitions::specs::Monitors::atomicity_rule))]
     pub fn check(&self, now: &Signals) -> Option<Rule>
         requires { IfSome now.now.cpu IsFormed }
-        ensures { (seen : List Seen) →
-            AtomMonitorStandsFor self.now seen → result ≡ atomicity_rule (last_pc seen) now.now }
+        ensures { Answers AtomMonitorStandsFor self.now
+            (λ seen. atomicity_rule (last_pc seen) now.now) result }
     {
         if CR.contains(now.pc) {
             self.check_within(now)
@@ -54,8 +55,8 @@ impl AtomMonitor {
     fn check_within(&self, now: &Signals) -> Option<Rule>
         requires formed { IfSome now.now.cpu IsFormed }
         requires inside { in_rom now.now.pc ≡ true }
-        ensures { (seen : List Seen) →
-            AtomMonitorStandsFor self.now seen → result ≡ atomicity_rule (last_pc seen) now.now }
+        ensures { Answers AtomMonitorStandsFor self.now
+            (λ seen. atomicity_rule (last_pc seen) now.now) result }
     {
         if breaks_a3(now, true) {
             Some(Rule::A3)
@@ -70,9 +71,9 @@ impl AtomMonitor {
 
     /// Sees the next record.
     pub fn see(&mut self, entry: &BusRecord)
-        ensures { (bounds : Bounds) (seen : List Seen) →
-            AtomMonitorStandsFor self.old seen →
-            AtomMonitorStandsFor self.new (record { entry = entry.now; bounds = bounds } ∷ seen) }
+        ensures { (bounds : Bounds) (seen : List SeenRecord)
+            → AtomMonitorStandsFor self.old seen
+            → AtomMonitorStandsFor self.new (record { entry = entry.now; bounds = bounds } ∷ seen) }
     {
         self.is_inside = CR.contains(entry.pc) && entry.pc != ROM_EXIT;
     }
@@ -81,8 +82,8 @@ impl AtomMonitor {
     #[inline(always)]
     fn breaks_a1(&self, now: &Signals, inside: bool) -> bool
         requires { inside ≡ in_rom now.now.pc }
-        ensures { (seen : List Seen) →
-            AtomMonitorStandsFor self.now seen → result ≡ breaks_a1 (last_pc seen) now.now }
+        ensures { Answers AtomMonitorStandsFor self.now
+            (λ seen. breaks_a1 (last_pc seen) now.now) result }
     {
         self.is_inside && !inside && now.kind != Kind::Boot
     }
@@ -91,8 +92,8 @@ impl AtomMonitor {
     #[inline(always)]
     fn breaks_a2(&self, now: &Signals, inside: bool) -> bool
         requires { inside ≡ in_rom now.now.pc }
-        ensures { (seen : List Seen) →
-            AtomMonitorStandsFor self.now seen → result ≡ breaks_a2 (last_pc seen) now.now }
+        ensures { Answers AtomMonitorStandsFor self.now
+            (λ seen. breaks_a2 (last_pc seen) now.now) result }
     {
         inside && now.pc != ROM_ENTRY && !self.is_inside
     }

@@ -4,8 +4,6 @@
 
 mod arbiter;
 mod proposal;
-#[cfg(test)]
-mod tests;
 
 pub use arbiter::{Values, exchange};
 pub use proposal::Proposal;

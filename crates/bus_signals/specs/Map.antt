@@ -56,7 +56,7 @@ stack_region = record { first = 0x4000; last = 0x43FF }
 
 -- where a call keeps the derived key, and after it the inner digest
 abbrev pub DERIVED_KEY : ℕ
-DERIVED_KEY = 0x4000
+DERIVED_KEY = stack_region.first
 
 abbrev pub INNER_DIGEST : ℕ
 INNER_DIGEST = 0x4020
@@ -78,7 +78,7 @@ vector_region = record { first = 0xFFE0; last = 0xFFFF }
 
 -- a call of the ROM begins at its entry, goes on at the place after it, and ends at its exit
 abbrev pub ROM_ENTRY : ℕ
-ROM_ENTRY = 0xA000
+ROM_ENTRY = rom_region.first
 
 abbrev pub ROM_BODY : ℕ
 ROM_BODY = 0xA002

@@ -1,7 +1,7 @@
 ghost use Rattle.std.specs.Prelude.{◌≡◌, ◌≤◌};
 ghost use Rattle.bus_signals.specs.Bounds.{words_region, executable_region, output_region, is_part_of, is_free_region, is_valid_region, are_valid, is_disjoint};
 
-use crate::region::{META, MR, Region};
+use crate::region::{META, MR, RAM, Region};
 
 /// The bounds of the executable region and the output region (APEX's ERmin, ERmax, ORmin, ORmax):
 /// addresses of their first and last words.
@@ -39,13 +39,7 @@ fn words_region(first: u16, last: u16) -> Region
     }
 }
 
-/// RAM, of which the MAC and the metadata are parts.
-const RAM: Region = Region {
-    first: 0x0200,
-    last: 0x21FF,
-};
-
-/// The program, without the vectors above it.
+// The program, without the vectors above it.
 const PROGRAM: Region = Region {
     first: 0xC000,
     last: 0xFFDF,
@@ -73,7 +67,7 @@ impl Region {
     }
 }
 
-/// Whether a region may run from the word at `first` to the word at `last`.
+// Whether a region may run from the word at `first` to the word at `last`.
 fn is_valid_region(first: u16, last: u16) -> bool
     ensures { result ≡ is_valid_region first last }
 {

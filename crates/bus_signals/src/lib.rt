@@ -25,7 +25,7 @@ pub use bus_record::BusRecord;
 pub use event::Event;
 pub use kind::Kind;
 pub use law::constants_are_of_the_map;
-pub use region::{CR, KR, META, MR, Region, XS, some_touches, touches};
+pub use region::{CR, KR, META, MR, RAM, Region, XS, some_touches, touches};
 pub use report_view::ReportView;
 pub use rule::Rule;
 pub use signals::Signals;

@@ -15,7 +15,7 @@ use Rattle.text_scan.specs.declared.text_fault.TextFault.TheVariants as text_fau
 use Rattle.text_scan.specs.Reader as reader
 use Rattle.mem_map.specs.declared.image.Image.{Image}
 use Rattle.mem_map.specs.Image.{byte_in}
-use Rattle.hex_loader.specs.HexImage.{image_of, image_in}
+use Rattle.hex_loader.specs.HexImage.{image_of}
 use Rattle.device_cli.specs.declared.status.Status.{Status}
 use Rattle.device_cli.specs.declared.status.Status.TheVariants as status
 use Rattle.device_cli.specs.Row.{FileKind, File, first_fault}
@@ -219,7 +219,7 @@ unread-Reads files faults misses old new name sort stands fault named absent mis
 -- an image as it is read
 pub image_kind-IsParse :
     (bytes : List ℕ) (result : Result Image TextFault)
-    → reader.Reads (image_in result) (image_of bytes)
+    → reader.Reads (reader.value_as byte_in result) (image_of bytes)
     → IsParse image_kind (λ image read. byte_in image ≡ bytes_in read) bytes result
 image_kind-IsParse bytes (Ok image) reads = rw reads (refl, refl)
 image_kind-IsParse bytes (Err (text_fault.At at)) reads = rw reads refl

@@ -33,6 +33,7 @@ use Rattle.device_cli.specs.Judge.{Judge}
 use Rattle.device_cli.specs.Judgement.{comparison_lines, evidence_lines, have_one_mac, judgement_lines, pair_line}
 use Rattle.device_cli.specs.VerdictLine.{verdict_line}
 use Rattle.device_cli.specs.Verify.{is_accept}
+use Rattle.device_cli.proofs.Judged.{accept-is}
 
 -- a report tells what stands in memory after the step that made it
 record Tells (bytes : ℕ → ℕ) (report : ReportFields) : Type 0 where
@@ -74,10 +75,6 @@ report-of_memory digest key image play report device_key bytes gives is =
       output = tells.output;
       mac = reported_mac-is_tag digest key image play report device_key bytes gives is;
     }
-
-accept-is : (decision : Decision) → is_accept decision ≡ true → decision ≡ Accept
-accept-is Accept is = refl
-accept-is decision is = absurd (cc)
 
 expectation-bounds : (policy : PolicyFields) (chal : Option (List ℕ)) (expect : Expect)
     → expectation policy chal ≡ Some expect → expect.bounds ≡ policy.bounds

@@ -1,8 +1,6 @@
 -- What an accept says of a report, and what a comparison shows.
-use Rattle.std.proofs.Common.{◌≡◌, ◌∙◌, ◌+◌, ◌-◌, ◌≤◌, ◌&&◌, ℕ, Bool, true, false, List, Option, Some, None, Result, Ok, IfSome, length, refl, ap, arith}
-use Rattle.std.specs.Prelude.{not, if◌then◌else◌, ◌==◌}
+use Rattle.std.proofs.Common.{◌≡◌, ◌∙◌, ◌+◌, ◌-◌, ◌≤◌, ℕ, Bool, true, false, List, Option, Some, None, Result, Ok, IfSome, length, refl, ap, arith}
 use Rattle.std.specs.Str.{bytes_eq}
-use Rattle.std.proofs.lemmas.Bool.{false≢true, and_parts, eqb-true}
 use Rattle.std.proofs.lemmas.Slice.Eq.{bytes_eq-Decides}
 use Rattle.outside_edge.specs.Sink.{Takes, TakesPrefix, Puts}
 use Rattle.outside_edge.proofs.SinkLemmas.{prefix_of_more, puts_after}
@@ -12,7 +10,7 @@ use Rattle.bus_signals.specs.Report.{ReportFields}
 use Rattle.part_definitions.specs.Hmac.{hmac}
 use Rattle.device_trace.specs.Text.{reported_output}
 use Rattle.report_verifier.specs.declared.decision.Decision.{Decision}
-use Rattle.report_verifier.specs.declared.decision.Decision.TheVariants.{Accept, ChalDiffers, BoundsDiffer, ExecZero, MacDiffers}
+use Rattle.report_verifier.specs.declared.decision.Decision.TheVariants.{Accept}
 use Rattle.report_verifier.specs.declared.evidence.Exhibit.{Exhibit}
 use Rattle.report_verifier.specs.declared.evidence.Exhibit.TheVariants.{Same, MacsDiffer, Pair}
 use Rattle.report_verifier.specs.declared.expect.Expect.{Expect}
@@ -22,6 +20,7 @@ use Rattle.report_verifier.specs.Expected.{expected_mac, output_of}
 use Rattle.report_verifier.specs.Policy.{expected_at}
 use Rattle.report_verifier.specs.Verdict.{same_bounds, verdict}
 use Rattle.part_definitions.proofs.BytesFrom.{length-bytes_from}
+use Rattle.report_verifier.proofs.Accepted.{tests-hold, same-bounds}
 use Rattle.device_cli.specs.VerdictLine.{verdict_line}
 use Rattle.device_cli.specs.Verify.{is_accept}
 use Rattle.device_cli.specs.Judge.{Judge}
@@ -84,26 +83,9 @@ own_bytes-one_mac judge expect output bytes shows =
     one-mac judge.digest (expected_key judge.digest judge.key expect)
     (expected_bytes judge.image expect output) (own_bytes bytes) shows
 
--- of four tests in a row
-accepted-bounds :
-    (chal bounds exec mac : Bool)
-    → is_accept (if not chal then ChalDiffers else if not bounds then BoundsDiffer
-    else if not exec then ExecZero else if not mac then MacDiffers else Accept) ≡ true
-    → bounds ≡ true
-accepted-bounds false bounds exec mac accepts = absurd (false≢true accepts)
-accepted-bounds true false exec mac accepts = absurd (false≢true accepts)
-accepted-bounds true true exec mac accepts = refl
-
-output_bounds-same :
-    (left right : Bounds)
-    → same_bounds left right ≡ true
-    → (left.or_min ≡ right.or_min) × (left.or_max ≡ right.or_max)
-output_bounds-same left right same =
-    let parts = and_parts (((left.er_min == right.er_min) && (left.er_max == right.er_max))
-    && (left.or_min == right.or_min)) (left.or_max == right.or_max) same in
-    let third = and_parts ((left.er_min == right.er_min) && (left.er_max == right.er_max))
-    (left.or_min == right.or_min) parts.0 in
-    (eqb-true left.or_min right.or_min third.1, eqb-true left.or_max right.or_max parts.1)
+pub accept-is : (decision : Decision) → is_accept decision ≡ true → decision ≡ Accept
+accept-is Accept is = refl
+accept-is decision is = absurd (cc)
 
 reported-fits :
     (bytes : ℕ → ℕ) (bounds : Bounds) (valid : Bool)
@@ -123,9 +105,9 @@ told-fits :
     → report.output ≡ reported_output bytes report.bounds
     → OutputFits expect.bounds report.output
 told-fits bytes expect report same told =
-    let bounds = output_bounds-same expect.bounds report.bounds same in
+    let bounds = same-bounds expect.bounds report.bounds same in
     let fits = reported-fits bytes report.bounds (are_valid report.bounds) refl in
-    rw (told, bounds.0, bounds.1) fits
+    rw (told, bounds) fits
 
 accepted_on-fits :
     (digest : List ℕ → List ℕ) (key : List ℕ) (image : ℕ → Option ℕ) (bytes : ℕ → ℕ)
@@ -135,10 +117,11 @@ accepted_on-fits :
     → IfSome expect (λ expect. OutputFits expect.bounds report.output)
 accepted_on-fits digest key image bytes None report told accepts = tt
 accepted_on-fits digest key image bytes (Some expect) report told accepts =
-    told-fits bytes expect report
-    (accepted-bounds (bytes_eq expect.chal report.chal) (same_bounds expect.bounds report.bounds)
-    report.exec (bytes_eq (expected_mac digest key image expect report.output) report.mac) accepts)
-    told
+    let tests = tests-hold (bytes_eq expect.chal report.chal)
+    (same_bounds expect.bounds report.bounds) report.exec
+    (bytes_eq (expected_mac digest key image expect report.output) report.mac)
+    (accept-is (verdict digest key image (Some expect) report) accepts) in
+    told-fits bytes expect report tests.1 told
 
 -- an accepted report has no longer output than is expected
 pub accepted-fits :
@@ -158,10 +141,10 @@ pub record IsJudged (judge : Judge) (i : ℕ) (report : ReportFields) (decided :
 
 pub is-judged :
     (judge : Judge) (i : ℕ) (report : ReportFields) {decided : Decision}
-    {expect given : Option Expect}
+    {expect other : Option Expect}
     → expect ≡ expected_at judge.policy i
-    → given ≡ expect
-    → decided ≡ verdict judge.digest judge.key judge.image given report
+    → other ≡ expect
+    → decided ≡ verdict judge.digest judge.key judge.image other report
     → IsJudged judge i report decided expect
 is-judged judge i report expected same is = record {
   decision = is

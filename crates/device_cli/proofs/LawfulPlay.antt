@@ -33,12 +33,12 @@ use Rattle.device_cli.specs.Command.{row_of_command}
 use Rattle.device_cli.specs.FileKinds.{key_file, image_file, script_file, policy_file, key_kind, policy_kind, key_in, bytes_in, policy_in}
 use Rattle.device_cli.specs.Limit.{key_limit, policy_limit}
 use Rattle.device_cli.specs.Load.{load_key, load_image}
-use Rattle.device_cli.specs.Play.{played_in}
-use Rattle.device_cli.specs.Work.{load_played}
-use Rattle.device_cli.specs.Round.{judge_with, judged_in}
+use Rattle.device_cli.specs.Play.{device_play_in}
+use Rattle.device_cli.specs.Work.{load_play}
+use Rattle.device_cli.specs.Round.{judge_with, judged_play_in}
 use Rattle.device_cli.specs.PlayLaws.{ObeysLaws, IsLawful, HasLawfulOutcome}
 use Rattle.device_cli.specs.Reading.{Files, AreRead}
-use Rattle.device_cli.specs.Row.{File, Outcome, Played, first_fault}
+use Rattle.device_cli.specs.Row.{File, Outcome, DevicePlay, first_fault}
 
 -- what is put of a play is put of it with another key as well
 pub other_key-put : {S V E : Type 0} {stands : S → List ℕ → Type 0} {old new : S}
@@ -89,18 +89,18 @@ sha256_gives : Gives32Bytes sha256
 sha256_gives = record { size = length-sha256; bytes = sha256-bytes }
 
 -- without a judge
-unjudged : (played : Played) → IsDeviceKey played.key → IsOfBytes played.image
-    → played.judge ≡ None → IsLawful played
-unjudged played device_key bytes none =
+unjudged : (device_play : DevicePlay) → IsDeviceKey device_play.key → IsOfBytes device_play.image
+    → device_play.judge ≡ None → IsLawful device_play
+unjudged device_play device_key bytes none =
     record {
       gives = sha256_gives;
-      laws = obeys_laws sha256 played.key played.image played.play device_key bytes;
+      laws = obeys_laws sha256 device_play.key device_play.image device_play.play device_key bytes;
       accepts = rw none tt;
     }
 
 played_laws : (steps : ℕ) (told : Files) (name : List ℕ) (files : List File)
     (texts : List (List ℕ)) → AreRead told (key_file name ∷ files) texts
-    → IfSome (played_in steps texts) IsLawful
+    → IfSome (device_play_in steps texts) IsLawful
 played_laws steps told name files [] read = tt
 played_laws steps told name files (key ∷ []) read = tt
 played_laws steps told name files (key ∷ image ∷ []) read = tt
@@ -120,7 +120,7 @@ judged_laws : (steps : ℕ) (told : Files) (key_name image_name script_name poli
     (texts : List (List ℕ))
     → AreRead told (key_file key_name ∷ image_file image_name ∷ script_file script_name
     ∷ policy_file policy_name ∷ []) texts
-    → IfSome (judged_in steps texts) IsLawful
+    → IfSome (judged_play_in steps texts) IsLawful
 judged_laws steps told key_name image_name script_name policy_name [] read = tt
 judged_laws steps told key_name image_name script_name policy_name (key ∷ []) read = tt
 judged_laws steps told key_name image_name script_name policy_name (key ∷ image ∷ []) read = tt
@@ -155,7 +155,7 @@ load_device_key =
 
 command_laws : (command : Command) (told : Files) (texts : List (List ℕ))
     → AreRead told (row_of_command command).files texts
-    → IfSome ((row_of_command command).played texts) IsLawful
+    → IfSome ((row_of_command command).device_play texts) IsLawful
 command_laws (command.Play play) told texts read =
     played_laws play.steps told play.key.now
     (image_file play.image.now ∷ script_file play.script.now ∷ []) texts read
@@ -169,7 +169,7 @@ command_laws (command.Round round) told texts read =
     texts read
 command_laws (command.Asm assembly) told texts read = tt
 command_laws (command.Work work) told texts read =
-    unjudged (load_played work.seed) load_device_key (image_of-bytes load_image) refl
+    unjudged (load_play work.seed) load_device_key (image_of-bytes load_image) refl
 
 lawful_outcome : (command : Command) (told : Files) (holds : Outcome → Type 0)
     → HasOutcome told (row_of_command command) holds

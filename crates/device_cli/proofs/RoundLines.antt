@@ -8,30 +8,23 @@ use Rattle.device_trace.specs.Logs.{Logs, exec_of, logged_byte}
 use Rattle.device_trace.specs.Progress.{next_pc_of}
 use Rattle.device_trace.specs.Start.{Start}
 use Rattle.device_trace.specs.Step.{next_record}
-use Rattle.device_trace.specs.Trace.{trace, logs_after, byte_after, play_of}
-use Rattle.device_trace.specs.Text.{last_byte_sent, finishes_call, report_of, last_report, sent_lines, reset_lines, report_lines, step_lines, lines_of}
+use Rattle.device_trace.specs.Trace.{logs_after, byte_after, play_of}
+use Rattle.device_trace.specs.Text.{finishes_call, report_of, last_report, step_lines, lines_of}
 use Rattle.printed_lines.specs.Lines.{end_line}
 use Rattle.outside_edge.specs.Sink.{Takes, Puts}
 use Rattle.device_cli.specs.Judge.{Judge}
+use Rattle.device_cli.specs.LastStepLines.{last_step_lines}
 use Rattle.device_cli.specs.Judgement.{judgement_lines, judgement_has_pair, TellsOutput}
 use Rattle.device_cli.specs.RoundText.{reports_in, round_lines, round_has_pair, round_text}
-use Rattle.device_core.specs.Silence.{last_rule}
 use Rattle.device_cli.proofs.Lines.{length-play_of, lines_of-cons, lines_of-last}
 use Rattle.device_cli.proofs.PutsLemmas.{puts-append}
-
--- what the last step of a play sent, broke and reported are its lines
-abbrev pub last_lines : Start → List (List Event) → ℕ → List ℕ
-last_lines start play step =
-    sent_lines step (last_byte_sent (trace start play))
-    ++ reset_lines step (last_rule (trace start play))
-    ++ report_lines (last_report start play)
 
 step_lines-last :
     (start : Start) (events_at : ℕ → List Event) (steps : ℕ)
     → step_lines start (length (play_of events_at steps))
     (next_record start (logs_after start (play_of events_at steps)) (events_at steps))
     (logs_after start (events_at steps ∷ play_of events_at steps))
-    ≡ last_lines start (play_of events_at (suc steps)) steps
+    ≡ last_step_lines start (play_of events_at (suc steps)) steps
 step_lines-last start events_at steps =
     append_cancel_left (lines_of start (play_of events_at steps)) _ _
     (sym (lines_of-cons start (events_at steps) (play_of events_at steps))
@@ -54,7 +47,7 @@ pub round_lines-last :
     → i ≡ length (reports_in start (play_of events_at steps))
     → round_lines judge start (play_of events_at (suc steps))
     ≡ round_lines judge start (play_of events_at steps)
-    ++ (last_lines start (play_of events_at (suc steps)) steps
+    ++ (last_step_lines start (play_of events_at (suc steps)) steps
     ++ judgement_lines judge i (byte_after start (play_of events_at (suc steps)))
     (last_report start (play_of events_at (suc steps))))
 round_lines-last judge start events_at steps i count =
@@ -65,7 +58,7 @@ round_lines-last judge start events_at steps i count =
     round_lines-cons judge start (events_at steps) play
     ∙ ap (λ (lines : List ℕ). round_lines judge start play
     ++ (lines ++ judged (length (reports_in start play)))) (step_lines-last start events_at steps)
-    ∙ ap (λ (k : ℕ). round_lines judge start play ++ (last_lines start more steps ++ judged k))
+    ∙ ap (λ (k : ℕ). round_lines judge start play ++ (last_step_lines start more steps ++ judged k))
     (sym count)
 
 -- a report tells the output that stands in memory after its step

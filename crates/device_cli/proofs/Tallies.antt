@@ -1,6 +1,6 @@
 -- The verdicts on the reports of a play, with one more step.
-use Rattle.std.proofs.Common.{◌≡◌, ◌∙◌, ◌≤◌, ◌+◌, ◌++◌, ◌&&◌, ◌∷◌, [], ℕ, Bool, true, false, List, Option, Some, None, Result, Ok, Err, IfOk, length, refl, ap, sym, arith, length-append}
-use Rattle.std.proofs.Math.Bool.{and_assoc}
+use Rattle.std.proofs.Common.{◌≡◌, ◌∙◌, ◌≤◌, ◌+◌, ◌++◌, ◌&&◌, ◌∷◌, [], ℕ, Bool, true, List, Option, Some, None, Result, Ok, Err, IfOk, length, refl, ap, sym, arith, length-append}
+use Rattle.std.proofs.Math.Bool.{and-true, and_assoc}
 use Rattle.bus_signals.specs.declared.event.Event.{Event}
 use Rattle.bus_signals.specs.Report.{ReportFields}
 use Rattle.device_trace.specs.Start.{Start}
@@ -37,10 +37,6 @@ verdicts_from-more judge i [] report count is =
 verdicts_from-more judge i (first ∷ reports) report count is =
     ap (λ (verdicts : List Decision). verdict_at judge i first ∷ verdicts)
     (verdicts_from-more judge (i + 1) reports report count (omega (arith, is)))
-
-and-true : (b : Bool) → (b && true) ≡ b
-and-true true = refl
-and-true false = refl
 
 all_accept-last :
     (verdicts : List Decision) (verdict : Decision)

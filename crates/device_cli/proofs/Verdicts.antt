@@ -1,6 +1,7 @@
 -- Verdicts that are put one after another.
-use Rattle.std.proofs.Common.{◌≡◌, ◌∙◌, ◌≤◌, ◌+◌, ◌&&◌, ◌++◌, ◌∷◌, [], ℕ, zero, suc, Bool, true, false, List, length, drop, Option, Some, None, add-one, append_assoc, refl}
+use Rattle.std.proofs.Common.{◌≡◌, ◌∙◌, ◌≤◌, ◌+◌, ◌&&◌, ◌++◌, ◌∷◌, [], ℕ, zero, suc, Bool, List, length, drop, Option, Some, None, add-one, append_assoc, refl}
 use Rattle.std.specs.List.{slice_get}
+use Rattle.std.proofs.Math.Bool.{and_assoc}
 use Rattle.std.proofs.Math.ListN.{drop_of_length-le}
 use Rattle.bus_signals.specs.Report.{ReportFields}
 use Rattle.mem_map.specs.Image.{byte_in}
@@ -68,18 +69,10 @@ lines-next inputs i decision before whole next lines =
     (lines_from (i + 1 + 1) (verdicts_ahead inputs (i + 1)))
     ∙ rw next at lines
 
-pub and-true : (one : Bool) → (one && true) ≡ one
-and-true true = refl
-and-true false = refl
-
-and-join : (one two three : Bool) → ((one && two) && three) ≡ (one && (two && three))
-and-join true two three = refl
-and-join false two three = refl
-
 pub accept-next : (inputs : VerifyInputs) (i : ℕ) (decision : Decision) (before whole : Bool)
     → verdicts_ahead inputs i ≡ decision ∷ verdicts_ahead inputs (i + 1)
     → (before && all_accept (verdicts_ahead inputs i)) ≡ whole
     → ((before && is_accept decision) && all_accept (verdicts_ahead inputs (i + 1))) ≡ whole
 accept-next inputs i decision before whole next accepted =
-    and-join before (is_accept decision) (all_accept (verdicts_ahead inputs (i + 1)))
+    and_assoc before (is_accept decision) (all_accept (verdicts_ahead inputs (i + 1)))
     ∙ rw next at accepted

@@ -16,7 +16,7 @@ assembly_row source =
     record {
       files = source_file source ∷ [];
       outcome = assembly_outcome;
-      played = λ files. None;
+      device_play = λ files. None;
     }
 
 -- the row that the arguments after `asm` spell

@@ -16,7 +16,7 @@ listing_row image =
     record {
       files = image_file image ∷ [];
       outcome = listing_outcome;
-      played = λ files. None;
+      device_play = λ files. None;
     }
 
 -- the row that the arguments after `list` spell

@@ -18,7 +18,7 @@ pub mod Round
 pub mod RoundText
 pub mod Row
 pub mod Status
-pub mod StepLines
+pub mod LastStepLines
 pub mod TextSummary
 pub mod VerdictLine
 pub mod Verify

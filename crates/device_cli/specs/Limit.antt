@@ -13,7 +13,7 @@ key_limit = 256
 abbrev pub policy_limit : ℕ
 policy_limit = 65536
 
--- the longest file of an image, of a script and of reports
+-- the longest file of an image, of a script, of a source and of reports
 abbrev pub text_limit : ℕ
 text_limit = 1048576
 

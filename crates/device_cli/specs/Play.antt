@@ -13,7 +13,7 @@ use Rattle.device_cli.specs.declared.play.Play.{Play}
 use Rattle.device_cli.specs.declared.play_inputs.DeviceInputs.{DeviceInputs}
 use Rattle.device_cli.specs.declared.play_inputs.PlayInputs.{PlayInputs}
 use Rattle.device_cli.specs.Limit.{most_steps}
-use Rattle.device_cli.specs.Row.{Outcome, Played, Row}
+use Rattle.device_cli.specs.Row.{Outcome, DevicePlay, Row}
 use Rattle.device_cli.specs.FileKinds.{key_file, image_file, script_file, key_in, bytes_in, script_in}
 
 -- what a device is powered on with: a key and an image
@@ -35,15 +35,15 @@ play_outcome text steps (key ∷ image ∷ script ∷ []) =
 play_outcome text steps files = plain []
 
 -- the play
-abbrev pub played_in : ℕ → List (List ℕ) → Option Played
-played_in steps (key ∷ image ∷ script ∷ more) =
+abbrev pub device_play_in : ℕ → List (List ℕ) → Option DevicePlay
+device_play_in steps (key ∷ image ∷ script ∷ more) =
     Some (record {
       key = key_in key;
       image = (powered_with (key_in key) (bytes_in image)).image;
       play = steps_of steps (script_in script);
       judge = None;
     })
-played_in steps files = None
+device_play_in steps files = None
 
 -- the arguments IMAGE SCRIPT KEY STEPS
 pub record PlayNames : Type 0 where
@@ -66,7 +66,7 @@ steps_row text names =
       files =
           key_file names.key ∷ image_file names.image ∷ script_file names.script ∷ [];
       outcome = play_outcome text names.steps;
-      played = played_in names.steps;
+      device_play = device_play_in names.steps;
     }
 
 -- the row that the arguments after `play` spell

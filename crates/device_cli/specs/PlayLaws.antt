@@ -12,7 +12,7 @@ use Rattle.sha2.specs.Sha256.{sha256}
 use Rattle.device_cli.specs.Acceptance.{EachAcceptHasGrounds}
 use Rattle.device_cli.specs.Answer.{HasTexts}
 use Rattle.device_cli.specs.Reading.{Files}
-use Rattle.device_cli.specs.Row.{Outcome, Played, Row}
+use Rattle.device_cli.specs.Row.{Outcome, DevicePlay, Row}
 
 -- of a device with this key and this image
 pub record ObeysLaws (digest : List ℕ → List ℕ) (key : List ℕ) (image : ℕ → ℕ)
@@ -34,17 +34,19 @@ pub record ObeysLaws (digest : List ℕ → List ℕ) (key : List ℕ) (image : 
       (ExecMeansWholeRun (with_key digest key image))
 
 -- a play under SHA-256
-pub record IsLawful (played : Played) : Type 0 where
+pub record IsLawful (device_play : DevicePlay) : Type 0 where
   -- which gives 32 bytes of every message
   pub gives : Gives32Bytes sha256
-  pub laws : ObeysLaws sha256 played.key played.image played.play
+  pub laws : ObeysLaws sha256 device_play.key device_play.image device_play.play
   -- where its reports are judged: for each accept, either the device's own metadata, code and
   -- output are the expected ones, or two unequal lists with one digest are shown
-  pub accepts : IfSome played.judge (λ judge.
-      EachAcceptHasGrounds judge (with_key sha256 played.key played.image) played.play)
+  pub accepts : IfSome device_play.judge (λ judge.
+      EachAcceptHasGrounds judge (with_key sha256 device_play.key device_play.image)
+      device_play.play)
 
 -- the files of a row are without fault, this holds of what the row makes of them, and the play that
 -- it is made of obeys the laws
 abbrev pub HasLawfulOutcome : Files → Row → (Outcome → Type 0) → Type 0
 HasLawfulOutcome files row holds =
-    HasTexts files row (λ texts. holds (row.outcome texts) × IfSome (row.played texts) IsLawful)
+    HasTexts files row (λ texts.
+    holds (row.outcome texts) × IfSome (row.device_play texts) IsLawful)

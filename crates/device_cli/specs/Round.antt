@@ -11,9 +11,9 @@ use Rattle.device_cli.specs.declared.round.RoundInputs.{RoundInputs}
 use Rattle.device_cli.specs.FileKinds.{key_file, image_file, script_file, policy_file, key_in, bytes_in, script_in, policy_in}
 use Rattle.device_cli.specs.Judge.{Judge}
 use Rattle.device_cli.specs.Limit.{most_steps}
-use Rattle.device_cli.specs.Play.{ArePlayInputs, start_of, steps_of, plain, played_in}
+use Rattle.device_cli.specs.Play.{ArePlayInputs, start_of, steps_of, plain, device_play_in}
 use Rattle.device_cli.specs.RoundText.{round_text, round_has_pair, all_are_accepted}
-use Rattle.device_cli.specs.Row.{Outcome, Played, Row}
+use Rattle.device_cli.specs.Row.{Outcome, DevicePlay, Row}
 
 -- what is put of a round
 abbrev pub outcome_with : Judge → Start → List (List Event) → Outcome
@@ -36,15 +36,15 @@ round_outcome steps (key ∷ image ∷ script ∷ policy ∷ []) =
 round_outcome steps files = plain []
 
 -- a play whose reports this judge judges
-abbrev pub judged_by : Judge → Played → Played
-judged_by judge played = record played { judge = Some judge }
+abbrev pub with_judge : Judge → DevicePlay → DevicePlay
+with_judge judge device_play = record device_play { judge = Some judge }
 
 -- the play, and who judges its reports
-abbrev pub judged_in : ℕ → List (List ℕ) → Option Played
-judged_in steps (key ∷ image ∷ script ∷ policy ∷ []) =
-    option_map (judged_by (judge_with (key_in key) (bytes_in image) (policy_in policy)))
-    (played_in steps (key ∷ image ∷ script ∷ []))
-judged_in steps files = None
+abbrev pub judged_play_in : ℕ → List (List ℕ) → Option DevicePlay
+judged_play_in steps (key ∷ image ∷ script ∷ policy ∷ []) =
+    option_map (with_judge (judge_with (key_in key) (bytes_in image) (policy_in policy)))
+    (device_play_in steps (key ∷ image ∷ script ∷ []))
+judged_play_in steps files = None
 
 -- `round IMAGE SCRIPT KEY POLICY STEPS`: the key is read first, then the image, the script, the
 -- policy
@@ -53,7 +53,7 @@ round_row image script key policy steps =
     record {
       files = key_file key ∷ image_file image ∷ script_file script ∷ policy_file policy ∷ [];
       outcome = round_outcome steps;
-      played = judged_in steps;
+      device_play = judged_play_in steps;
     }
 
 -- the row that the arguments after `round` spell; the number of steps is a decimal in 1..10,000,000

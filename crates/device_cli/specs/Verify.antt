@@ -63,7 +63,7 @@ verify_row image policy key reports =
     record {
       files = key_file key ∷ image_file image ∷ policy_file policy ∷ reports_file reports ∷ [];
       outcome = verify_outcome;
-      played = λ files. None;
+      device_play = λ files. None;
     }
 
 -- the row that the arguments after `verify` spell

@@ -12,7 +12,7 @@ use Rattle.device_cli.specs.FileKinds.{bytes_in}
 use Rattle.device_cli.specs.Limit.{most_seed, load_steps}
 use Rattle.device_cli.specs.Load.{load_key, load_image, load_script, load_text}
 use Rattle.device_cli.specs.Play.{plain, steps_of}
-use Rattle.device_cli.specs.Row.{Played, Row}
+use Rattle.device_cli.specs.Row.{DevicePlay, Row}
 use Rattle.device_cli.specs.TextSummary.{counts_in}
 
 -- what is said of a load: its seed, the counts of its text's lines, and the text's digest
@@ -33,8 +33,8 @@ abbrev pub work_line : ℕ → List ℕ
 work_line seed = summary_line seed (counts_in (load_text seed)) (sha256 (load_text seed))
 
 -- the play that it is of
-abbrev pub load_played : ℕ → Played
-load_played seed =
+abbrev pub load_play : ℕ → DevicePlay
+load_play seed =
     record {
       key = load_key;
       image = (powered_with load_key (bytes_in load_image)).image;
@@ -48,7 +48,7 @@ work_row seed =
     record {
       files = [];
       outcome = λ files. plain (work_line seed);
-      played = λ files. Some (load_played seed);
+      device_play = λ files. Some (load_play seed);
     }
 
 -- the row that the arguments after `work` spell; the seed is a decimal in 0..4,294,967,295

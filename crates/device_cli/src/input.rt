@@ -15,10 +15,10 @@ use report_verifier::{Policy, read_policy};
 use std::alloc::Global;
 use text_scan::{FaultAt, FaultKind, TextFault, read_key};
 
-/// The most bytes of a key's file.
+// The most bytes of a key's file.
 const KEY_LIMIT: usize = 256;
 
-/// The most bytes of a policy.
+// The most bytes of a policy.
 const POLICY_LIMIT: usize = 65_536;
 
 /// The most bytes of an image, of a script, of a source and of reports.
@@ -160,7 +160,7 @@ pub fn read_input<I: Input, S: Shelf>(alloc: Global, shelf: &mut S, name: &str) 
     }
 }
 
-/// The answer where a whole file can't be had. Past its limit a file has its fault at line 0.
+// The answer where a whole file can't be had. Past its limit a file has its fault at line 0.
 fn file_refusal<I: Input>(fault: FileFault) -> Status
     ensures { result ≡ file_refusal I.kind fault }
 {
@@ -175,7 +175,7 @@ fn file_refusal<I: Input>(fault: FileFault) -> Status
     }
 }
 
-/// The value of a file's bytes, or the answer that says why there is none.
+// The value of a file's bytes, or the answer that says why there is none.
 fn parse_input<I: Input>(alloc: Global, bytes: &[u8]) -> Result<I, Status>
     ensures { IsParseOrRefusal I.kind I.stands bytes.now result }
 {

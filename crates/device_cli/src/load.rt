@@ -14,15 +14,15 @@ use text_scan::TextFault;
 /// How many steps a load plays.
 pub const LOAD_STEPS: u64 = 1_000_000;
 
-/// The bytes 00 to 3f.
+// The bytes 00 to 3f.
 const KEY: [u8; 64] = [
     0, 1, 2, 3, 4, 5, 6, 7, 8, 9, 10, 11, 12, 13, 14, 15, 16, 17, 18, 19, 20, 21, 22, 23, 24, 25,
     26, 27, 28, 29, 30, 31, 32, 33, 34, 35, 36, 37, 38, 39, 40, 41, 42, 43, 44, 45, 46, 47, 48, 49,
     50, 51, 52, 53, 54, 55, 56, 57, 58, 59, 60, 61, 62, 63,
 ];
 
-/// Firmware that receives a challenge, names a region and its output, calls the region, which
-/// copies the pins to the output, attests both, and begins again.
+// Firmware that receives a challenge, names a region and its output, calls the region, which
+// copies the pins to the output, attests both, and begins again.
 const IMAGE: &[u8] = b":10C000003140002232C23540400292B37200FD2717\n\
 :10C01000D54274000000155335906002F623B240FB\n\
 :10C0200040C06002B24046C06202B24000036402F7\n\

@@ -11,7 +11,7 @@ ghost use Rattle.mac_coverage.specs.Coverage.{IsDeviceKey, IsOfBytes};
 ghost use Rattle.device_cli.specs.Limit.{most_steps};
 ghost use Rattle.device_cli.specs.PlayLaws.{ObeysLaws};
 ghost use Rattle.device_core.specs.Device.{HasStepped, HeldStandsFor, LiveStandsFor, steps_of};
-ghost use Rattle.device_cli.specs.StepLines.{step_lines};
+ghost use Rattle.device_cli.specs.LastStepLines.{last_step_lines};
 
 use bus_signals::{ReportView, Rule};
 use device_core::{Device, Held, Live};
@@ -20,7 +20,7 @@ use outside_edge::{Failed, Sink};
 use play_script::Script;
 use report_text::{print_end, print_report, print_reset, print_sent};
 
-/// Puts the lines of one step.
+// Puts the lines of one step.
 fn print_step<W: Sink>(
     step: u64,
     sent: Option<u8>,
@@ -88,7 +88,7 @@ fn print_lines<D: Digest32, W: Sink>(step: u64, live: &Live<D>, sink: &mut W) ->
     requires { HasStepped live.now }
     ensures puts { (start : Start) (play : List (List Event))
         → LiveStandsFor D.has_taken D.digest_of live.now start play
-        → Puts W.stands sink.old sink.new (step_lines start play step) result }
+        → Puts W.stands sink.old sink.new (last_step_lines start play step) result }
     ensures counts { CountsFaults W.faults sink.old sink.new result }
 {
     print_step(step, live.sent(), live.entry().reset, live.report(), sink)
@@ -104,7 +104,7 @@ pub fn print_last_step<D: Digest32, W: Sink>(
     requires { HasStepped live.now }
     ensures puts { (start : Start) (play : List (List Event))
         → LiveStandsFor D.has_taken D.digest_of live.now start play
-        → Puts W.stands sink.old sink.new (step_lines start play step) result }
+        → Puts W.stands sink.old sink.new (last_step_lines start play step) result }
     ensures counts { CountsFaults W.faults sink.old sink.new result }
 {
     if live.is_silent() {

@@ -7,7 +7,7 @@ ghost use Rattle.device_trace.specs.Text.{last_report};
 ghost use Rattle.device_trace.specs.Trace.{byte_after, play_of};
 ghost use Rattle.play_script.specs.Script.{events_of};
 ghost use Rattle.device_core.specs.Device.{HasStepped, HeldStandsFor, LiveStandsFor, steps_of};
-ghost use Rattle.device_cli.specs.StepLines.{step_lines};
+ghost use Rattle.device_cli.specs.LastStepLines.{last_step_lines};
 ghost use Rattle.mac_coverage.specs.Coverage.{Gives32Bytes, IsDeviceKey, IsOfBytes};
 ghost use Rattle.device_cli.specs.Acceptance.{EachAcceptHasGrounds};
 ghost use Rattle.device_cli.specs.Judgement.{judge_of, judgement_lines, judgement_has_pair, tally_after};
@@ -43,7 +43,7 @@ fn print_judged_step<D: Digest32, W: Sink>(
     ensures puts { (start : Start) (play : List (List Event))
         → LiveStandsFor D.has_taken D.digest_of live.now start play
         → Puts W.stands sink.old sink.new
-        (step_lines start play step
+        (last_step_lines start play step
         ++ judgement_lines (judge_of D.digest_of verifier.now) tally.verdicts
         (byte_after start play) (last_report start play)) result }
     ensures memory { (start : Start) (play : List (List Event))

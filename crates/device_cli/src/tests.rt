@@ -17,19 +17,19 @@ use std::alloc::{AllocError, Global};
 use std::test::Fail;
 use text_scan::{FaultAt, FaultKind};
 
-/// Sends the letter A, and then jumps to itself.
+// Sends the letter A, and then jumps to itself.
 pub const LETTER_A: &[u8] = b":08C00000B24041007600FF3F51\n:02FFFE0000C041\n:00000001FF\n";
 
 pub const LETTER_A_TEXT: &[u8] = b"tx 4 41\nend 5 pc c006 exec 0\n";
 
-/// The bytes 00 to 3f.
+// The bytes 00 to 3f.
 pub const KEY: &[u8] = b"000102030405060708090a0b0c0d0e0f101112131415161718191a1b1c1d1e1f\
 202122232425262728292a2b2c2d2e2f303132333435363738393a3b3c3d3e3f\n";
 
-/// The program begins at C000.
+// The program begins at C000.
 const VECTOR_AND_END: &str = ":02FFFE0000C041\n:00000001FF\n";
 
-/// Receives a challenge, sets the bounds, runs the region that copies the pins, and calls the ROM.
+// Receives a challenge, sets the bounds, runs the region that copies the pins, and calls the ROM.
 pub const MEASURED: &str = ":10C000003140002232C23540400292B37200FD2717\n\
 :10C01000D54274000000155335906002F623B240FB\n\
 :10C0200040C06002B24046C06202B24000036402F7\n\
@@ -39,18 +39,18 @@ pub const MEASURED: &str = ":10C000003140002232C23540400292B37200FD2717\n\
 pub const MEASURED_SCRIPT: &str =
     "at 0 rx 000102030405060708090a0b0c0d0e0f101112131415161718191a1b1c1d1e1f\nat 0 p1 1234\n";
 
-/// Its report up to the MAC, and the MAC's digits but the last, which is c. The MAC is from another
-/// program (HMAC of Python's library).
+// Its report up to the MAC, and the MAC's digits but the last, which is c. The MAC is from another
+// program (HMAC of Python's library).
 pub const MEASURED_REPORT: &str = "report 557 exec 1 \
 chal 000102030405060708090a0b0c0d0e0f101112131415161718191a1b1c1d1e1f \
 er c040 c046 or 0300 0300 data 3412 mac ";
 
 pub const MEASURED_MAC: &str = "284a196506045ee45937fae57138147665e982308b52f63a952bbf1f9e18063";
 
-/// The limit of an image and of a script.
+// The limit of an image and of a script.
 const LIMIT: usize = 1_048_576;
 
-/// The arguments of a command line.
+// The arguments of a command line.
 pub fn arguments(alloc: Global, texts: &[&str]) -> Result<Vec<String>, AllocError> {
     let mut arguments = Vec::new(alloc);
     for text in texts {
@@ -59,7 +59,7 @@ pub fn arguments(alloc: Global, texts: &[&str]) -> Result<Vec<String>, AllocErro
     Ok(arguments)
 }
 
-/// A text of these parts.
+// A text of these parts.
 pub fn text_of(alloc: Global, parts: &[&str]) -> Result<Vec<u8>, AllocError> {
     let mut text = Vec::new(alloc);
     for part in parts {
@@ -68,12 +68,12 @@ pub fn text_of(alloc: Global, parts: &[&str]) -> Result<Vec<u8>, AllocError> {
     Ok(text)
 }
 
-/// An image of these records, of the reset vector C000, and of the end record.
+// An image of these records, of the reset vector C000, and of the end record.
 pub fn image_of(alloc: Global, records: &str) -> Result<Vec<u8>, AllocError> {
     text_of(alloc, &[records, VECTOR_AND_END])
 }
 
-/// Files by their names.
+// Files by their names.
 pub fn named_files(
     alloc: Global,
     files: &[(&str, &[u8])],
@@ -85,7 +85,7 @@ pub fn named_files(
     Ok(all)
 }
 
-/// The files of a play.
+// The files of a play.
 pub fn files(
     alloc: Global,
     image: &[u8],
@@ -107,7 +107,7 @@ fn run_over(
     Ok((status, sink.held().to_vec(alloc)?))
 }
 
-/// Likewise, with words and files as constants have them.
+// Likewise, with words and files as constants have them.
 pub fn run_on(
     alloc: Global,
     words: &[&str],
@@ -118,7 +118,7 @@ pub fn run_on(
     run_over(alloc, arguments.as_slice(), files)
 }
 
-/// A run of `COMMAND i s k STEPS` under the key 00 to 3f, and the bytes that it put.
+// A run of `COMMAND i s k STEPS` under the key 00 to 3f, and the bytes that it put.
 pub fn run_under_key(
     alloc: Global,
     command: &str,
@@ -131,7 +131,7 @@ pub fn run_under_key(
     run_over(alloc, arguments.as_slice(), files)
 }
 
-/// A run of `play i s k STEPS`, and the bytes that it put.
+// A run of `play i s k STEPS`, and the bytes that it put.
 fn play(
     alloc: Global,
     image: &[u8],
@@ -226,7 +226,7 @@ fn refuses_arguments_that_are_no_command(rt: HostRuntime) -> Result<(), Fail> {
     Ok(())
 }
 
-/// The image with line ends after it, up to a length.
+// The image with line ends after it, up to a length.
 fn image_of_length(alloc: Global, length: usize) -> Result<Vec<u8>, AllocError> {
     let mut image = LETTER_A.to_vec(alloc)?;
     for _ in LETTER_A.len()..length {
@@ -248,7 +248,7 @@ fn an_image_has_at_most_its_limit(rt: HostRuntime) -> Result<(), Fail> {
     Ok(())
 }
 
-/// What the image cut to its first `length` bytes is answered.
+// What the image cut to its first `length` bytes is answered.
 fn cut_answer(length: usize) -> Status {
     match length {
         0 => bad_image(0, FaultKind::NoEnd),
@@ -288,19 +288,18 @@ fn a_file_that_is_not_held_is_absent(rt: HostRuntime) -> Result<(), Fail> {
     Ok(())
 }
 
-/// The answer to a play over a shelf that gives 50 bytes in one call and fails in the call of this
-/// number.
+// The answer to these words over a shelf that gives 50 bytes in one call and fails in the call of
+// this number.
 fn answer_over_failing_shelf(
     alloc: Global,
-    image: &[u8],
-    script: &[u8],
-    key: &[u8],
+    words: &[&str],
+    files: &[(&str, &[u8])],
     call: u64,
 ) -> Result<Status, AllocError> {
-    let files = files(alloc, image, script, key)?;
+    let files = named_files(alloc, files)?;
     let mut shelf = MemShelf::new(files, 50, [call].to_vec(alloc)?);
     let mut sink = MemSink::new(Vec::new(alloc), 99, 99, Vec::new(alloc))?;
-    let arguments = arguments(alloc, &["play", "i", "s", "k", "5"])?;
+    let arguments = arguments(alloc, words)?;
     Ok(run(alloc, arguments.as_slice(), &mut shelf, &mut sink))
 }
 
@@ -323,10 +322,73 @@ fn a_failing_read_hides_no_fault_of_an_earlier_file(rt: HostRuntime) -> Result<(
         (no_end, KEY, 8, bad_image(2, FaultKind::NoEnd)),
     ];
     for (image, key, call, status) in rows {
-        assert_eq!(rt;
-            answer_over_failing_shelf(alloc, image, b"", key, call)?,
-            status
-        );
+        let files: [(&str, &[u8]); 3] = [("i", image), ("s", b""), ("k", key)];
+        let answer = answer_over_failing_shelf(alloc, &["play", "i", "s", "k", "5"], &files, call)?;
+        assert_eq!(rt; answer, status);
+    }
+    Ok(())
+}
+
+// A key takes calls 1 to 4 of the shelf, the image 5 to 7, and the policy without its second line 8
+// and 9. Whatever is read behind the faulty file: where that fails, the answer is the fault.
+#[test]
+fn a_failing_read_of_verify_hides_no_fault_of_an_earlier_file(rt: HostRuntime) -> Result<(), Fail> {
+    let at = FaultAt {
+        line: 1,
+        kind: FaultKind::Missing,
+    };
+    let short = &KEY[1..];
+    let regions = b"er C040 C046\nor 0300 0300\n";
+    let half = &regions[..13];
+    // policy, key, the last call for the faulty file, its fault
+    let rows: [(&[u8], &[u8], u64, Status); 3] = [
+        (half, KEY, 9, Status::BadPolicy(at)),
+        (regions, short, 4, Status::BadKey(at)),
+        (half, short, 4, Status::BadKey(at)),
+    ];
+    for (policy, key, last, fault) in rows {
+        let files: [(&str, &[u8]); 4] = [("i", LETTER_A), ("p", policy), ("k", key), ("r", b"")];
+        let words = ["verify", "i", "p", "k", "r"];
+        for call in 1..14u64 {
+            let status = if call > last {
+                fault
+            } else {
+                Status::ReadFault
+            };
+            let answer = answer_over_failing_shelf(rt.alloc(), &words, &files, call)?;
+            assert_eq!(rt; answer, status, "call {call}");
+        }
+    }
+    Ok(())
+}
+
+// A key takes calls 1 to 4 of the shelf, the image 5 to 7, without an end 5 and 6, and a script of
+// one byte 8 and 9. The policy is read last.
+#[test]
+fn a_failing_policy_of_a_round_hides_no_earlier_fault(rt: HostRuntime) -> Result<(), Fail> {
+    let at = |kind| FaultAt { line: 1, kind };
+    let bad_key = Status::BadKey(at(FaultKind::Missing));
+    let bad_script = Status::BadScript(at(FaultKind::Word));
+    let short = &KEY[1..];
+    let no_end = &LETTER_A[..43];
+    // image, script, key, the last call for the faulty file, its fault
+    let rows: [(&[u8], &[u8], &[u8], u64, Status); 3] = [
+        (LETTER_A, b"", short, 4, bad_key),
+        (no_end, b"", KEY, 6, bad_image(2, FaultKind::NoEnd)),
+        (LETTER_A, b"x", KEY, 9, bad_script),
+    ];
+    for (image, script, key, last, fault) in rows {
+        let files: [(&str, &[u8]); 4] = [("i", image), ("s", script), ("k", key), ("p", b"")];
+        let words = ["round", "i", "s", "k", "p", "5"];
+        for call in 1..14u64 {
+            let status = if call > last {
+                fault
+            } else {
+                Status::ReadFault
+            };
+            let answer = answer_over_failing_shelf(rt.alloc(), &words, &files, call)?;
+            assert_eq!(rt; answer, status, "call {call}");
+        }
     }
     Ok(())
 }

@@ -38,7 +38,7 @@ impl<'a> Verify<'a> {
     }
 }
 
-// The answer once all verdicts were put.
+/// The answer once all verdicts were put.
 pub fn ending(accepted: bool) -> Result<(), Status>
     ensures { answer_of result ≡ ending accepted }
 {

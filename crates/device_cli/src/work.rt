@@ -16,7 +16,7 @@ use outside_edge::{Shelf, Sink};
 use std::alloc::Global;
 use text_scan::decimal;
 
-/// The greatest seed.
+// The greatest seed.
 const MOST_SEED: u64 = 4_294_967_295;
 
 /// The command `work SEED`: the seed of a load.

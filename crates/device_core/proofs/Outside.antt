@@ -72,7 +72,8 @@ pub is_machine_step :
     (stage : Stage) (live : Live D)
     → lent ≡ old
     → ((start : Start) (logs : Logs)
-    → MachineStandsFor taken digest stage new start logs → LiveStandsAt taken digest live start logs)
+    → MachineStandsFor taken digest stage new start logs
+    → LiveStandsAt taken digest live start logs)
     → machine_of live ≡ new
     → MakesStep taken digest (stood lent) events stage new
     → StepsFrom lent.bus.past new.bus.past

@@ -4,7 +4,7 @@ use Rattle.bus_signals.specs.declared.access.Access.{Access}
 use Rattle.bus_signals.specs.declared.bus_record.BusRecord.{BusRecord}
 use Rattle.bus_signals.specs.declared.rule.Rule.{Rule}
 use Rattle.bus_signals.specs.declared.signals.Signals.{Signals}
-use Rattle.bus_signals.specs.Seen.{Seen}
+use Rattle.bus_signals.specs.SeenRecord.{SeenRecord}
 use Rattle.part_definitions.specs.Dma.{dma_access}
 use Rattle.part_definitions.specs.Flag.{exec}
 use Rattle.mem_map.specs.Memory.{MemoryStandsFor}
@@ -20,11 +20,11 @@ use Rattle.device_core.specs.declared.past.Past.{Past}
 use Rattle.device_core.specs.declared.turn.Turn.{Turn}
 
 -- the newest record
-abbrev pub last_seen : List Seen → Option BusRecord
+abbrev pub last_seen : List SeenRecord → Option BusRecord
 last_seen [] = None
 last_seen (now ∷ before) = Some now.entry
 
-pub record PastStandsFor (past : Past) (seen : List Seen) : Type 0 where
+pub record PastStandsFor (past : Past) (seen : List SeenRecord) : Type 0 where
   pub same_steps : past.steps ≡ length seen
   pub same_last : past.last ≡ last_seen seen
 

@@ -27,8 +27,8 @@ peripherals_after_access access logs =
 
 -- after a step: which rule it broke, whether the entry of the timer's interrupt began in it, the
 -- accesses of processor and DMA, and what the DMA read
-abbrev pub peripherals_after_step : Option Rule → Bool → Option Access → Option Access → ℕ →
-    PeripheralLogs → PeripheralLogs
+abbrev pub peripherals_after_step : Option Rule → Bool → Option Access → Option Access → ℕ
+    → PeripheralLogs → PeripheralLogs
 peripherals_after_step rule accepted cpu dma dma_value logs =
     record {
       timer = timer_after rule accepted cpu logs.timer;

@@ -5,7 +5,7 @@ ghost use Rattle.bus_signals.specs.declared.bounds.Bounds.{Bounds as BoundsBefor
 ghost use Rattle.bus_signals.specs.declared.event.Event.{Event};
 ghost use Rattle.bus_signals.specs.declared.rule.Rule.{Rule};
 ghost use Rattle.bus_signals.specs.declared.signals.Signals.{Signals};
-ghost use Rattle.bus_signals.specs.Seen.{Seen};
+ghost use Rattle.bus_signals.specs.SeenRecord.{SeenRecord};
 ghost use Rattle.part_definitions.specs.Dma.{dma_access};
 ghost use Rattle.part_definitions.specs.Flag.{exec, last_pc};
 ghost use Rattle.part_definitions.specs.Memory.{PowerOn, MemoryWrite};
@@ -29,7 +29,7 @@ use bus_signals::{Access, Bounds, BusMaster, BusRecord, CR, Event, Rule, Signals
 use mem_map::{Image, Memory};
 use std::alloc::{AllocError, Global};
 
-/// What the accesses of a step read, 0 for a write and for none.
+// What the accesses of a step read, 0 for a write and for none.
 #[derive(Clone, Copy)]
 struct Values {
     cpu: u16,
@@ -133,6 +133,17 @@ impl Bus {
         asks_reset(events)
     }
 
+    /// The access that the DMA asks for in the next step.
+    #[inline(always)]
+    pub fn dma_access(&self) -> Option<Access>
+        ensures formed { IfSome result IsFormed }
+        ensures access { (start : Start) (logs : Logs)
+            → BusStandsFor self.now start logs
+            → result ≡ dma_access logs.peripherals.dma }
+    {
+        self.peripherals.dma.ask()
+    }
+
     // What the step of this turn is about to do, in which the DMA asks for this access.
     #[inline(always)]
     #[tactic(auto, unfolding(device_trace::specs::Signals::signals_at))]
@@ -167,16 +178,16 @@ impl Bus {
         requires dma { IfSome entry.dma IsFormed }
         ensures past_steps { StepsFrom self.old.past self.new.past }
         ensures peripherals { self.new.peripherals ≡ self.old.peripherals }
-        ensures memory { (start : PowerOn) (writes : List MemoryWrite) (seen : List Seen)
+        ensures memory { (start : PowerOn) (writes : List MemoryWrite) (seen : List SeenRecord)
             → MemoryStandsFor self.old.memory start (exec seen) writes
             → MonitorsStandFor self.old.monitors seen
             → MemoryStandsFor self.new.memory start
             (exec (record { entry = entry; bounds = bounds.now } ∷ seen)) writes }
-        ensures monitors { (seen : List Seen)
+        ensures monitors { (seen : List SeenRecord)
             → MonitorsStandFor self.old.monitors seen
             → MonitorsStandFor self.new.monitors
             (record { entry = entry; bounds = bounds.now } ∷ seen) }
-        ensures past { (seen : List Seen)
+        ensures past { (seen : List SeenRecord)
             → PastStandsFor self.old.past seen
             → PastStandsFor self.new.past (record { entry = entry; bounds = bounds.now } ∷ seen) }
     {
@@ -194,12 +205,12 @@ impl Bus {
         ensures past_steps { StepsFrom self.old.past self.new.past }
         ensures memory { self.new.memory ≡ self.old.memory }
         ensures peripherals { self.new.peripherals ≡ self.old.peripherals }
-        ensures monitors { (bounds : BoundsBefore) (seen : List Seen)
+        ensures monitors { (bounds : BoundsBefore) (seen : List SeenRecord)
             → MonitorsStandFor self.old.monitors seen
             → exec (record { entry = entry; bounds = bounds } ∷ seen) ≡ exec seen
             → MonitorsStandFor self.new.monitors
             (record { entry = entry; bounds = bounds } ∷ seen) }
-        ensures past { (bounds : BoundsBefore) (seen : List Seen)
+        ensures past { (bounds : BoundsBefore) (seen : List SeenRecord)
             → PastStandsFor self.old.past seen
             → PastStandsFor self.new.past (record { entry = entry; bounds = bounds } ∷ seen) }
     {
@@ -377,7 +388,7 @@ impl Bus {
         ensures stands { (dma : Option AccessAsked)
             → MakesTurn self.old regs.now turn dma script_reset self.new }
     {
-        let dma = self.peripherals.dma.ask();
+        let dma = self.dma_access();
         self.act_anywhere(regs, &turn, dma, script_reset)
     }
 

@@ -24,11 +24,8 @@ use crate::stage::Stage;
 use bus_signals::{Access, BusRecord, Event, ReportView};
 use hmac_core::Digest32;
 use mem_map::Memory;
-use peripheral_register::covers_byte;
+use serial_port::byte_sent;
 use trace_facts::a1_and_k3_never_hold;
-
-/// The register that sends a byte.
-const STXD: u16 = 0x0076;
 
 /// A device in whatever state it is.
 #[derive(Drop)]
@@ -46,9 +43,7 @@ fn byte_sent_in(entry: &BusRecord) -> Option<u8>
     ensures { result ≡ byte_sent_in entry.now }
 {
     match (entry.reset, entry.cpu) {
-        (None, Some(Access::Write(place, size, number))) if covers_byte(place, size, STXD) => {
-            Some((number % 0x100) as u8)
-        }
+        (None, Some(Access::Write(place, size, number))) => byte_sent(place, size, number),
         _ => None,
     }
 }
@@ -64,7 +59,7 @@ fn puts_nothing(entry: &BusRecord) -> bool
 }
 
 impl<D: Digest32> Live<D> {
-    /// The device whose machine has come to this stage.
+    // The device whose machine has come to this stage.
     pub(crate) fn at(machine: Box<Machine<D>>, stage: Stage) -> Live<D>
         ensures stands { (start : Start) (logs : Logs)
             → MachineStandsFor D.has_taken D.digest_of stage machine.value start logs

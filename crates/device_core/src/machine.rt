@@ -2,7 +2,7 @@ ghost use Rattle.std.specs.Prelude.{◌≡◌, ◌⊎◌, ◌==◌, ◌<◌, ◌
 ghost use Rattle.bus_signals.specs.Access.{IsFormed};
 ghost use Rattle.bus_signals.specs.Map.{ROM_ENTRY};
 ghost use Rattle.part_definitions.specs.CpuRegisters.{with_pc, with_sp, is_asleep};
-ghost use Rattle.part_definitions.specs.CpuState.{CpuState, Boundary, clear_cpu, registers_of, is_at_boundary, is_entering, cpu_takes};
+ghost use Rattle.part_definitions.specs.CpuState.{CpuState, Boundary, registers_of, is_at_boundary, is_entering, cpu_takes};
 ghost use Rattle.part_definitions.specs.Words.{even, plus};
 ghost use Rattle.msp_exec.specs.Course.{CpuStandsFor};
 ghost use Rattle.swatt_rom.specs.RomCall.{NoCall, InCall, AfterCall};
@@ -11,16 +11,16 @@ ghost use Rattle.device_trace.specs.Start.{Start, with_key};
 ghost use Rattle.device_trace.specs.Logs.{Logs, power_on_logs, vector_of, is_timer_vector};
 ghost use Rattle.bus_signals.specs.Kind.{is_cpu, is_irq, is_rom};
 ghost use Rattle.device_core.specs.Machine.{state_begun};
-ghost use Rattle.device_trace.specs.Progress.{last_registers, boundary_kind, running_after};
+ghost use Rattle.device_trace.specs.Progress.{Held, last_registers, boundary_kind, running_after};
 ghost use Rattle.part_definitions.specs.Dma.{dma_access};
 ghost use Rattle.mem_map.specs.Image.{powered_on};
 
 use crate::bus::Bus;
-use crate::peripherals::TIMER_VECTOR;
 use crate::stage::Stage;
 use crate::turn::Turn;
 use bus_signals::{Access, BusMaster, CR, Event, Kind};
 use hmac_core::Digest32;
+use irq_timer::TIMER_VECTOR;
 use mem_map::Image;
 use msp_exec::Cpu;
 use std::alloc::{AllocError, Global};
@@ -123,9 +123,10 @@ impl<D: Digest32> Machine<D> {
     #[inline(never)]
     fn hold(&mut self) -> Stage
         ensures bus { self.new.bus ≡ self.old.bus }
-        ensures processor { CpuStandsFor self.new.processor clear_cpu }
-        ensures call { RomStandsFor D.has_taken D.digest_of self.new.call NoCall }
-        ensures stage { result ≡ Stage.Held }
+        ensures stands { (start : Start) (logs : Logs)
+            → BusStandsFor self.old.bus start logs
+            → logs.progress ≡ Held
+            → MachineStandsFor D.has_taken D.digest_of result self.new start logs }
     {
         self.processor.clear();
         self.call.clear();
@@ -143,7 +144,7 @@ impl<D: Digest32> Machine<D> {
             (logs_after_step start logs script_reset) }
     {
         let turn = Turn::boot();
-        let dma = self.bus.peripherals.dma.ask();
+        let dma = self.bus.dma_access();
         let regs = self.processor.registers();
         match self.bus.act(regs, &turn, dma, script_reset) {
             Some(vector) => {
@@ -190,7 +191,7 @@ impl<D: Digest32> Machine<D> {
             (with_key D.digest_of key image)
             (logs_after_step (with_key D.digest_of key image) logs script_reset) }
     {
-        let dma = self.bus.peripherals.dma.ask();
+        let dma = self.bus.dma_access();
         let regs = self.processor.registers();
         match self.bus.act(regs, turn, dma, script_reset) {
             Some(value) => {
@@ -302,7 +303,7 @@ impl<D: Digest32> Machine<D> {
             → MachineStandsFor D.has_taken D.digest_of result self.new start
             (logs_after_step start logs script_reset) }
     {
-        let dma = self.bus.peripherals.dma.ask();
+        let dma = self.bus.dma_access();
         let turn = self.turn_from_boundary(kind, vector);
         self.run(&turn, dma, script_reset)
     }
@@ -384,6 +385,17 @@ impl<D: Digest32> Machine<D> {
         }
     }
 
+    // The kind of a step that begins at a boundary, and the interrupt that could be accepted.
+    #[inline(always)]
+    fn kind_at_boundary(&self) -> (Kind, Option<u16>)
+        ensures { (start : Start) (logs : Logs) (regs : List ℕ)
+            → RunsFrom D.has_taken D.digest_of self.now start logs (Boundary regs)
+            → (result.0 ≡ boundary_kind regs (vector_of logs)) × (result.1 ≡ vector_of logs) }
+    {
+        let vector = self.vector();
+        (boundary_kind(&self.processor, vector), vector)
+    }
+
     // Any step that begins at a boundary.
     #[inline(never)]
     fn go_from_any_boundary(&mut self, script_reset: bool) -> Stage
@@ -392,8 +404,7 @@ impl<D: Digest32> Machine<D> {
         ensures stands { Goes D.has_taken D.digest_of
             (BoundaryMachine D.has_taken D.digest_of self.old) script_reset result self.new }
     {
-        let vector = self.vector();
-        let kind = boundary_kind(&self.processor, vector);
+        let (kind, vector) = self.kind_at_boundary();
         match kind {
             Kind::Rom => self.begin_call(script_reset),
             Kind::Boot | Kind::Cpu | Kind::Idle | Kind::Irq => {
@@ -410,7 +421,8 @@ impl<D: Digest32> Machine<D> {
         requires dma_formed { IfSome dma IsFormed }
         ensures past { StepsFrom self.old.bus.past self.new.bus.past }
         ensures stands { Goes D.has_taken D.digest_of
-            (Beside dma (MiddleMachine D.has_taken D.digest_of self.old)) script_reset result self.new }
+            (Beside dma (MiddleMachine D.has_taken D.digest_of self.old)) script_reset
+            result self.new }
     {
         let turn = self.turn_in_the_middle();
         self.run(&turn, dma, script_reset)
@@ -424,7 +436,7 @@ impl<D: Digest32> Machine<D> {
         ensures stands { Goes D.has_taken D.digest_of
             (MiddleMachine D.has_taken D.digest_of self.old) script_reset result self.new }
     {
-        let dma = self.bus.peripherals.dma.ask();
+        let dma = self.bus.dma_access();
         self.run_in_the_middle(dma, script_reset)
     }
 
@@ -461,7 +473,7 @@ impl<D: Digest32> Machine<D> {
         ensures stands { Goes D.has_taken D.digest_of
             (BoundaryMachine D.has_taken D.digest_of self.old) false result self.new }
     {
-        match self.bus.peripherals.dma.ask() {
+        match self.bus.dma_access() {
             Some(Access::Write(place, size, number)) => {
                 self.go_from_boundary(Some(Access::Write(place, size, number)))
             }
@@ -503,7 +515,7 @@ impl<D: Digest32> Machine<D> {
         if self.processor.is_entering() {
             return self.go_on(false);
         }
-        match self.bus.peripherals.dma.ask() {
+        match self.bus.dma_access() {
             Some(Access::Write(place, size, number)) => {
                 self.run_in_the_middle(Some(Access::Write(place, size, number)), false)
             }
@@ -522,7 +534,7 @@ impl<D: Digest32> Machine<D> {
         ensures stands { Goes D.has_taken D.digest_of
             (RunningMachine D.has_taken D.digest_of self.old) false result self.new }
     {
-        match (self.processor.at_boundary(), self.bus.peripherals.dma.ask()) {
+        match (self.processor.at_boundary(), self.bus.dma_access()) {
             (true, None) => self.begin_alone(),
             (true, Some(_)) => self.begin_beside_dma(),
             (false, None) => self.go_on_alone(),

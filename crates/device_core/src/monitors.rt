@@ -1,7 +1,7 @@
 ghost use Rattle.std.specs.Prelude.{◌≡◌, ◌∷◌, [], List, IfSome, is_none};
 ghost use Rattle.bus_signals.specs.declared.bounds.Bounds.{Bounds as SeenBounds};
 ghost use Rattle.bus_signals.specs.Access.{IsFormed};
-ghost use Rattle.bus_signals.specs.Seen.{Seen};
+ghost use Rattle.bus_signals.specs.SeenRecord.{SeenRecord};
 ghost use Rattle.part_definitions.specs.Flag.{exec, last_pc};
 ghost use Rattle.part_definitions.specs.NextAccess.{is_illegal};
 ghost use Rattle.device_trace.specs.FirstRule.{first_rule, breaks_i1};
@@ -40,7 +40,7 @@ impl Monitors {
     pub fn first_rule(&self, now: &Signals) -> Option<Rule>
         requires cpu { IfSome now.now.cpu IsFormed }
         requires dma { IfSome now.now.dma IsFormed }
-        ensures { (seen : List Seen)
+        ensures { (seen : List SeenRecord)
             → MonitorsStandFor self.now seen
             → result ≡ first_rule (last_pc seen) now.now }
     {
@@ -62,7 +62,7 @@ impl Monitors {
     pub fn permits(&self, now: &Signals) -> bool
         requires cpu { IfSome now.now.cpu IsFormed }
         requires dma { IfSome now.now.dma IsFormed }
-        ensures { (seen : List Seen)
+        ensures { (seen : List SeenRecord)
             → MonitorsStandFor self.now seen
             → result ≡ is_none (first_rule (last_pc seen) now.now) }
     {
@@ -74,7 +74,7 @@ impl Monitors {
     pub fn see(&mut self, entry: &BusRecord, bounds: &Bounds)
         requires cpu { IfSome entry.now.cpu IsFormed }
         requires dma { IfSome entry.now.dma IsFormed }
-        ensures { (seen : List Seen)
+        ensures { (seen : List SeenRecord)
             → MonitorsStandFor self.old seen
             → MonitorsStandFor self.new (record { entry = entry.now; bounds = bounds.now } ∷ seen) }
     {
@@ -85,7 +85,7 @@ impl Monitors {
     /// Likewise, a record that leaves the EXEC flag as it is.
     #[inline(always)]
     pub fn pass(&mut self, entry: &BusRecord)
-        ensures { (bounds : SeenBounds) (seen : List Seen)
+        ensures { (bounds : SeenBounds) (seen : List SeenRecord)
             → MonitorsStandFor self.old seen
             → exec (record { entry = entry.now; bounds = bounds } ∷ seen) ≡ exec seen
             → MonitorsStandFor self.new (record { entry = entry.now; bounds = bounds } ∷ seen) }
@@ -96,7 +96,7 @@ impl Monitors {
 
     /// The EXEC flag.
     pub fn exec(&self) -> bool
-        ensures { (seen : List Seen) → MonitorsStandFor self.now seen → result ≡ exec seen }
+        ensures { (seen : List SeenRecord) → MonitorsStandFor self.now seen → result ≡ exec seen }
     {
         self.exec.value()
     }

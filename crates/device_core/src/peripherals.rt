@@ -49,10 +49,7 @@ const DMA: Region = Region {
     last: 0x01E7,
 };
 
-/// The address of the timer's interrupt vector.
-pub const TIMER_VECTOR: u16 = 0xFFF2;
-
-/// P1IN, which reads the pins.
+// P1IN, which reads the pins.
 const PINS_IN: u16 = 0x0020;
 
 /// What the processor reaches below 0200.

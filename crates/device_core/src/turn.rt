@@ -15,7 +15,7 @@ use msp_exec::Cpu;
 use swatt_rom::Rom;
 use word_arith::Size;
 
-/// Where a boot finds the first address of the program.
+// Where a boot finds the first address of the program.
 const RESET_VECTOR: u16 = 0xFFFE;
 
 /// What the processor or the attestation ROM is about to do in a step.

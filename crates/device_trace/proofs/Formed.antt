@@ -20,7 +20,7 @@ use Rattle.part_definitions.specs.Accesses.{fetch_at, read_at, write_at}
 use Rattle.part_definitions.specs.Attestation.{CallItem, KeyRead, MetadataRead, DerivedKeyWrite, RegionRead, InnerDigestWrite, MacWrite, ReturnRead, item_access, bounds_read, call_item}
 use Rattle.part_definitions.specs.declared.cpu_access.CpuAccess.{CpuAccess}
 use Rattle.part_definitions.specs.declared.cpu_access.CpuAccess.TheVariants.{FetchImmediate, FetchSourceIndex, ReadSource, ReadIncrementing, FetchDestinationIndex, ReadDestination, WriteResult, PushSource, PushPc, PopSr, PopPc}
-use Rattle.part_definitions.specs.declared.working.Working.{Working}
+use Rattle.part_definitions.specs.declared.working_state.WorkingState.{WorkingState}
 use Rattle.part_definitions.specs.CpuAccesses.{accesses_of}
 use Rattle.part_definitions.specs.CpuState.{CpuState, Boundary, Executing, Entering, asked_access, cpu_access}
 use Rattle.part_definitions.specs.Dma.{Transfer, is_active, place_of_word, access_at, transfer_access, dma_access, transfer_of, latch}
@@ -47,7 +47,7 @@ write_at-formed Byte place number = omega arith
 write_at-formed Word place number = mul-mod_left (place / 2) 2
 
 -- the accesses of an instruction
-bus_access-formed : (head : Head) (access : CpuAccess) (working : Working)
+bus_access-formed : (head : Head) (access : CpuAccess) (working : WorkingState)
     → IsFormed (bus_access head access working)
 bus_access-formed head FetchImmediate working = fetch_at-formed _
 bus_access-formed head (FetchSourceIndex register) working = fetch_at-formed _
@@ -62,7 +62,7 @@ bus_access-formed head PopSr working = read_at-formed Word _
 bus_access-formed head PopPc working = read_at-formed Word _
 
 walk-formed :
-    (head : Head) (accesses : List CpuAccess) (working : Working) (values : List ℕ)
+    (head : Head) (accesses : List CpuAccess) (working : WorkingState) (values : List ℕ)
     → IfSome (asked_access (walk head accesses working values)) IsFormed
 walk-formed head [] working values = tt
 walk-formed head (access ∷ accesses) working [] = bus_access-formed head access working

@@ -10,7 +10,7 @@ use Rattle.bus_signals.specs.declared.rule.Rule.{Rule}
 use Rattle.bus_signals.specs.declared.bounds.Bounds.{Bounds}
 use Rattle.bus_signals.specs.Kind.{is_irq}
 use Rattle.bus_signals.specs.Map.{lies_in, mac_region}
-use Rattle.bus_signals.specs.Seen.{Seen}
+use Rattle.bus_signals.specs.SeenRecord.{SeenRecord}
 use Rattle.part_definitions.specs.CpuRegisters.{allows_interrupts}
 use Rattle.part_definitions.specs.CpuState.{Boundary}
 use Rattle.part_definitions.specs.Flag.{exec}
@@ -28,7 +28,7 @@ pub record Logs : Type 0 where
   pub memory : List MemoryWrite
   pub peripherals : Peripherals
   -- all records with the bounds before each, the newest first
-  pub seen : List Seen
+  pub seen : List SeenRecord
   -- the words that calls wrote to the MAC, oldest first
   pub released_words : List ℕ
 

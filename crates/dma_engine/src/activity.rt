@@ -1,6 +1,7 @@
 ghost use Rattle.std.specs.Prelude.{◌≡◌, ◌%◌, ◌<◌, IfSome};
 ghost use Rattle.bus_signals.specs.Access.{IsFormed};
 ghost use Rattle.part_definitions.specs.Dma.{Transfer, new_transfer, transfer_access, is_active, after_start, with_value};
+ghost use Rattle.part_definitions.specs.Part.{Answers};
 
 use bus_signals::Access;
 use word_arith::Size;
@@ -58,15 +59,13 @@ impl Activity {
     }
 
     pub fn is_active(self) -> bool
-        ensures { (transfer : Transfer)
-            → ActivityStandsFor self transfer → result ≡ is_active transfer }
+        ensures { Answers ActivityStandsFor self is_active result }
     {
         !matches!(self, Activity::Idle)
     }
 
     pub fn access(self) -> Option<Access>
-        ensures access { (transfer : Transfer)
-            → ActivityStandsFor self transfer → result ≡ transfer_access transfer }
+        ensures access { Answers ActivityStandsFor self transfer_access result }
         ensures formed { IfSome result IsFormed }
     {
         match self {

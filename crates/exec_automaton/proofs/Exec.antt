@@ -2,12 +2,12 @@
 use Rattle.std.proofs.Common.{◌≡◌, ◌==◌, ◌&&◌, ◌||◌, Bool, true, false, not, List, [], ◌∷◌, sym, ◌∙◌, ap, refl, if◌then◌else◌}
 use Rattle.std.proofs.Math.Bool.{and-true, and-false, or_comm}
 use Rattle.std.specs.List.{list_any}
-use Rattle.bus_signals.specs.Seen.{Seen}
+use Rattle.bus_signals.specs.SeenRecord.{SeenRecord}
 use Rattle.bus_signals.specs.Bounds.{are_valid}
 use Rattle.part_definitions.specs.Flag.{exec, clears, starts_run, is_opcode_fetch, last_pc, records_since_clear}
 
 -- it is set where it was set before or the record starts a run, and the record does not clear it
-pub exec_cons : (now : Seen) (before : List Seen)
+pub exec_cons : (now : SeenRecord) (before : List SeenRecord)
     → exec (now ∷ before) ≡ ((exec before || starts_run now) && not (clears (last_pc before) now))
 unfolding exec
 exec_cons now before =
@@ -21,7 +21,7 @@ exec_cons now before =
     ]
 
 -- a record at another place than ERmin starts no run
-starts_run-elsewhere : (now : Seen)
+starts_run-elsewhere : (now : SeenRecord)
     → (now.entry.pc == now.bounds.er_min) ≡ false → starts_run now ≡ false
 starts_run-elsewhere now elsewhere =
     let fetched : Bool = is_opcode_fetch now.entry in
@@ -33,7 +33,7 @@ starts_run-elsewhere now elsewhere =
     ]
 
 -- a flag that is not set stays so at a record at another place than ERmin
-pub exec_elsewhere : (now : Seen) (before : List Seen)
+pub exec_elsewhere : (now : SeenRecord) (before : List SeenRecord)
     → exec before ≡ false
     → (now.entry.pc == now.bounds.er_min) ≡ false
     → exec (now ∷ before) ≡ false

@@ -1,17 +1,18 @@
 -- The flag is set exactly where there is an uncleared start: by induction on the records seen.
 use Rattle.std.proofs.Common.{◌≡◌, ◌≤◌, ◌+◌, ◌||◌, ◌++◌, ℕ, Bool, true, false, not, List, [], ◌∷◌, length, IsTrue, ◌↔◌, sym, ◌∙◌, ap, inl, inr, refl, arith}
 use Rattle.std.proofs.lemmas.Bool.{and_parts, or_cases, and_from, or_left, or_right, not-true, not_from_false, false_from_ne_true, both_ways}
-use Rattle.bus_signals.specs.Seen.{Seen}
+use Rattle.bus_signals.specs.SeenRecord.{SeenRecord}
 use Rattle.part_definitions.specs.Flag.{exec, clears, starts_run, last_pc}
 use Rattle.exec_automaton.specs.UnclearedStart.{Moment, UnclearedStart}
 use Rattle.exec_automaton.proofs.Exec.{exec_cons}
 
 -- the record at which the records seen end
-abbrev newest : (now : Seen) (before : List Seen) → Moment (now ∷ before)
+abbrev newest : (now : SeenRecord) (before : List SeenRecord) → Moment (now ∷ before)
 newest now before = record { after = []; now = now; before = before; whole = refl }
 
 -- a moment of the records before is one of all
-abbrev earlier : (now : Seen) (before : List Seen) → Moment before → Moment (now ∷ before)
+abbrev earlier :
+    (now : SeenRecord) (before : List SeenRecord) → Moment before → Moment (now ∷ before)
 earlier now before moment =
     record {
       after = now ∷ moment.after;
@@ -21,17 +22,17 @@ earlier now before moment =
     }
 
 -- the newest record starts a run
-abbrev newest_starts : List Seen → Bool
+abbrev newest_starts : List SeenRecord → Bool
 newest_starts [] = false
 newest_starts (now ∷ before) = starts_run now
 
 -- the newest record clears the flag
-abbrev newest_clears : List Seen → Bool
+abbrev newest_clears : List SeenRecord → Bool
 newest_clears [] = false
 newest_clears (now ∷ before) = clears (last_pc before) now
 
 -- no moment of these clears the flag, of those with at most so many records after it
-abbrev NoneClears : List Seen → ℕ → Type 0
+abbrev NoneClears : List SeenRecord → ℕ → Type 0
 NoneClears seen most =
     (moment : Moment seen)
     → length moment.after ≤ most
@@ -39,13 +40,13 @@ NoneClears seen most =
     → ⊥
 
 -- the newest record keeps the flag, and so do those before it
-none_clears-cons : (now : Seen) (before : List Seen) (most : ℕ)
+none_clears-cons : (now : SeenRecord) (before : List SeenRecord) (most : ℕ)
     → clears (last_pc before) now ≡ false
     → ((moment : Moment before)
     → length moment.after + 1 ≤ most
     → clears (last_pc moment.before) moment.now ≡ true
     → ⊥)
-    → (after : List Seen) (this : Seen) (rest : List Seen)
+    → (after : List SeenRecord) (this : SeenRecord) (rest : List SeenRecord)
     → now ∷ before ≡ after ++ this ∷ rest
     → length after ≤ most
     → clears (last_pc rest) this ≡ true
@@ -56,7 +57,7 @@ none_clears-cons now before most kept others (x ∷ after) this rest whole near 
     others (record { after = after; now = this; before = rest; whole = cc }) (omega arith) cleared
 
 -- a start since which nothing cleared, and one more record that keeps the flag
-start-cons : (now : Seen) (before : List Seen)
+start-cons : (now : SeenRecord) (before : List SeenRecord)
     → clears (last_pc before) now ≡ false → UnclearedStart before → UnclearedStart (now ∷ before)
 start-cons now before kept run =
     record {
@@ -69,7 +70,7 @@ start-cons now before kept run =
     }
 
 -- the newest record is a start that keeps the flag
-start-newest : (now : Seen) (before : List Seen)
+start-newest : (now : SeenRecord) (before : List SeenRecord)
     → starts_run now ≡ true → clears (last_pc before) now ≡ false → UnclearedStart (now ∷ before)
 start-newest now before starts kept =
     record {
@@ -82,7 +83,7 @@ start-newest now before starts kept =
     }
 
 -- the flag is set after a record: it could be set, and the record keeps it
-set_parts : (now : Seen) (before : List Seen)
+set_parts : (now : SeenRecord) (before : List SeenRecord)
     → exec (now ∷ before) ≡ true
     → ((exec before || starts_run now) ≡ true) × (not (clears (last_pc before) now) ≡ true)
 set_parts now before is_set =
@@ -90,7 +91,7 @@ set_parts now before is_set =
     (sym (exec_cons now before) ∙ is_set)
 
 -- where the flag is set, there is such a start
-start_from_exec : (seen : List Seen) → exec seen ≡ true → UnclearedStart seen
+start_from_exec : (seen : List SeenRecord) → exec seen ≡ true → UnclearedStart seen
 unfolding exec
 start_from_exec [] is_set = absurd (cc)
 start_from_exec (now ∷ before) is_set =
@@ -103,14 +104,14 @@ start_from_exec (now ∷ before) is_set =
     ]
 
 -- the newest record keeps the flag
-newest_keeps : (now : Seen) (before : List Seen) (most : ℕ)
+newest_keeps : (now : SeenRecord) (before : List SeenRecord) (most : ℕ)
     → NoneClears (now ∷ before) most → not (clears (last_pc before) now) ≡ true
 newest_keeps now before most none =
     not_from_false (clears (last_pc before) now)
     (false_from_ne_true (clears (last_pc before) now) (none (newest now before) (omega arith)))
 
 -- where there is such a start, the flag is set
-exec_from_start : (seen after : List Seen) (this : Seen) (rest : List Seen)
+exec_from_start : (seen after : List SeenRecord) (this : SeenRecord) (rest : List SeenRecord)
     → seen ≡ after ++ this ∷ rest
     → starts_run this ≡ true
     → NoneClears seen (length after)
@@ -131,7 +132,7 @@ exec_from_start (now ∷ before) (x ∷ after) this rest whole starts none =
     (newest_keeps now before (length (x ∷ after)) none)
 
 -- the flag is set exactly where there is such a start
-pub exec_iff : (seen : List Seen) → IsTrue (exec seen) ↔ UnclearedStart seen
+pub exec_iff : (seen : List SeenRecord) → IsTrue (exec seen) ↔ UnclearedStart seen
 exec_iff seen = (
   start_from_exec seen,
   λ (run : UnclearedStart seen).

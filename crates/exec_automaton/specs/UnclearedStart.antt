@@ -1,17 +1,17 @@
 -- When the EXEC flag is set, in the words of a trace.
 use Rattle.std.specs.Prelude.{◌≡◌, ◌≤◌, ◌++◌, List, ◌∷◌, length, IsTrue}
-use Rattle.bus_signals.specs.Seen.{Seen}
+use Rattle.bus_signals.specs.SeenRecord.{SeenRecord}
 use Rattle.part_definitions.specs.Flag.{clears, starts_run, last_pc}
 
 -- one of these records, the newest first: those after it, itself, and those before it
-pub record Moment (seen : List Seen) : Type 0 where
-  pub after : List Seen
-  pub now : Seen
-  pub before : List Seen
+pub record Moment (seen : List SeenRecord) : Type 0 where
+  pub after : List SeenRecord
+  pub now : SeenRecord
+  pub before : List SeenRecord
   pub whole : seen ≡ after ++ now ∷ before
 
 -- a record starts a run, and neither it nor a later one clears the flag
-pub record UnclearedStart (seen : List Seen) : Type 0 where
+pub record UnclearedStart (seen : List SeenRecord) : Type 0 where
   pub start : Moment seen
   pub starts : IsTrue (starts_run start.now)
   pub kept : (moment : Moment seen)

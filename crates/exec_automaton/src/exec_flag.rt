@@ -1,8 +1,9 @@
-ghost use Rattle.std.specs.Prelude.{◌≡◌, ◌||◌, [], ◌∷◌, true, false, List, IfSome};
+ghost use Rattle.std.specs.Prelude.{◌≡◌, ◌==◌, ◌&&◌, ◌||◌, [], ◌∷◌, true, false, not, List, IfSome};
 ghost use Rattle.bus_signals.specs.declared.bounds.Bounds.{Bounds};
 ghost use Rattle.bus_signals.specs.Access.{IsFormed};
-ghost use Rattle.bus_signals.specs.Seen.{Seen};
+ghost use Rattle.bus_signals.specs.SeenRecord.{SeenRecord};
 ghost use Rattle.part_definitions.specs.Flag.{exec, starts_run};
+ghost use Rattle.part_definitions.specs.Part.{Answers};
 
 use crate::clearing::clears;
 use crate::start::starts_run;
@@ -12,7 +13,7 @@ use bus_signals::{Bounds, BusRecord, TraceFlag};
 #[derive(Clone, Copy, Debug)]
 pub struct ExecFlag {
     is_set: bool,
-    /// The `pc` of the last record.
+    // The `pc` of the last record.
     last_pc: Option<u16>,
 }
 
@@ -36,9 +37,8 @@ impl ExecFlag {
     fn is_set_after(&self, entry: &BusRecord, bounds: &Bounds) -> bool
         requires cpu { IfSome entry.now.cpu IsFormed }
         requires dma { IfSome entry.now.dma IsFormed }
-        ensures { (seen : List Seen) →
-            ExecFlagStandsFor self.now seen →
-            result ≡ exec (record { entry = entry.now; bounds = bounds.now } ∷ seen) }
+        ensures { Answers ExecFlagStandsFor self.now
+            (λ seen. exec (record { entry = entry.now; bounds = bounds.now } ∷ seen)) result }
     {
         self.may_be_set(entry, bounds) && !clears(self.last_pc, entry, *bounds)
     }
@@ -47,7 +47,9 @@ impl ExecFlag {
     #[inline(always)]
     #[tactic(auto, using(crate::proofs::Exec::exec_elsewhere))]
     pub fn stays_clear(&self, pc: u16, er_min: u16) -> bool
-        ensures { (now : Seen) (before : List Seen)
+        ensures answer { Answers ExecFlagStandsFor self.now
+            (λ before. not (exec before) && not (pc == er_min)) result }
+        ensures clear { (now : SeenRecord) (before : List SeenRecord)
             → ExecFlagStandsFor self.now before
             → now.entry.pc ≡ pc
             → now.bounds.er_min ≡ er_min
@@ -60,7 +62,7 @@ impl ExecFlag {
     /// The next record, which leaves the flag as it is.
     #[inline(always)]
     pub fn pass(&mut self, entry: &BusRecord)
-        ensures { (bounds : Bounds) (before : List Seen)
+        ensures { (bounds : Bounds) (before : List SeenRecord)
             → ExecFlagStandsFor self.old before
             → exec (record { entry = entry.now; bounds = bounds } ∷ before) ≡ exec before
             → ExecFlagStandsFor self.new (record { entry = entry.now; bounds = bounds } ∷ before) }
@@ -71,9 +73,9 @@ impl ExecFlag {
     // The flag was set, or the next record starts a run.
     #[inline(always)]
     fn may_be_set(&self, entry: &BusRecord, bounds: &Bounds) -> bool
-        ensures { (seen : List Seen) →
-            ExecFlagStandsFor self.now seen →
-            result ≡ (exec seen || starts_run (record { entry = entry.now; bounds = bounds.now })) }
+        ensures { Answers ExecFlagStandsFor self.now
+            (λ seen. exec seen || starts_run (record { entry = entry.now; bounds = bounds.now }))
+            result }
     {
         self.is_set || starts_run(entry, bounds)
     }

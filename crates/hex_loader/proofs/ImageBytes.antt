@@ -9,7 +9,8 @@ use Rattle.text_scan.specs.declared.fault_kind.FaultKind.{FaultKind}
 use Rattle.text_scan.specs.Hexadecimal.{hex_bytes_of}
 use Rattle.text_scan.proofs.HexBytes.{hex_bytes_of-ok}
 use Rattle.mem_map.specs.PlacedBytes.{byte_among}
-use Rattle.hex_loader.specs.HexImage.{byte_placed, byte_after, base_after, hex_byte, hex_fault, image_or_fault, image_of}
+use Rattle.text_scan.specs.Reader.{value_or_fault}
+use Rattle.hex_loader.specs.HexImage.{byte_placed, byte_after, base_after, hex_byte, hex_fault, image_of}
 use Rattle.hex_loader.specs.HexRecord.{Meaning, Places, Ends, SetsBase, Starts, with_count, record_of_type, record_of, record_or_fault, record_in, big_endian}
 
 no_bytes : IsBytes []
@@ -119,7 +120,7 @@ unwrap_or-byte None is_byte = omega arith
 
 read_or_empty : (fault : Option FaultAt) (bytes : ℕ → Option ℕ) (place : ℕ)
     → ((at : ℕ) → IsByte (bytes at))
-    → unwrap_or (result_unwrap_or (image_or_fault fault bytes) (λ at. None) place) 0 < 256
+    → unwrap_or (result_unwrap_or (value_or_fault fault bytes) (λ at. None) place) 0 < 256
 read_or_empty None bytes place are = unwrap_or-byte (bytes place) (are place)
 read_or_empty (Some fault) bytes place are = omega arith
 

@@ -99,19 +99,19 @@ all_read text left count reader at none =
 
 pub no_end : (text : List ℕ) (left : List (ℕ × List ℕ)) (count : ℕ) (reader : Reader)
     → IsReadTo text left count reader
-    → left ≡ [] → reader.ended ≡ false → hex_fault text
+    → left ≡ [] → reader.has_ended ≡ false → hex_fault text
     ≡ Some (record { line = count; kind = NoEnd })
 no_end text left count reader at none ended =
     let lines_are = all_read text left count reader at none in
-    let open_ended : has_ended at.earlier ≡ false = sym at.stands.ended ∙ ended in
+    let open_ended : has_ended at.earlier ≡ false = sym at.stands.same_end ∙ ended in
     rw (lines_are, at.no_fault, open_ended, ← at.counted) refl
 
 pub no_fault : (text : List ℕ) (left : List (ℕ × List ℕ)) (count : ℕ) (reader : Reader)
     → IsReadTo text left count reader
-    → left ≡ [] → reader.ended ≡ true → hex_fault text ≡ None
+    → left ≡ [] → reader.has_ended ≡ true → hex_fault text ≡ None
 no_fault text left count reader at none ended =
     let lines_are = all_read text left count reader at none in
-    let closed : has_ended at.earlier ≡ true = sym at.stands.ended ∙ ended in
+    let closed : has_ended at.earlier ≡ true = sym at.stands.same_end ∙ ended in
     rw (lines_are, at.no_fault, closed) refl
 
 pub bytes_read : (text : List ℕ) (left : List (ℕ × List ℕ)) (count : ℕ) (reader : Reader)

@@ -47,13 +47,6 @@ run-end image found whole place offset most within none before =
     let more : most - offset ≡ suc (most - (offset + 1)) = omega arith in
     sym (append-nil found) ∙ rw (more, none) at before
 
--- and where it has as many bytes as it may have
-pub run-full : (image : ℕ → Option ℕ) (found whole : List ℕ) (place offset most : ℕ) → most ≤ offset
-    → found ++ run image place (most - offset) ≡ whole → found ≡ whole
-run-full image found whole place offset most full before =
-    let none : most - offset ≡ 0 = omega arith in
-    sym (append-nil found) ∙ rw none at before
-
 -- the lines below the next place
 pub lines_below-next : (image : ℕ → Option ℕ) (place : ℕ)
     → lines_below image (place + 1) ≡ lines_below image place ++ line_at image place

@@ -5,9 +5,8 @@ use Rattle.std.specs.Str.Lines.{lines}
 use Rattle.text_scan.specs.declared.fault_at.FaultAt.{FaultAt}
 use Rattle.text_scan.specs.declared.fault_kind.FaultKind.{FaultKind}
 use Rattle.text_scan.specs.declared.fault_kind.FaultKind.TheVariants.{AfterEnd, NoEnd, Place}
+use Rattle.text_scan.specs.Reader.{value_or_fault}
 use Rattle.part_definitions.specs.Memory.{is_image_place}
-use Rattle.mem_map.specs.declared.image.Image.{Image}
-use Rattle.mem_map.specs.Image.{byte_in}
 use Rattle.mem_map.specs.PlacedBytes.{byte_among}
 use Rattle.hex_loader.specs.HexRecord.{Meaning, Places, Ends, SetsBase, record_in}
 
@@ -86,14 +85,5 @@ abbrev pub hex_byte : List ℕ → ℕ → Option ℕ
 hex_byte text = byte_after (reverse (lines text))
 
 -- its bytes by their places, or its first fault
-abbrev pub image_or_fault : Option FaultAt → (ℕ → Option ℕ) → Result (ℕ → Option ℕ) FaultAt
-image_or_fault None bytes = Ok bytes
-image_or_fault (Some fault) bytes = Err fault
-
 abbrev pub image_of : List ℕ → Result (ℕ → Option ℕ) FaultAt
-image_of text = image_or_fault (hex_fault text) (hex_byte text)
-
--- an image that was read, as its bytes by their places
-abbrev pub image_in : {E : Type 0} → Result Image E → Result (ℕ → Option ℕ) E
-image_in (Ok image) = Ok (byte_in image)
-image_in (Err error) = Err error
+image_of text = value_or_fault (hex_fault text) (hex_byte text)

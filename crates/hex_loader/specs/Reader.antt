@@ -8,4 +8,4 @@ use Rattle.hex_loader.specs.HexImage.{base_after, has_ended, byte_after}
 pub record ReaderStandsFor (reader : Reader) (lines : List (List ℕ)) : Type 0 where
   pub bytes : (place : ℕ) → byte_in reader.image place ≡ byte_after lines place
   pub base : reader.base ≡ base_after lines
-  pub ended : reader.ended ≡ has_ended lines
+  pub same_end : reader.has_ended ≡ has_ended lines

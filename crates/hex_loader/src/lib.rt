@@ -16,6 +16,3 @@ mod record_line;
 pub use hex_text::{write_hex, write_memory};
 pub use law::reads_back;
 pub use reader::read_hex;
-
-#[cfg(test)]
-mod tests;

@@ -5,6 +5,9 @@ use crate::record_line::MOST_DATA;
 use arrayvec::ArrayVec;
 use mem_map::{Image, Memory};
 
+// A record's data ends before the next multiple of this.
+const MOST_PLACES: u16 = MOST_DATA as u16;
+
 /// Bytes by their places: an image's, or those of a memory.
 pub trait Places {
     ghost use Rattle.std.specs.Prelude.{◌≡◌, ℕ, Option};
@@ -43,7 +46,7 @@ pub fn is_record_start<P: Places>(bytes: &P, place: u16) -> bool
         → P.shows bytes.now image
         → result ≡ is_record_start image place }
 {
-    bytes.byte(place).is_some() && (place % 16 == 0 || bytes.byte(place - 1).is_none())
+    bytes.byte(place).is_some() && (place % MOST_PLACES == 0 || bytes.byte(place - 1).is_none())
 }
 
 /// The bytes of a record that begins at this place.
@@ -53,7 +56,7 @@ pub fn record_bytes<P: Places>(bytes: &P, place: u16) -> ArrayVec<u8, MOST_DATA>
         → result.items ≡ record_bytes image place }
 {
     let mut found = ArrayVec::new();
-    for offset in 0..16 - place % 16 {
+    for offset in 0..MOST_PLACES - place % MOST_PLACES {
         let Some(byte) = bytes.byte(place + offset) else {
             return found;
         };

@@ -5,9 +5,9 @@ ghost use Rattle.part_definitions.specs.Memory.{is_image_place};
 ghost use Rattle.mem_map.specs.Image.{byte_in};
 ghost use Rattle.text_scan.specs.declared.fault_at.FaultAt.{FaultAt};
 ghost use Rattle.hex_loader.specs.HexRecord.{meaning, record_in};
-ghost use Rattle.text_scan.specs.Reader.{Reads};
+ghost use Rattle.text_scan.specs.Reader.{Reads, value_as};
 ghost use Rattle.mem_map.specs.PlacedBytes.{byte_among};
-ghost use Rattle.hex_loader.specs.HexImage.{image_in, image_of, are_image_places, base_after, has_ended, byte_after, line_fault, hex_fault, hex_byte};
+ghost use Rattle.hex_loader.specs.HexImage.{image_of, are_image_places, base_after, has_ended, byte_after, line_fault, hex_fault, hex_byte};
 
 use crate::hex_record::{HexRecord, MOST_BYTES, record_of_line};
 use mem_map::Image;
@@ -17,7 +17,7 @@ use text_scan::{FaultAt, FaultKind, Lines, TextFault};
 /// The image of an Intel HEX text, or the first fault of its first faulty line. Where no line has a
 /// fault and there is no end record, the fault `NoEnd` has the number of lines.
 pub fn read_hex(alloc: Global, text: &[u8]) -> Result<Image, TextFault>
-    ensures { Reads (image_in result) (image_of text.now) }
+    ensures { Reads (value_as byte_in result) (image_of text.now) }
 {
     match Image::new(alloc) {
         Ok(image) => read_into(image, text).map_err(TextFault::At),
@@ -35,7 +35,7 @@ fn read_into(image: Image, text: &[u8]) -> Result<Image, FaultAt>
     let mut reader = Reader {
         image,
         base: 0,
-        ended: false,
+        has_ended: false,
     };
     let mut count = 0;
     for (number, line) in Lines::new(text) {
@@ -44,7 +44,7 @@ fn read_into(image: Image, text: &[u8]) -> Result<Image, FaultAt>
         }
         count = number;
     }
-    if !reader.ended {
+    if !reader.has_ended {
         return Err(FaultAt {
             line: count,
             kind: FaultKind::NoEnd,
@@ -90,7 +90,7 @@ fn set_bytes(image: &mut Image, first: u64, bytes: &[u8]) -> Result<(), FaultKin
 pub struct Reader {
     image: Image,
     base: u32,
-    ended: bool,
+    has_ended: bool,
 }
 
 impl Reader {
@@ -116,7 +116,7 @@ impl Reader {
                 set_bytes(&mut self.image, first, bytes)
             }
             HexRecord::End => {
-                self.ended = true;
+                self.has_ended = true;
                 Ok(())
             }
             HexRecord::Base(base) => {
@@ -138,7 +138,7 @@ impl Reader {
         if line.is_empty() {
             return Ok(());
         }
-        if self.ended {
+        if self.has_ended {
             return Err(FaultKind::AfterEnd);
         }
         let mut room = [0; MOST_BYTES];

@@ -1,4 +1,5 @@
-ghost use Rattle.std.specs.Prelude.{◌≡◌, ◌++◌, [], ℕ, List};
+ghost use Rattle.std.specs.Prelude.{◌≡◌, ◌++◌, ◌∷◌, [], ℕ, List};
+ghost use Rattle.part_definitions.specs.Attestation.{bytes_of_words};
 ghost use Rattle.part_definitions.specs.Hmac.{inner_input, inner_digest};
 
 use crate::digest32::Digest32;
@@ -6,7 +7,7 @@ use crate::key_block::{BLOCK, key_block};
 use crate::outer::Outer;
 use crate::pad::with_mask;
 
-/// The mask of the inner pad.
+// The mask of the inner pad.
 const INNER_PAD: u8 = 0x36;
 
 /// The key's block under the inner pad: what the inner digest begins with.
@@ -46,6 +47,16 @@ impl<D: Digest32> Hmac<D> {
             → HmacStandsFor D.has_taken D.digest_of self.new key (message ++ piece.now) }
     {
         self.inner.update(piece);
+    }
+
+    /// Takes a word of the message, its low byte first.
+    pub fn update_word(&mut self, word: u16)
+        ensures { (key message : List ℕ)
+            → HmacStandsFor D.has_taken D.digest_of self.old key message
+            → HmacStandsFor D.has_taken D.digest_of self.new key
+            (message ++ bytes_of_words (word ∷ [])) }
+    {
+        self.update(&word.to_le_bytes());
     }
 
     /// Ends the message: the inner digest, and the half that makes the code of it.

@@ -10,6 +10,6 @@ mod pending;
 mod pins;
 mod timer;
 
-pub use pending::{Pending, best};
+pub use pending::{Pending, TIMER_VECTOR, best};
 pub use pins::Pins;
 pub use timer::Timer;

@@ -18,7 +18,7 @@ pub struct Timer {
     control: Register,
     compare: Register,
     count: u16,
-    /// The step of the write that began the count has not ended.
+    // The step of the write that began the count has not ended.
     fresh: bool,
     flag: bool,
 }

@@ -105,12 +105,12 @@ write_stack start released logs passed place number past stack off_mac =
     }
 
 -- a word of the MAC
-write_mac : (start : Start) (released : List ℕ) (logs : Logs) (passed place number given : ℕ)
+write_mac : (start : Start) (released : List ℕ) (logs : Logs) (passed place number other : ℕ)
     → 32 ≤ passed
     → touches (Read place Word) stack_region ≡ false
-    → given ≡ number
-    → SameItem start released logs passed (Write place Word number) (Write place Word given)
-write_mac start released logs passed place number given past off same =
+    → other ≡ number
+    → SameItem start released logs passed (Write place Word number) (Write place Word other)
+write_mac start released logs passed place number other past off same =
     record {
       access =
           ap (λ (n : ℕ). Some (Write place Word n))

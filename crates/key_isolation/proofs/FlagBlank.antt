@@ -2,31 +2,31 @@
 use Rattle.std.proofs.Common.{arith, ◌≡◌, ℕ, Bool, List, [], ◌∷◌, Option, map, refl, ap, ◌∙◌}
 use Rattle.std.specs.Prelude.{◌||◌, if◌then◌else◌}
 use Rattle.std.specs.List.{list_any}
-use Rattle.bus_signals.specs.Seen.{Seen}
+use Rattle.bus_signals.specs.SeenRecord.{SeenRecord}
 use Rattle.part_definitions.specs.Flag.{clears, starts_run, last_pc, records_since_clear, exec}
 use Rattle.device_trace.specs.Blank.{blank_record}
 
 -- a record that the flag has seen, blanked
-abbrev pub blank_seen : Seen → Seen
+abbrev pub blank_seen : SeenRecord → SeenRecord
 blank_seen now = record { entry = blank_record now.entry; bounds = now.bounds }
 
-clears-blank : (last : Option ℕ) (now : Seen) → clears last (blank_seen now) ≡ clears last now
+clears-blank : (last : Option ℕ) (now : SeenRecord) → clears last (blank_seen now) ≡ clears last now
 clears-blank last now = grind arith
 
-starts_run-blank : (now : Seen) → starts_run (blank_seen now) ≡ starts_run now
+starts_run-blank : (now : SeenRecord) → starts_run (blank_seen now) ≡ starts_run now
 starts_run-blank now = grind arith
 
-pub last_pc-blank : (seen : List Seen) → last_pc (map blank_seen seen) ≡ last_pc seen
+pub last_pc-blank : (seen : List SeenRecord) → last_pc (map blank_seen seen) ≡ last_pc seen
 last_pc-blank [] = refl
 last_pc-blank (now ∷ before) = refl
 
-goes_on : (test test' : Bool) (now : Seen) (kept kept' : List Seen)
+goes_on : (test test' : Bool) (now : SeenRecord) (kept kept' : List SeenRecord)
     → test' ≡ test → kept' ≡ map blank_seen kept
     → (if test' then [] else blank_seen now ∷ kept')
     ≡ map blank_seen (if test then [] else now ∷ kept)
 goes_on test test' now kept kept' same rest = grind arith
 
-records_since_clear-blank : (seen : List Seen)
+records_since_clear-blank : (seen : List SeenRecord)
     → records_since_clear (map blank_seen seen) ≡ map blank_seen (records_since_clear seen)
 records_since_clear-blank [] = refl
 records_since_clear-blank (now ∷ before) =
@@ -37,7 +37,7 @@ records_since_clear-blank (now ∷ before) =
     ∙ ap (λ (last : Option ℕ). clears last now) (last_pc-blank before))
     (records_since_clear-blank before)
 
-any_start-blank : (seen : List Seen)
+any_start-blank : (seen : List SeenRecord)
     → list_any starts_run (map blank_seen seen) ≡ list_any starts_run seen
 any_start-blank [] = refl
 any_start-blank (now ∷ before) =
@@ -45,7 +45,7 @@ any_start-blank (now ∷ before) =
     (starts_run-blank now)
     ∙ ap (λ (rest : Bool). starts_run now || rest) (any_start-blank before)
 
-pub exec-blank : (seen : List Seen) → exec (map blank_seen seen) ≡ exec seen
+pub exec-blank : (seen : List SeenRecord) → exec (map blank_seen seen) ≡ exec seen
 unfolding exec
 exec-blank seen =
     ap (list_any starts_run) (records_since_clear-blank seen)

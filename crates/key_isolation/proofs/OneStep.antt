@@ -157,11 +157,11 @@ call_same : (start : Start) (released more : List ℕ) (logs : Logs) (regs words
     (access_of (opened released start) (length logs.released_words) Rom
     (hide_progress (InCall regs words)))
 call_same start released more logs regs words keeps split =
-    let given : Access =
+    let access_given : Access =
     item_access (sp_of regs) (bounds_read words) (call_item words)
     (given_word released (length logs.released_words) (call_item words)) in
     let seen : access_of (opened released start) (length logs.released_words) Rom
-    (hide_progress (InCall regs words)) ≡ Some given =
+    (hide_progress (InCall regs words)) ≡ Some access_given =
     ap (λ (access : Access). Some access) (item_access-hide (sp_of regs) words _)
     ∙ ap (λ (item : CallItem). Some
     (item_access (sp_of regs) (bounds_read words) (call_item words)
@@ -175,13 +175,13 @@ call_same start released more logs regs words keeps split =
     let claim : Option Access → Type 0 =
     λ access. SameStep start released logs Rom (InCall regs words)
     (access_of start (length logs.released_words) Rom (InCall regs words)) access in
-    let at_given : claim (Some given) =
+    let at_access : claim (Some access_given) =
     record {
       access = same.access;
       value = same.value;
       next = call_after-hide regs words _ _ same.hidden same.kept;
     } in
-    subst claim (sym seen) at_given
+    subst claim (sym seen) at_access
 
 pub step_same : (start : Start) (released more : List ℕ) (logs : Logs) (kind : Kind)
     (progress : Progress)

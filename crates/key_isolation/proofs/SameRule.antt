@@ -89,7 +89,7 @@ pub first_rule-same : (last : Option ℕ) (seen real : Signals)
 unfolding first_rule
 first_rule-same last seen real same =
     ap
-    (λ (asked : Bool). or_else (rule_where asked X0)
+    (λ (breaks : Bool). or_else (rule_where breaks X0)
     (or_else (atomicity_rule last seen) (or_else (key_rule seen) (rule_where (breaks_i1 seen) I1))))
     same.script_reset
     ∙ (ap

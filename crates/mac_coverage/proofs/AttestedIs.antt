@@ -8,7 +8,7 @@ use Rattle.bus_signals.specs.Bounds.{are_valid}
 use Rattle.part_definitions.specs.Attestation.{executable_words, region_place, region_words, word_of_bytes, words_between}
 use Rattle.part_definitions.specs.Metadata.{bounds_in}
 use Rattle.part_definitions.specs.Region.{bounded_bytes, bytes_between, output_bytes}
-use Rattle.mac_coverage.specs.Attested.{attested_in}
+use Rattle.mac_coverage.specs.AttestedBytes.{attested_bytes_in}
 use Rattle.mac_coverage.proofs.Planned.{IsAttested, attested_bounds}
 use Rattle.part_definitions.proofs.BytesFrom.{length-bytes_from}
 use Rattle.bus_signals.proofs.ValidRange.{AreValidRanges, IsValidRange, are_valid-ranges}
@@ -169,11 +169,12 @@ rest-are bytes bounds small = by_case (are_valid bounds)
     by_case false = λ i. omega arith
 
 -- the bounds are words of the metadata
-pub bounds-attested : (bytes : ℕ → ℕ) → attested_bounds (attested_in bytes) ≡ bounds_in bytes
+pub bounds-attested : (bytes : ℕ → ℕ) → attested_bounds (attested_bytes_in bytes) ≡ bounds_in bytes
 bounds-attested bytes = refl
 
-pub attested_in-is : (bytes : ℕ → ℕ) → ((p : ℕ) → bytes p < 256) → IsAttested (attested_in bytes)
-attested_in-is bytes small =
+pub attested_bytes_in-is : (bytes : ℕ → ℕ) → ((p : ℕ) → bytes p < 256)
+    → IsAttested (attested_bytes_in bytes)
+attested_bytes_in-is bytes small =
     record {
       metadata_size = length-bytes_from bytes 0x240 42;
       rest_size = rest-size bytes (bounds_in bytes);

@@ -16,7 +16,7 @@ use Rattle.device_trace.specs.Logs.{Logs, exec_of, logged_byte, released_words_a
 use Rattle.device_trace.specs.Progress.{call_access}
 use Rattle.device_trace.specs.Signals.{value_read}
 use Rattle.device_trace.specs.Trace.{byte_after}
-use Rattle.mac_coverage.specs.Attested.{Attested, attested_in, without_exec_word, tag_of}
+use Rattle.mac_coverage.specs.AttestedBytes.{AttestedBytes, attested_bytes_in, without_exec_word, tag_of}
 use Rattle.mac_coverage.specs.Call.{mac_written}
 use Rattle.mac_coverage.specs.Coverage.{attested_before}
 use Rattle.trace_facts.proofs.ItemNumbers.{IsItemAt, item_after-at}
@@ -29,7 +29,7 @@ use Rattle.mac_coverage.proofs.Steps.{IsCallStep}
 use Rattle.mac_coverage.proofs.Words.{AreBytes}
 
 pub record CallSoFar (device : Device) (play : List (List Event)) (call : List BusRecord)
-    (words : List ℕ) (attested : Attested) : Type 0 where
+    (words : List ℕ) (attested : AttestedBytes) : Type 0 where
   pub throughout : (steps : ℕ) → steps < length call
       → attested_before (start_of device) play steps ≡ attested
   pub before :
@@ -45,7 +45,7 @@ pub record CallSoFar (device : Device) (play : List (List Event)) (call : List B
       (mac_count attested (length words))
 
 -- before its first step
-pub call-begins : (device : Device) (play : List (List Event)) (attested : Attested)
+pub call-begins : (device : Device) (play : List (List Event)) (attested : AttestedBytes)
     → without_exec_word (attested_before (start_of device) play 0) ≡ without_exec_word attested
     → CallSoFar device play [] [] attested
 call-begins device play attested alike =
@@ -61,7 +61,7 @@ call-begins device play attested alike =
 
 -- after one step more
 call-more : (device : Device) (play : List (List Event)) (events : List Event)
-    (entry : BusRecord) (call : List BusRecord) (words more : List ℕ) (attested : Attested)
+    (entry : BusRecord) (call : List BusRecord) (words more : List ℕ) (attested : AttestedBytes)
     → CallSoFar device play call words attested
     → attested_before (start_of device) (events ∷ play) 0 ≡ attested
     → ArePlanned device.digest device.key attested more
@@ -98,12 +98,13 @@ released-rom rule kind access words none rom =
     first ∙ ap (λ (k : Kind). released_words_after None k access words) rom
 
 -- a step of a call that was not refused, from memory to memory
-pub record CallGoes (device : Device) (play : List (List Event)) (events : List Event)
-    (logs : Logs) (regs words : List ℕ) (entry : BusRecord) (attested : Attested) : Type 0 where
+pub record CallGoes
+    (device : Device) (play : List (List Event)) (events : List Event) (logs : Logs)
+    (regs words : List ℕ) (entry : BusRecord) (attested : AttestedBytes) : Type 0 where
   pub step : IsCallStep (start_of device) logs regs words entry
   -- what is attested is of bytes; it stands before the step, if it is not the first, and after it
   pub is : IsAttested attested
-  pub stands : 1 ≤ length words → attested_in (logged_byte (start_of device) logs) ≡ attested
+  pub stands : 1 ≤ length words → attested_bytes_in (logged_byte (start_of device) logs) ≡ attested
   pub after : attested_before (start_of device) (events ∷ play) 0 ≡ attested
   -- the memory before, and after but for the EXEC word
   pub bytes_before : (p : ℕ)
@@ -121,7 +122,7 @@ abbrev value_in : Device → Logs → List ℕ → List ℕ → ℕ
 value_in device logs regs words =
     value_read (start_of device) logs (Some (access_in device logs regs words))
 
-item-at : (device : Device) (attested : Attested) (words : List ℕ)
+item-at : (device : Device) (attested : AttestedBytes) (words : List ℕ)
     → ArePlanned device.digest device.key attested words
     → IsItemAt (attested_words attested) (length words) (call_item words)
 item-at device attested words planned =
@@ -130,7 +131,7 @@ item-at device attested words planned =
     (item_after-at (attested_words attested) (length words))
 
 step-passes : (device : Device) (play : List (List Event)) (events : List Event) (logs : Logs)
-    (regs words : List ℕ) (entry : BusRecord) (attested : Attested)
+    (regs words : List ℕ) (entry : BusRecord) (attested : AttestedBytes)
     → CallGoes device play events logs regs words entry attested
     → ArePlanned device.digest device.key attested words
     → is_return (call_item words) ≡ false
@@ -146,7 +147,7 @@ step-passes device play events logs regs words entry attested goes planned goes_
 -- one that does not return
 pub call-goes_on : (device : Device) (play : List (List Event)) (events : List Event)
     (logs : Logs) (regs words : List ℕ) (entry : BusRecord) (call : List BusRecord)
-    (attested : Attested)
+    (attested : AttestedBytes)
     → CallGoes device play events logs regs words entry attested
     → CallSoFar device play call words attested
     → is_return (call_item words) ≡ false
@@ -217,7 +218,7 @@ return-leaves sp bounds ReturnRead number returns = (λ words. refl, λ writes. 
 
 pub call-returns : (device : Device) (play : List (List Event)) (events : List Event)
     (logs : Logs) (regs words : List ℕ) (entry : BusRecord) (call : List BusRecord)
-    (attested : Attested)
+    (attested : AttestedBytes)
     → CallGoes device play events logs regs words entry attested
     → CallSoFar device play call words attested
     → is_return (call_item words) ≡ true
@@ -247,7 +248,7 @@ call-returns device play events logs regs words entry call attested goes so_far 
 
 -- at the return all words are written
 pub return-is_last : (device : Device) (play : List (List Event)) (words : List ℕ)
-    (call : List BusRecord) (attested : Attested)
+    (call : List BusRecord) (attested : AttestedBytes)
     → CallSoFar device play call words attested
     → is_return (call_item words) ≡ true
     → mac_count attested (length words) ≡ 16

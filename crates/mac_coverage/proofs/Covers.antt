@@ -9,7 +9,7 @@ use Rattle.bus_signals.specs.declared.rule.Rule.{Rule}
 use Rattle.part_definitions.specs.Attestation.{word_of_bytes}
 use Rattle.device_trace.specs.Logs.{released_words_after}
 use Rattle.device_trace.specs.Trace.{byte_after, trace}
-use Rattle.mac_coverage.specs.Attested.{Attested, mac_words, tag_of}
+use Rattle.mac_coverage.specs.AttestedBytes.{AttestedBytes, mac_words, tag_of}
 use Rattle.mac_coverage.specs.Call.{ends_finished, last_call}
 use Rattle.mac_coverage.specs.Coverage.{IsInCall, MacCoversCall, attested_before}
 use Rattle.mac_coverage.proofs.Calls.{CallSoFar}
@@ -21,7 +21,7 @@ use Rattle.mac_coverage.proofs.PlaySteps.{earlier_records, entry_at}
 use Rattle.mac_coverage.proofs.Words.{are_bytes}
 
 -- the words of the MAC that are written, and the others
-few_words : (device : Device) (attested : Attested) (count : ℕ) → count ≤ 16
+few_words : (device : Device) (attested : AttestedBytes) (count : ℕ) → count ≤ 16
     → first_mac_words device.digest device.key attested count
     ++ drop count (mac_words device.digest device.key attested)
     ≡ mac_words device.digest device.key attested
@@ -33,7 +33,7 @@ few_words device attested count within =
 
 -- the MAC covers a call so far
 pub covers_so_far : (device : Device) (play : List (List Event)) (words : List ℕ)
-    (attested : Attested)
+    (attested : AttestedBytes)
     → CallSoFar device play (last_call (trace (start_of device) play)) words attested
     → (ends_finished (trace (start_of device) play) ≡ true
     → mac_count attested (length words) ≡ 16)
@@ -73,7 +73,7 @@ unfinished (Some rule) true refused finished = cc
 unfinished (Some rule) false refused finished = cc
 
 pub covers_refused : (device : Device) (play : List (List Event)) (events : List Event)
-    (words : List ℕ) (attested : Attested)
+    (words : List ℕ) (attested : AttestedBytes)
     → is_some (entry_at device play events).reset ≡ true
     → CallSoFar device play (earlier_records device play events) words attested
     → MacCoversCall device.digest device.key (start_of device) (events ∷ play)

@@ -12,7 +12,7 @@ use Rattle.bus_signals.specs.Access.{is_write, some_writes}
 use Rattle.bus_signals.specs.Bounds.{are_valid, executable_region, output_region}
 use Rattle.bus_signals.specs.Kind.{is_cpu}
 use Rattle.bus_signals.specs.Map.{some_touches, touches, metadata_region}
-use Rattle.bus_signals.specs.Seen.{Seen}
+use Rattle.bus_signals.specs.SeenRecord.{SeenRecord}
 use Rattle.part_definitions.specs.Flag.{accesses_in, writes_to, runs_inside, ran_inside, fetches_at, clears_e1, clears_e2, clears_e3, clears_e4, clears_e5, clears_e6, clears_e7, clears_e8, clears_e9, clears, starts_run, last_pc, records_since_clear, exec}
 use Rattle.part_definitions.specs.Monitors.{in_rom, leaves_stack_and_mac}
 use Rattle.bus_signals.proofs.ValidRange.{AreValidRanges, are_valid-ranges}
@@ -44,7 +44,7 @@ touches_nowhere region (Some access) apart within =
     off false leaves touched none apart = refl
 
 -- after a record in the ROM it clears no flag
-rom_step-keeps : (last : ℕ) (now : Seen) → IsRomStep now.entry → in_rom last ≡ true
+rom_step-keeps : (last : ℕ) (now : SeenRecord) → IsRomStep now.entry → in_rom last ≡ true
     → are_valid now.bounds ≡ true → clears (Some last) now ≡ false
 rom_step-keeps last now step rom valid =
     let ranges : AreValidRanges now.bounds = are_valid-ranges now.bounds valid in
@@ -89,13 +89,13 @@ rom_step-keeps last now step rom valid =
     (or_from _ _ e1 e2) e3) e4) e5) e6) e7) e8) e9
 
 -- nor does it start a run
-rom_step-starts_none : (now : Seen) → IsRomStep now.entry → starts_run now ≡ false
+rom_step-starts_none : (now : SeenRecord) → IsRomStep now.entry → starts_run now ≡ false
 rom_step-starts_none now step =
     let not_cpu : is_cpu now.entry.kind ≡ false = ap is_cpu step.kind in
     and_left _ (are_valid now.bounds) (and_left _ (now.entry.pc == now.bounds.er_min)
     (and_left (is_cpu now.entry.kind) (fetches_at now.entry.cpu now.entry.pc) not_cpu))
 
-kept_flag : (cleared : Bool) (now : Seen) (kept : List Seen) → starts_run now ≡ false
+kept_flag : (cleared : Bool) (now : SeenRecord) (kept : List SeenRecord) → starts_run now ≡ false
     → (list_any starts_run kept ≡ true → cleared ≡ false)
     → list_any starts_run (if cleared then [] else now ∷ kept) ≡ list_any starts_run kept
 kept_flag true now kept starts keeps =
@@ -103,7 +103,7 @@ kept_flag true now kept starts keeps =
     (λ set. let wrong : true ≡ false = keeps set in cc))
 kept_flag false now kept starts keeps = ap (λ (b : Bool). b || list_any starts_run kept) starts
 
-pub exec-rom_step : (last : ℕ) (now : Seen) (before : List Seen)
+pub exec-rom_step : (last : ℕ) (now : SeenRecord) (before : List SeenRecord)
     → last_pc before ≡ Some last → IsRomStep now.entry → in_rom last ≡ true
     → (exec before ≡ true → are_valid now.bounds ≡ true)
     → exec (now ∷ before) ≡ exec before

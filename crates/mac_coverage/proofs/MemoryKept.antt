@@ -15,7 +15,7 @@ use Rattle.part_definitions.specs.Metadata.{bounds_in}
 use Rattle.part_definitions.specs.Monitors.{is_written_by_rom, leaves_stack_and_mac}
 use Rattle.part_definitions.specs.Region.{bounded_bytes, bytes_between, metadata_bytes, rest_bytes}
 use Rattle.trace_facts.proofs.MissedPlace.{MissesPlace, last_written-missed}
-use Rattle.mac_coverage.specs.Attested.{attested_in, without_exec_word}
+use Rattle.mac_coverage.specs.AttestedBytes.{attested_bytes_in, without_exec_word}
 use Rattle.bus_signals.proofs.ValidRange.{AreValidRanges, IsValidRange, are_valid-ranges}
 use Rattle.mac_coverage.proofs.ValidPlaces.{IsFreePlace, range-free}
 use Rattle.mac_coverage.proofs.Words.{bytes_from-same, take-bytes_from}
@@ -143,7 +143,7 @@ front-alike left right alike =
     off_exec i within = grind (arith, nat_tests)
 
 pub attested-but_exec : (left right : ℕ → ℕ) → AreAlike left right
-    → without_exec_word (attested_in left) ≡ without_exec_word (attested_in right)
+    → without_exec_word (attested_bytes_in left) ≡ without_exec_word (attested_bytes_in right)
 attested-but_exec left right alike =
     let metadata : take 40 (metadata_bytes left) ≡ take 40 (metadata_bytes right) =
     take-bytes_from left 0x240 40 42 (omega arith)
@@ -154,7 +154,7 @@ attested-but_exec left right alike =
 -- with the EXEC word
 pub attested-same : (left right : ℕ → ℕ)
     → ((p : ℕ) → is_written_by_rom p ≡ false → left p ≡ right p)
-    → attested_in left ≡ attested_in right
+    → attested_bytes_in left ≡ attested_bytes_in right
 attested-same left right same =
     let metadata : metadata_bytes left ≡ metadata_bytes right =
     bytes_from-same left right 0x240 42 (λ i within. same (0x240 + i) (unwritten i within)) in

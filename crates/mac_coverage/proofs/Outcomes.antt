@@ -16,7 +16,7 @@ use Rattle.device_trace.specs.Signals.{step_kind}
 use Rattle.device_trace.specs.Text.{finishes_call}
 use Rattle.device_trace.specs.Trace.{logs_after, trace}
 use Rattle.trace_facts.proofs.Choices.{none_there}
-use Rattle.mac_coverage.specs.Attested.{Attested}
+use Rattle.mac_coverage.specs.AttestedBytes.{AttestedBytes}
 use Rattle.mac_coverage.specs.Call.{begins_call}
 use Rattle.mac_coverage.specs.Coverage.{MacCoversCall, attested_before}
 use Rattle.mac_coverage.proofs.CallItems.{exit_returns, only_first_enters}
@@ -97,7 +97,7 @@ refused-next device play events refused =
 
 -- a step that was not refused
 unrefused_outcome : (device : Device) (play : List (List Event)) (events : List Event)
-    (regs words : List ℕ) (attested : Attested)
+    (regs words : List ℕ) (attested : AttestedBytes)
     → IsTurnOfCall device play events regs words
     → IsCallStep (start_of device) (heard device play events) regs words
     (entry_at device play events)
@@ -168,7 +168,7 @@ first_outcome : (device : Device) (play : List (List Event)) (events : List Even
     → Outcome device (events ∷ play)
 first_outcome device play events regs turn =
     let entry : BusRecord = entry_at device play events in
-    let before : Attested = attested_before (start_of device) play 0 in
+    let before : AttestedBytes = attested_before (start_of device) play 0 in
     let begins : begins_call entry ≡ true =
     and_from (is_rom entry.kind) (entry.pc == ROM_ENTRY)
     (ap is_rom (entry-kind device play events ∙ turn.kind))
@@ -184,7 +184,7 @@ first_outcome device play events regs turn =
       | inr kept ↦
           let none = none_there entry.reset kept in
           let step = entry-step device play events regs [] turn none in
-          let after : Attested = attested_before (start_of device) (events ∷ play) 0 in
+          let after : AttestedBytes = attested_before (start_of device) (events ∷ play) 0 in
           unrefused_outcome device play events regs [] after turn step
           (first_step device play events after begins
           (after_step-alike device play events step.rom))

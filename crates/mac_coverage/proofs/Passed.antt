@@ -13,7 +13,7 @@ use Rattle.part_definitions.specs.Metadata.{bounds_in}
 use Rattle.part_definitions.specs.Region.{bounded_bytes}
 use Rattle.device_trace.specs.Logs.{Logs, logged_byte, with_released_word}
 use Rattle.device_trace.specs.Signals.{value_read}
-use Rattle.mac_coverage.specs.Attested.{Attested, attested_in, tag_of}
+use Rattle.mac_coverage.specs.AttestedBytes.{AttestedBytes, attested_bytes_in, tag_of}
 use Rattle.mac_coverage.proofs.AttestedIs.{IsWordAt, bounds-attested, rest-word}
 use Rattle.trace_facts.proofs.CallPlaces.{mac_place}
 use Rattle.trace_facts.proofs.ItemNumbers.{IsItemAt}
@@ -23,11 +23,11 @@ use Rattle.mac_coverage.proofs.Planned.{attested_bounds, attested_words, first_m
 use Rattle.mac_coverage.proofs.Words.{AreBytes, word-bytes_from}
 
 -- how many words of the MAC are written when so many words passed
-abbrev pub mac_count : Attested → ℕ → ℕ
+abbrev pub mac_count : AttestedBytes → ℕ → ℕ
 mac_count attested passed = passed - (85 + attested_words attested)
 
 -- an access with the value that it read: its word is the item's, and the words of the MAC go on
-pub record Passes (digest : List ℕ → List ℕ) (key : List ℕ) (attested : Attested) (passed : ℕ)
+pub record Passes (digest : List ℕ → List ℕ) (key : List ℕ) (attested : AttestedBytes) (passed : ℕ)
     (item : CallItem) (access : Access) (value : ℕ) : Type 0 where
   pub word : word_passed (Some access) value ≡ planned_item digest key attested item
   pub released : (written : List ℕ)
@@ -49,7 +49,7 @@ inner_word : (i : ℕ) → i < 16 → lies_in mac_region ((0x4020 + 2 * i) / 2 *
 inner_word i within = grind (arith, nat_tests)
 
 -- before the MAC is written
-no_word_yet : (digest : List ℕ → List ℕ) (key : List ℕ) (attested : Attested) (passed : ℕ)
+no_word_yet : (digest : List ℕ → List ℕ) (key : List ℕ) (attested : AttestedBytes) (passed : ℕ)
     → passed < 85 + attested_words attested
     → first_mac_words digest key attested (mac_count attested passed)
     ≡ first_mac_words digest key attested (mac_count attested (passed + 1))
@@ -58,11 +58,11 @@ no_word_yet digest key attested passed early =
     omega (arith, early) in
     ap (first_mac_words digest key attested) none
 
-no_byte_yet : (attested : Attested) (passed i : ℕ) → passed < 85 + attested_words attested
+no_byte_yet : (attested : AttestedBytes) (passed i : ℕ) → passed < 85 + attested_words attested
     → i < 2 * mac_count attested (passed + 1) → ⊥
 no_byte_yet attested passed i early within = omega (arith, early, within)
 
-read-passes : (device : Device) (logs : Logs) (attested : Attested) (passed place : ℕ)
+read-passes : (device : Device) (logs : Logs) (attested : AttestedBytes) (passed place : ℕ)
     (item : CallItem)
     → passed < 85 + attested_words attested
     → value_read (start_of device) logs (Some (read_at Word place))
@@ -78,7 +78,7 @@ read-passes device logs attested passed place item early is =
           absurd (no_byte_yet attested passed i early within);
     }
 
-stack_write-passes : (digest : List ℕ → List ℕ) (key : List ℕ) (attested : Attested)
+stack_write-passes : (digest : List ℕ → List ℕ) (key : List ℕ) (attested : AttestedBytes)
     (passed place number value : ℕ) (item : CallItem)
     → passed < 85 + attested_words attested
     → lies_in mac_region (place / 2 * 2) ≡ false
@@ -94,7 +94,7 @@ stack_write-passes digest key attested passed place number value item early off 
           absurd (no_byte_yet attested passed i early within);
     }
 
-mac_write-passes : (digest : List ℕ → List ℕ) (key : List ℕ) (attested : Attested)
+mac_write-passes : (digest : List ℕ → List ℕ) (key : List ℕ) (attested : AttestedBytes)
     (passed number value i : ℕ)
     → 85 + attested_words attested + i ≡ passed
     → i < 16
@@ -127,18 +127,18 @@ mac_write-passes digest key attested passed number value i at below is =
     joined written number same same_number = λ j. same j ++ same_number j ∷ []
 
 -- a word of the metadata and one of the region, of what stands in memory
-metadata-read : (device : Device) (logs : Logs) (attested : Attested) (i : ℕ) → i < 21
-    → attested_in (logged_byte (start_of device) logs) ≡ attested
+metadata-read : (device : Device) (logs : Logs) (attested : AttestedBytes) (i : ℕ) → i < 21
+    → attested_bytes_in (logged_byte (start_of device) logs) ≡ attested
     → value_read (start_of device) logs (Some (read_at Word (0x240 + 2 * i)))
     ≡ word_of_bytes attested.metadata i
 metadata-read device logs attested i within stands =
     word-read (start_of device) logs (0x240 + 2 * i) (omega arith) (omega arith)
     ∙ (sym (word-bytes_from (logged_byte (start_of device) logs) 0x240 42 i (omega (arith, within)))
-    ∙ ap (λ (a : Attested). word_of_bytes a.metadata i) stands)
+    ∙ ap (λ (a : AttestedBytes). word_of_bytes a.metadata i) stands)
 
-region-read : (device : Device) (logs : Logs) (attested : Attested) (bounds : Bounds) (i : ℕ)
+region-read : (device : Device) (logs : Logs) (attested : AttestedBytes) (bounds : Bounds) (i : ℕ)
     → i < attested_words attested
-    → attested_in (logged_byte (start_of device) logs) ≡ attested
+    → attested_bytes_in (logged_byte (start_of device) logs) ≡ attested
     → bounds ≡ attested_bounds attested
     → value_read (start_of device) logs (Some (read_at Word (region_place bounds i)))
     ≡ word_of_bytes attested.rest i
@@ -148,21 +148,21 @@ region-read device logs attested bounds i within stands same =
     ap attested_bounds (sym stands) ∙ bounds-attested bytes in
     let place : region_place bounds i ≡ region_place (bounds_in bytes) i =
     ap (λ (b : Bounds). region_place b i) (same ∙ in_memory) in
-    let count : attested_words attested ≡ attested_words (attested_in bytes) =
+    let count : attested_words attested ≡ attested_words (attested_bytes_in bytes) =
     ap attested_words (sym stands) in
     let word : IsWordAt bytes (word_of_bytes (bounded_bytes bytes (bounds_in bytes)) i)
     (region_place (bounds_in bytes) i) =
     rest-word bytes (bounds_in bytes) i (omega (arith, within, count)) in
     ap (λ (p : ℕ). value_read (start_of device) logs (Some (read_at Word p))) place
     ∙ (word-read (start_of device) logs (region_place (bounds_in bytes) i) word.even word.above
-    ∙ (sym word.is ∙ ap (λ (a : Attested). word_of_bytes a.rest i) stands))
+    ∙ (sym word.is ∙ ap (λ (a : AttestedBytes). word_of_bytes a.rest i) stands))
 
 -- of each item but the return
-pub item-passes : (device : Device) (logs : Logs) (attested : Attested) (words : List ℕ)
+pub item-passes : (device : Device) (logs : Logs) (attested : AttestedBytes) (words : List ℕ)
     (sp : ℕ) (bounds : Bounds) (passed : ℕ) (item : CallItem)
     → IsItemAt (attested_words attested) passed item
     → is_return item ≡ false
-    → (1 ≤ passed → attested_in (logged_byte (start_of device) logs) ≡ attested)
+    → (1 ≤ passed → attested_bytes_in (logged_byte (start_of device) logs) ≡ attested)
     → (69 ≤ passed → bounds ≡ attested_bounds attested)
     → (69 + attested_words attested ≤ passed
     → tag_in device.digest words ≡ tag_of device.digest device.key attested)

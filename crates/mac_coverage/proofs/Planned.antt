@@ -7,12 +7,12 @@ use Rattle.std.proofs.lemmas.List.{length-drop, length-take-le, get_or-take, get
 use Rattle.std.proofs.lemmas.List.FromFn.{map-range_with_len_more}
 use Rattle.bus_signals.specs.declared.bounds.Bounds.{Bounds}
 use Rattle.part_definitions.specs.Attestation.{CallItem, KeyRead, MetadataRead, DerivedKeyWrite, RegionRead, InnerDigestWrite, MacWrite, ReturnRead, attestation_tag, bounds_read, bytes_of_words, call_item, item_after, key_read, metadata_read, region_read, region_words, tag_in, word_of_bytes}
-use Rattle.mac_coverage.specs.Attested.{Attested, tag_of}
+use Rattle.mac_coverage.specs.AttestedBytes.{AttestedBytes, tag_of}
 use Rattle.mac_coverage.proofs.CallItems.{item_after-early, key_item, metadata_item, region_item}
 use Rattle.mac_coverage.proofs.Words.{AreBytes, bytes_of_words-read}
 
 -- the bounds in the metadata, and how many words of the region they name
-abbrev pub attested_bounds : Attested → Bounds
+abbrev pub attested_bounds : AttestedBytes → Bounds
 attested_bounds attested =
     record {
       er_min = word_of_bytes attested.metadata 16;
@@ -21,11 +21,11 @@ attested_bounds attested =
       or_max = word_of_bytes attested.metadata 19;
     }
 
-abbrev pub attested_words : Attested → ℕ
+abbrev pub attested_words : AttestedBytes → ℕ
 attested_words attested = region_words (attested_bounds attested)
 
 -- the word that passes with an item, and after so many words
-abbrev pub planned_item : (List ℕ → List ℕ) → List ℕ → Attested → CallItem → ℕ
+abbrev pub planned_item : (List ℕ → List ℕ) → List ℕ → AttestedBytes → CallItem → ℕ
 planned_item digest key attested (KeyRead i) = word_of_bytes key i
 planned_item digest key attested (MetadataRead i) = word_of_bytes attested.metadata i
 planned_item digest key attested (DerivedKeyWrite i) = 0
@@ -34,21 +34,21 @@ planned_item digest key attested (InnerDigestWrite i) = 0
 planned_item digest key attested (MacWrite i) = word_of_bytes (tag_of digest key attested) i
 planned_item digest key attested ReturnRead = 0
 
-abbrev pub planned_word : (List ℕ → List ℕ) → List ℕ → Attested → ℕ → ℕ
+abbrev pub planned_word : (List ℕ → List ℕ) → List ℕ → AttestedBytes → ℕ → ℕ
 planned_word digest key attested i =
     planned_item digest key attested (item_after (attested_words attested) i)
 
-abbrev pub ArePlanned : (List ℕ → List ℕ) → List ℕ → Attested → List ℕ → Type 0
+abbrev pub ArePlanned : (List ℕ → List ℕ) → List ℕ → AttestedBytes → List ℕ → Type 0
 ArePlanned digest key attested words =
     (i : ℕ) → i < length words → slice_index words i ≡ planned_word digest key attested i
 
 -- the words of the MAC, so many
-abbrev pub first_mac_words : (List ℕ → List ℕ) → List ℕ → Attested → ℕ → List ℕ
+abbrev pub first_mac_words : (List ℕ → List ℕ) → List ℕ → AttestedBytes → ℕ → List ℕ
 first_mac_words digest key attested count =
     map (word_of_bytes (tag_of digest key attested)) (range_with_len 0 count)
 
 -- one word more
-pub planned-more : (digest : List ℕ → List ℕ) (key : List ℕ) (attested : Attested)
+pub planned-more : (digest : List ℕ → List ℕ) (key : List ℕ) (attested : AttestedBytes)
     (words : List ℕ) (word : ℕ)
     → ArePlanned digest key attested words
     → word ≡ planned_word digest key attested (length words)
@@ -66,14 +66,14 @@ planned-more digest key attested words word planned is i within =
     ]
 
 -- what is attested: its sizes, and that it is of bytes
-pub record IsAttested (attested : Attested) : Type 0 where
+pub record IsAttested (attested : AttestedBytes) : Type 0 where
   pub metadata_size : length attested.metadata ≡ 42
   pub rest_size : length attested.rest ≡ 2 * attested_words attested
   pub metadata_bytes : AreBytes attested.metadata
   pub rest_bytes : AreBytes attested.rest
 
 -- the bounds that a call has read
-pub bounds_read-planned : (digest : List ℕ → List ℕ) (key : List ℕ) (attested : Attested)
+pub bounds_read-planned : (digest : List ℕ → List ℕ) (key : List ℕ) (attested : AttestedBytes)
     (words : List ℕ)
     → ArePlanned digest key attested words → 69 ≤ length words
     → bounds_read words ≡ attested_bounds attested
@@ -90,7 +90,7 @@ bounds_read-planned digest key attested words planned past =
     }
 
 -- so its next access is the planned one
-pub call_item-planned : (digest : List ℕ → List ℕ) (key : List ℕ) (attested : Attested)
+pub call_item-planned : (digest : List ℕ → List ℕ) (key : List ℕ) (attested : AttestedBytes)
     (words : List ℕ)
     → ArePlanned digest key attested words
     → call_item words ≡ item_after (attested_words attested) (length words)
@@ -120,7 +120,7 @@ words_read words bytes first count within size small read =
     get_or-take count (drop first words) i 0 below
     ∙ (get_or-drop first words i 0 ∙ read i below))
 
-pub tag_in-planned : (digest : List ℕ → List ℕ) (key : List ℕ) (attested : Attested)
+pub tag_in-planned : (digest : List ℕ → List ℕ) (key : List ℕ) (attested : AttestedBytes)
     (words : List ℕ)
     → ArePlanned digest key attested words → IsAttested attested
     → length key ≡ 64 → AreBytes key
@@ -153,7 +153,7 @@ tag_in-planned digest key attested words planned is size small past =
     λ j. attestation_tag digest (key_same j) (metadata_same j) (rest_same j)
 
 -- one word of the MAC more
-pub first_mac_words-more : (digest : List ℕ → List ℕ) (key : List ℕ) (attested : Attested)
+pub first_mac_words-more : (digest : List ℕ → List ℕ) (key : List ℕ) (attested : AttestedBytes)
     (count : ℕ)
     → first_mac_words digest key attested (count + 1)
     ≡ first_mac_words digest key attested count

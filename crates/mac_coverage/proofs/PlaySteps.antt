@@ -14,10 +14,10 @@ use Rattle.device_trace.specs.Signals.{step_kind}
 use Rattle.device_trace.specs.Step.{asks_reset, next_record}
 use Rattle.device_trace.specs.Trace.{byte_after, logs_after, trace}
 use Rattle.trace_facts.proofs.ExecFlag.{logs_after-valid, with_events-valid}
-use Rattle.mac_coverage.specs.Attested.{Attested, without_exec_word}
+use Rattle.mac_coverage.specs.AttestedBytes.{AttestedBytes, without_exec_word}
 use Rattle.mac_coverage.specs.Call.{begins_call, last_call}
 use Rattle.mac_coverage.specs.Coverage.{attested_before}
-use Rattle.mac_coverage.proofs.AttestedIs.{attested_in-is}
+use Rattle.mac_coverage.proofs.AttestedIs.{attested_bytes_in-is}
 use Rattle.mac_coverage.proofs.Calls.{CallSoFar, call-begins}
 use Rattle.mac_coverage.proofs.Device.{Device, start_of, start_of-bytes}
 use Rattle.mac_coverage.proofs.ExecKept.{IsRomStep}
@@ -28,7 +28,7 @@ use Rattle.mac_coverage.proofs.Steps.{IsCallStep, IsInRom, OnCall, bytes-after, 
 
 -- after a play that is in a call
 pub record CallGoesOn (device : Device) (play : List (List Event)) (words : List ℕ) : Type 0 where
-  pub attested : Attested
+  pub attested : AttestedBytes
   pub so_far : CallSoFar device play (last_call (trace (start_of device) play)) words attested
   pub stands : attested_before (start_of device) play 0 ≡ attested
   pub begun : 1 ≤ length words
@@ -43,11 +43,11 @@ abbrev pub heard : Device → List (List Event) → List Event → Logs
 heard device play events = with_events (logs_after (start_of device) play) events
 
 -- what is attested in the memory after a play is of bytes
-pub attested-is : (device : Device) (play : List (List Event)) (attested : Attested)
+pub attested-is : (device : Device) (play : List (List Event)) (attested : AttestedBytes)
     → attested_before (start_of device) play 0 ≡ attested → IsAttested attested
 attested-is device play attested stands =
     subst IsAttested stands
-    (attested_in-is (byte_after (start_of device) play)
+    (attested_bytes_in-is (byte_after (start_of device) play)
     (λ place. byte_after-byte (start_of device) play place (start_of-bytes device)))
 
 -- the record of the next step
@@ -96,7 +96,7 @@ earlier_records device play events =
     else last_call (trace (start_of device) play)
 
 pub first_step : (device : Device) (play : List (List Event)) (events : List Event)
-    (attested : Attested)
+    (attested : AttestedBytes)
     → begins_call (entry_at device play events) ≡ true
     → without_exec_word (attested_before (start_of device) play 0) ≡ without_exec_word attested
     → CallSoFar device play (earlier_records device play events) [] attested
@@ -107,7 +107,7 @@ first_step device play events attested begins alike =
     (call-begins device play attested alike)
 
 pub later_step : (device : Device) (play : List (List Event)) (events : List Event)
-    (words : List ℕ) (attested : Attested)
+    (words : List ℕ) (attested : AttestedBytes)
     → begins_call (entry_at device play events) ≡ false
     → CallSoFar device play (last_call (trace (start_of device) play)) words attested
     → CallSoFar device play (earlier_records device play events) words attested

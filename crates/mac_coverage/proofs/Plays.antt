@@ -18,7 +18,7 @@ use Rattle.device_trace.specs.Step.{next_record}
 use Rattle.device_trace.specs.Text.{finishes_call, last_report, report_of}
 use Rattle.device_trace.specs.Trace.{byte_after, logs_after, trace}
 use Rattle.trace_facts.proofs.Choices.{some_where}
-use Rattle.mac_coverage.specs.Attested.{tag_of}
+use Rattle.mac_coverage.specs.AttestedBytes.{tag_of}
 use Rattle.mac_coverage.specs.Call.{ends_finished, ends_in_call, ends_refused, last_call}
 use Rattle.mac_coverage.specs.Coverage.{Gives32Bytes, IsDeviceKey, IsOfBytes, MacCoversCall, MacCoversReport, attested_before}
 use Rattle.mac_coverage.proofs.Device.{Device, start_of}

@@ -9,7 +9,7 @@ use Rattle.bus_signals.specs.declared.rule.Rule.{Rule}
 use Rattle.bus_signals.specs.declared.signals.Signals.{Signals}
 use Rattle.bus_signals.specs.Access.{some_writes}
 use Rattle.bus_signals.specs.Kind.{is_rom}
-use Rattle.bus_signals.specs.Seen.{Seen}
+use Rattle.bus_signals.specs.SeenRecord.{SeenRecord}
 use Rattle.part_definitions.specs.Attestation.{call_item, word_passed}
 use Rattle.part_definitions.specs.CpuState.{Boundary, Executing, Entering}
 use Rattle.part_definitions.specs.Flag.{exec, last_pc}
@@ -187,7 +187,7 @@ pub bytes-same : (start : Start) (logs : Logs) (entry : BusRecord) → IsRomStep
     → logged_byte start (with_record start logs entry) p ≡ logged_byte start logs p
 unfolding with_record
 bytes-same start logs entry step valid last p off =
-    let now : Seen = record { entry = entry; bounds = logged_bounds start logs } in
+    let now : SeenRecord = record { entry = entry; bounds = logged_bounds start logs } in
     let same : exec (now ∷ logs.seen) ≡ exec logs.seen =
     exec-rom_step last.pc now logs.seen last.is step last.code valid in
     ap (λ (flag : Bool). byte_at start.power flag

@@ -5,7 +5,7 @@ use Rattle.bus_signals.specs.declared.event.Event.{Event}
 use Rattle.part_definitions.specs.Region.{mac_bytes}
 use Rattle.device_trace.specs.Start.{Start}
 use Rattle.device_trace.specs.Trace.{trace, byte_after}
-use Rattle.mac_coverage.specs.Attested.{Attested, attested_in, without_exec_word, tag_of, mac_words}
+use Rattle.mac_coverage.specs.AttestedBytes.{AttestedBytes, attested_bytes_in, without_exec_word, tag_of, mac_words}
 use Rattle.mac_coverage.specs.Call.{last_call, mac_written, ends_refused, ends_finished}
 
 -- 64 bytes
@@ -22,8 +22,8 @@ pub record Gives32Bytes (digest : List ℕ → List ℕ) : Type 0 where
   pub bytes : (message : List ℕ) → All (λ byte. byte < 256) (digest message)
 
 -- what stands in memory before the last steps of a play, so many
-abbrev pub attested_before : Start → List (List Event) → ℕ → Attested
-attested_before start play steps = attested_in (byte_after start (drop steps play))
+abbrev pub attested_before : Start → List (List Event) → ℕ → AttestedBytes
+attested_before start play steps = attested_bytes_in (byte_after start (drop steps play))
 
 -- how many steps the last call of a play has made
 abbrev pub call_length : Start → List (List Event) → ℕ
@@ -38,7 +38,7 @@ pub record IsInCall (start : Start) (play : List (List Event)) (steps : ℕ) : T
 -- what the MAC of the last call of a play covers
 pub record MacCoversCall (digest : List ℕ → List ℕ) (key : List ℕ) (start : Start)
     (play : List (List Event)) : Type 0 where
-  pub attested : Attested
+  pub attested : AttestedBytes
   -- it stands in memory throughout the call
   pub throughout : (steps : ℕ) → IsInCall start play steps
       → attested_before start play steps ≡ attested
@@ -62,4 +62,4 @@ abbrev pub MacCoversReport :
 MacCoversReport digest key start report play =
     MacCoversCall digest key start play
     × (Gives32Bytes digest
-    → report.mac ≡ tag_of digest key (attested_in (byte_after start play)))
+    → report.mac ≡ tag_of digest key (attested_bytes_in (byte_after start play)))

@@ -1,4 +1,4 @@
-pub mod Attested
+pub mod AttestedBytes
 pub mod Call
 pub mod Coverage
 pub mod Example

@@ -5,7 +5,7 @@ ghost use Rattle.device_trace.specs.Reports.{EachReport};
 ghost use Rattle.device_trace.specs.Start.{with_key};
 ghost use Rattle.device_trace.specs.Text.{last_report};
 ghost use Rattle.device_trace.specs.Trace.{byte_after, trace};
-ghost use Rattle.mac_coverage.specs.Attested.{attested_in, tag_of};
+ghost use Rattle.mac_coverage.specs.AttestedBytes.{attested_bytes_in, tag_of};
 ghost use Rattle.mac_coverage.specs.Call.{ends_in_call};
 ghost use Rattle.mac_coverage.specs.Coverage.{Gives32Bytes, IsDeviceKey, IsOfBytes, MacCoversCall, MacCoversReport};
 
@@ -34,7 +34,7 @@ pub fn reported_mac_is_tag()
         → Gives32Bytes digest
         → last_report (with_key digest key image) play ≡ Some report
         → report.mac
-        ≡ tag_of digest key (attested_in (byte_after (with_key digest key image) play)) }
+        ≡ tag_of digest key (attested_bytes_in (byte_after (with_key digest key image) play)) }
 {}
 
 /// So the MAC of each report of a play covers its call.

@@ -7,22 +7,22 @@ ghost use Rattle.mem_map.specs.Span.{is_span};
 
 use crate::image::Image;
 use crate::place::{
-    ER_MAX, ER_MIN, EXEC_WORD, OR_MAX, OR_MIN, PLACES, is_image_place, is_span, lies_in, rom_byte,
+    ER_MAX, ER_MIN, EXEC_WORD, OR_MAX, OR_MIN, PLACES, is_image_place, is_span, rom_byte,
     takes_write,
 };
 use bus_signals::{Bounds, CR, KR};
 use std::alloc::{AllocError, Global};
 use word_arith::Size;
 
-/// The byte at a place before the first write.
+// The byte at a place before the first write.
 fn power_on_byte(key: &[u8; 64], image: &Image, place: u16) -> u8
     ensures { result ≡ byte_at (powered_on key.now image.now) false [] place }
 {
     if is_image_place(place) && takes_write(place) {
         image.get(place).unwrap_or(0)
-    } else if lies_in(KR, place) {
+    } else if KR.contains(place) {
         key[usize::from(place - KR.first)]
-    } else if lies_in(CR, place) {
+    } else if CR.contains(place) {
         rom_byte(place)
     } else {
         0

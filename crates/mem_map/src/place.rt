@@ -1,20 +1,13 @@
 ghost use Rattle.std.specs.Prelude.{◌≡◌};
-ghost use Rattle.bus_signals.specs.Map.{lies_in};
 ghost use Rattle.part_definitions.specs.Memory.{is_image_place, takes_write, rom_byte};
 ghost use Rattle.mem_map.specs.Span.{is_span};
 
-use bus_signals::{Region, XS};
+use bus_signals::{RAM, Region, XS};
 
 /// How many places the address space has.
 pub const PLACES: usize = 0x1_0000;
 
-/// RAM; MAC and metadata are parts of it.
-const RAM: Region = Region {
-    first: 0x0200,
-    last: 0x21FF,
-};
-
-/// The program, and the vectors above it.
+// The program, and the vectors above it.
 const PROGRAM: Region = Region {
     first: 0xC000,
     last: 0xFFFF,
@@ -33,23 +26,16 @@ pub const OR_MAX: u16 = 0x0266;
 /// The metadata's word that shows the EXEC flag.
 pub const EXEC_WORD: u16 = 0x0268;
 
-/// The two bytes of the attestation ROM's last word.
+// The two bytes of the attestation ROM's last word.
 const ROM_EXIT: u16 = 0xBFFE;
 
 const ROM_LAST: u16 = 0xBFFF;
-
-/// Whether a place lies in a region.
-pub fn lies_in(region: Region, place: u16) -> bool
-    ensures { result ≡ lies_in region place }
-{
-    region.first <= place && place <= region.last
-}
 
 /// Whether an image may hold a byte at this place: in RAM, program or vectors.
 pub fn is_image_place(place: u16) -> bool
     ensures { result ≡ is_image_place place }
 {
-    lies_in(RAM, place) || lies_in(PROGRAM, place)
+    RAM.contains(place) || PROGRAM.contains(place)
 }
 
 /// Whether the bytes from one place to another lie wholly in RAM, or wholly in program and vectors.
@@ -57,8 +43,8 @@ pub fn is_span(first: u16, last: u16) -> bool
     ensures { result ≡ is_span first last }
 {
     first <= last
-        && ((lies_in(RAM, first) && lies_in(RAM, last))
-            || (lies_in(PROGRAM, first) && lies_in(PROGRAM, last)))
+        && ((RAM.contains(first) && RAM.contains(last))
+            || (PROGRAM.contains(first) && PROGRAM.contains(last)))
 }
 
 /// Whether a write to this place leaves its byte there.
@@ -66,7 +52,7 @@ pub fn takes_write(place: u16) -> bool
     ensures { result ≡ takes_write place }
 {
     let is_exec_word = EXEC_WORD <= place && place <= EXEC_WORD + 1;
-    (is_image_place(place) && !is_exec_word) || lies_in(XS, place)
+    (is_image_place(place) && !is_exec_word) || XS.contains(place)
 }
 
 /// What the attestation ROM reads as at this place.

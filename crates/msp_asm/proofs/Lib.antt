@@ -5,4 +5,4 @@ pub mod LinesSoFar
 pub mod SecondPassMore
 pub mod FreePlaces
 pub mod BytesStay
-pub mod Standing
+pub mod HasBytes

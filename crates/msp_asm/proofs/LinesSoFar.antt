@@ -7,10 +7,11 @@ use Rattle.text_scan.specs.declared.fault_at.FaultAt.{FaultAt}
 use Rattle.text_scan.specs.declared.fault_kind.FaultKind.{FaultKind}
 use Rattle.text_scan.specs.declared.word_fault.WordFault.{WordFault}
 use Rattle.text_scan.specs.declared.word_fault.WordFault.TheVariants.{Kind, Memory}
+use Rattle.text_scan.specs.Reader.{fault_in_line}
 use Rattle.asm_text.specs.declared.statement.Statement.{Statement}
 use Rattle.msp_asm.specs.FirstPass.{at_line, first_fault}
 use Rattle.msp_asm.specs.FirstPassState.{AnswersFault}
-use Rattle.msp_asm.specs.Assembly.{IsFault, fault_in_line}
+use Rattle.msp_asm.specs.Assembly.{IsFault}
 
 abbrev pub Faults : Type 0
 Faults = List Statement → Statement → Option FaultKind

@@ -26,14 +26,6 @@ all_next test all next count done below far passes =
     far ∙ ap (list_all test) (left_next next count done below)
     ∙ ap (λ b. b && list_all test (places_from (next + 1) (count - (done + 1)))) passes
 
-pub all_fails : (test : ℕ → Bool) (all : Bool) (next count done : ℕ) → done < count
-    → all ≡ list_all test (places_from next (count - done))
-    → test next ≡ false
-    → all ≡ false
-all_fails test all next count done below far fails =
-    far ∙ ap (list_all test) (left_next next count done below)
-    ∙ ap (λ b. b && list_all test (places_from (next + 1) (count - (done + 1)))) fails
-
 pub any_next : (test : ℕ → Bool) (all so_far was : Bool) (next count done : ℕ) → done < count
     → all ≡ (so_far || list_any test (places_from next (count - done)))
     → was ≡ test next

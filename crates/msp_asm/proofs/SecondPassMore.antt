@@ -4,7 +4,7 @@ use Rattle.std.specs.Option.{option_or}
 use Rattle.part_definitions.specs.Memory.{is_image_place}
 use Rattle.text_scan.specs.declared.text_fault.TextFault.{TextFault}
 use Rattle.text_scan.specs.declared.text_fault.TextFault.TheVariants.{At, Memory}
-use Rattle.text_scan.specs.Reader.{Reads}
+use Rattle.text_scan.specs.Reader.{Reads, value_as, value_or_fault}
 use Rattle.asm_text.specs.declared.statement.Statement.{Statement}
 use Rattle.mem_map.specs.declared.image.Image.{Image}
 use Rattle.mem_map.specs.Image.{byte_in}
@@ -14,8 +14,8 @@ use Rattle.asm_bytes.specs.Names.{value_in}
 use Rattle.asm_bytes.specs.Statement.{bytes_of}
 use Rattle.msp_asm.specs.declared.assembly.Layout.{Layout}
 use Rattle.msp_asm.specs.FirstPass.{first_fault, first_pass_fault, scope_after}
-use Rattle.msp_asm.specs.SecondPass.{given_byte, byte_placed, scope_among, second_pass_fault, byte_of_image, image_or_fault, image_of}
-use Rattle.msp_asm.specs.Assembly.{AnswersAt, LayoutStandsFor, image_in}
+use Rattle.msp_asm.specs.SecondPass.{given_byte, byte_placed, scope_among, second_pass_fault, byte_of_image, image_of}
+use Rattle.msp_asm.specs.Assembly.{AnswersAt, LayoutStandsFor}
 
 same_scope : (text : List ℕ) (names other : List ℕ → Option ℤ) (here there : ℕ)
     → names ≡ other
@@ -83,17 +83,17 @@ pub assembled : (text : List ℕ) (statements : List Statement) (result : Result
     (first_fault (second_pass_fault text (reverse statements)) (reverse statements))
     → IfOk result (λ image. (place : ℕ) → IsTrue (is_image_place place)
     → byte_in image place ≡ byte_placed text (reverse statements) (reverse statements) place)
-    → Reads (image_in result) (image_of text statements)
+    → Reads (value_as byte_in result) (image_of text statements)
 assembled text statements (Ok image) first second bytes =
     let all = reverse statements in
-    ap (λ fault. image_or_fault (option_or fault (first_fault (second_pass_fault text all) all))
+    ap (λ fault. value_or_fault (option_or fault (first_fault (second_pass_fault text all) all))
     (byte_of_image text statements)) first
-    ∙ ap (λ fault. image_or_fault fault (byte_of_image text statements)) second
+    ∙ ap (λ fault. value_or_fault fault (byte_of_image text statements)) second
     ∙ ap Ok (λ i. λ place. by_place (byte_in image) (byte_placed text all all) place
     (is_image_place place) image.placed refl (bytes place) i)
 assembled text statements (Err (At fault)) first second bytes =
     let all = reverse statements in
-    ap (λ found. image_or_fault (option_or found (first_fault (second_pass_fault text all) all))
+    ap (λ found. value_or_fault (option_or found (first_fault (second_pass_fault text all) all))
     (byte_of_image text statements)) first
-    ∙ ap (λ found. image_or_fault found (byte_of_image text statements)) second
+    ∙ ap (λ found. value_or_fault found (byte_of_image text statements)) second
 assembled text statements (Err (Memory error)) first second bytes = tt

@@ -3,12 +3,8 @@ use Rattle.std.specs.Prelude.{◌≡◌, ◌<◌, ℕ, List, length, reverse, ta
 use Rattle.text_scan.specs.declared.fault_at.FaultAt.{FaultAt}
 use Rattle.text_scan.specs.declared.text_fault.TextFault.{TextFault}
 use Rattle.text_scan.specs.declared.text_fault.TextFault.TheVariants.{At, Memory}
-use Rattle.text_scan.specs.declared.word_fault.WordFault.{WordFault}
-use Rattle.text_scan.specs.declared.word_fault.WordFault.TheVariants as words
 use Rattle.asm_text.specs.declared.statement.Statement.{Statement}
 use Rattle.asm_bytes.specs.Names.{value_in}
-use Rattle.mem_map.specs.declared.image.Image.{Image}
-use Rattle.mem_map.specs.Image.{byte_in}
 use Rattle.msp_asm.specs.declared.assembly.Layout.{Layout}
 use Rattle.msp_asm.specs.FirstPass.{scope_after}
 
@@ -33,13 +29,3 @@ AnswersAt (Err error) fault = IsFault error fault
 abbrev pub IsMemory : TextFault → Type 0
 IsMemory (At at) = ⊥
 IsMemory (Memory error) = Unit {0}
-
--- a fault with its line
-abbrev pub fault_in_line : ℕ → WordFault → TextFault
-fault_in_line line (words.Kind kind) = At (record { line = line; kind = kind })
-fault_in_line line (words.Memory error) = Memory error
-
--- an image that was made, as its bytes by their places
-abbrev pub image_in : {E : Type 0} → Result Image E → Result (ℕ → Option ℕ) E
-image_in (Ok image) = Ok (byte_in image)
-image_in (Err error) = Err error

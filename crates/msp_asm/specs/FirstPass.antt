@@ -5,6 +5,7 @@ use Rattle.std.specs.Option.{option_or}
 use Rattle.std.specs.Result.{result_err}
 use Rattle.std.specs.Map.{update}
 use Rattle.std.specs.Str.{bytes_eq}
+use Rattle.bus_signals.specs.Map.{program_region}
 use Rattle.part_definitions.specs.Memory.{is_image_place}
 use Rattle.text_scan.specs.declared.fault_at.FaultAt.{FaultAt}
 use Rattle.text_scan.specs.declared.fault_kind.FaultKind.{FaultKind}
@@ -80,9 +81,9 @@ next_scope scope statement =
     }
 
 -- what a statement after these is read in: the names that they give, and the place after them,
--- which is C000 at first
+-- which is the first of the program at first
 unfoldable pub scope_after : List ℕ → List Statement → Scope
-scope_after text [] = record { text = text; names = λ name. None; here = 0xC000 }
+scope_after text [] = record { text = text; names = λ name. None; here = program_region.first }
 scope_after text (statement ∷ earlier) =
     next_scope (scope_after text earlier) statement
 

@@ -4,4 +4,4 @@ pub mod FirstPassStands
 pub mod SecondPass
 pub mod Assembly
 pub mod Source
-pub mod Standing
+pub mod HasBytes

@@ -1,11 +1,12 @@
 -- The second pass: the bytes. Lists of statements have the newest first.
-use Rattle.std.specs.Prelude.{ℕ, List, [], ◌∷◌, reverse, if◌then◌else◌, Option, Some, None, Result, Ok, Err}
+use Rattle.std.specs.Prelude.{ℕ, List, [], ◌∷◌, reverse, if◌then◌else◌, Option, None, Result, Ok, Err}
 use Rattle.std.specs.Option.{option_or}
 use Rattle.std.specs.Result.{result_err}
 use Rattle.part_definitions.specs.Memory.{is_image_place}
 use Rattle.mem_map.specs.PlacedBytes.{byte_among}
 use Rattle.text_scan.specs.declared.fault_at.FaultAt.{FaultAt}
 use Rattle.text_scan.specs.declared.fault_kind.FaultKind.{FaultKind}
+use Rattle.text_scan.specs.Reader.{value_or_fault}
 use Rattle.asm_text.specs.declared.statement.Statement.{Statement}
 use Rattle.asm_bytes.specs.Value.{Scope}
 use Rattle.asm_bytes.specs.Statement.{bytes_of}
@@ -54,9 +55,5 @@ byte_of_image text statements place =
     else None
 
 -- the bytes of the image by their places, or the first fault
-abbrev pub image_or_fault : Option FaultAt → (ℕ → Option ℕ) → Result (ℕ → Option ℕ) FaultAt
-image_or_fault None bytes = Ok bytes
-image_or_fault (Some fault) bytes = Err fault
-
 abbrev pub image_of : List ℕ → List Statement → Result (ℕ → Option ℕ) FaultAt
-image_of text statements = image_or_fault (fault_of text statements) (byte_of_image text statements)
+image_of text statements = value_or_fault (fault_of text statements) (byte_of_image text statements)

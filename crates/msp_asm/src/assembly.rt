@@ -3,13 +3,13 @@ ghost use Rattle.std.specs.Option.{option_or};
 ghost use Rattle.std.specs.Result.{result_err};
 ghost use Rattle.part_definitions.specs.Memory.{is_image_place};
 ghost use Rattle.mem_map.specs.Image.{byte_in};
-ghost use Rattle.text_scan.specs.Reader.{Reads};
+ghost use Rattle.text_scan.specs.Reader.{Reads, value_as};
 ghost use Rattle.asm_bytes.specs.Scope.{scope_in};
 ghost use Rattle.asm_bytes.specs.Statement.{bytes_of};
 ghost use Rattle.msp_asm.specs.FirstPass.{first_fault, first_pass_fault};
 ghost use Rattle.msp_asm.specs.FirstPassState.{AnswersFault};
 ghost use Rattle.msp_asm.specs.SecondPass.{given_byte, byte_placed, second_pass_fault, image_of};
-ghost use Rattle.msp_asm.specs.Assembly.{LayoutStandsFor, AnswersAt, IsMemory, fault_in_line, image_in};
+ghost use Rattle.msp_asm.specs.Assembly.{LayoutStandsFor, AnswersAt, IsMemory};
 
 use crate::first_pass::FirstPass;
 use crate::image_writer::place_bytes;
@@ -17,7 +17,7 @@ use asm_bytes::{Names, Scope};
 use asm_text::Statement;
 use mem_map::Image;
 use std::alloc::{AllocError, Global};
-use text_scan::{FaultAt, TextFault, WordFault};
+use text_scan::{TextFault, WordFault};
 
 /// What the first pass over all statements gives: the names, and the place before each statement.
 #[derive(Drop)]
@@ -46,16 +46,6 @@ impl<'a> Layout<'a> {
             names: &self.names,
             here: self.places[i],
         }
-    }
-}
-
-// A fault with its line.
-fn fault_in_line(line: u64, fault: WordFault) -> TextFault
-    ensures { result ≡ fault_in_line line fault }
-{
-    match fault {
-        WordFault::Kind(kind) => TextFault::At(FaultAt { line, kind }),
-        WordFault::Memory(error) => TextFault::Memory(error),
     }
 }
 
@@ -91,7 +81,7 @@ fn names_and_places<'a>(
             return Err(fault);
         }
         if let Err(fault) = pass.take(statement) {
-            return Err(fault_in_line(statement.line, fault));
+            return Err(fault.in_line(statement.line));
         }
     }
     Ok(Layout {
@@ -148,7 +138,7 @@ fn image_of<'a>(
         let statement = &statements[i];
         let scope = layout.scope(text, i);
         if let Err(fault) = place_statement(alloc, &scope, statement, &mut image) {
-            return Err(fault_in_line(statement.line, fault));
+            return Err(fault.in_line(statement.line));
         }
     }
     Ok(image)
@@ -160,7 +150,7 @@ pub fn assemble_statements(
     text: &[u8],
     statements: &[Statement],
 ) -> Result<Image, TextFault>
-    ensures { Reads (image_in result) (image_of text.now statements.now) }
+    ensures { Reads (value_as byte_in result) (image_of text.now statements.now) }
 {
     let layout = match names_and_places(alloc, text, statements) {
         Ok(layout) => layout,

@@ -12,6 +12,9 @@ use mem_map::Image;
 use std::alloc::{AllocError, Global};
 use text_scan::{FaultKind, WordFault};
 
+// Where the program begins.
+const PROGRAM_START: u32 = 0xC000;
+
 // The name that a body gives.
 fn constant_name(body: &Body) -> Option<Span>
     ensures { result ≡ constant_name body.now }
@@ -91,7 +94,7 @@ impl<'a> FirstPass<'a> {
         Ok(FirstPass {
             text,
             names: Names::new(alloc),
-            place: 0xC000,
+            place: PROGRAM_START,
             taken: Image::new(alloc)?,
         })
     }

@@ -1,6 +1,6 @@
 ghost use Rattle.std.specs.Prelude.{◌≡◌, ℕ, List, Option, Ok};
 ghost use Rattle.msp_asm.specs.Source.{source_image};
-ghost use Rattle.msp_asm.specs.Standing.{OfEachStatement, HasBytesOf, HasInstructionOf};
+ghost use Rattle.msp_asm.specs.HasBytes.{OfEachStatement, HasBytesOf, HasInstructionOf};
 
 use asm_bytes::named_instructions_are_read;
 

@@ -29,8 +29,8 @@ abbrev pub WordsAreWritten : Type 0
 WordsAreWritten =
     (word first second : ℕ) (head : Head)
     → Spells word head
-    → (first_fault (head_part (completion head first second)) ≡ None) ×
-    (words_of (completion head first second) ≡ word ∷ take (extension_count head)
+    → (first_fault (head_part (completion head first second)) ≡ None)
+    × (words_of (completion head first second) ≡ word ∷ take (extension_count head)
     (first ∷ second ∷ []))
 
 -- the illegal words are those that spell nothing

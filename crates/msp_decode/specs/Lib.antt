@@ -3,6 +3,6 @@ pub mod Spelling
 pub mod Field
 pub mod Head
 pub mod Completion
-pub mod Following
+pub mod FollowingWords
 pub mod EncodeFault
 pub mod Law

@@ -92,15 +92,15 @@ IsByteWordOnly word =
 -- an immediate, or a constant of R2 or R3
 abbrev pub IsFixedOperand : ℕ → Type 0
 IsFixedOperand word =
-    ((word % 16 ≡ 0) × (word / 0x10 % 4 ≡ 3)) ⊎
-    ((word % 16 ≡ 2) × (2 ≤ word / 0x10 % 4)) ⊎
-    (word % 16 ≡ 3)
+    ((word % 16 ≡ 0) × (word / 0x10 % 4 ≡ 3))
+    ⊎ ((word % 16 ≡ 2) × (2 ≤ word / 0x10 % 4))
+    ⊎ (word % 16 ≡ 3)
 
 -- the illegal words: below 1000; from 1301 to 1FFF; SWPB, SXT and CALL of bytes; RRC, SWPB, RRA and
 -- SXT of an immediate or a constant
 abbrev pub IsIllegalWord : ℕ → Type 0
 IsIllegalWord word =
-    (word < 0x1000) ⊎
-    ((0x1300 < word) × (word < 0x2000)) ⊎
-    ((0x1000 ≤ word) × (word < 0x1300) × IsByteWordOnly word) ⊎
-    ((0x1000 ≤ word) × (word < 0x1200) × IsFixedOperand word)
+    (word < 0x1000)
+    ⊎ ((0x1300 < word) × (word < 0x2000))
+    ⊎ ((0x1000 ≤ word) × (word < 0x1300) × IsByteWordOnly word)
+    ⊎ ((0x1000 ≤ word) × (word < 0x1200) × IsFixedOperand word)

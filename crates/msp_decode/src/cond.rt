@@ -24,7 +24,7 @@ impl Cond {
     ghost use Rattle.msp_decode.specs.Table.{cond_number};
     ghost use Rattle.msp_decode.specs.Field.{cond_of};
 
-    /// The condition's number in a jump's word.
+    // The condition's number in a jump's word.
     pub(crate) fn number(self) -> u16
         ensures value { result ≡ cond_number self }
         ensures fits { result < 8 }
@@ -41,7 +41,7 @@ impl Cond {
         }
     }
 
-    /// The condition of a number.
+    // The condition of a number.
     pub(crate) fn from_number(number: u16) -> Cond
         requires { number < 8 }
         ensures { result ≡ cond_of number }

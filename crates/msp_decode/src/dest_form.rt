@@ -13,7 +13,7 @@ impl DestForm {
     ghost use Rattle.msp_decode.specs.Table.{dest_mode, dest_register};
     ghost use Rattle.msp_decode.specs.Field.{dest_of};
 
-    /// The mode (Ad) in which the form is written.
+    // The mode (Ad) in which the form is written.
     pub(crate) fn mode(self) -> u16
         ensures value { result ≡ dest_mode self }
         ensures fits { result < 2 }
@@ -24,7 +24,7 @@ impl DestForm {
         }
     }
 
-    /// The register field with which the form is written.
+    // The register field with which the form is written.
     pub(crate) fn register(self) -> u16
         ensures value { result ≡ dest_register self }
         ensures fits { result < 16 }
@@ -34,7 +34,7 @@ impl DestForm {
         }
     }
 
-    /// The form of a mode and a register field.
+    // The form of a mode and a register field.
     pub(crate) fn from_fields(mode: u16, register: u16) -> DestForm
         requires mode_fits { mode < 2 }
         requires register_fits { register < 16 }

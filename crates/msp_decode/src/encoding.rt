@@ -3,7 +3,7 @@ ghost use Rattle.msp_decode.specs.declared.encode_fault.EncodeFault.{EncodeFault
 ghost use Rattle.msp_decode.specs.declared.head.Head.TheVariants.{One as OneHead};
 ghost use Rattle.msp_decode.specs.Spelling.{is_legal, word_of};
 ghost use Rattle.msp_decode.specs.Completion.{source_form, dest_form, head_part, source_words, dest_words, extension_words, words_of};
-ghost use Rattle.msp_decode.specs.Following.{following_words};
+ghost use Rattle.msp_decode.specs.FollowingWords.{following_words};
 ghost use Rattle.msp_decode.specs.EncodeFault.{first_fault};
 ghost use Rattle.msp_decode.specs.Law.{AreReadAs};
 
@@ -11,7 +11,7 @@ use crate::dest::Dest;
 use crate::dest_form::DestForm;
 use crate::encode_fault::EncodeFault;
 use crate::field::{has_range, offset_number, op2_number, size_number};
-use crate::following::Following;
+use crate::following_words::FollowingWords;
 use crate::head::Head;
 use crate::instr::Instr;
 use crate::one::One;
@@ -73,13 +73,16 @@ fn dest_word(dest: Dest) -> Option<u16>
     }
 }
 
-fn following(instr: &Instr) -> Following
+fn following(instr: &Instr) -> FollowingWords
     ensures { following_words result ≡ extension_words instr.now }
 {
     match *instr {
-        Instr::Two(_, _, source, dest) => Following::join(source_word(source), dest_word(dest)),
-        Instr::One(_, _, source) => Following::join(source_word(source), None),
-        Instr::Reti | Instr::Jump(..) => Following::Nothing,
+        Instr::Two(_, _, source, dest) => FollowingWords::join(
+            source_word(source),
+            dest_word(dest),
+        ),
+        Instr::One(_, _, source) => FollowingWords::join(source_word(source), None),
+        Instr::Reti | Instr::Jump(..) => FollowingWords::Nothing,
     }
 }
 
@@ -97,7 +100,7 @@ fn one_fault(op: One, size: Size, source: SourceForm) -> Option<EncodeFault>
     }
 }
 
-/// The first of the faults, in the order of [`EncodeFault`].
+// The first of the faults, in the order of [`EncodeFault`].
 fn first_fault(head: &Head) -> Option<EncodeFault>
     ensures value { result ≡ first_fault head.now }
     ensures legal { IsNone result → IsTrue (is_legal head.now) }

@@ -5,7 +5,7 @@ ghost use Rattle.msp_decode.specs.Spelling.{has_range};
 
 use word_arith::{Op2, Size};
 
-/// The opcode of an operation of two operands.
+// The opcode of an operation of two operands.
 pub(crate) fn op2_number(op: Op2) -> u16
     ensures value { result ≡ op2_number op }
     ensures least { 4 ≤ result }
@@ -27,7 +27,7 @@ pub(crate) fn op2_number(op: Op2) -> u16
     }
 }
 
-/// The operation of two operands of an opcode.
+// The operation of two operands of an opcode.
 pub(crate) fn op2_from_number(number: u16) -> Op2
     requires least { 4 ≤ number }
     requires fits { number < 16 }
@@ -49,7 +49,7 @@ pub(crate) fn op2_from_number(number: u16) -> Op2
     }
 }
 
-/// The B/W bit of a size.
+// The B/W bit of a size.
 pub(crate) fn size_number(size: Size) -> u16
     ensures value { result ≡ size_number size }
     ensures fits { result < 2 }
@@ -60,7 +60,7 @@ pub(crate) fn size_number(size: Size) -> u16
     }
 }
 
-/// The size of a B/W bit.
+// The size of a B/W bit.
 pub(crate) fn size_from_number(bit: u16) -> Size
     requires { bit < 2 }
     ensures { result ≡ size_of bit }
@@ -71,14 +71,14 @@ pub(crate) fn size_from_number(bit: u16) -> Size
     }
 }
 
-/// Whether a jump's offset fits ten bits.
+// Whether a jump's offset fits ten bits.
 pub(crate) fn has_range(offset: i16) -> bool
     ensures { result ≡ has_range offset }
 {
     (-512..=511).contains(&offset)
 }
 
-/// A jump's offset in ten bits, two's complement.
+// A jump's offset in ten bits, two's complement.
 pub(crate) fn offset_number(offset: i16) -> u16
     requires { IsTrue (has_range offset) }
     ensures value { result ≡ offset_number offset }
@@ -91,7 +91,7 @@ pub(crate) fn offset_number(offset: i16) -> u16
     }
 }
 
-/// The offset of ten bits.
+// The offset of ten bits.
 pub(crate) fn offset_from_number(number: u16) -> i16
     requires { number < 0x400 }
     ensures { result ≡ offset_of number }

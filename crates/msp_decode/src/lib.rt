@@ -17,7 +17,7 @@ mod dest_form;
 mod encode_fault;
 mod encoding;
 mod field;
-mod following;
+mod following_words;
 mod head;
 mod instr;
 mod law;

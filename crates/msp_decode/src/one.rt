@@ -18,7 +18,7 @@ impl One {
     ghost use Rattle.msp_decode.specs.Field.{one_of};
     ghost use Rattle.msp_decode.specs.Spelling.{has_size, writes_operand};
 
-    /// The opcode.
+    // The opcode.
     pub(crate) fn number(self) -> u16
         ensures value { result ≡ one_number self }
         ensures fits { result < 6 }
@@ -33,7 +33,7 @@ impl One {
         }
     }
 
-    /// The operation of an opcode.
+    // The operation of an opcode.
     pub(crate) fn from_number(number: u16) -> One
         requires { number < 6 }
         ensures { result ≡ one_of number }
@@ -48,7 +48,7 @@ impl One {
         }
     }
 
-    /// Whether there is an instruction of this size.
+    // Whether there is an instruction of this size.
     pub(crate) fn has_size(self, size: Size) -> bool
         ensures { result ≡ has_size self size }
     {
@@ -58,7 +58,7 @@ impl One {
         }
     }
 
-    /// Whether the result is written to the operand.
+    // Whether the result is written to the operand.
     pub(crate) fn writes_operand(self) -> bool
         ensures { result ≡ writes_operand self }
     {

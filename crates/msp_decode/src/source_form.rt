@@ -19,7 +19,7 @@ impl SourceForm {
     ghost use Rattle.msp_decode.specs.Field.{source_of};
     ghost use Rattle.msp_decode.specs.Spelling.{has_form, takes_write};
 
-    /// The mode (As) in which the form is written.
+    // The mode (As) in which the form is written.
     pub(crate) fn mode(self) -> u16
         ensures value { result ≡ source_mode self }
         ensures fits { result < 4 }
@@ -34,7 +34,7 @@ impl SourceForm {
         }
     }
 
-    /// The register field with which the form is written.
+    // The register field with which the form is written.
     pub(crate) fn register(self) -> u16
         ensures value { result ≡ source_register self }
         ensures fits { result < 16 }
@@ -50,7 +50,7 @@ impl SourceForm {
         }
     }
 
-    /// The form of a mode and a register field.
+    // The form of a mode and a register field.
     #[inline(always)]
     pub(crate) fn from_fields(mode: u16, register: u16) -> SourceForm
         requires mode_fits { mode < 4 }
@@ -73,8 +73,8 @@ impl SourceForm {
         }
     }
 
-    /// Whether words are written with the form: R3, R2 and R0 give a constant or an immediate in
-    /// some modes.
+    // Whether words are written with the form: R3, R2 and R0 give a constant or an immediate in
+    // some modes.
     pub(crate) fn has_form(self) -> bool
         ensures { result ≡ has_form self }
     {
@@ -87,7 +87,7 @@ impl SourceForm {
         )
     }
 
-    /// Whether a result can be written to the operand.
+    // Whether a result can be written to the operand.
     pub(crate) fn takes_write(self) -> bool
         ensures { result ≡ takes_write self }
     {

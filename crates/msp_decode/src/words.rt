@@ -1,20 +1,20 @@
 ghost use Rattle.std.specs.Prelude.{◌≡◌, ◌∷◌, ◌≤◌, length, slice_get};
-ghost use Rattle.msp_decode.specs.Following.{following_words};
+ghost use Rattle.msp_decode.specs.FollowingWords.{following_words};
 
-use crate::following::Following;
+use crate::following_words::FollowingWords;
 use std::marker::Model;
 
 /// The 1 to 3 words of an instruction, the extension words after the first.
 #[derive(Clone, Copy, Debug, PartialEq, Eq)]
 pub struct Words {
     first: u16,
-    following: Following,
+    following: FollowingWords,
 }
 
 impl Model for Words {
     ghost use Rattle.std.specs.Prelude.{◌≡◌, ◌∷◌, ℕ, List, slice_index, drop};
     ghost use Rattle.std.proofs.Common.{ap};
-    ghost use Rattle.msp_decode.specs.Following.{following_words, following_of, following_of-following_words};
+    ghost use Rattle.msp_decode.specs.FollowingWords.{following_words, following_of, following_of-following_words};
 
     ghost Value = { List ℕ };
 
@@ -29,7 +29,7 @@ impl Model for Words {
 }
 
 impl Words {
-    pub(crate) fn new(first: u16, following: Following) -> Words
+    pub(crate) fn new(first: u16, following: FollowingWords) -> Words
         ensures { result ≡ first ∷ following_words following }
     {
         Words { first, following }
@@ -42,9 +42,9 @@ impl Words {
         ensures most { result ≤ 3 }
     {
         match self.following {
-            Following::Nothing => 1,
-            Following::One(_) => 2,
-            Following::Two(..) => 3,
+            FollowingWords::Nothing => 1,
+            FollowingWords::One(_) => 2,
+            FollowingWords::Two(..) => 3,
         }
     }
 
@@ -54,8 +54,8 @@ impl Words {
     {
         match (i, self.following) {
             (0, _) => Some(self.first),
-            (1, Following::One(second) | Following::Two(second, _)) => Some(second),
-            (2, Following::Two(_, third)) => Some(third),
+            (1, FollowingWords::One(second) | FollowingWords::Two(second, _)) => Some(second),
+            (2, FollowingWords::Two(_, third)) => Some(third),
             _ => None,
         }
     }

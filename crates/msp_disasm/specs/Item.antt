@@ -1,5 +1,6 @@
 -- The items of a listing: what stands at a place of an image.
 use Rattle.std.specs.Prelude.{◌+◌, ◌*◌, ◌%◌, ◌==◌, ℕ, zero, suc, Option, Some, None, length, nat_le, if◌then◌else◌}
+use Rattle.bus_signals.specs.Map.{vector_region}
 use Rattle.msp_decode.specs.declared.head.Head.{Head}
 use Rattle.msp_decode.specs.Completion.{extension_count, completion, words_of}
 use Rattle.msp_decode.specs.Head.{head_of}
@@ -16,7 +17,7 @@ word_in bytes place = word_of_bytes (bytes place) (bytes (place + 1))
 
 -- vectors are no instructions
 abbrev pub FIRST_VECTOR : ℕ
-FIRST_VECTOR = 0xFFE0
+FIRST_VECTOR = vector_region.first
 
 -- an instruction with so many extension words, where the image has them
 abbrev pub with_words : Head → ℕ → Option ℕ → Option ℕ → Item → Item

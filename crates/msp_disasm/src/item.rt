@@ -1,8 +1,8 @@
-ghost use Rattle.std.specs.Prelude.{◌≡◌, ◌≤◌, length};
+ghost use Rattle.std.specs.Prelude.{◌≡◌, ◌<◌, ◌≤◌, length};
 ghost use Rattle.msp_decode.specs.Completion.{source_words, dest_words, words_of};
 ghost use Rattle.msp_decode.specs.Head.{head_of};
 ghost use Rattle.mem_map.specs.Image.{byte_in};
-ghost use Rattle.msp_disasm.specs.Item.{word_in, instruction_item, item_at, item_size};
+ghost use Rattle.msp_disasm.specs.Item.{FIRST_VECTOR, word_in, instruction_item, item_at, item_size};
 
 use mem_map::Image;
 use msp_decode::{Dest, Instr, Source, complete, decode, extensions};
@@ -30,7 +30,7 @@ fn word_in(image: &Image, place: u16) -> Option<u16>
 
 // The instruction that a word below the vectors spells with the words after it.
 fn instruction_item(image: &Image, place: u16, word: u16) -> Item
-    requires { place ≤ 0xFFDF }
+    requires { place < FIRST_VECTOR }
     ensures { result ≡ instruction_item (byte_in image.now) place word (head_of word) }
 {
     let Some(head) = decode(word) else {

@@ -17,8 +17,8 @@ state_course-nil (Boundary regs) = refl
 state_course-nil (Executing regs before) = ap (next_access regs) (append-nil before)
 state_course-nil (Entering regs vector before) = ap (entry_access regs vector) (append-nil before)
 
-state_course-with_value : (state : CpuState) (value : ℕ) (values : List ℕ) →
-    state_course (with_value state value) values ≡ state_course state (value ∷ values)
+state_course-with_value : (state : CpuState) (value : ℕ) (values : List ℕ)
+    → state_course (with_value state value) values ≡ state_course state (value ∷ values)
 state_course-with_value (Boundary regs) value values = refl
 state_course-with_value (Executing regs before) value values =
     ap (next_access regs) (append_assoc before (value ∷ []) values)
@@ -26,31 +26,31 @@ state_course-with_value (Entering regs vector before) value values =
     ap (entry_access regs vector) (append_assoc before (value ∷ []) values)
 
 -- the access that the course begins with is the one that the state asks for
-pub cpu_access_some : (cpu : Cpu) (state : CpuState) (access : Access) →
-    CpuStandsFor cpu state → cpu_course cpu [] ≡ Asks access → cpu_access state ≡ Some access
+pub cpu_access_some : (cpu : Cpu) (state : CpuState) (access : Access)
+    → CpuStandsFor cpu state → cpu_course cpu [] ≡ Asks access → cpu_access state ≡ Some access
 cpu_access_some cpu state access stands asks =
     ap asked_access (sym (state_course-nil state) ∙ (stands.same_course [] ∙ asks))
 
-registers_of-with_value : (state : CpuState) (value : ℕ) →
-    registers_of (with_value state value) ≡ registers_of state
+registers_of-with_value : (state : CpuState) (value : ℕ)
+    → registers_of (with_value state value) ≡ registers_of state
 registers_of-with_value (Boundary regs) value = refl
 registers_of-with_value (Executing regs before) value = refl
 registers_of-with_value (Entering regs vector before) value = refl
 
-is_at_boundary-with_value : (state : CpuState) (value : ℕ) →
-    is_at_boundary (with_value state value) ≡ false
+is_at_boundary-with_value : (state : CpuState) (value : ℕ)
+    → is_at_boundary (with_value state value) ≡ false
 is_at_boundary-with_value (Boundary regs) value = refl
 is_at_boundary-with_value (Executing regs before) value = refl
 is_at_boundary-with_value (Entering regs vector before) value = refl
 
-is_entering-with_value : (state : CpuState) (value : ℕ) →
-    is_entering (with_value state value) ≡ is_entering state
+is_entering-with_value : (state : CpuState) (value : ℕ)
+    → is_entering (with_value state value) ≡ is_entering state
 is_entering-with_value (Boundary regs) value = refl
 is_entering-with_value (Executing regs before) value = refl
 is_entering-with_value (Entering regs vector before) value = refl
 
-takes_value-boundary : (phase : Phase) (state : CpuState) (value : ℕ) →
-    is_boundary phase ≡ is_at_boundary state → takes_value phase value ≡ cpu_takes state value
+takes_value-boundary : (phase : Phase) (state : CpuState) (value : ℕ)
+    → is_boundary phase ≡ is_at_boundary state → takes_value phase value ≡ cpu_takes state value
 takes_value-boundary AtBoundary (Boundary regs) value same = refl
 takes_value-boundary AtBoundary (Executing regs before) value same = cc
 takes_value-boundary AtBoundary (Entering regs vector before) value same = cc
@@ -62,16 +62,16 @@ takes_value-boundary (InEntry access vector) (Executing regs before) value same 
 takes_value-boundary (InEntry access vector) (Entering regs from before) value same = refl
 
 -- both take the same values
-pub takes_value_same : (cpu : Cpu) (state : CpuState) (value : ℕ) →
-    CpuStandsFor cpu state → takes_value cpu.phase value ≡ cpu_takes state value
+pub takes_value_same : (cpu : Cpu) (state : CpuState) (value : ℕ)
+    → CpuStandsFor cpu state → takes_value cpu.phase value ≡ cpu_takes state value
 takes_value_same cpu state value stands =
     takes_value-boundary cpu.phase state value stands.same_boundary
 
-goes_on : (before after : Cpu) (state : CpuState) (value : ℕ) (next : Next) →
-    CpuStandsFor before state →
-    GoesOnAs after before.regs (is_entry before.phase)
-    (λ values. cpu_course before (value ∷ values)) next →
-    CpuStandsFor after (completion_or (with_value state value) next)
+goes_on : (before after : Cpu) (state : CpuState) (value : ℕ) (next : Next)
+    → CpuStandsFor before state
+    → GoesOnAs after before.regs (is_entry before.phase)
+    (λ values. cpu_course before (value ∷ values)) next
+    → CpuStandsFor after (completion_or (with_value state value) next)
 goes_on before after state value (Asks access) stands (regs, boundary, entry, course) =
     record {
       same_regs = regs ∙ (stands.same_regs ∙ sym (registers_of-with_value state value));
@@ -91,18 +91,18 @@ goes_on before after state value (Ends left) stands (regs, working, phase) =
       same_course = λ values. rw (phase, working) refl;
     }
 
-cpu_next-with_value : (cpu : Cpu) (state : CpuState) (value : ℕ) →
-    CpuStandsFor cpu state → cpu_next (with_value state value) ≡ cpu_course cpu (value ∷ [])
+cpu_next-with_value : (cpu : Cpu) (state : CpuState) (value : ℕ)
+    → CpuStandsFor cpu state → cpu_next (with_value state value) ≡ cpu_course cpu (value ∷ [])
 cpu_next-with_value cpu state value stands =
     sym (state_course-nil (with_value state value))
     ∙ (state_course-with_value state value [] ∙ stands.same_course (value ∷ []))
 
 -- a processor that follows its course with a value stands for the state after the value
-pub follows : (before after : Cpu) (state : CpuState) (value : ℕ) →
-    CpuStandsFor before state →
-    Follows after before.regs (is_entry before.phase)
-    (λ values. cpu_course before (value ∷ values)) →
-    CpuStandsFor after (cpu_after state value)
+pub follows : (before after : Cpu) (state : CpuState) (value : ℕ)
+    → CpuStandsFor before state
+    → Follows after before.regs (is_entry before.phase)
+    (λ values. cpu_course before (value ∷ values))
+    → CpuStandsFor after (cpu_after state value)
 follows before after state value stands goes =
     rw (cpu_next-with_value before state value stands)
     (goes_on before after state value _ stands goes)

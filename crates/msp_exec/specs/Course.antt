@@ -4,7 +4,7 @@ use Rattle.bus_signals.specs.declared.access.Access.{Access}
 use Rattle.msp_decode.specs.declared.head.Head.{Head}
 use Rattle.part_definitions.specs.declared.cpu_access.CpuAccess.{CpuAccess}
 use Rattle.part_definitions.specs.declared.cpu_access.CpuAccess.TheVariants.{WriteResult}
-use Rattle.part_definitions.specs.declared.working.Working.{Working}
+use Rattle.part_definitions.specs.declared.working_state.WorkingState.{WorkingState}
 use Rattle.part_definitions.specs.Accesses.{write_at}
 use Rattle.part_definitions.specs.Operands.{size_of}
 use Rattle.part_definitions.specs.Instruction.{bus_access}
@@ -33,17 +33,17 @@ takes_value AtBoundary word = not (is_illegal word)
 takes_value phase value = true
 
 -- the access of an instruction whose result, once it is written, is this number
-abbrev pub latched_access : Head → CpuAccess → Working → ℕ → Access
+abbrev pub latched_access : Head → CpuAccess → WorkingState → ℕ → Access
 latched_access head WriteResult working number = write_at (size_of head) working.place number
 latched_access head access working number = bus_access head access working
 
 -- the result is written, and leaves these registers
-abbrev pub write_course : Head → Working → ℕ → List ℕ → Next
+abbrev pub write_course : Head → WorkingState → ℕ → List ℕ → Next
 write_course head working number [] = Asks (latched_access head WriteResult working number)
 write_course head working number (value ∷ values) = Ends working.regs
 
 -- the rest of an instruction; the registers are as it leaves them once its result is written
-abbrev pub instruction_course : Head → CpuAccess → Working → ℕ → List ℕ → Next
+abbrev pub instruction_course : Head → CpuAccess → WorkingState → ℕ → List ℕ → Next
 instruction_course head WriteResult working number values = write_course head working number values
 instruction_course head access working number values =
     walk head (access ∷ accesses_after head access) working values
@@ -82,11 +82,16 @@ pub record CpuStandsFor (cpu : Cpu) (state : CpuState) : Type 0 where
 -- the processor goes on with this course and these registers, or is complete
 abbrev pub GoesOnAs : Cpu → List ℕ → Bool → (List ℕ → Next) → Next → Type 0
 GoesOnAs cpu regs entry course (Asks access) =
-    (cpu.regs ≡ regs) × (is_boundary cpu.phase ≡ false) × (is_entry cpu.phase ≡ entry) ×
-    ((values : List ℕ) → course values ≡ cpu_course cpu values)
+    (cpu.regs ≡ regs) × (is_boundary cpu.phase ≡ false) × (is_entry cpu.phase ≡ entry)
+    × ((values : List ℕ) → course values ≡ cpu_course cpu values)
 GoesOnAs cpu regs entry course (Ends after) =
     (cpu.regs ≡ after) × (cpu.working.regs ≡ after) × (cpu.phase ≡ AtBoundary)
 
 -- the processor follows this course, which began with these registers
 abbrev pub Follows : Cpu → List ℕ → Bool → (List ℕ → Next) → Type 0
 Follows cpu regs entry course = GoesOnAs cpu regs entry course (course [])
+
+-- from its registers on the processor begins the instruction of this word
+abbrev pub Begins : Cpu → Cpu → ℕ → Type 0
+Begins old new word =
+    Follows new old.regs false (λ values. next_access old.working.regs (word ∷ values))

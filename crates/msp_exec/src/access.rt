@@ -7,7 +7,7 @@ use crate::instruction::size_of;
 use crate::register::{lowered_sp, pc_in, sp_in};
 use bus_signals::Access;
 use msp_decode::Head;
-use part_definitions::{CpuAccess, Working};
+use part_definitions::{CpuAccess, WorkingState};
 use word_arith::Size;
 
 /// A fetch of the word at a place.
@@ -42,7 +42,7 @@ pub fn write_at(size: Size, place: u16, number: u16) -> Access
 
 /// What an instruction asks of the bus; `number` is its result, once it is written.
 #[inline(always)]
-pub fn bus_access(head: &Head, access: CpuAccess, working: &Working, number: u16) -> Access
+pub fn bus_access(head: &Head, access: CpuAccess, working: &WorkingState, number: u16) -> Access
     ensures value { result ≡ latched_access head.now access working.now number }
     ensures formed { IsFormed result }
 {

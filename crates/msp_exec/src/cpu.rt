@@ -5,9 +5,10 @@ ghost use Rattle.part_definitions.specs.CpuAccesses.{accesses_of};
 ghost use Rattle.part_definitions.specs.Operands.{working_at_start};
 ghost use Rattle.part_definitions.specs.NextAccess.{Asks, is_illegal, next_access, walk};
 ghost use Rattle.part_definitions.specs.CpuState.{CpuState, Boundary, clear_cpu, registers_of, cpu_pc, is_at_boundary, is_entering, cpu_access, cpu_after, cpu_takes, entry_begun};
+ghost use Rattle.part_definitions.specs.Part.{Answers};
 ghost use Rattle.msp_exec.specs.declared.phase.Phase.TheVariants.{Boundary as AtBoundary};
 ghost use Rattle.msp_exec.specs.Order.{accesses_from};
-ghost use Rattle.msp_exec.specs.Course.{is_entry, takes_value, instruction_course, entry_course, cpu_course, CpuStandsFor, Follows};
+ghost use Rattle.msp_exec.specs.Course.{is_entry, takes_value, instruction_course, entry_course, cpu_course, CpuStandsFor, Follows, Begins};
 
 use crate::access::{bus_access, fetch_at, read_at, write_at};
 use crate::instruction::{end, end_apart, learn, start};
@@ -15,19 +16,19 @@ use crate::phase::{EntryAccess, Phase};
 use crate::register::{enter_handler, lowered_sp, pc_in, set_pc, set_sp, sp_in, sr_in};
 use bus_signals::{Access, BusMaster};
 use msp_decode::{Head, decode};
-use part_definitions::{CpuAccess, Working};
+use part_definitions::{CpuAccess, WorkingState};
 use word_arith::Size;
 
 /// The processor: its registers, and how far the current instruction or interrupt entry is.
 #[derive(Clone, Copy, Debug)]
 pub struct Cpu {
-    /// The registers at the last boundary.
+    // The registers at the last boundary.
     regs: [u16; 16],
-    /// The current instruction.
+    // The current instruction.
     head: Head,
-    /// What is known of it, and the registers as they are by now.
-    working: Working,
-    /// Its result, once that is written.
+    // What is known of it, and the registers as they are by now.
+    working: WorkingState,
+    // Its result, once that is written.
     number: u16,
     phase: Phase,
 }
@@ -40,7 +41,7 @@ impl Cpu {
         Cpu {
             regs: [0; 16],
             head: Head::Reti,
-            working: Working {
+            working: WorkingState {
                 regs: [0; 16],
                 source: 0,
                 place: 0,
@@ -53,64 +54,57 @@ impl Cpu {
 
     /// The registers at the last boundary.
     pub fn regs(&self) -> [u16; 16]
-        ensures { (state : CpuState) → CpuStandsFor self.now state → result ≡ registers_of state }
+        ensures { Answers CpuStandsFor self.now registers_of result }
     {
         self.regs
     }
 
     /// Likewise, where they are kept.
     pub fn registers(&self) -> &[u16; 16]
-        ensures { (state : CpuState)
-            → CpuStandsFor self.now state
-            → result.now ≡ registers_of state }
+        ensures { Answers CpuStandsFor self.now registers_of result.now }
     {
         &self.regs
     }
 
     /// Whether no instruction and no interrupt entry is in progress.
     pub fn at_boundary(&self) -> bool
-        ensures { (state : CpuState) → CpuStandsFor self.now state → result ≡ is_at_boundary state }
+        ensures { Answers CpuStandsFor self.now is_at_boundary result }
     {
         matches!(self.phase, Phase::Boundary)
     }
 
     /// Whether an interrupt entry is in progress.
     pub fn is_entering(&self) -> bool
-        ensures { (state : CpuState) → CpuStandsFor self.now state → result ≡ is_entering state }
+        ensures { Answers CpuStandsFor self.now is_entering result }
     {
         matches!(self.phase, Phase::Entering(..))
     }
 
     /// The address of the current instruction; at a boundary the program counter.
     pub fn pc(&self) -> u16
-        ensures { (state : CpuState) → CpuStandsFor self.now state → result ≡ cpu_pc state }
+        ensures { Answers CpuStandsFor self.now cpu_pc result }
     {
         pc_in(&self.regs)
     }
 
     /// The stack pointer at the last boundary.
     pub fn sp(&self) -> u16
-        ensures { (state : CpuState)
-            → CpuStandsFor self.now state
-            → result ≡ sp_of (registers_of state) }
+        ensures { Answers CpuStandsFor self.now (λ state. sp_of (registers_of state)) result }
     {
         sp_in(&self.regs)
     }
 
     /// GIE at the last boundary.
     pub fn allows_interrupts(&self) -> bool
-        ensures { (state : CpuState)
-            → CpuStandsFor self.now state
-            → result ≡ allows_interrupts (registers_of state) }
+        ensures { Answers CpuStandsFor self.now
+            (λ state. allows_interrupts (registers_of state)) result }
     {
         sr_in(&self.regs) / 8 % 2 == 1
     }
 
     /// CPUOFF at the last boundary.
     pub fn is_asleep(&self) -> bool
-        ensures { (state : CpuState)
-            → CpuStandsFor self.now state
-            → result ≡ is_asleep (registers_of state) }
+        ensures { Answers CpuStandsFor self.now (λ state. is_asleep (registers_of state)) result }
     {
         sr_in(&self.regs) / 16 % 2 == 1
     }
@@ -198,8 +192,8 @@ impl Cpu {
         self.phase = Phase::Boundary;
     }
 
-    /// Goes on to an access of the instruction, or completes it. The result is computed once all
-    /// operands are known.
+    // Goes on to an access of the instruction, or completes it. The result is computed once all
+    // operands are known.
     #[inline(always)]
     fn advance(&mut self, next: Option<CpuAccess>)
         ensures { Follows self.new self.old.regs false
@@ -238,9 +232,7 @@ impl Cpu {
     #[tactic(auto, unfolding(part_definitions::specs::NextAccess::next_access))]
     fn begin_spelt(&mut self, word: u16) -> bool
         ensures taken { result ≡ not (is_illegal word) }
-        ensures follows { result ≡ true
-            → Follows self.new self.old.regs false
-            (λ values. next_access self.old.working.regs (word ∷ values)) }
+        ensures follows { result ≡ true → Begins self.old self.new word }
         ensures refused { result ≡ false → self.new ≡ self.old }
     {
         match decode(word) {
@@ -256,9 +248,7 @@ impl Cpu {
     #[inline(never)]
     fn begin_apart(&mut self, word: u16) -> bool
         ensures taken { result ≡ not (is_illegal word) }
-        ensures follows { result ≡ true
-            → Follows self.new self.old.regs false
-            (λ values. next_access self.old.working.regs (word ∷ values)) }
+        ensures follows { result ≡ true → Begins self.old self.new word }
         ensures refused { result ≡ false → self.new ≡ self.old }
     {
         self.begin_spelt(word)
@@ -266,13 +256,13 @@ impl Cpu {
 
     /// At a boundary: takes the word that was fetched, and begins its instruction. An illegal word
     /// is not taken: then the answer is false, and nothing changes.
-    // The compiler makes one for two operands and one for jumps, which is shorter than one for all.
+    ///
+    /// The compiler makes one for two operands and one for jumps, which is shorter than one for
+    /// all.
     #[inline(never)]
     pub fn begin(&mut self, word: u16) -> bool
         ensures taken { result ≡ not (is_illegal word) }
-        ensures follows { result ≡ true
-            → Follows self.new self.old.regs false
-            (λ values. next_access self.old.working.regs (word ∷ values)) }
+        ensures follows { result ≡ true → Begins self.old self.new word }
         ensures stands { (regs : List ℕ)
             → CpuStandsFor self.old (Boundary regs)
             → result ≡ true
@@ -288,7 +278,7 @@ impl Cpu {
         }
     }
 
-    /// An access of the instruction was made and gave this value.
+    // An access of the instruction was made and gave this value.
     #[inline(always)]
     fn execute(&mut self, access: CpuAccess, value: u16)
         ensures { Follows self.new self.old.regs false
@@ -304,7 +294,7 @@ impl Cpu {
         }
     }
 
-    /// An access of the interrupt entry was made and gave this value.
+    // An access of the interrupt entry was made and gave this value.
     #[inline(always)]
     #[tactic(auto, unfolding(part_definitions::specs::NextAccess::entry_access))]
     fn enter(&mut self, access: EntryAccess, vector: u16, value: u16)
@@ -342,9 +332,7 @@ impl Cpu {
     #[inline(always)]
     #[tactic(auto, using(crate::proofs::Courses::takes_value_same))]
     pub fn try_take(&mut self, value: u16) -> bool
-        ensures taken { (state : CpuState)
-            → CpuStandsFor self.old state
-            → result ≡ cpu_takes state value }
+        ensures taken { Answers CpuStandsFor self.old (λ state. cpu_takes state value) result }
         ensures stands { (state : CpuState)
             → CpuStandsFor self.old state
             → result ≡ true

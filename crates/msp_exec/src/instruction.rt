@@ -11,10 +11,10 @@ ghost use Rattle.msp_exec.specs.TwoOperands.{result_of_two, registers_after_two}
 use crate::operand::{add_increment, add_index, constant_word, destination_in};
 use crate::outcome::{jump, leave_number, leave_one, operand_outcome};
 use crate::register::{
-    flags_in, keep_flags, operand_in, pass_word, pop, push, set_flags, set_pc, set_sr, word_in,
+    flags_in, keep_flags, operand_in, pass_word, pop_pc, pop_sr, push, set_flags, word_in,
 };
 use msp_decode::{DestForm, Head, One, SourceForm};
-use part_definitions::{CpuAccess, Working};
+use part_definitions::{CpuAccess, WorkingState};
 use word_arith::{Op2, Size, alu};
 
 /// B/W of an instruction; RETI and jumps are of words.
@@ -27,7 +27,7 @@ pub fn size_of(head: &Head) -> Size
     }
 }
 
-/// The next access once the source is known.
+// The next access once the source is known.
 #[inline(always)]
 fn access_after_source(head: &Head) -> Option<CpuAccess>
     ensures { accesses_from head.now result ≡ after_source head.now }
@@ -47,7 +47,7 @@ fn access_after_source(head: &Head) -> Option<CpuAccess>
     }
 }
 
-/// The next access once the place of the destination is known.
+// The next access once the place of the destination is known.
 fn access_after_index(head: &Head) -> Option<CpuAccess>
     ensures { accesses_from head.now result ≡ after_index head.now }
 {
@@ -58,7 +58,7 @@ fn access_after_index(head: &Head) -> Option<CpuAccess>
     }
 }
 
-/// The next access once the destination was read.
+// The next access once the destination was read.
 fn access_after_read(head: &Head) -> Option<CpuAccess>
     ensures { accesses_from head.now result ≡ after_read head.now }
 {
@@ -71,7 +71,7 @@ fn access_after_read(head: &Head) -> Option<CpuAccess>
 
 /// The opcode was fetched; the answer is the first access after it.
 #[inline(always)]
-pub fn start(working: &mut Working, head: &Head) -> Option<CpuAccess>
+pub fn start(working: &mut WorkingState, head: &Head) -> Option<CpuAccess>
     ensures working { working.new ≡ working_at_start head.now working.old.regs }
     ensures next { accesses_from head.now result ≡ accesses_of head.now }
 {
@@ -105,9 +105,9 @@ pub fn start(working: &mut Working, head: &Head) -> Option<CpuAccess>
     }
 }
 
-/// The source is known; the answer is the next access.
+// The source is known; the answer is the next access.
 #[inline(always)]
-fn learn_source(working: &mut Working, head: &Head, source: u16) -> Option<CpuAccess>
+fn learn_source(working: &mut WorkingState, head: &Head, source: u16) -> Option<CpuAccess>
     ensures working { working.new ≡ record working.old { source = source } }
     ensures next { accesses_from head.now result ≡ after_source head.now }
 {
@@ -117,7 +117,12 @@ fn learn_source(working: &mut Working, head: &Head, source: u16) -> Option<CpuAc
 
 /// An access was made and gave this value, 0 for a write; the answer is the access after it.
 #[inline(always)]
-pub fn learn(working: &mut Working, head: &Head, access: CpuAccess, value: u16) -> Option<CpuAccess>
+pub fn learn(
+    working: &mut WorkingState,
+    head: &Head,
+    access: CpuAccess,
+    value: u16,
+) -> Option<CpuAccess>
     ensures working { working.new ≡ after_value head.now access value working.old }
     ensures next { accesses_from head.now result ≡ accesses_after head.now access }
 {
@@ -148,13 +153,11 @@ pub fn learn(working: &mut Working, head: &Head, access: CpuAccess, value: u16) 
             None
         }
         CpuAccess::PopSr => {
-            pop(&mut working.regs);
-            set_sr(&mut working.regs, value);
+            pop_sr(&mut working.regs, value);
             Some(CpuAccess::PopPc)
         }
         CpuAccess::PopPc => {
-            pop(&mut working.regs);
-            set_pc(&mut working.regs, value);
+            pop_pc(&mut working.regs, value);
             None
         }
         CpuAccess::WriteResult => None,
@@ -172,7 +175,7 @@ fn keeps_flags(op: Op2) -> bool
 
 // Both operands are known. The answer is the result.
 #[inline(always)]
-fn end_two(working: &mut Working, op: Op2, size: Size, form: DestForm) -> u16
+fn end_two(working: &mut WorkingState, op: Op2, size: Size, form: DestForm) -> u16
     ensures number { result ≡ (result_of_two op size form working.old).0 }
     ensures after { working.new
         ≡ record working.old { regs = registers_after_two op size form working.old } }
@@ -191,7 +194,7 @@ fn end_two(working: &mut Working, op: Op2, size: Size, form: DestForm) -> u16
 
 // Likewise. The compiler makes one for each operation, which is shorter than one for all.
 #[inline(never)]
-fn end_each_of_two(working: &mut Working, op: Op2, size: Size, form: DestForm) -> u16
+fn end_each_of_two(working: &mut WorkingState, op: Op2, size: Size, form: DestForm) -> u16
     ensures number { result ≡ (result_of_two op size form working.old).0 }
     ensures after { working.new
         ≡ record working.old { regs = registers_after_two op size form working.old } }
@@ -215,7 +218,7 @@ fn end_each_of_two(working: &mut Working, op: Op2, size: Size, form: DestForm) -
 /// All operands are known: leaves the registers as they are after the instruction. The answer is
 /// the result, 0 of RETI and of jumps.
 #[inline(always)]
-pub fn end(working: &mut Working, head: &Head) -> u16
+pub fn end(working: &mut WorkingState, head: &Head) -> u16
     ensures number { result ≡ (result_of head.now working.old).0 }
     ensures after { working.new
         ≡ record working.old { regs = registers_after head.now working.old } }
@@ -242,7 +245,7 @@ pub fn end(working: &mut Working, head: &Head) -> u16
 
 /// Likewise, for the callers that share its code.
 #[inline(never)]
-pub fn end_apart(working: &mut Working, head: &Head) -> u16
+pub fn end_apart(working: &mut WorkingState, head: &Head) -> u16
     ensures number { result ≡ (result_of head.now working.old).0 }
     ensures after { working.new
         ≡ record working.old { regs = registers_after head.now working.old } }

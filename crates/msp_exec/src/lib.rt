@@ -16,6 +16,3 @@ mod phase;
 mod register;
 
 pub use cpu::Cpu;
-
-#[cfg(test)]
-mod tests;

@@ -3,7 +3,7 @@ ghost use Rattle.part_definitions.specs.Operands.{constant_word, index_base, wit
 
 use crate::register::{operand_in, pass_word, set_register, word_in};
 use msp_decode::{DestForm, Gen, Reg};
-use part_definitions::Working;
+use part_definitions::WorkingState;
 use word_arith::Size;
 
 /// What the constant generators give.
@@ -20,7 +20,7 @@ pub fn constant_word(constant: Gen) -> u16
     }
 }
 
-/// What an index is added to.
+// What an index is added to.
 fn index_base(regs: &[u16; 16], register: Reg) -> u16
     ensures { result ≡ index_base regs.now register }
 {
@@ -31,7 +31,7 @@ fn index_base(regs: &[u16; 16], register: Reg) -> u16
 }
 
 /// An index was fetched: with its register it gives the place.
-pub fn add_index(working: &mut Working, register: Reg, index: u16)
+pub fn add_index(working: &mut WorkingState, register: Reg, index: u16)
     ensures { working.new ≡ with_index register index working.old }
 {
     working.place = index_base(&working.regs, register).wrapping_add(index);
@@ -55,7 +55,7 @@ pub fn add_increment(regs: &mut [u16; 16], size: Size, register: Reg)
 }
 
 /// The destination.
-pub fn destination_in(size: Size, form: DestForm, working: &Working) -> u16
+pub fn destination_in(size: Size, form: DestForm, working: &WorkingState) -> u16
     ensures { result ≡ destination_in size form working.now }
 {
     match form {

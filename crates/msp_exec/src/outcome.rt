@@ -49,7 +49,7 @@ pub fn leave_one(regs: &mut [u16; 16], op: One, form: SourceForm, number: u16, f
     }
 }
 
-/// Whether a jump is taken with these flags.
+// Whether a jump is taken with these flags.
 fn is_taken(condition: Cond, flags: Flags) -> bool
     ensures { result ≡ is_taken condition flags }
 {
@@ -65,7 +65,7 @@ fn is_taken(condition: Cond, flags: Flags) -> bool
     }
 }
 
-/// Where a jump goes from the address after it; the offset counts words.
+// Where a jump goes from the address after it; the offset counts words.
 fn jump_target(pc: u16, offset: i16) -> u16
     ensures { result ≡ jump_target pc offset }
 {

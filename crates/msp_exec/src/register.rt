@@ -44,7 +44,7 @@ pub fn operand_in(size: Size, regs: &[u16; 16], register: Reg) -> u16
     size.low_part(word_in(regs, register))
 }
 
-/// What a register keeps of a word.
+// What a register keeps of a word.
 fn kept_in(register: Reg, word: u16) -> u16
     ensures { result ≡ kept_in register word }
 {
@@ -74,7 +74,7 @@ pub fn set_sp(regs: &mut [u16; 16], sp: u16)
     regs[1] = sp / 2 * 2;
 }
 
-pub fn set_sr(regs: &mut [u16; 16], sr: u16)
+fn set_sr(regs: &mut [u16; 16], sr: u16)
     ensures { regs.new ≡ with_sr regs.old sr }
 {
     regs[2] = sr % 512;
@@ -100,10 +100,29 @@ pub fn push(regs: &mut [u16; 16])
     set_sp(regs, lowered_sp(regs));
 }
 
-pub fn pop(regs: &mut [u16; 16])
+#[inline(always)]
+fn pop(regs: &mut [u16; 16])
     ensures { regs.new ≡ after_pop regs.old }
 {
     set_sp(regs, sp_in(regs).wrapping_add(2));
+}
+
+/// PC was read from the stack.
+#[inline(always)]
+pub fn pop_pc(regs: &mut [u16; 16], pc: u16)
+    ensures { regs.new ≡ with_pc (after_pop regs.old) pc }
+{
+    pop(regs);
+    set_pc(regs, pc);
+}
+
+/// SR was read from the stack.
+#[inline(always)]
+pub fn pop_sr(regs: &mut [u16; 16], sr: u16)
+    ensures { regs.new ≡ with_sr (after_pop regs.old) sr }
+{
+    pop(regs);
+    set_sr(regs, sr);
 }
 
 /// The flags in SR.
@@ -119,7 +138,7 @@ pub fn flags_in(regs: &[u16; 16]) -> Flags
     }
 }
 
-/// SR with other flags.
+// SR with other flags.
 fn status_with(sr: u16, flags: Flags) -> u16
     ensures { result ≡ status_with sr flags }
 {

@@ -96,6 +96,12 @@ fn a_file_of_the_file_system_is_read(rt: HostRuntime) -> Result<(), Fail> {
         read_whole(alloc, &mut shelf, "outside_edge_test_file/x", 10).err(),
         Some(FileFault::Failed)
     );
+    // An error behind the first piece is no end of the file.
+    let mut piece = [0; 8];
+    assert_eq!(rt;
+        shelf.read(".", 4_096, &mut piece).err(),
+        Some(ShelfError::Failed)
+    );
     std::fs::remove_file(&rt, name)?;
     Ok(())
 }

@@ -44,16 +44,36 @@ region_words bounds =
     then executable_words bounds + words_between bounds.or_min bounds.or_max
     else 0
 
+-- how many words pass before the metadata is read: 32 of the key; before the derived key is
+-- written: with 21 of the metadata; before the region is read: with 16 of the derived key
+abbrev pub BEFORE_METADATA : ℕ
+BEFORE_METADATA = 32
+
+abbrev pub BEFORE_DERIVED_KEY : ℕ
+BEFORE_DERIVED_KEY = 53
+
+abbrev pub BEFORE_REGION : ℕ
+BEFORE_REGION = 69
+
+-- and beside those of the region before the MAC is written: with 16 of the inner digest; before the
+-- return read: with 16 of the MAC
+abbrev pub BEFORE_MAC : ℕ
+BEFORE_MAC = 85
+
+abbrev pub BEFORE_RETURN : ℕ
+BEFORE_RETURN = 101
+
 -- a call's accesses in order, where it reads so many words of ER and OR: the one after so many
 -- words that passed
 abbrev pub item_after : ℕ → ℕ → CallItem
 item_after region passed =
-    if nat_lt passed 32 then KeyRead passed
-    else if nat_lt passed 53 then MetadataRead (passed - 32)
-    else if nat_lt passed 69 then DerivedKeyWrite (passed - 53)
-    else if nat_lt passed (69 + region) then RegionRead (passed - 69)
-    else if nat_lt passed (85 + region) then InnerDigestWrite (passed - (69 + region))
-    else if nat_lt passed (101 + region) then MacWrite (passed - (85 + region))
+    if nat_lt passed BEFORE_METADATA then KeyRead passed
+    else if nat_lt passed BEFORE_DERIVED_KEY then MetadataRead (passed - BEFORE_METADATA)
+    else if nat_lt passed BEFORE_REGION then DerivedKeyWrite (passed - BEFORE_DERIVED_KEY)
+    else if nat_lt passed (BEFORE_REGION + region) then RegionRead (passed - BEFORE_REGION)
+    else if nat_lt passed (BEFORE_MAC + region) then
+    InnerDigestWrite (passed - (BEFORE_REGION + region))
+    else if nat_lt passed (BEFORE_RETURN + region) then MacWrite (passed - (BEFORE_MAC + region))
     else ReturnRead
 
 abbrev pub call_item : List ℕ → CallItem
@@ -95,13 +115,14 @@ word_of_bytes bytes i = slice_index bytes (2 * i) + 256 * slice_index bytes (2 *
 
 -- what a call read, as bytes
 abbrev pub key_read : List ℕ → List ℕ
-key_read words = bytes_of_words (take 32 words)
+key_read words = bytes_of_words (take BEFORE_METADATA words)
 
 abbrev pub metadata_read : List ℕ → List ℕ
-metadata_read words = bytes_of_words (take 21 (drop 32 words))
+metadata_read words = bytes_of_words (take 21 (drop BEFORE_METADATA words))
 
 abbrev pub region_read : List ℕ → List ℕ
-region_read words = bytes_of_words (take (region_words (bounds_read words)) (drop 69 words))
+region_read words =
+    bytes_of_words (take (region_words (bounds_read words)) (drop BEFORE_REGION words))
 
 -- the key of one challenge, the first 32 bytes of the metadata
 abbrev pub derived_key : (List ℕ → List ℕ) → List ℕ → List ℕ → List ℕ

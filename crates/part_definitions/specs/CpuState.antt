@@ -38,10 +38,6 @@ is_entering (Boundary regs) = false
 is_entering (Executing regs values) = false
 is_entering (Entering regs vector values) = true
 
--- the access at a boundary is an opcode fetch, and no other is
-abbrev pub is_opcode : CpuState → Bool
-is_opcode state = is_at_boundary state
-
 -- what comes next, from the values so far
 abbrev pub cpu_next : CpuState → Next
 cpu_next (Boundary regs) = next_access regs []

@@ -4,20 +4,21 @@ use Rattle.word_arith.specs.declared.size.Size.{Size}
 use Rattle.word_arith.specs.declared.size.Size.TheVariants.{Word}
 use Rattle.bus_signals.specs.declared.access.Access.{Access}
 use Rattle.bus_signals.specs.declared.access.Access.TheVariants.{Read, Write}
+use Rattle.bus_signals.specs.Map.{dma_region}
 use Rattle.part_definitions.specs.PeripheralRegister.{RegisterWrite, register_write, register_of, register_word, covers, part_of}
 
 -- DCTL starts a transfer, from DSRC to DDST, of DLEN words
 abbrev pub DMA_CONTROL : ℕ
-DMA_CONTROL = 0x01E0
+DMA_CONTROL = dma_region.first
 
 abbrev pub DMA_SOURCE : ℕ
-DMA_SOURCE = 0x01E2
+DMA_SOURCE = dma_region.first + 2
 
 abbrev pub DMA_DESTINATION : ℕ
-DMA_DESTINATION = 0x01E4
+DMA_DESTINATION = dma_region.first + 4
 
 abbrev pub DMA_LENGTH : ℕ
-DMA_LENGTH = 0x01E6
+DMA_LENGTH = dma_region.first + 6
 
 -- what happened to the engine, in lists the newest first: a start from outside (source,
 -- destination, number of words), a write of the processor, a value for the access that it asked

@@ -6,7 +6,7 @@ use Rattle.bus_signals.specs.declared.access.Access.TheVariants.{Fetch}
 use Rattle.bus_signals.specs.declared.region.Region.{Region}
 use Rattle.bus_signals.specs.declared.bus_record.BusRecord.{BusRecord}
 use Rattle.bus_signals.specs.Access.{is_write, some_writes}
-use Rattle.bus_signals.specs.Seen.{Seen}
+use Rattle.bus_signals.specs.SeenRecord.{SeenRecord}
 use Rattle.bus_signals.specs.Kind.{is_cpu}
 use Rattle.bus_signals.specs.Map.{lies_in, touches, some_touches, is_within, metadata_region}
 use Rattle.bus_signals.specs.Bounds.{are_valid, executable_region, output_region}
@@ -23,7 +23,7 @@ fetches_outside region (Fetch place) = not (is_within (Fetch place) region)
 fetches_outside region access = false
 
 -- the record is in the executable region
-abbrev pub runs_inside : Seen → Bool
+abbrev pub runs_inside : SeenRecord → Bool
 runs_inside now = lies_in (executable_region now.bounds) now.entry.pc
 
 -- the record before it, whose `pc` is given, was in a region, or at a place
@@ -36,54 +36,54 @@ ran_at None place = false
 ran_at (Some pc) place = pc == place
 
 -- E1: a write touches ER
-abbrev pub clears_e1 : Seen → Bool
+abbrev pub clears_e1 : SeenRecord → Bool
 clears_e1 now = list_any (writes_to (executable_region now.bounds)) (accesses_in now.entry)
 
 -- E2: ER is left from another place than its last instruction
-abbrev pub clears_e2 : Option ℕ → Seen → Bool
+abbrev pub clears_e2 : Option ℕ → SeenRecord → Bool
 clears_e2 last now =
     ran_inside last (executable_region now.bounds) && not (ran_at last now.bounds.er_max)
     && not (runs_inside now)
 
 -- E3: ER is entered at another place than its first instruction
-abbrev pub clears_e3 : Option ℕ → Seen → Bool
+abbrev pub clears_e3 : Option ℕ → SeenRecord → Bool
 clears_e3 last now =
     runs_inside now && not (ran_inside last (executable_region now.bounds))
     && not (now.entry.pc == now.bounds.er_min)
 
 -- E4: an interrupt could be accepted in ER
-abbrev pub clears_e4 : Seen → Bool
+abbrev pub clears_e4 : SeenRecord → Bool
 clears_e4 now = now.entry.irq && runs_inside now
 
 -- E5: from outside ER the processor writes to OR
-abbrev pub clears_e5 : Seen → Bool
+abbrev pub clears_e5 : SeenRecord → Bool
 clears_e5 now =
     some_writes now.entry.cpu && some_touches now.entry.cpu (output_region now.bounds)
     && not (runs_inside now)
 
 -- E6: the DMA touches ER or OR
-abbrev pub clears_e6 : Seen → Bool
+abbrev pub clears_e6 : SeenRecord → Bool
 clears_e6 now =
     some_touches now.entry.dma (executable_region now.bounds)
     || some_touches now.entry.dma (output_region now.bounds)
 
 -- E7: the DMA has an access while ER runs
-abbrev pub clears_e7 : Seen → Bool
+abbrev pub clears_e7 : SeenRecord → Bool
 clears_e7 now = is_some now.entry.dma && runs_inside now
 
 -- E8: ER fetches a word that is not wholly in ER
-abbrev pub clears_e8 : Seen → Bool
+abbrev pub clears_e8 : SeenRecord → Bool
 clears_e8 now =
     runs_inside now
     && list_any (fetches_outside (executable_region now.bounds)) (accesses_in now.entry)
 
 -- E9: a write touches the metadata, or the step is refused
-abbrev pub clears_e9 : Seen → Bool
+abbrev pub clears_e9 : SeenRecord → Bool
 clears_e9 now =
     list_any (writes_to metadata_region) (accesses_in now.entry) || is_some now.entry.reset
 
 -- a record that clears the flag, after one with this `pc`
-abbrev pub clears : Option ℕ → Seen → Bool
+abbrev pub clears : Option ℕ → SeenRecord → Bool
 clears last now =
     clears_e1 now || clears_e2 last now || clears_e3 last now || clears_e4 now || clears_e5 now
     || clears_e6 now || clears_e7 now || clears_e8 now || clears_e9 now
@@ -98,21 +98,21 @@ abbrev pub is_opcode_fetch : BusRecord → Bool
 is_opcode_fetch entry = is_cpu entry.kind && fetches_at entry.cpu entry.pc
 
 -- a record that starts a run: the opcode fetch at ERmin, with valid bounds
-abbrev pub starts_run : Seen → Bool
+abbrev pub starts_run : SeenRecord → Bool
 starts_run now =
     is_opcode_fetch now.entry && (now.entry.pc == now.bounds.er_min) && are_valid now.bounds
 
 -- the `pc` of the last record, the newest first
-abbrev pub last_pc : List Seen → Option ℕ
+abbrev pub last_pc : List SeenRecord → Option ℕ
 last_pc [] = None
 last_pc (now ∷ before) = Some now.entry.pc
 
 -- the records since the last one that clears the flag
-abbrev pub records_since_clear : List Seen → List Seen
+abbrev pub records_since_clear : List SeenRecord → List SeenRecord
 records_since_clear [] = []
 records_since_clear (now ∷ before) =
     if clears (last_pc before) now then [] else now ∷ records_since_clear before
 
 -- there is a record that starts a run, and neither it nor a later one clears the flag
-unfoldable pub exec : List Seen → Bool
+unfoldable pub exec : List SeenRecord → Bool
 exec seen = list_any starts_run (records_since_clear seen)

@@ -26,7 +26,7 @@ use Rattle.part_definitions.specs.Accesses.{fetch_at, read_at, write_at}
 use Rattle.part_definitions.specs.CpuRegisters.{pc_of, sp_of, flags_in, with_register, with_pc, with_sr, with_flags, after_word, after_push, after_pop}
 use Rattle.part_definitions.specs.declared.cpu_access.CpuAccess.{CpuAccess}
 use Rattle.part_definitions.specs.declared.cpu_access.CpuAccess.TheVariants.{FetchImmediate, FetchSourceIndex, ReadSource, ReadIncrementing, FetchDestinationIndex, ReadDestination, WriteResult, PushSource, PushPc, PopSr, PopPc}
-use Rattle.part_definitions.specs.declared.working.Working.{Working}
+use Rattle.part_definitions.specs.declared.working_state.WorkingState.{WorkingState}
 use Rattle.part_definitions.specs.Operands.{size_of, with_index, after_increment, destination_in}
 
 -- result and flags of one operand; PUSH and CALL have the operand as it is
@@ -38,7 +38,7 @@ operand_result Sxt size operand flags = shift_result OpSxt size operand flags
 operand_result op size operand flags = (operand, flags)
 
 -- result and flags once the operands are known; RETI and jumps have no result
-abbrev pub result_of : Head → Working → ℕ × Flags
+abbrev pub result_of : Head → WorkingState → ℕ × Flags
 result_of (Two op size source destination) working =
     alu_result op size working.source (destination_in size destination working)
     (flags_in working.regs)
@@ -51,7 +51,7 @@ abbrev pub push_place : List ℕ → ℕ
 push_place regs = minus (sp_of regs) 2
 
 -- the access itself
-abbrev pub bus_access : Head → CpuAccess → Working → Access
+abbrev pub bus_access : Head → CpuAccess → WorkingState → Access
 bus_access head FetchImmediate working = fetch_at (pc_of working.regs)
 bus_access head (FetchSourceIndex register) working = fetch_at (pc_of working.regs)
 bus_access head ReadSource working = read_at (size_of head) working.place
@@ -67,7 +67,7 @@ bus_access head PopSr working = read_at Word (sp_of working.regs)
 bus_access head PopPc working = read_at Word (sp_of working.regs)
 
 -- what its value tells
-abbrev pub after_value : Head → CpuAccess → ℕ → Working → Working
+abbrev pub after_value : Head → CpuAccess → ℕ → WorkingState → WorkingState
 after_value head FetchImmediate value working =
     record working { regs = after_word working.regs; source = low_part (size_of head) value }
 after_value head (FetchSourceIndex register) value working = with_index register value working
@@ -141,5 +141,5 @@ after_result Reti result regs = regs
 after_result (Jump condition offset) result regs = after_jump condition offset regs
 
 -- the registers after the last access
-abbrev pub registers_after : Head → Working → List ℕ
+abbrev pub registers_after : Head → WorkingState → List ℕ
 registers_after head working = after_result head (result_of head working) working.regs

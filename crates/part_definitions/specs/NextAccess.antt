@@ -10,7 +10,7 @@ use Rattle.part_definitions.specs.Accesses.{fetch_at, read_at, write_at}
 use Rattle.part_definitions.specs.CpuRegisters.{pc_of, sp_of, sr_of, with_pc, with_sp, with_sr, handler_status}
 use Rattle.part_definitions.specs.CpuAccesses.{accesses_of}
 use Rattle.part_definitions.specs.declared.cpu_access.CpuAccess.{CpuAccess}
-use Rattle.part_definitions.specs.declared.working.Working.{Working}
+use Rattle.part_definitions.specs.declared.working_state.WorkingState.{WorkingState}
 use Rattle.part_definitions.specs.Operands.{working_at_start}
 use Rattle.part_definitions.specs.Instruction.{push_place, bus_access, after_value, registers_after}
 
@@ -20,7 +20,7 @@ pub data Next : Type 0 where
   Ends : List ℕ → Next
 
 -- through the accesses, one value for each
-abbrev pub walk : Head → List CpuAccess → Working → List ℕ → Next
+abbrev pub walk : Head → List CpuAccess → WorkingState → List ℕ → Next
 walk head [] working values = Ends (registers_after head working)
 walk head (access ∷ accesses) working [] = Asks (bus_access head access working)
 walk head (access ∷ accesses) working (value ∷ values) =

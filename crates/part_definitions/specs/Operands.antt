@@ -13,7 +13,7 @@ use Rattle.msp_decode.specs.declared.dest_form.DestForm.TheVariants.{Register as
 use Rattle.msp_decode.specs.declared.head.Head.{Head}
 use Rattle.msp_decode.specs.declared.head.Head.TheVariants.{Two, One as OneOperand, Reti, Jump}
 use Rattle.msp_decode.specs.Table.{reg_number}
-use Rattle.part_definitions.specs.declared.working.Working.{Working}
+use Rattle.part_definitions.specs.declared.working_state.WorkingState.{WorkingState}
 use Rattle.part_definitions.specs.Words.{plus}
 use Rattle.part_definitions.specs.CpuRegisters.{word_in, operand_in, with_register, after_word}
 
@@ -46,7 +46,7 @@ place_at_once (IndirectInc register) regs = word_in regs register
 place_at_once form regs = 0
 
 -- before the first access of an instruction with this source
-abbrev pub with_source : Size → SourceForm → List ℕ → Working
+abbrev pub with_source : Size → SourceForm → List ℕ → WorkingState
 with_source size form regs =
     record {
       regs = regs;
@@ -56,7 +56,7 @@ with_source size form regs =
     }
 
 -- after the opcode fetch
-abbrev pub working_at_start : Head → List ℕ → Working
+abbrev pub working_at_start : Head → List ℕ → WorkingState
 working_at_start (Two op size source destination) regs = with_source size source (after_word regs)
 working_at_start (OneOperand op size source) regs = with_source size source (after_word regs)
 working_at_start head regs =
@@ -67,7 +67,7 @@ abbrev pub index_base : List ℕ → Reg → ℕ
 index_base regs register = if reg_number register == 2 then 0 else word_in regs register
 
 -- an index and its register give a place; the base is of the registers before PC moves on
-abbrev pub with_index : Reg → ℕ → Working → Working
+abbrev pub with_index : Reg → ℕ → WorkingState → WorkingState
 with_index register index working =
     record working {
       regs = after_word working.regs;
@@ -85,6 +85,6 @@ after_increment size register regs =
     with_register regs register (plus (word_in regs register) (increment size register))
 
 -- the destination; a register is looked at when all words are fetched and the increment is made
-abbrev pub destination_in : Size → DestForm → Working → ℕ
+abbrev pub destination_in : Size → DestForm → WorkingState → ℕ
 destination_in size (DestRegister register) working = operand_in size working.regs register
 destination_in size (DestIndexed register) working = working.destination

@@ -3,7 +3,7 @@ use word_arith::Op2::{self, Add, Addc, And, Bic, Bis, Bit, Cmp, Dadd, Mov, Sub, 
 use word_arith::Size::{self, Byte, Word};
 use word_arith::{Flags, alu, bcd_add, shift};
 
-/// The flags from their bits: carry, zero, negative, overflow.
+// The flags from their bits: carry, zero, negative, overflow.
 fn flags(c: u8, z: u8, n: u8, v: u8) -> Flags {
     Flags {
         c: c == 1,

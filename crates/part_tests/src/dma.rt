@@ -2,7 +2,7 @@ ghost use Rattle.std.specs.Prelude.{List};
 ghost use Rattle.part_definitions.specs.Dma.{DmaEvent};
 ghost use Rattle.dma_engine.specs.Dma.{DmaStandsFor};
 
-use Act::{Clear, Control, Start, Step, Write};
+use Act::{Clear, Control, Registers, Start, Step, Write};
 use bus_signals::{Access, BusMaster};
 use dma_engine::Dma;
 use word_arith::Size::{self, Byte, Word};
@@ -15,18 +15,20 @@ const DDST: u16 = 0x01E4;
 
 const DLEN: u16 = 0x01E6;
 
-/// What happens to an engine, and its answer.
+// What happens to an engine, and its answer.
 #[derive(Clone, Copy, Debug)]
 enum Act {
     Start(u16, u16, u16, bool),
     Write(u16, Size, u16),
     Control(u16),
+    /// What DSRC, DDST and DLEN read.
+    Registers(u16, u16, u16),
     /// A step in which its access, if there is one, gives a value.
     Step(u16, Option<Access>),
     Clear,
 }
 
-/// A step in which an access of the engine gives this value.
+// A step in which an access of the engine gives this value.
 fn step(dma: &mut Dma, value: u16) -> Option<Access>
     requires { (events : List DmaEvent) × DmaStandsFor dma.old events }
     ensures { (events : List DmaEvent) × DmaStandsFor dma.new events }
@@ -38,7 +40,7 @@ fn step(dma: &mut Dma, value: u16) -> Option<Access>
     access
 }
 
-/// Whether the engine answers as it should.
+// Whether the engine answers as it should.
 fn has_answer(dma: &mut Dma, act: Act) -> bool
     requires { (events : List DmaEvent) × DmaStandsFor dma.old events }
     ensures { (events : List DmaEvent) × DmaStandsFor dma.new events }
@@ -52,6 +54,11 @@ fn has_answer(dma: &mut Dma, act: Act) -> bool
             true
         }
         Control(number) => dma.read(DCTL, Word) == number,
+        Registers(source, destination, words) => {
+            dma.read(DSRC, Word) == source
+                && dma.read(DDST, Word) == destination
+                && dma.read(DLEN, Word) == words
+        }
         Step(value, access) => step(dma, value) == access,
         Clear => {
             dma.clear();
@@ -70,7 +77,7 @@ fn writes(place: u16, number: u16) -> Option<Access> {
 
 #[test]
 fn transfers_by_their_starts(rt: HostRuntime) {
-    let rows: [&[Act]; 7] = [
+    let rows: [&[Act]; 8] = [
         &[
             Start(0xFFFE, 0x0301, 2, true),
             Step(0x1234, reads(0xFFFE)),
@@ -117,6 +124,20 @@ fn transfers_by_their_starts(rt: HostRuntime) {
             Write(DLEN, Word, 1),
             Clear,
             Write(DCTL, Word, 1),
+            Step(0, None),
+        ],
+        // a reset clears source and destination too: a transfer of one word is then from 0 to 0
+        &[
+            Write(DSRC, Word, 0x0300),
+            Write(DDST, Word, 0x0400),
+            Write(DLEN, Word, 1),
+            Registers(0x0300, 0x0400, 1),
+            Clear,
+            Registers(0, 0, 0),
+            Write(DLEN, Word, 1),
+            Write(DCTL, Word, 1),
+            Step(0x1234, reads(0x0000)),
+            Step(0, writes(0x0000, 0x1234)),
             Step(0, None),
         ],
         &[

@@ -14,7 +14,7 @@ fn one(op: One, size: Size, source: Source) -> Instr {
     Instr::One(op, size, source)
 }
 
-/// A row is read as its instruction, which is written as the row.
+// A row is read as its instruction, which is written as the row.
 fn row_agrees(words: &[u16], instr: Instr) -> bool {
     let word_at = |i: usize| words.get(i).copied().unwrap_or(0);
     let read = decode(word_at(0)).is_some_and(|head| {

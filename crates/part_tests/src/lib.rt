@@ -1,5 +1,6 @@
-//! Tables for the parts: vectors of the MSP430x1xx Family User's Guide (SLAU049) and of the tables
-//! in `docs/`, each with a right answer that a misreading of its rule would miss.
+//! Tables for the parts: vectors of the MSP430x1xx Family User's Guide (SLAU049), of FIPS 180-4 and
+//! RFC 4231, and of the tables in `docs/`, each with a right answer that a misreading of its rule
+//! would miss.
 //!
 //! The contracts say that code and definitions agree. What stands here says that both are read as
 //! they are meant: a row fails also where code and definition are changed together.
@@ -8,17 +9,27 @@
 #[cfg(test)]
 mod alu;
 #[cfg(test)]
+mod arbiter;
+#[cfg(test)]
+mod digest;
+#[cfg(test)]
 mod dma;
 #[cfg(test)]
 mod instruction;
 #[cfg(test)]
 mod interrupt;
 #[cfg(test)]
+mod mac;
+#[cfg(test)]
 mod memory;
 #[cfg(test)]
 mod pins;
 #[cfg(test)]
+mod processor;
+#[cfg(test)]
 mod register;
+#[cfg(test)]
+mod rom;
 #[cfg(test)]
 mod serial;
 #[cfg(test)]

@@ -4,8 +4,8 @@ use std::alloc::{AllocError, Global};
 use std::test::Fail;
 use word_arith::Size;
 
-/// The bytes 1 and 2 at the ends of RAM, 3 and 4 at those of program and vectors, and two at the
-/// EXEC word.
+// The bytes 1 and 2 at the ends of RAM, 3 and 4 at those of program and vectors, and two at the
+// EXEC word.
 fn image_of_six(alloc: Global) -> Result<Image, AllocError> {
     let mut image = Image::new(alloc)?;
     image.set(0x0200, 1);

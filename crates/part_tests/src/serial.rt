@@ -11,7 +11,7 @@ const SRXD: u16 = 0x0074;
 
 const STXD: u16 = 0x0076;
 
-/// What happens to a port, and its answer.
+// What happens to a port, and its answer.
 #[derive(Clone, Copy, Debug)]
 enum Act {
     Arrive(u8),
@@ -21,7 +21,7 @@ enum Act {
     Clear,
 }
 
-/// Whether the port answers as it should.
+// Whether the port answers as it should.
 fn has_answer(port: &mut Serial, act: Act) -> bool {
     match act {
         Arrive(byte) => port.arrive(byte),

@@ -8,7 +8,7 @@ const TCNT: u16 = 0x0162;
 
 const TCMP: u16 = 0x0164;
 
-/// What happens to a timer.
+// What happens to a timer.
 #[derive(Clone, Copy, Debug)]
 enum Act {
     Write(u16, Size, u16),
@@ -30,7 +30,7 @@ fn apply(timer: &mut Timer, act: Act) {
     }
 }
 
-/// A timer to which this happened.
+// A timer to which this happened.
 fn timer_after(acts: &[Act]) -> Timer {
     let mut timer = Timer::new();
     for act in acts {

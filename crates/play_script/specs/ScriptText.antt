@@ -6,7 +6,7 @@ use Rattle.bus_signals.specs.declared.event.Event.{Event}
 use Rattle.bus_signals.specs.declared.event.Event.TheVariants.{Rx, Pins, Dma, Reset}
 use Rattle.printed_lines.specs.Lines.{byte_digits, word_digits}
 use Rattle.play_script.specs.Grammar.{script_of}
-use Rattle.play_script.specs.Script.{TimedEvent}
+use Rattle.play_script.specs.Script.{LAST_STEP, TimedEvent}
 
 -- the words of an event
 abbrev pub event_words : Event → List (List ℕ)
@@ -36,7 +36,7 @@ FitsEvent Reset = Unit {0}
 
 -- events at steps that a script may name, of which none is less than an earlier one
 pub record IsWritable (script : List TimedEvent) : Type 0 where
-  pub fits : All (λ entry. (entry.0 ≤ 9999999) × FitsEvent entry.1) script
+  pub fits : All (λ entry. (entry.0 ≤ LAST_STEP) × FitsEvent entry.1) script
   pub ascending : AllPairs (λ earlier later. earlier.0 ≤ later.0) script
 
 -- the text of a script is read as that script

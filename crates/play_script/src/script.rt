@@ -19,7 +19,7 @@ pub struct Script {
     events: Vec<Event>,
 }
 
-// Seen as pairs of a step and an event.
+// SeenRecord as pairs of a step and an event.
 impl Model for Script {
     ghost Value = { List TimedEvent };
 
@@ -55,7 +55,7 @@ impl Script {
         Ok(())
     }
 
-    /// Puts what a line says of a step after the other events.
+    // Puts what a line says of a step after the other events.
     pub(crate) fn add_all(&mut self, step: u64, happening: &Happening) -> Result<(), AllocError>
         requires { All (λ earlier. earlier.0 ≤ step) self.old }
         ensures { OnOk result (

@@ -7,7 +7,7 @@ ghost use Rattle.play_script.specs.Happening.{events_in, ReadsEntry};
 use crate::happening::{Happening, read_line};
 use crate::script::Script;
 use std::alloc::{AllocError, Global};
-use text_scan::{FaultAt, FaultKind, Lines, TextFault, WordFault, check_utf8, is_passed_over};
+use text_scan::{FaultKind, Lines, TextFault, WordFault, check_utf8, is_passed_over};
 
 /// The events of a script, or the first fault of its text. How long a text may be is its caller's
 /// affair.
@@ -48,17 +48,9 @@ fn read_entry(
     ensures entry { ReadsEntry result (entry_of greatest (number, line.now)) }
     ensures ordered { IfOk result (λ entry. greatest ≤ entry.0) }
 {
-    match read_line(alloc, line) {
-        Ok(entry) => {
-            if entry.0 < greatest {
-                return Err(TextFault::At(FaultAt {
-                    line: number,
-                    kind: FaultKind::Order,
-                }));
-            }
-            Ok(entry)
-        }
-        Err(WordFault::Kind(kind)) => Err(TextFault::At(FaultAt { line: number, kind })),
-        Err(WordFault::Memory(error)) => Err(TextFault::Memory(error)),
+    let entry = read_line(alloc, line).map_err(|fault| fault.in_line(number))?;
+    if entry.0 < greatest {
+        return Err(WordFault::Kind(FaultKind::Order).in_line(number));
     }
+    Ok(entry)
 }

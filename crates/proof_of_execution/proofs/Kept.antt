@@ -10,13 +10,13 @@ use Rattle.bus_signals.specs.declared.region.Region.{Region}
 use Rattle.bus_signals.specs.Access.{some_writes}
 use Rattle.bus_signals.specs.Bounds.{executable_region, output_region}
 use Rattle.bus_signals.specs.Map.{some_touches, metadata_region}
-use Rattle.bus_signals.specs.Seen.{Seen}
+use Rattle.bus_signals.specs.SeenRecord.{SeenRecord}
 use Rattle.part_definitions.specs.Flag.{accesses_in, writes_to, fetches_outside, runs_inside, ran_inside, ran_at, clears_e1, clears_e2, clears_e3, clears_e4, clears_e5, clears_e6, clears_e7, clears_e8, clears_e9, clears}
 use Rattle.trace_facts.proofs.Choices.{other_false, first_false, none_there}
 use Rattle.trace_facts.proofs.MissedPlace.{writes_nowhere}
 use Rattle.device_trace.specs.WholeRun.{is_inside, runs_undisturbed, keeps_code, keeps_output}
 
-pub record Kept (last : Option ℕ) (now : Seen) : Type 0 where
+pub record Kept (last : Option ℕ) (now : SeenRecord) : Type 0 where
   pub e1 : clears_e1 now ≡ false
   pub e2 : clears_e2 last now ≡ false
   pub e3 : clears_e3 last now ≡ false
@@ -27,7 +27,7 @@ pub record Kept (last : Option ℕ) (now : Seen) : Type 0 where
   pub e8 : clears_e8 now ≡ false
   pub e9 : clears_e9 now ≡ false
 
-pub clears-kept : (last : Option ℕ) (now : Seen) → clears last now ≡ false → Kept last now
+pub clears-kept : (last : Option ℕ) (now : SeenRecord) → clears last now ≡ false → Kept last now
 clears-kept last now none =
     let p9 = or_parts _ (clears_e9 now) none in
     let p8 = or_parts _ (clears_e8 now) p9.0 in
@@ -50,7 +50,7 @@ clears-kept last now none =
     }
 
 -- inside ER
-pub undisturbed-kept : (last : Option ℕ) (now : Seen) → Kept last now → runs_inside now ≡ true
+pub undisturbed-kept : (last : Option ℕ) (now : SeenRecord) → Kept last now → runs_inside now ≡ true
     → runs_undisturbed now.bounds now.entry ≡ true
 undisturbed-kept last now kept inside =
     let within : is_inside now.bounds now.entry ≡ true = inside in
@@ -72,7 +72,7 @@ undisturbed-kept last now kept inside =
     (ap is_none (none_there now.entry.dma no_dma)))
     (not_from_false _ no_fetch)
 
-pub code-kept : (last : Option ℕ) (now : Seen) → Kept last now
+pub code-kept : (last : Option ℕ) (now : SeenRecord) → Kept last now
     → keeps_code now.bounds now.entry ≡ true
 code-kept last now kept =
     let dma =
@@ -97,7 +97,7 @@ touches_nowhere access region off =
     writes_nowhere access region
     (and_right (some_writes access) (some_touches access region) off)
 
-pub output-kept : (last : Option ℕ) (now : Seen) → Kept last now → runs_inside now ≡ false
+pub output-kept : (last : Option ℕ) (now : SeenRecord) → Kept last now → runs_inside now ≡ false
     → keeps_output now.bounds now.entry ≡ true
 output-kept last now kept outside =
     let region : Region = output_region now.bounds in
@@ -116,7 +116,7 @@ output-kept last now kept outside =
     and_from _ _ (not_from_false _ off) (not_from_false _ dma.1)
 
 -- how ER is entered and left
-pub left_at_end : (last : Option ℕ) (now : Seen) → Kept last now
+pub left_at_end : (last : Option ℕ) (now : SeenRecord) → Kept last now
     → ran_inside last (executable_region now.bounds) ≡ true → runs_inside now ≡ false
     → ran_at last now.bounds.er_max ≡ true
 left_at_end last now kept was_inside outside =
@@ -130,7 +130,7 @@ left_at_end last now kept was_inside outside =
     ends true false false off was outside = absurd (cc)
     ends false at inside off was outside = absurd (cc)
 
-pub entered_at_start : (last : Option ℕ) (now : Seen) → Kept last now
+pub entered_at_start : (last : Option ℕ) (now : SeenRecord) → Kept last now
     → runs_inside now ≡ true → ran_inside last (executable_region now.bounds) ≡ false
     → (now.entry.pc == now.bounds.er_min) ≡ true
 entered_at_start last now kept inside was_outside =

@@ -11,7 +11,7 @@ use Rattle.bus_signals.specs.Bounds.{are_valid, executable_region}
 use Rattle.bus_signals.specs.Kind.{is_rom}
 use Rattle.bus_signals.specs.Map.{lies_in, metadata_region, ROM_EXIT}
 use Rattle.bus_signals.specs.Report.{ReportFields}
-use Rattle.bus_signals.specs.Seen.{Seen}
+use Rattle.bus_signals.specs.SeenRecord.{SeenRecord}
 use Rattle.part_definitions.specs.Flag.{accesses_in, writes_to, is_opcode_fetch, starts_run, runs_inside, ran_inside, last_pc}
 use Rattle.part_definitions.specs.Monitors.{in_rom}
 use Rattle.device_trace.specs.FirstRule.{first_rule}
@@ -42,7 +42,7 @@ pub record RunState (bounds : Bounds) (history : List BusRecord) (progress : Pro
       ⊎ (Sleeps bounds progress × (ran_inside last (executable_region bounds) ≡ true)))
 
 -- what the trace says of a record that is not refused
-record Arrives (now : Seen) (last : Option ℕ) (before after : Progress) : Type 0 where
+record Arrives (now : SeenRecord) (last : Option ℕ) (before after : Progress) : Type 0 where
   enters : are_valid now.bounds ≡ true → runs_inside now ≡ true
       → ran_inside last (executable_region now.bounds) ≡ false
       → (now.entry.pc == now.bounds.er_min) ≡ true → now.entry.irq ≡ false
@@ -51,7 +51,8 @@ record Arrives (now : Seen) (last : Option ℕ) (before after : Progress) : Type
       → (now.entry.irq && runs_inside now) ≡ false
       → (runs_inside now ≡ true) × Sleeps now.bounds after
 
-starts_inside : (last : Option ℕ) (now : Seen) (history : List BusRecord) (progress : Progress)
+starts_inside :
+    (last : Option ℕ) (now : SeenRecord) (history : List BusRecord) (progress : Progress)
     → Kept last now → starts_run now ≡ true
     → RunState now.bounds (now.entry ∷ history) progress (Some now.entry.pc)
 starts_inside last now history progress kept starts =
@@ -60,7 +61,7 @@ starts_inside last now history progress kept starts =
     record { valid = valid.1; run = inl (run_starts last now history kept starts) }
 
 -- one record more
-from_inside : (last : Option ℕ) (now : Seen) (history : List BusRecord) (progress : Progress)
+from_inside : (last : Option ℕ) (now : SeenRecord) (history : List BusRecord) (progress : Progress)
     → Kept last now → are_valid now.bounds ≡ true → Inside now.bounds history last
     → RunState now.bounds (now.entry ∷ history) progress (Some now.entry.pc)
 from_inside last now history progress kept valid run =
@@ -74,7 +75,8 @@ from_inside last now history progress kept valid run =
           }
     ]
 
-from_outside : (last : Option ℕ) (now : Seen) (history : List BusRecord) (before after : Progress)
+from_outside :
+    (last : Option ℕ) (now : SeenRecord) (history : List BusRecord) (before after : Progress)
     → Kept last now → Arrives now last before after → are_valid now.bounds ≡ true
     → Outside now.bounds history last
     → RunState now.bounds (now.entry ∷ history) after (Some now.entry.pc)
@@ -100,7 +102,8 @@ from_outside last now history before after kept arrives valid run =
           }
     ]
 
-state_after : (last : Option ℕ) (now : Seen) (history : List BusRecord) (before after : Progress)
+state_after :
+    (last : Option ℕ) (now : SeenRecord) (history : List BusRecord) (before after : Progress)
     → Kept last now → Arrives now last before after
     → RunState now.bounds history before last
     → RunState now.bounds (now.entry ∷ history) after (Some now.entry.pc)
@@ -179,7 +182,7 @@ record_state : (start : Start) (logs : Logs) (reset : Bool) (history : List BusR
 unfolding with_record
 record_state start logs reset history fresh before set =
     let entry : BusRecord = record_of start logs reset in
-    let now : Seen = record { entry = entry; bounds = logged_bounds start logs } in
+    let now : SeenRecord = record { entry = entry; bounds = logged_bounds start logs } in
     let more = exec-more now logs.seen set in
     let kept : Kept (last_pc logs.seen) now = clears-kept (last_pc logs.seen) now more.0 in
     let clean = or_parts (list_any (writes_to metadata_region) (accesses_in entry))

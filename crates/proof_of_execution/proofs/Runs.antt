@@ -7,7 +7,7 @@ use Rattle.bus_signals.specs.declared.bus_record.BusRecord.{BusRecord}
 use Rattle.bus_signals.specs.declared.bounds.Bounds.{Bounds}
 use Rattle.bus_signals.specs.Bounds.{are_valid, executable_region}
 use Rattle.bus_signals.specs.Map.{lies_in}
-use Rattle.bus_signals.specs.Seen.{Seen}
+use Rattle.bus_signals.specs.SeenRecord.{SeenRecord}
 use Rattle.part_definitions.specs.Flag.{is_opcode_fetch, starts_run, ran_inside, ran_at, runs_inside}
 use Rattle.device_trace.specs.WholeRun.{is_inside, runs_undisturbed, keeps_code, keeps_output, begins_run, has_left, WholeRun}
 use Rattle.proof_of_execution.proofs.Kept.{Kept, undisturbed-kept, code-kept, output-kept, left_at_end}
@@ -31,7 +31,7 @@ pub record Outside (bounds : Bounds) (history : List BusRecord) (last : Option �
   pub outside : ran_inside last (executable_region bounds) ≡ false
 
 -- the run begins
-pub run_starts : (last : Option ℕ) (now : Seen) (history : List BusRecord)
+pub run_starts : (last : Option ℕ) (now : SeenRecord) (history : List BusRecord)
     → Kept last now → starts_run now ≡ true
     → Inside now.bounds (now.entry ∷ history) (Some now.entry.pc)
 run_starts last now history kept starts =
@@ -56,7 +56,7 @@ run_starts last now history kept starts =
     }
 
 -- it goes on
-pub run_goes_on : (last : Option ℕ) (now : Seen) (history : List BusRecord)
+pub run_goes_on : (last : Option ℕ) (now : SeenRecord) (history : List BusRecord)
     → Kept last now → runs_inside now ≡ true → Inside now.bounds history last
     → Inside now.bounds (now.entry ∷ history) (Some now.entry.pc)
 run_goes_on last now history kept inside run =
@@ -75,7 +75,7 @@ run_goes_on last now history kept inside run =
     }
 
 -- it is left
-pub run_ends : (last : Option ℕ) (now : Seen) (history : List BusRecord)
+pub run_ends : (last : Option ℕ) (now : SeenRecord) (history : List BusRecord)
     → Kept last now → are_valid now.bounds ≡ true → runs_inside now ≡ false
     → Inside now.bounds history last
     → Outside now.bounds (now.entry ∷ history) (Some now.entry.pc)
@@ -108,7 +108,7 @@ all_left bounds [] left = refl
 all_left bounds (entry ∷ after) left = left
 
 -- more records outside
-pub stays_outside : (last : Option ℕ) (now : Seen) (history : List BusRecord)
+pub stays_outside : (last : Option ℕ) (now : SeenRecord) (history : List BusRecord)
     → Kept last now → runs_inside now ≡ false → Outside now.bounds history last
     → Outside now.bounds (now.entry ∷ history) (Some now.entry.pc)
 stays_outside last now history kept outside run =

@@ -19,12 +19,13 @@ use Rattle.printed_lines.specs.Lines.{word_digits, flag_digit, output_word, repo
 use Rattle.text_scan.specs.LineFold.{state_after, text_fold}
 use Rattle.text_scan.specs.Line.{lines_of, numbered_lines}
 use Rattle.text_scan.specs.Word.{says_nothing, is_passed_over}
+use Rattle.text_scan.specs.Ends.{ends_of}
 use Rattle.text_scan.specs.WordValue.{number_of, place_of, block_of}
 use Rattle.text_scan.proofs.FirstLine.{lines-line}
 use Rattle.text_scan.proofs.TextUtf8.{utf8_of-whole}
 use Rattle.report_text.specs.ReadBack.{IsBlock, AreWords, IsPrintable, IsReadBack}
 use Rattle.report_text.specs.ReportFile.{output_fits, with_line}
-use Rattle.report_text.specs.ReportLine.{count_of, exec_of, digest_of, ends_of, bounds_of, output_of, report_of, some_report_of, line_of}
+use Rattle.report_text.specs.ReportLine.{count_of, exec_of, digest_of, bounds_of, output_of, report_of, some_report_of, line_of}
 use Rattle.text_scan.proofs.PlainWords.{ArePlain, IsPlainWord, decimal_of-decimal, even_bytes_of-digits, hex_bytes_of-digits, hex_word_of-digits, words_of-join, printed-join, printed_bounds, printed-ascii, plain-decimal, plain-encoded, two_bytes}
 
 -- the line, word by word
@@ -137,12 +138,11 @@ digest_of-digits keyword bytes rest block =
     rw (same-word keyword, hex_bytes_of-digits 32 bytes block.size block.fits) refl
 
 ends_of-digits :
-    (keyword : List ℕ) (first last : ℕ) (rest : List (List ℕ)) → first < 65536 → last < 65536
-    → ends_of keyword (keyword ∷ word_digits first ∷ word_digits last ∷ rest)
-    ≡ Ok ((first, last), rest)
+    (first last : ℕ) (rest : List (List ℕ)) → first < 65536 → last < 65536
+    → ends_of (word_digits first ∷ word_digits last ∷ rest) ≡ Ok ((first, last), rest)
 unfolding ends_of place_of
-ends_of-digits keyword first last rest low high =
-    rw (same-word keyword, hex_word_of-digits first low, hex_word_of-digits last high) refl
+ends_of-digits first last rest low high =
+    rw (hex_word_of-digits first low, hex_word_of-digits last high) refl
 
 bounds_of-digits :
     (bounds : Bounds) (rest : List (List ℕ)) → AreWords bounds
@@ -153,10 +153,10 @@ bounds_of-digits :
 unfolding bounds_of
 bounds_of-digits bounds rest words =
     rw (
-      ends_of-digits (codes "er") bounds.er_min bounds.er_max
+      ends_of-digits bounds.er_min bounds.er_max
           (codes "or" ∷ word_digits bounds.or_min ∷ word_digits bounds.or_max ∷ rest) words.er_min
           words.er_max,
-      ends_of-digits (codes "or") bounds.or_min bounds.or_max rest words.or_min words.or_max,
+      ends_of-digits bounds.or_min bounds.or_max rest words.or_min words.or_max,
     ) refl
 
 -- digits of bytes are no dash

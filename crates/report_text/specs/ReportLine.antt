@@ -5,6 +5,7 @@ use Rattle.bus_signals.specs.declared.bounds.Bounds.{Bounds}
 use Rattle.bus_signals.specs.Report.{ReportFields}
 use Rattle.text_scan.specs.declared.fault_kind.FaultKind.{FaultKind}
 use Rattle.text_scan.specs.declared.fault_kind.FaultKind.TheVariants.{Word}
+use Rattle.text_scan.specs.Ends.{ends_of}
 use Rattle.text_scan.specs.Hexadecimal.{even_bytes_of}
 use Rattle.text_scan.specs.Reader.{◌>>=◌}
 use Rattle.text_scan.specs.Word.{word_of, keyword_of, end_of}
@@ -27,19 +28,13 @@ digest_of keyword words = do
   rest ← keyword_of keyword words
   block_of 32 rest
 
--- a keyword and H4 H4: the first and the last word of a region
-unfoldable pub ends_of : List ℕ → List (List ℕ) → Result ((ℕ × ℕ) × List (List ℕ)) FaultKind
-ends_of keyword words = do
-  rest ← keyword_of keyword words
-  first ← place_of rest
-  last ← place_of first.1
-  Ok ((first.0, last.0), last.1)
-
 -- `er H4 H4 or H4 H4`
 unfoldable pub bounds_of : List (List ℕ) → Result (Bounds × List (List ℕ)) FaultKind
 bounds_of words = do
-  executable ← ends_of (codes "er") words
-  output ← ends_of (codes "or") executable.1
+  behind_er ← keyword_of (codes "er") words
+  executable ← ends_of behind_er
+  behind_or ← keyword_of (codes "or") executable.1
+  output ← ends_of behind_or
   Ok (
     record {
       er_min = executable.0.0;

@@ -20,6 +20,3 @@ pub use printed_line::{print_end, print_reset, print_sent};
 pub use report::Report;
 pub use report_line::print_report;
 pub use report_list::read_reports;
-
-#[cfg(test)]
-mod tests;

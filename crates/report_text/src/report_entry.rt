@@ -1,7 +1,7 @@
 ghost use Rattle.std.specs.Prelude.{◌≡◌};
 ghost use Rattle.text_scan.specs.Reader.{ReadsOn, ReadsWord, ReadsWordOn};
 ghost use Rattle.text_scan.specs.Word.{words_of};
-ghost use Rattle.report_text.specs.ReportLine.{count_of, exec_of, digest_of, ends_of, bounds_of, output_in, output_of, report_of, some_report_of, no_report_of, kind_of, line_of};
+ghost use Rattle.report_text.specs.ReportLine.{count_of, exec_of, digest_of, bounds_of, output_in, output_of, report_of, some_report_of, no_report_of, kind_of, line_of};
 
 use crate::passed_line::pass_line;
 use crate::report::Report;
@@ -9,7 +9,7 @@ use bus_signals::Bounds;
 use std::alloc::Global;
 use text_scan::{Bytes, FaultKind, WordFault, Words};
 
-/// The greatest number of a step, of steps or of a report.
+// The greatest number of a step, of steps or of a report.
 const GREATEST: u64 = 4_294_967_295;
 
 /// The report of a line, `None` where the line is of another kind.
@@ -101,22 +101,14 @@ fn read_digest(keyword: &[u8], words: &mut Words<'_>) -> Result<[u8; 32], FaultK
     words.block::<32>()
 }
 
-#[tactic(auto, unfolding(crate::specs::ReportLine::ends_of))]
-fn read_ends(keyword: &[u8], words: &mut Words<'_>) -> Result<(u16, u16), FaultKind>
-    ensures { ReadsOn result words.new (ends_of keyword.now words.old) }
-{
-    words.keyword(keyword)?;
-    let first = words.place()?;
-    let last = words.place()?;
-    Ok((first, last))
-}
-
 #[tactic(auto, unfolding(crate::specs::ReportLine::bounds_of))]
 fn read_bounds(words: &mut Words<'_>) -> Result<Bounds, FaultKind>
     ensures { ReadsOn result words.new (bounds_of words.old) }
 {
-    let (er_min, er_max) = read_ends(b"er", words)?;
-    let (or_min, or_max) = read_ends(b"or", words)?;
+    words.keyword(b"er")?;
+    let (er_min, er_max) = words.ends()?;
+    words.keyword(b"or")?;
+    let (or_min, or_max) = words.ends()?;
     Ok(Bounds {
         er_min,
         er_max,
@@ -134,7 +126,7 @@ fn read_output(alloc: Global, words: &mut Words<'_>) -> Result<Option<Bytes>, Wo
     output_in(alloc, word)
 }
 
-/// The bytes of an output, `None` for `-`.
+// The bytes of an output, `None` for `-`.
 fn output_in(alloc: Global, word: &[u8]) -> Result<Option<Bytes>, WordFault>
     ensures { ReadsWord result (output_in word.now) }
 {

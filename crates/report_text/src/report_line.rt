@@ -9,7 +9,7 @@ use bus_signals::{Bounds, ReportView};
 use line_buffer::LineBuffer;
 use outside_edge::{Failed, Sink, put_all};
 
-/// How many bytes of the output are put at once.
+// How many bytes of the output are put at once.
 const PIECE: usize = 32;
 
 /// Puts the line of a report: `report S exec E chal H64 er H4 H4 or H4 H4 data D mac H64`.

@@ -12,7 +12,7 @@ use std::alloc::Global;
 use std::marker::Model;
 use text_scan::{FaultKind, LineReader, TextFault, WordFault, read_text};
 
-/// The reports of the lines so far.
+// The reports of the lines so far.
 #[derive(Debug, Drop)]
 struct ReportList {
     reports: Vec<Report>,

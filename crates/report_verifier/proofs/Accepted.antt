@@ -25,7 +25,7 @@ use Rattle.part_definitions.proofs.BytesFrom.{length-bytes_from}
 use Rattle.report_verifier.proofs.Regrouped.{length-metadata, take-chal}
 
 -- an accept says that all four tests hold
-tests-hold : (chal bounds exec mac : Bool)
+pub tests-hold : (chal bounds exec mac : Bool)
     → (if not chal then ChalDiffers
     else if not bounds then BoundsDiffer
     else if not exec then ExecZero
@@ -38,7 +38,8 @@ tests-hold true true false mac is = absurd (cc)
 tests-hold true false exec mac is = absurd (cc)
 tests-hold false bounds exec mac is = absurd (cc)
 
-same-bounds : (left right : Bounds) → same_bounds left right ≡ true → left ≡ right
+-- bounds that are the same in each part are equal
+pub same-bounds : (left right : Bounds) → same_bounds left right ≡ true → left ≡ right
 same-bounds left right same =
     let code : Bool = (left.er_min == right.er_min) && (left.er_max == right.er_max) in
     let low = and_parts (code && (left.or_min == right.or_min)) (left.or_max == right.or_max) same

@@ -8,22 +8,16 @@ use Rattle.text_scan.specs.declared.fault_at.FaultAt.{FaultAt}
 use Rattle.text_scan.specs.declared.fault_kind.FaultKind.{FaultKind}
 use Rattle.text_scan.specs.declared.fault_kind.FaultKind.TheVariants.{Word, Missing, Order}
 use Rattle.text_scan.specs.declared.fault_kind.FaultKind.TheVariants as kinds
+use Rattle.text_scan.specs.Ends.{ends_of}
 use Rattle.text_scan.specs.LineFold.{text_fold}
 use Rattle.text_scan.specs.Reader.{◌>>=◌}
 use Rattle.text_scan.specs.Word.{words_of, word_of, end_of}
-use Rattle.text_scan.specs.WordValue.{place_of, block_of}
+use Rattle.text_scan.specs.WordValue.{block_of}
 use Rattle.report_verifier.specs.declared.policy_line.PolicyLine.{PolicyLine}
 use Rattle.report_verifier.specs.declared.policy_line.PolicyLine.TheVariants.{Executable, Output, Challenge}
 use Rattle.report_verifier.specs.declared.draft.Draft.{Draft}
 use Rattle.report_verifier.specs.declared.draft.Draft.TheVariants.{Empty, ExecutableKnown, Whole}
 use Rattle.report_verifier.specs.Policy.{PolicyFields}
-
--- `H4 H4`: the first and the last word of a region
-unfoldable pub ends_of : List (List ℕ) → Result ((ℕ × ℕ) × List (List ℕ)) FaultKind
-ends_of words = do
-  first ← place_of words
-  last ← place_of first.1
-  Ok ((first.0, last.0), last.1)
 
 -- `er H4 H4`
 unfoldable pub executable_of : List (List ℕ) → Result (PolicyLine × List (List ℕ)) FaultKind

@@ -27,7 +27,7 @@ impl LineReader for Draft {
     }
 }
 
-/// Takes what a further line says.
+// Takes what a further line says.
 fn add_entry(alloc: Global, draft: &mut Draft, entry: PolicyLine) -> Result<(), WordFault>
     ensures { TakesLine result draft.new (with_entry draft.old entry) }
 {

@@ -1,7 +1,6 @@
-ghost use Rattle.std.specs.Prelude.{◌≡◌, ◌++◌, ◌∷◌, [], ℕ, List, option_map, IsTrue};
+ghost use Rattle.std.specs.Prelude.{◌≡◌, ◌++◌, ℕ, List, option_map, IsTrue};
 ghost use Rattle.bus_signals.specs.Bounds.{are_valid};
 ghost use Rattle.mem_map.specs.Image.{byte_in};
-ghost use Rattle.part_definitions.specs.Attestation.{bytes_of_words};
 ghost use Rattle.part_definitions.specs.Hmac.{hmac};
 ghost use Rattle.hmac_core.specs.Hmac.{HmacStandsFor};
 ghost use Rattle.report_verifier.specs.Expected.{expected_metadata, image_byte, image_code, output_of, expected_mac};
@@ -11,16 +10,6 @@ use bus_signals::Bounds;
 use hmac_core::{Digest32, Hmac, hmac};
 use mem_map::Image;
 
-// The HMAC takes a word, its low byte first.
-fn take_word<D: Digest32>(running: &mut Hmac<D>, word: u16)
-    ensures { (key message : List ℕ)
-        → HmacStandsFor D.has_taken D.digest_of running.old key message
-        → HmacStandsFor D.has_taken D.digest_of running.new key
-        (message ++ bytes_of_words (word ∷ [])) }
-{
-    running.update(&word.to_le_bytes());
-}
-
 // The HMAC takes the metadata that a report shall be made of.
 fn take_metadata<D: Digest32>(running: &mut Hmac<D>, expect: &Expect)
     ensures { (key message : List ℕ)
@@ -29,11 +18,11 @@ fn take_metadata<D: Digest32>(running: &mut Hmac<D>, expect: &Expect)
         (message ++ expected_metadata expect.now) }
 {
     running.update(&expect.chal);
-    take_word(running, expect.bounds.er_min);
-    take_word(running, expect.bounds.er_max);
-    take_word(running, expect.bounds.or_min);
-    take_word(running, expect.bounds.or_max);
-    take_word(running, 1);
+    running.update_word(expect.bounds.er_min);
+    running.update_word(expect.bounds.er_max);
+    running.update_word(expect.bounds.or_min);
+    running.update_word(expect.bounds.or_max);
+    running.update_word(1);
 }
 
 // The HMAC takes the image's code.

@@ -14,7 +14,7 @@ pub struct Policy {
     challenges: Vec<[u8; 32]>,
 }
 
-/// Seen as its bounds and its challenges in the order of the file.
+/// SeenRecord as its bounds and its challenges in the order of the file.
 impl Model for Policy {
     ghost Value = { PolicyFields };
 
@@ -37,7 +37,7 @@ impl Policy {
         }
     }
 
-    /// Puts a challenge after the others.
+    // Puts a challenge after the others.
     pub(crate) fn add(&mut self, chal: [u8; 32]) -> Result<(), AllocError>
         ensures { OnOk result (self.new
             ≡ record { bounds = self.old.bounds; challenges = self.old.challenges ++ chal ∷ [] }) }

@@ -1,7 +1,7 @@
 ghost use Rattle.std.specs.Prelude.{◌≡◌};
 ghost use Rattle.text_scan.specs.Reader.{ReadsOn};
 ghost use Rattle.text_scan.specs.Word.{words_of};
-ghost use Rattle.report_verifier.specs.PolicyGrammar.{ends_of, executable_of, output_of, challenge_of, kind_of, line_of};
+ghost use Rattle.report_verifier.specs.PolicyGrammar.{executable_of, output_of, challenge_of, kind_of, line_of};
 
 use text_scan::{FaultKind, Words};
 
@@ -43,7 +43,7 @@ fn read_kind(keyword: &[u8], words: &mut Words<'_>) -> Result<PolicyLine, FaultK
 fn read_executable(words: &mut Words<'_>) -> Result<PolicyLine, FaultKind>
     ensures { ReadsOn result words.new (executable_of words.old) }
 {
-    let (first, last) = read_ends(words)?;
+    let (first, last) = words.ends()?;
     Ok(PolicyLine::Executable(first, last))
 }
 
@@ -51,7 +51,7 @@ fn read_executable(words: &mut Words<'_>) -> Result<PolicyLine, FaultKind>
 fn read_output(words: &mut Words<'_>) -> Result<PolicyLine, FaultKind>
     ensures { ReadsOn result words.new (output_of words.old) }
 {
-    let (first, last) = read_ends(words)?;
+    let (first, last) = words.ends()?;
     Ok(PolicyLine::Output(first, last))
 }
 
@@ -60,13 +60,4 @@ fn read_challenge(words: &mut Words<'_>) -> Result<PolicyLine, FaultKind>
     ensures { ReadsOn result words.new (challenge_of words.old) }
 {
     Ok(PolicyLine::Challenge(words.block::<32>()?))
-}
-
-#[tactic(auto, unfolding(crate::specs::PolicyGrammar::ends_of))]
-fn read_ends(words: &mut Words<'_>) -> Result<(u16, u16), FaultKind>
-    ensures { ReadsOn result words.new (ends_of words.old) }
-{
-    let first = words.place()?;
-    let last = words.place()?;
-    Ok((first, last))
 }

@@ -17,7 +17,7 @@ pub fn read_policy(alloc: Global, text: &[u8]) -> Result<Policy, TextFault>
     whole_policy(draft, line_count(text))
 }
 
-/// The policy, where all of it was said.
+// The policy, where all of it was said.
 fn whole_policy(draft: Draft, last: u64) -> Result<Policy, TextFault>
     ensures { Reads result (whole_policy last draft) }
 {

@@ -9,4 +9,4 @@ pub record SerialStandsFor (port : Serial) (events : List SerialEvent) : Type 0 
   pub same_control : HoldsWrites SERIAL_CONTROL port.control (serial_writes events)
   pub same_room : port.queue.capacity ≡ QUEUE_LENGTH
   pub same_waiting : port.queue.items ≡ waiting_bytes events
-  pub same_dropped : port.dropped ≡ has_dropped events
+  pub same_dropped : port.has_dropped ≡ has_dropped events

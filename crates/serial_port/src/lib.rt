@@ -6,7 +6,9 @@
 #![tactic(auto)]
 
 mod order;
+mod sent_byte;
 mod serial;
 
 pub use order::bytes_keep_order;
+pub use sent_byte::byte_sent;
 pub use serial::Serial;

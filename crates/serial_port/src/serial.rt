@@ -2,6 +2,7 @@ ghost use Rattle.std.specs.Prelude.{◌≡◌, [], ◌∷◌, List, IfOk};
 ghost use Rattle.part_definitions.specs.Part.{Takes, Answers};
 ghost use Rattle.part_definitions.specs.Serial.{SerialEvent, Arrival, Load, Store, DeviceReset, waiting_bytes, oldest_byte, QUEUE_LENGTH, has_room, serial_read, serial_word, serial_status, serial_requests, byte_sent};
 
+use crate::sent_byte::byte_sent;
 use circular_buffer::HeapCircularBuffer;
 use peripheral_register::{Register, covers_byte, part_of_word, register_place};
 use std::alloc::{AllocError, Global};
@@ -13,9 +14,7 @@ const SSTAT: u16 = 0x0072;
 
 const SRXD: u16 = 0x0074;
 
-const STXD: u16 = 0x0076;
-
-/// How many received bytes can wait.
+// How many received bytes can wait.
 const ROOM: usize = 64;
 
 /// The serial port. Bit 0 of SCTL enables the receive interrupt, bits 0 and 1 of SSTAT say that a
@@ -24,7 +23,7 @@ const ROOM: usize = 64;
 pub struct Serial {
     control: Register,
     queue: HeapCircularBuffer<u8>,
-    dropped: bool,
+    has_dropped: bool,
 }
 
 impl Serial {
@@ -37,7 +36,7 @@ impl Serial {
         Ok(Serial {
             control: Register::new(SCTL),
             queue: HeapCircularBuffer::with_capacity(alloc, ROOM)?,
-            dropped: false,
+            has_dropped: false,
         })
     }
 
@@ -47,7 +46,7 @@ impl Serial {
         ensures stands { Takes SerialStandsFor self.old (Arrival byte) self.new }
     {
         let room = self.queue.try_push_back(byte).is_ok();
-        self.dropped = self.dropped || !room;
+        self.has_dropped = self.has_dropped || !room;
         room
     }
 
@@ -88,7 +87,7 @@ impl Serial {
     fn status(&self) -> u16
         ensures { Answers SerialStandsFor self.now serial_status result }
     {
-        u16::from(!self.queue.is_empty()) + 2 * u16::from(self.dropped)
+        u16::from(!self.queue.is_empty()) + 2 * u16::from(self.has_dropped)
     }
 
     // The oldest byte that waits, 0 where none does.
@@ -107,13 +106,9 @@ impl Serial {
     {
         self.control.write(place, size, value);
         if covers_byte(place, size, SSTAT) {
-            self.dropped = false;
+            self.has_dropped = false;
         }
-        if covers_byte(place, size, STXD) {
-            Some((value % 0x100) as u8)
-        } else {
-            None
-        }
+        byte_sent(place, size, value)
     }
 
     /// Whether the port asks for an interrupt.
@@ -129,6 +124,6 @@ impl Serial {
     {
         self.control = Register::new(SCTL);
         self.queue.clear();
-        self.dropped = false;
+        self.has_dropped = false;
     }
 }

@@ -18,6 +18,7 @@ use Rattle.source_round_trip.proofs.Numerals.{number-is, all_below, below-passes
 use Rattle.source_round_trip.proofs.PlacedDirective.{symbolic-are}
 use Rattle.source_round_trip.proofs.PlacedInstruction.{instruction-parts, mnemonic-operation}
 use Rattle.source_round_trip.proofs.PlacedExpr.{are_terms, terms-are, name-characters}
+use Rattle.source_round_trip.proofs.PlacedStatement.{are_operands}
 
 -- from a space (32) to a tilde (126)
 abbrev pub is_printed : ℕ → Bool
@@ -145,9 +146,6 @@ operand-printed numerals are (IndirectInc register) is =
     both-printed (codes "@" ++ register_text register) (codes "+") (register-printed register is)
     refl
 
-abbrev are_operands : List SaidOperand → Bool
-are_operands all = list_all is_writable_operand all
-
 more_operands-printed : (numerals : Numerals) → AreNumerals numerals → (rest : List SaidOperand)
     → are_operands rest ≡ true → are_printed (more_operands_text numerals rest) ≡ true
 more_operands-printed numerals are [] all = refl
@@ -202,9 +200,9 @@ label-printed : (label : Option (List ℕ)) → is_free_label label ≡ true
 label-printed None is = refl
 label-printed (Some name) is = both-printed name (codes ": ") (name-printed name is) refl
 
-pub said-printed : (numerals : Numerals) → AreNumerals numerals → (said : SaidLine)
-    → is_writable said ≡ true → are_printed (said_text numerals said) ≡ true
-said-printed numerals are said is =
-    let parts = and_parts (is_free_label said.label) (is_writable_body said.body) is in
-    both-printed (label_text said.label) (body_text numerals said.body)
-    (label-printed said.label parts.0) (body-printed numerals are said.body parts.1)
+pub said-printed : (numerals : Numerals) → AreNumerals numerals → (said_line : SaidLine)
+    → is_writable said_line ≡ true → are_printed (said_text numerals said_line) ≡ true
+said-printed numerals are said_line is =
+    let parts = and_parts (is_free_label said_line.label) (is_writable_body said_line.body) is in
+    both-printed (label_text said_line.label) (body_text numerals said_line.body)
+    (label-printed said_line.label parts.0) (body-printed numerals are said_line.body parts.1)

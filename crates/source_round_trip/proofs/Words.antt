@@ -79,8 +79,8 @@ pub operation-read : (place : ℕ) {word : List ℕ} {operation : Operation} (re
     → body_of (Some operation) operands ≡ Ok body
     → statement_body (word_token place word ∷ rest) ≡ Ok body
 unfolding operation_body
-operation-read place {operation = operation} rest operands is other read said =
-    rw (first-operation place is, other, read) said
+operation-read place {operation = operation} rest operands is other read said_line =
+    rw (first-operation place is, other, read) said_line
 
 whole-read : {text : List ℕ} {tokens : ℕ → List Token} → FallsInto text tokens → (start : ℕ)
     → tokens_of start text ≡ Ok (tokens start)
@@ -91,11 +91,11 @@ whole-read {text = text} {tokens = tokens} falls start =
 
 -- a line is read by its tokens
 pub line-read : {text : List ℕ} {tokens : ℕ → List Token} (number start : ℕ)
-    (said : Option Span × Body) → FallsInto text tokens
-    → labelled_body (tokens start) ≡ Ok said
-    → line_statement number start text ≡ Ok (statement_in_line number said)
+    (said_line : Option Span × Body) → FallsInto text tokens
+    → labelled_body (tokens start) ≡ Ok said_line
+    → line_statement number start text ≡ Ok (statement_in_line number said_line)
 unfolding line_statement
-line-read {text = text} {tokens = tokens} number start said falls is =
+line-read {text = text} {tokens = tokens} number start said_line falls is =
     ap (λ (found : Result (List Token) FaultKind). found >>= (λ all. labelled_body all
     >>= (λ both. Ok (statement_in_line number both)))) (whole-read falls start)
     ∙ ap (λ (found : Result (Option Span × Body) FaultKind).
@@ -110,10 +110,10 @@ pub statement-read : {word text : List ℕ} {operation : Operation} {tokens : Li
     → line_statement number start (word ++ codes " " ++ text)
     ≡ Ok (statement_in_line number (None, body))
 statement-read {word = word} {text = text} {tokens = tokens} number start operands {body = body}
-    is other falls front read said =
+    is other falls front read said_line =
     ap (line_statement number start) (append_assoc word (codes " ") text)
     ∙ line-read number start (None, body)
     (falls-apart (operation-falls is) refl (falls-then blank-falls falls))
     (unlabelled (word_token start word) tokens front
     ∙ ap (λ (found : Result Body FaultKind). found >>= without_label)
-    (operation-read start tokens operands is other read said))
+    (operation-read start tokens operands is other read said_line))

@@ -77,10 +77,10 @@ placed-back numerals number before after (Some name) body free is =
       ) refl;
     }
 
-pub read-back : (numerals : Numerals) (number : ℕ) (before after : List ℕ) (said : SaidLine)
-    → AreNumerals numerals → is_writable said ≡ true
-    → IsReadBack numerals number before after said
-read-back numerals number before after said are is =
-    let parts = and_parts (is_free_label said.label) (is_writable_body said.body) is in
-    placed-back numerals number before after said.label said.body parts.0
-    (body-placed numerals are said.body parts.1)
+pub read-back : (numerals : Numerals) (number : ℕ) (before after : List ℕ) (said_line : SaidLine)
+    → AreNumerals numerals → is_writable said_line ≡ true
+    → IsReadBack numerals number before after said_line
+read-back numerals number before after said_line are is =
+    let parts = and_parts (is_free_label said_line.label) (is_writable_body said_line.body) is in
+    placed-back numerals number before after said_line.label said_line.body parts.0
+    (body-placed numerals are said_line.body parts.1)

@@ -81,13 +81,13 @@ both-read statement statements first rest = rw (first, rest) refl
 
 -- a line before others
 abbrev line_before : Numerals → SaidLine → List SaidLine → List ℕ
-line_before numerals said rest =
-    said_text numerals said ++ 10 ∷ source_text numerals rest
+line_before numerals said_line rest =
+    said_text numerals said_line ++ 10 ∷ source_text numerals rest
 
-text-cut : (numerals : Numerals) (said : SaidLine) (rest : List SaidLine)
-    → source_text numerals (said ∷ rest) ≡ line_before numerals said rest
-text-cut numerals said rest =
-    append_assoc (said_text numerals said) (codes "\n") (source_text numerals rest)
+text-cut : (numerals : Numerals) (said_line : SaidLine) (rest : List SaidLine)
+    → source_text numerals (said_line ∷ rest) ≡ line_before numerals said_line rest
+text-cut numerals said_line rest =
+    append_assoc (said_text numerals said_line) (codes "\n") (source_text numerals rest)
 
 read-from : (numerals : Numerals) → AreNumerals numerals → (all : List SaidLine)
     → list_all is_writable all ≡ true → (before : List ℕ) (number : ℕ)
@@ -95,16 +95,16 @@ read-from : (numerals : Numerals) → AreNumerals numerals → (all : List SaidL
     (lines_from (length before) number (source_text numerals all)) all
 read-from numerals are [] writable before number =
     record { statements = []; read = refl; says = refl }
-read-from numerals are (said ∷ rest) writable before number =
-    let parts = and_parts (is_writable said) (list_all is_writable rest) writable in
-    let line : List ℕ = said_text numerals said in
+read-from numerals are (said_line ∷ rest) writable before number =
+    let parts = and_parts (is_writable said_line) (list_all is_writable rest) writable in
+    let line : List ℕ = said_text numerals said_line in
     let left : List ℕ = source_text numerals rest in
-    let source : List ℕ = before ++ source_text numerals (said ∷ rest) in
+    let source : List ℕ = before ++ source_text numerals (said_line ∷ rest) in
     let front : List ℕ = before ++ line ++ codes "\n" in
-    let first = read-back numerals number before (codes "\n" ++ left) said are parts.0 in
+    let first = read-back numerals number before (codes "\n" ++ left) said_line are parts.0 in
     let whole : before ++ line ++ (codes "\n" ++ left) ≡ source =
     append_assoc before line (codes "\n" ++ left)
-    ∙ ap (λ (text : List ℕ). before ++ text) (sym (text-cut numerals said rest)) in
+    ∙ ap (λ (text : List ℕ). before ++ text) (sym (text-cut numerals said_line rest)) in
     let count : length front ≡ length before + length line + 1 =
     omega (arith, length-append (before ++ line) (codes "\n"), length-append before line) in
     let behind : front ++ left ≡ source =
@@ -115,12 +115,13 @@ read-from numerals are (said ∷ rest) writable before number =
     (lines_from (length before + length line + 1) (number + 1) left) rest) behind
     (subst (λ (place : ℕ). IsReadFrom (front ++ left) (lines_from place (number + 1) left) rest)
     count (read-from numerals are rest parts.1 front (number + 1))) in
-    let cut : lines_from (length before) number (source_text numerals (said ∷ rest))
+    let cut : lines_from (length before) number (source_text numerals (said_line ∷ rest))
     ≡ (length before, (number, line))
     ∷ lines_from (length before + length line + 1) (number + 1) left =
-    ap (λ (text : List ℕ). lines_from (length before) number text) (text-cut numerals said rest)
-    ∙ next-lines (length before) number line left (said-printed numerals are said parts.0) in
-    let says : said_by source first.statement ≡ said =
+    ap (λ (text : List ℕ). lines_from (length before) number text)
+    (text-cut numerals said_line rest)
+    ∙ next-lines (length before) number line left (said-printed numerals are said_line parts.0) in
+    let says : said_by source first.statement ≡ said_line =
     ap (λ (text : List ℕ). said_by text first.statement) (sym whole) ∙ first.says in
     record {
       statements = first.statement ∷ later.statements;
@@ -143,11 +144,11 @@ printed-ascii (c ∷ line) rest all ascii (suc i) =
 source-ascii : (numerals : Numerals) → AreNumerals numerals → (all : List SaidLine)
     → list_all is_writable all ≡ true → IsAscii (source_text numerals all)
 source-ascii numerals are [] writable = λ i. omega arith
-source-ascii numerals are (said ∷ rest) writable =
-    let parts = and_parts (is_writable said) (list_all is_writable rest) writable in
-    subst (λ (text : List ℕ). IsAscii text) (sym (text-cut numerals said rest))
-    (printed-ascii (said_text numerals said) (source_text numerals rest)
-    (said-printed numerals are said parts.0) (source-ascii numerals are rest parts.1))
+source-ascii numerals are (said_line ∷ rest) writable =
+    let parts = and_parts (is_writable said_line) (list_all is_writable rest) writable in
+    subst (λ (text : List ℕ). IsAscii text) (sym (text-cut numerals said_line rest))
+    (printed-ascii (said_text numerals said_line) (source_text numerals rest)
+    (said-printed numerals are said_line parts.0) (source-ascii numerals are rest parts.1))
 
 pub source-read_back : (numerals : Numerals) (all : List SaidLine) → AreNumerals numerals
     → list_all is_writable all ≡ true → IsSourceReadBack numerals all

@@ -12,17 +12,17 @@ AreNumerals numerals =
     (number : ℕ) → number < 65536 → number_of (numerals number) ≡ Some number
 
 -- the line of this text, which stands between others of a source, says what was written
-pub record IsReadBack (numerals : Numerals) (number : ℕ) (before after : List ℕ) (said : SaidLine)
+pub record IsReadBack (numerals : Numerals) (number : ℕ) (before after : List ℕ) (line : SaidLine)
     : Type 0 where
   pub statement : Statement
-  pub read : line_statement number (length before) (said_text numerals said) ≡ Ok statement
-  pub says : said_by (before ++ said_text numerals said ++ after) statement ≡ said
+  pub read : line_statement number (length before) (said_text numerals line) ≡ Ok statement
+  pub says : said_by (before ++ said_text numerals line ++ after) statement ≡ line
 
 -- the text of statements, each in a line that ends with LF
 abbrev pub source_text : Numerals → List SaidLine → List ℕ
 source_text numerals [] = []
-source_text numerals (said ∷ rest) =
-    said_text numerals said ++ codes "\n" ++ source_text numerals rest
+source_text numerals (line ∷ rest) =
+    said_text numerals line ++ codes "\n" ++ source_text numerals rest
 
 -- the source of this text has the statements that were written
 pub record IsSourceReadBack (numerals : Numerals) (all : List SaidLine) : Type 0 where

@@ -136,4 +136,4 @@ label_text None = []
 label_text (Some name) = name ++ codes ": "
 
 abbrev pub said_text : Numerals → SaidLine → List ℕ
-said_text numerals said = label_text said.label ++ body_text numerals said.body
+said_text numerals line = label_text line.label ++ body_text numerals line.body

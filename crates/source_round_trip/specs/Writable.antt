@@ -75,4 +75,4 @@ is_free_label None = true
 is_free_label (Some name) = is_free_name name
 
 abbrev pub is_writable : SaidLine → Bool
-is_writable said = is_free_label said.label && is_writable_body said.body
+is_writable line = is_free_label line.label && is_writable_body line.body

@@ -9,10 +9,10 @@ ghost use Rattle.source_round_trip.specs.Writable.{is_writable};
 /// label, mnemonic or directive, size, operands and expressions are the same, and names have the
 /// same characters.
 pub fn written_statement_is_read_back()
-    ensures { (numerals : Numerals) (number : ℕ) (before after : List ℕ) (said : SaidLine)
+    ensures { (numerals : Numerals) (number : ℕ) (before after : List ℕ) (line : SaidLine)
         → AreNumerals numerals
-        → IsTrue (is_writable said)
-        → IsReadBack numerals number before after said }
+        → IsTrue (is_writable line)
+        → IsReadBack numerals number before after line }
 {}
 
 /// So a source that is written from statements is read as these, one in each line.

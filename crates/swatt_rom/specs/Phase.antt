@@ -4,28 +4,22 @@ use Rattle.std.specs.Prelude.{◌≡◌, ◌++◌, ◌+◌, ℕ, List, length, O
 use Rattle.bus_signals.specs.declared.bounds.Bounds.{Bounds}
 use Rattle.hmac_core.specs.Hmac.{HmacStandsFor}
 use Rattle.hmac_core.specs.declared.running_hmac.Hmac.{Hmac}
-use Rattle.part_definitions.specs.Attestation.{bounds_read, region_words, metadata_read, region_read, derived_in, inner_in, tag_in}
+use Rattle.part_definitions.specs.Attestation.{BEFORE_DERIVED_KEY, BEFORE_REGION, BEFORE_MAC, BEFORE_RETURN, bounds_read, region_words, metadata_read, region_read, derived_in, inner_in, tag_in}
 use Rattle.swatt_rom.specs.DigestWords.{WritesDigest}
 use Rattle.swatt_rom.specs.declared.digest_words.DigestWords.{DigestWords}
 use Rattle.swatt_rom.specs.declared.region_words.RegionWords.{RegionWords}
 use Rattle.swatt_rom.specs.declared.phase.Phase.{Phase}
 use Rattle.swatt_rom.specs.declared.phase.Phase.TheVariants.{ReadsKey, ReadsMetadata, WritesDerivedKey, ReadsRegion, WritesInnerDigest, WritesMac}
 
--- how many words pass before each phase: before the derived key 32 of the key, 21 of the metadata
-abbrev pub BEFORE_DERIVED_KEY : ℕ
-BEFORE_DERIVED_KEY = 53
-
-abbrev pub BEFORE_REGION : ℕ
-BEFORE_REGION = 69
-
+-- how many words pass before the phases that come after the region
 abbrev pub before_inner_digest : List ℕ → ℕ
-before_inner_digest words = 69 + region_words (bounds_read words)
+before_inner_digest words = BEFORE_REGION + region_words (bounds_read words)
 
 abbrev pub before_mac : List ℕ → ℕ
-before_mac words = 85 + region_words (bounds_read words)
+before_mac words = BEFORE_MAC + region_words (bounds_read words)
 
 abbrev pub before_return : List ℕ → ℕ
-before_return words = 101 + region_words (bounds_read words)
+before_return words = BEFORE_RETURN + region_words (bounds_read words)
 
 pub record StandsAtInnerDigest
     (digest : List ℕ → List ℕ) (inner : DigestWords) (mac words : List ℕ) : Type 0 where

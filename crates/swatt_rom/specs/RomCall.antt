@@ -1,5 +1,5 @@
 -- Where the engine is in a call of the attestation ROM, and what it does next.
-use Rattle.std.specs.Prelude.{◌≡◌, ◌++◌, ℕ, List, [], ◌∷◌, Option, Some, None, if◌then◌else◌}
+use Rattle.std.specs.Prelude.{◌++◌, ℕ, List, [], ◌∷◌, Option, Some, None, if◌then◌else◌}
 use Rattle.bus_signals.specs.declared.access.Access.{Access}
 use Rattle.part_definitions.specs.Attestation.{call_item, item_access, item_pc, bounds_read, is_return, written_word, word_passed}
 use Rattle.part_definitions.specs.Words.{even, plus}
@@ -47,10 +47,3 @@ abbrev pub after_value : (List ℕ → List ℕ) → RomCall → ℕ → RomCall
 after_value digest NoCall value = NoCall
 after_value digest (InCall sp words) value = after_step digest sp words value
 after_value digest (AfterCall sp word) value = AfterCall sp word
-
--- the answer is what this function says of the call
-abbrev pub Tells :
-    {Engine Answer : Type 0}
-    → (Engine → RomCall → Type 0) → Engine → (RomCall → Answer) → Answer → Type 0
-Tells stands engine meaning answer =
-    (call : RomCall) → stands engine call → answer ≡ meaning call

@@ -1,6 +1,6 @@
 ghost use Rattle.std.specs.Prelude.{◌≡◌, ◌≤◌, ◌++◌, ◌∷◌, [], ℕ, List, length};
 ghost use Rattle.bus_signals.specs.Access.{IsFormed};
-ghost use Rattle.part_definitions.specs.Attestation.{call_item, item_pc, bounds_read, bytes_of_words, derived_key, tag_in};
+ghost use Rattle.part_definitions.specs.Attestation.{BEFORE_REGION, call_item, item_pc, bounds_read, derived_key, tag_in};
 ghost use Rattle.hmac_core.specs.Hmac.{HmacStandsFor};
 ghost use Rattle.swatt_rom.specs.RomCall.{call_access, next_word};
 
@@ -12,10 +12,10 @@ use arrayvec::ArrayVec;
 use bus_signals::{Access, Bounds, CR, KR, META, MR, XS};
 use hmac_core::{Digest32, Hmac, hmac};
 
-/// The words of the key.
+// The words of the key.
 const KEY_WORDS: usize = 32;
 
-/// The words of the metadata: sixteen of the challenge, four bounds and the EXEC word.
+// The words of the metadata: sixteen of the challenge, four bounds and the EXEC word.
 const METADATA_WORDS: usize = 21;
 
 /// What a call does next, and what it still knows: all of it but the return read.
@@ -66,16 +66,6 @@ fn derived_key<D: Digest32>(key: &[u8], metadata: &[u8]) -> [u8; 32]
     hmac::<D>(key, &metadata[..32])
 }
 
-// The hash takes a word, its two bytes in memory order.
-fn hash_word<D: Digest32>(hash: &mut Hmac<D>, word: u16)
-    ensures { (key message : List ℕ)
-        → HmacStandsFor D.has_taken D.digest_of hash.old key message
-        → HmacStandsFor D.has_taken D.digest_of hash.new key
-        (message ++ bytes_of_words (word ∷ [])) }
-{
-    hash.update(&word.to_le_bytes());
-}
-
 // The hash of a message that begins so.
 fn hash_of<D: Digest32>(key: &[u8], message: &[u8]) -> Hmac<D>
     ensures { HmacStandsFor D.has_taken D.digest_of result key.now message.now }
@@ -87,7 +77,7 @@ fn hash_of<D: Digest32>(key: &[u8], message: &[u8]) -> Hmac<D>
 
 impl<D: Digest32> Phase<D> {
     ghost use Rattle.swatt_rom.specs.DigestWords.{WritesDigest};
-    ghost use Rattle.swatt_rom.specs.Phase.{PhaseStandsFor, NextStandsFor, HashesRegion, StandsAtDerivedKey, StandsAtRegion, StandsAtInnerDigest, BEFORE_REGION, before_inner_digest, before_mac};
+    ghost use Rattle.swatt_rom.specs.Phase.{PhaseStandsFor, NextStandsFor, HashesRegion, StandsAtDerivedKey, StandsAtRegion, StandsAtInnerDigest, before_inner_digest, before_mac};
 
     /// The beginning of a call.
     pub fn new() -> Phase<D>
@@ -223,7 +213,7 @@ impl<D: Digest32> Phase<D> {
             → StandsAtRegion D.has_taken D.digest_of region hash words
             → PhaseStandsFor D.has_taken D.digest_of result (words ++ word ∷ []) }
     {
-        hash_word(&mut hash, word);
+        hash.update_word(word);
         match region.rest() {
             Some(region) => Phase::ReadsRegion { region, hash },
             None => Phase::after_region(hash),

@@ -1,6 +1,7 @@
 ghost use Rattle.std.specs.Prelude.{◌≡◌, [], ℕ, IfSome};
 ghost use Rattle.bus_signals.specs.Access.{IsFormed};
-ghost use Rattle.swatt_rom.specs.RomCall.{RomCall, NoCall, InCall, Tells, rom_access, rom_pc, registers_after, after_value};
+ghost use Rattle.part_definitions.specs.Part.{Answers};
+ghost use Rattle.swatt_rom.specs.RomCall.{RomCall, NoCall, InCall, rom_access, rom_pc, registers_after, after_value};
 
 use crate::phase::Phase;
 use crate::state::State;
@@ -41,14 +42,14 @@ impl<D: Digest32> Rom<D> {
     /// The `pc` of the next step of a call: A000 in the first, BFFE in the last and A002 in the
     /// others; 0 where no call is in progress.
     pub fn pc(&self) -> u16
-        ensures { Tells (RomStandsFor D.has_taken D.digest_of) self.now rom_pc result }
+        ensures { Answers (RomStandsFor D.has_taken D.digest_of) self.now rom_pc result }
     {
         self.state.pc()
     }
 
     /// PC and SP after a call: there from its last step until the next call begins.
     pub fn done(&self) -> Option<(u16, u16)>
-        ensures { Tells (RomStandsFor D.has_taken D.digest_of) self.now registers_after result }
+        ensures { Answers (RomStandsFor D.has_taken D.digest_of) self.now registers_after result }
     {
         self.state.registers()
     }
@@ -70,7 +71,7 @@ impl<D: Digest32> BusMaster for Rom<D> {
     ghost cleared = { λ call. NoCall };
 
     fn ask(&self) -> Option<Access>
-        ensures access { Tells (RomStandsFor D.has_taken D.digest_of) self.now
+        ensures access { Answers (RomStandsFor D.has_taken D.digest_of) self.now
             (rom_access D.digest_of) result }
         ensures formed { IfSome result IsFormed }
     {
@@ -93,6 +94,3 @@ impl<D: Digest32> BusMaster for Rom<D> {
         *self = Rom::new();
     }
 }
-
-#[cfg(test)]
-mod tests;

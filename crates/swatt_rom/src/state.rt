@@ -1,6 +1,7 @@
 ghost use Rattle.std.specs.Prelude.{IfSome};
 ghost use Rattle.bus_signals.specs.Access.{IsFormed};
-ghost use Rattle.swatt_rom.specs.RomCall.{RomCall, Tells, rom_access, rom_pc, registers_after, after_value};
+ghost use Rattle.part_definitions.specs.Part.{Answers};
+ghost use Rattle.swatt_rom.specs.RomCall.{RomCall, rom_access, rom_pc, registers_after, after_value};
 
 use crate::phase::Phase;
 use bus_signals::{Access, CR};
@@ -24,7 +25,7 @@ impl<D: Digest32> State<D> {
     ghost use Rattle.swatt_rom.specs.State.{StateStandsFor};
 
     pub fn access(&self) -> Option<Access>
-        ensures access { Tells (StateStandsFor D.has_taken D.digest_of) self.now
+        ensures access { Answers (StateStandsFor D.has_taken D.digest_of) self.now
             (rom_access D.digest_of) result }
         ensures formed { IfSome result IsFormed }
     {
@@ -36,7 +37,7 @@ impl<D: Digest32> State<D> {
     }
 
     pub fn pc(&self) -> u16
-        ensures { Tells (StateStandsFor D.has_taken D.digest_of) self.now rom_pc result }
+        ensures { Answers (StateStandsFor D.has_taken D.digest_of) self.now rom_pc result }
     {
         match self {
             State::Calls { phase, .. } => phase.pc(),
@@ -47,7 +48,7 @@ impl<D: Digest32> State<D> {
 
     /// PC and SP after the last step.
     pub fn registers(&self) -> Option<(u16, u16)>
-        ensures { Tells (StateStandsFor D.has_taken D.digest_of) self.now registers_after result }
+        ensures { Answers (StateStandsFor D.has_taken D.digest_of) self.now registers_after result }
     {
         match self {
             State::Leaves { pc, sp } => Some((*pc, *sp)),

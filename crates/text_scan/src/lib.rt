@@ -8,14 +8,13 @@
 
 mod bytes;
 mod decimal_number;
+mod ends;
 mod fault_at;
 mod fault_kind;
 mod hexadecimal;
 mod key;
 mod line_reader;
 mod lines;
-#[cfg(test)]
-mod tests;
 mod text_fault;
 mod utf8;
 mod word_fault;

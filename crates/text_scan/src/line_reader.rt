@@ -4,7 +4,6 @@ ghost use Rattle.text_scan.specs.Line.{lines_of};
 ghost use Rattle.text_scan.specs.LineFold.{TakesLine, TakesNumbered, state_after, text_fold};
 ghost use Rattle.text_scan.specs.Reader.{Reads, in_line};
 
-use crate::fault_at::FaultAt;
 use crate::lines::Lines;
 use crate::text_fault::TextFault;
 use crate::utf8::check_utf8;
@@ -55,9 +54,7 @@ fn take_numbered<R: LineReader>(
 ) -> Result<(), TextFault>
     ensures { TakesNumbered result reader.new (in_line number (R.with_line reader.old line.now)) }
 {
-    match reader.take(alloc, line) {
-        Ok(()) => Ok(()),
-        Err(WordFault::Kind(kind)) => Err(TextFault::At(FaultAt { line: number, kind })),
-        Err(WordFault::Memory(error)) => Err(TextFault::Memory(error)),
-    }
+    reader
+        .take(alloc, line)
+        .map_err(|fault| fault.in_line(number))
 }

@@ -13,7 +13,7 @@ pub struct Lines<'a> {
     last: u64,
 }
 
-// Seen as the lines that are left, with their numbers.
+// SeenRecord as the lines that are left, with their numbers.
 impl<'a> Model for Lines<'a> {
     ghost Value = { List (ℕ × List ℕ) };
 
@@ -86,7 +86,7 @@ fn line_len(text: &[u8]) -> usize
         .unwrap_or(text.len())
 }
 
-/// The line without the carriage return at its end, where it has one.
+// The line without the carriage return at its end, where it has one.
 pub(crate) fn without_return(line: &[u8]) -> &[u8]
     ensures { result.now ≡ strip_carriage_return line.now }
 {

@@ -12,7 +12,7 @@ pub struct Words<'a> {
     rest: &'a [u8],
 }
 
-// Seen as the words that are left.
+// SeenRecord as the words that are left.
 impl<'a> Model for Words<'a> {
     ghost Value = { List (List ℕ) };
 

@@ -7,7 +7,7 @@ use Rattle.bus_signals.specs.declared.bus_record.BusRecord.{BusRecord}
 use Rattle.bus_signals.specs.declared.event.Event.{Event}
 use Rattle.bus_signals.specs.Bounds.{are_valid}
 use Rattle.bus_signals.specs.Map.{metadata_region}
-use Rattle.bus_signals.specs.Seen.{Seen}
+use Rattle.bus_signals.specs.SeenRecord.{SeenRecord}
 use Rattle.part_definitions.specs.Flag.{accesses_in, writes_to, is_opcode_fetch, clears_e9, clears, starts_run, last_pc, records_since_clear, exec}
 use Rattle.device_trace.specs.Logs.{Logs, exec_of, logged_bounds, with_events, with_record}
 use Rattle.device_trace.specs.Start.{Start}
@@ -18,13 +18,13 @@ use Rattle.trace_facts.proofs.BoundsStay.{logged_bounds-stay}
 
 -- where the flag is set after a record, this does not clear it, and it starts a run or the flag was
 -- set before
-set_after : (cleared : Bool) (now : Seen) (kept : List Seen)
+set_after : (cleared : Bool) (now : SeenRecord) (kept : List SeenRecord)
     → list_any starts_run (if cleared then [] else now ∷ kept) ≡ true
     → (cleared ≡ false) × ((starts_run now ≡ true) ⊎ (list_any starts_run kept ≡ true))
 set_after true now kept set = absurd (cc)
 set_after false now kept set = (refl, or_cases (starts_run now) (list_any starts_run kept) set)
 
-pub exec-more : (now : Seen) (before : List Seen) → exec (now ∷ before) ≡ true
+pub exec-more : (now : SeenRecord) (before : List SeenRecord) → exec (now ∷ before) ≡ true
     → (clears (last_pc before) now ≡ false) × ((starts_run now ≡ true) ⊎ (exec before ≡ true))
 unfolding exec
 exec-more now before set =
@@ -42,7 +42,7 @@ with_record-valid : (start : Start) (logs : Logs) (entry : BusRecord)
     → LogsAreValid start logs → LogsAreValid start (with_record start logs entry)
 unfolding with_record
 with_record-valid start logs entry before set =
-    let now : Seen = record { entry = entry; bounds = logged_bounds start logs } in
+    let now : SeenRecord = record { entry = entry; bounds = logged_bounds start logs } in
     let more = exec-more now logs.seen set in
     let last = or_parts _ (clears_e9 now) more.0 in
     let clean = or_parts (list_any (writes_to metadata_region) (accesses_in entry))

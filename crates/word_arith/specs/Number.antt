@@ -4,21 +4,21 @@ use Rattle.word_arith.specs.declared.size.Size.{Size}
 use Rattle.word_arith.specs.declared.size.Size.TheVariants.{Byte, Word}
 
 -- how many numbers there are of a size: an operand is below it
-abbrev pub span : Size → ℕ
-span Byte = 256
-span Word = 65536
+abbrev pub modulus : Size → ℕ
+modulus Byte = 256
+modulus Word = 65536
 
 -- the operand of a size in a word: the low byte, or the whole word
 abbrev pub low_part : Size → ℕ → ℕ
-low_part size word = word % span size
+low_part size word = word % modulus size
 
 -- all bits inverted
 abbrev pub inverse : Size → ℕ → ℕ
-inverse size operand = span size - 1 - operand
+inverse size operand = modulus size - 1 - operand
 
 -- the top bit is set, so that the operand stands for a negative number
 abbrev pub is_negative : Size → ℕ → Bool
-is_negative size operand = nat_le (span size / 2) operand
+is_negative size operand = nat_le (modulus size / 2) operand
 
 -- a carry as a number to add
 abbrev pub number_of : Bool → ℕ

@@ -5,14 +5,14 @@ use Rattle.word_arith.specs.declared.size.Size.TheVariants.{Byte, Word}
 use Rattle.word_arith.specs.declared.flags.Flags.{Flags}
 use Rattle.word_arith.specs.declared.op1.Op1.{Op1}
 use Rattle.word_arith.specs.declared.op1.Op1.TheVariants.{Rrc, Swpb, Rra, Sxt}
-use Rattle.word_arith.specs.Number.{span, low_part, is_negative, number_of}
+use Rattle.word_arith.specs.Number.{modulus, low_part, is_negative, number_of}
 use Rattle.word_arith.specs.Flags.{flags_of}
 
 -- half the operand, with a bit put in at the top; C is the bit that leaves, and V is 0
 abbrev pub shift_of : Size → ℕ → Bool → ℕ × Flags
 shift_of size dst top =
     let operand : ℕ = low_part size dst in
-    let outcome : ℕ = operand / 2 + number_of top * (span size / 2) in
+    let outcome : ℕ = operand / 2 + number_of top * (modulus size / 2) in
     (outcome, flags_of size outcome (operand % 2 == 1) false)
 
 -- the low byte with bit 7 copied to bits 8 to 15; C says that the word is not 0, and V is 0

@@ -3,23 +3,23 @@ use Rattle.std.specs.Prelude.{◌≡◌, ◌↔◌, ◌<◌, ◌≤◌, ◌+ℤ�
 use Rattle.word_arith.specs.declared.size.Size.{Size}
 use Rattle.word_arith.specs.declared.flags.Flags.{Flags}
 use Rattle.word_arith.specs.declared.op2.Op2.TheVariants.{Cmp}
-use Rattle.word_arith.specs.Number.{span, is_negative, number_of, alike}
+use Rattle.word_arith.specs.Number.{modulus, is_negative, number_of, alike}
 use Rattle.word_arith.specs.Sum.{sum_of}
 use Rattle.word_arith.specs.Op2.{alu_of}
 
 -- the number that an operand stands for in two's complement
 abbrev pub signed_value : Size → ℕ → ℤ
 signed_value size operand =
-    if is_negative size operand then pos operand -ℤ pos (span size) else pos operand
+    if is_negative size operand then pos operand -ℤ pos (modulus size) else pos operand
 
 -- V is clear exactly where the result stands for the sum of the signed operands and the carry
 abbrev pub OverflowIsSigned : Type 0
 OverflowIsSigned =
     (size : Size) (left right : ℕ) (carry : Bool)
-    → left < span size
-    → right < span size
-    → IsFalse ((sum_of size left right carry).1.v) ↔
-    (signed_value size (sum_of size left right carry).0 ≡
+    → left < modulus size
+    → right < modulus size
+    → IsFalse ((sum_of size left right carry).1.v)
+    ↔ (signed_value size (sum_of size left right carry).0 ≡
     signed_value size left +ℤ signed_value size right +ℤ pos (number_of carry))
 
 -- after CMP, Z says that the operands are equal, C that the destination is not below the source,
@@ -27,9 +27,9 @@ OverflowIsSigned =
 abbrev pub ComparisonOrders : Type 0
 ComparisonOrders =
     (size : Size) (src dst : ℕ) (before : Flags)
-    → src < span size
-    → dst < span size
-    → (IsTrue (alu_of Cmp size src dst before).1.z ↔ (dst ≡ src)) ×
-    (IsTrue (alu_of Cmp size src dst before).1.c ↔ (src ≤ dst)) ×
-    (IsFalse (alike (alu_of Cmp size src dst before).1.n (alu_of Cmp size src dst before).1.v) ↔
-    (signed_value size dst <ℤ signed_value size src))
+    → src < modulus size
+    → dst < modulus size
+    → (IsTrue (alu_of Cmp size src dst before).1.z ↔ (dst ≡ src))
+    × (IsTrue (alu_of Cmp size src dst before).1.c ↔ (src ≤ dst))
+    × (IsFalse (alike (alu_of Cmp size src dst before).1.n (alu_of Cmp size src dst before).1.v)
+    ↔ (signed_value size dst <ℤ signed_value size src))

@@ -2,7 +2,7 @@
 use Rattle.std.specs.Prelude.{◌+◌, ◌%◌, ◌&&◌, ℕ, Bool, not, nat_le}
 use Rattle.word_arith.specs.declared.size.Size.{Size}
 use Rattle.word_arith.specs.declared.flags.Flags.{Flags}
-use Rattle.word_arith.specs.Number.{span, is_negative, number_of, alike}
+use Rattle.word_arith.specs.Number.{modulus, is_negative, number_of, alike}
 use Rattle.word_arith.specs.Flags.{flags_of}
 
 -- two operands of one sign have a sum of the other
@@ -15,5 +15,5 @@ overflows size left right sum =
 abbrev pub sum_of : Size → ℕ → ℕ → Bool → ℕ × Flags
 sum_of size left right carry =
     let whole : ℕ = left + right + number_of carry in
-    let sum : ℕ = whole % span size in
-    (sum, flags_of size sum (nat_le (span size) whole) (overflows size left right sum))
+    let sum : ℕ = whole % modulus size in
+    (sum, flags_of size sum (nat_le (modulus size) whole) (overflows size left right sum))

@@ -1,5 +1,5 @@
 ghost use Rattle.std.specs.Prelude.{◌≡◌, ◌<◌};
-ghost use Rattle.word_arith.specs.Number.{span};
+ghost use Rattle.word_arith.specs.Number.{modulus};
 ghost use Rattle.word_arith.specs.Op2.{alu_result, alu_of, test_of, decimal_of};
 
 use crate::decimal_sum::bcd_add;
@@ -8,7 +8,7 @@ use crate::op2::Op2;
 use crate::size::Size;
 use crate::sum::add;
 
-/// A result of bits with its flags: the carry says that it is not 0.
+// A result of bits with its flags: the carry says that it is not 0.
 #[inline(always)]
 fn test(size: Size, outcome: u16, overflow: bool) -> (u16, Flags)
     ensures value { result ≡ test_of size outcome overflow }
@@ -20,10 +20,10 @@ fn test(size: Size, outcome: u16, overflow: bool) -> (u16, Flags)
     )
 }
 
-/// The decimal sum with its flags.
+// The decimal sum with its flags.
 fn add_decimal(size: Size, src: u16, dst: u16, flags: Flags) -> (u16, Flags)
     ensures value { result ≡ decimal_of size src dst flags }
-    ensures fits { result.0 < span size }
+    ensures fits { result.0 < modulus size }
 {
     let (sum, carry) = bcd_add(size, src, dst, flags.c);
     (sum, Flags::of_result(size, sum, carry, flags.v))
@@ -32,10 +32,10 @@ fn add_decimal(size: Size, src: u16, dst: u16, flags: Flags) -> (u16, Flags)
 #[inline(always)]
 #[tactic(auto, using(crate::proofs::Fits::bits_fit))]
 fn operate(op: Op2, size: Size, src: u16, dst: u16, flags: Flags) -> (u16, Flags)
-    requires src_fits { src < span size }
-    requires dst_fits { dst < span size }
+    requires src_fits { src < modulus size }
+    requires dst_fits { dst < modulus size }
     ensures value { result ≡ alu_of op size src dst flags }
-    ensures fits { result.0 < span size }
+    ensures fits { result.0 < modulus size }
 {
     match op {
         Op2::Mov => (src, flags),
@@ -61,7 +61,7 @@ fn operate(op: Op2, size: Size, src: u16, dst: u16, flags: Flags) -> (u16, Flags
 #[tactic(auto, unfolding(crate::specs::Op2::alu_result))]
 pub fn alu(op: Op2, size: Size, src: u16, dst: u16, flags: Flags) -> (u16, Flags)
     ensures value { result ≡ alu_result op size src dst flags }
-    ensures fits { result.0 < span size }
+    ensures fits { result.0 < modulus size }
 {
     match size {
         Size::Byte => operate(op, Size::Byte, src % 0x100, dst % 0x100, flags),

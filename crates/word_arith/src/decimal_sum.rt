@@ -1,10 +1,10 @@
 ghost use Rattle.std.specs.Prelude.{◌≡◌, ◌<◌, ◌^◌};
 ghost use Rattle.word_arith.specs.Decimal.{decimal_places, decimal_sum};
-ghost use Rattle.word_arith.specs.Number.{span};
+ghost use Rattle.word_arith.specs.Number.{modulus};
 
 use crate::size::Size;
 
-/// One decimal place: the digit and the carry of two nibbles and a carry.
+// One decimal place: the digit and the carry of two nibbles and a carry.
 fn add_digits(left: u16, right: u16, carry: bool) -> (u16, bool)
     requires left_fits { left < 16 }
     requires right_fits { right < 16 }
@@ -19,7 +19,7 @@ fn add_digits(left: u16, right: u16, carry: bool) -> (u16, bool)
     }
 }
 
-/// Two decimal places.
+// Two decimal places.
 fn add_bytes(left: u16, right: u16, carry: bool) -> (u16, bool)
     requires left_fits { left < 2 ^ 8 }
     requires right_fits { right < 2 ^ 8 }
@@ -37,7 +37,7 @@ fn add_bytes(left: u16, right: u16, carry: bool) -> (u16, bool)
 /// or more gives its remainder by 16 after 6 was added, and a carry.
 pub fn bcd_add(size: Size, src: u16, dst: u16, carry: bool) -> (u16, bool)
     ensures value { result ≡ decimal_sum size src dst carry }
-    ensures fits { result.0 < span size }
+    ensures fits { result.0 < modulus size }
 {
     let (low, half_carry) = add_bytes(src % 0x100, dst % 0x100, carry);
     match size {

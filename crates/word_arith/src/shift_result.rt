@@ -1,15 +1,15 @@
 ghost use Rattle.std.specs.Prelude.{◌≡◌, ◌<◌};
-ghost use Rattle.word_arith.specs.Number.{span};
+ghost use Rattle.word_arith.specs.Number.{modulus};
 ghost use Rattle.word_arith.specs.Op1.{shifted_size, shift_result, shift_of, extend_of};
 
 use crate::flags::Flags;
 use crate::op1::Op1;
 use crate::size::Size;
 
-/// Shifts right by one place and puts a bit in at the top; the bit that leaves is the carry.
+// Shifts right by one place and puts a bit in at the top; the bit that leaves is the carry.
 fn shift_right(size: Size, dst: u16, top: bool) -> (u16, Flags)
     ensures value { result ≡ shift_of size dst top }
-    ensures fits { result.0 < span size }
+    ensures fits { result.0 < modulus size }
 {
     let operand = size.low_part(dst);
     let shifted = match size {
@@ -22,7 +22,7 @@ fn shift_right(size: Size, dst: u16, top: bool) -> (u16, Flags)
     )
 }
 
-/// Copies bit 7 to bits 8 to 15.
+// Copies bit 7 to bits 8 to 15.
 fn extend_sign(dst: u16) -> (u16, Flags)
     ensures { result ≡ extend_of dst }
 {
@@ -40,7 +40,7 @@ fn extend_sign(dst: u16) -> (u16, Flags)
 #[tactic(auto, unfolding(crate::specs::Op1::shift_result))]
 pub fn shift(op: Op1, size: Size, dst: u16, flags: Flags) -> (u16, Flags)
     ensures value { result ≡ shift_result op size dst flags }
-    ensures fits { result.0 < span (shifted_size op size) }
+    ensures fits { result.0 < modulus (shifted_size op size) }
 {
     match op {
         Op1::Rrc => shift_right(size, dst, flags.c),

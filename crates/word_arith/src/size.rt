@@ -8,12 +8,12 @@ pub enum Size {
 }
 
 impl Size {
-    ghost use Rattle.word_arith.specs.Number.{span, low_part, inverse, is_negative};
+    ghost use Rattle.word_arith.specs.Number.{modulus, low_part, inverse, is_negative};
 
     /// The operand of this size in a word.
     pub fn low_part(self, word: u16) -> u16
         ensures value { result ≡ low_part self word }
-        ensures fits { result < span self }
+        ensures fits { result < modulus self }
     {
         match self {
             Size::Byte => word % 0x100,
@@ -21,11 +21,11 @@ impl Size {
         }
     }
 
-    /// All bits of an operand inverted.
+    // All bits of an operand inverted.
     pub(crate) fn inverse(self, operand: u16) -> u16
-        requires { operand < span self }
+        requires { operand < modulus self }
         ensures value { result ≡ inverse self operand }
-        ensures fits { result < span self }
+        ensures fits { result < modulus self }
     {
         match self {
             Size::Byte => 0xFF - operand,
@@ -33,7 +33,7 @@ impl Size {
         }
     }
 
-    /// Whether the top bit is set.
+    // Whether the top bit is set.
     pub(crate) fn is_negative(self, operand: u16) -> bool
         ensures { result ≡ is_negative self operand }
     {

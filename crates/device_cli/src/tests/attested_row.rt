@@ -10,25 +10,25 @@ use line_buffer::LineBuffer;
 use std::alloc::{AllocError, Global};
 use std::test::Fail;
 
-/// Calls the code at C020 and then the ROM; the serial port's interrupt takes the byte.
+// Calls the code at C020 and then the ROM; the serial port's interrupt takes the byte.
 pub const CALLER: &str = ":10C00000314000229243700032D2B01220C0B012F0\n\
 :04C0100000A0FF3F4E\n:06C03000564274000013EB\n:02FFF40030C01B\n";
 
-/// The code at C020, of two words.
+// The code at C020, of two words.
 pub const REGION: &str = ":04C020000343304165\n";
 
-/// Its bounds, and those of an output at 0300.
+// Its bounds, and those of an output at 0300.
 pub const BOUNDS: &str = ":0802600020C022C000030003CE\n";
 
-/// The last ten bytes of the metadata: these bounds, and EXEC 1 or 0.
+// The last ten bytes of the metadata: these bounds, and EXEC 1 or 0.
 pub const WITH_EXEC: &[u8] = b"\x20\xc0\x22\xc0\x00\x03\x00\x03\x01\x00";
 
 pub const WITHOUT_EXEC: &[u8] = b"\x20\xc0\x22\xc0\x00\x03\x00\x03\x00\x00";
 
 pub const CODE_AND_OUTPUT: &str = " er c020 c022 or 0300 0300 data 0000 mac ";
 
-/// The MAC of a report under the key: of a challenge, the other ten bytes of the metadata, and the
-/// bytes of both regions.
+// The MAC of a report under the key: of a challenge, the other ten bytes of the metadata, and the
+// bytes of both regions.
 pub fn mac(
     alloc: Global,
     chal: &[u8; 32],
@@ -46,16 +46,16 @@ pub fn mac(
     Ok(hmac::<Sha256Digest>(&derived, message.as_slice()))
 }
 
-/// Bytes as digits.
+// Bytes as digits.
 fn digits(bytes: &[u8; 32]) -> LineBuffer {
     let mut digits = LineBuffer::new();
     digits.push_hex(bytes);
     digits
 }
 
-/// A play that finishes a call with a challenge of 32 bytes 00. The report's MAC is of the
-/// challenge, of ten bytes of metadata, and of the bytes of both regions. The parts are what is
-/// printed before the challenge, between it and the MAC, and after it.
+// A play that finishes a call with a challenge of 32 bytes 00. The report's MAC is of the
+// challenge, of ten bytes of metadata, and of the bytes of both regions. The parts are what is
+// printed before the challenge, between it and the MAC, and after it.
 #[derive(Clone, Copy)]
 pub struct Attested {
     pub program: &'static str,
@@ -171,7 +171,7 @@ fn printed_text(alloc: Global, row: &Attested) -> Result<Vec<u8>, AllocError> {
     Ok(text)
 }
 
-/// Whether a row's play is done and prints the row's text.
+// Whether a row's play is done and prints the row's text.
 pub fn prints_its_text(alloc: Global, row: &Attested) -> Result<bool, AllocError> {
     let records = [row.program, row.code, row.metadata, VECTOR_AND_END];
     let image = text_of(alloc, &records)?;

@@ -8,7 +8,7 @@ use std::alloc::{AllocError, Global};
 use std::test::Fail;
 use text_scan::Lines;
 
-/// Whether the text has this line.
+// Whether the text has this line.
 fn has_line(text: &[u8], line: &[u8]) -> bool {
     for (_, other) in Lines::new(text) {
         if other == line {
@@ -18,7 +18,7 @@ fn has_line(text: &[u8], line: &[u8]) -> bool {
     false
 }
 
-/// The record of 16 bytes at this place.
+// The record of 16 bytes at this place.
 pub fn record(alloc: Global, place: u16, bytes: &[u8; 16]) -> Result<Vec<u8>, AllocError> {
     let [high, low] = place.to_be_bytes();
     let mut sum = 16u8.wrapping_add(high).wrapping_add(low);

@@ -9,7 +9,7 @@ use crate::tests::{run_on, run_under_key};
 use std::alloc::{AllocError, Global};
 use std::test::Fail;
 
-/// A statement at C000, and what is printed before the end line.
+// A statement at C000, and what is printed before the end line.
 const STATEMENTS: [(&str, &str); 14] = [
     ("mov.b &0x6A3F,r5", "reset 3 K1\n"),
     ("mov.b &0x6A40,r5", ""),
@@ -27,7 +27,7 @@ const STATEMENTS: [(&str, &str); 14] = [
     (".word 0x0FFF", "reset 1 I1\nreset 3 I1\n"),
 ];
 
-/// A script beside a loop at C000, and what is printed before the end line.
+// A script beside a loop at C000, and what is printed before the end line.
 const TRANSFERS: [(&str, &str); 5] = [
     ("at 1 dma 69FE 0300 1\n", ""),
     ("at 1 dma 0300 6A3E 1\n", "reset 2 K4\n"),
@@ -36,12 +36,12 @@ const TRANSFERS: [(&str, &str); 5] = [
     ("at 1 dma 0300 6A00 1\nat 2 reset\n", "reset 2 X0\n"),
 ];
 
-/// The region's code and its output, as they are and with the first word cleared.
+// The region's code and its output, as they are and with the first word cleared.
 const REGIONS: &[u8] = b"\x03\x43\x30\x41\x00\x00";
 
 const CLEARED: &[u8] = b"\x00\x00\x30\x41\x00\x00";
 
-/// A script beside a region that is attested, EXEC in the report, and what the call reads.
+// A script beside a region that is attested, EXEC in the report, and what the call reads.
 const ATTESTED: [(&str, bool, &[u8]); 11] = [
     ("at 11 dma 0400 0402 1\n", false, REGIONS),
     ("at 13 dma 0400 0402 1\n", true, REGIONS),
@@ -56,7 +56,7 @@ const ATTESTED: [(&str, bool, &[u8]); 11] = [
     ("at 8 dma C020 0400 1\n", true, REGIONS),
 ];
 
-/// Four steps of the image of these statements at C000, which is assembled first.
+// Four steps of the image of these statements at C000, which is assembled first.
 fn play_source(
     alloc: Global,
     statements: &str,

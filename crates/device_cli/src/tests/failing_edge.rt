@@ -20,10 +20,10 @@ const SOURCE: &[u8] =
 
 const VERDICTS: &[u8] = b"verdict 1 accept\nverdict 2 no-challenge\n";
 
-/// The number of a call that does not come.
+// The number of a call that does not come.
 const NEVER: u64 = 0;
 
-/// What no constant has: an image, its reports, and the texts of a dump and of a round.
+// What no constant has: an image, its reports, and the texts of a dump and of a round.
 #[derive(Drop)]
 struct Built {
     image: Vec<u8>,
@@ -32,8 +32,8 @@ struct Built {
     round: Vec<u8>,
 }
 
-/// A command line, how often it reads its files where a call gives 50 bytes, and what is answered
-/// and put where nothing fails.
+// A command line, how often it reads its files where a call gives 50 bytes, and what is answered
+// and put where nothing fails.
 #[derive(Clone, Copy)]
 struct Row<'a> {
     words: &'a str,
@@ -87,7 +87,7 @@ impl Built {
     }
 }
 
-/// The memory after the letter A as Intel HEX: its image, and 0 elsewhere.
+// The memory after the letter A as Intel HEX: its image, and 0 elsewhere.
 fn letter_memory(alloc: Global) -> Result<Vec<u8>, AllocError> {
     let mut text = Vec::new(alloc);
     // 512 records from 0200 on, and 1,024 from C000 on.
@@ -119,8 +119,8 @@ fn words_of(alloc: Global, line: &str) -> Result<Vec<String>, AllocError> {
     Ok(words)
 }
 
-/// What is answered and put where the calls of these numbers fail, over a shelf that gives 50 bytes
-/// and a sink that takes one byte in a call.
+// What is answered and put where the calls of these numbers fail, over a shelf that gives 50 bytes
+// and a sink that takes one byte in a call.
 fn run_failing(
     alloc: Global,
     words: &str,
@@ -165,8 +165,8 @@ fn a_failing_read_of_any_command_puts_nothing(rt: HostRuntime) -> Result<(), Fai
     Ok(())
 }
 
-/// Whether the put after so many bytes of a text is made to fail: each one of a short text, and of
-/// a long one the first, the last, and some between them.
+// Whether the put after so many bytes of a text is made to fail: each one of a short text, and of
+// a long one the first, the last, and some between them.
 fn is_tried(taken: usize, length: usize) -> bool {
     let rest = length.saturating_sub(taken);
     length < 100 || taken < 10 || taken % (1 + length / 8) == 0 || rest < 3
@@ -217,7 +217,7 @@ fn over_those_that_never_fail_no_fault_is_answered(rt: HostRuntime) -> Result<()
     Ok(())
 }
 
-/// A report file of so many bytes: lines of one report, and empty lines.
+// A report file of so many bytes: lines of one report, and empty lines.
 fn many_reports(alloc: Global, length: usize) -> Result<Vec<u8>, AllocError> {
     let mut reports = Vec::new(alloc);
     for _ in 0..length / REPORT.len() {

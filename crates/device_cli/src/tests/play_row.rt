@@ -4,27 +4,27 @@ use crate::status::Status;
 use crate::tests::{image_of, run_under_key};
 use std::test::Fail;
 
-/// Sends the letter A.
+// Sends the letter A.
 const LETTER: &str = ":08C00000B24041007600FF3F51\n";
 
-/// The same again and again, until a transfer changes the jump.
+// The same again and again, until a transfer changes the jump.
 const LETTERS: &str = ":0AC00000B24041007600FF3FFC3F14\n";
 
-/// Attests its own code.
+// Attests its own code.
 const CALLER: &str = ":0CC000003140002232C2B01200A0FF3F0D\n:0802600000C00AC00003000306\n";
 
-/// Likewise, and the timer interrupts the call.
+// Likewise, and the timer interrupts the call.
 const LATE_CALLER: &str = ":18C0000031400022B2405F006401B2400300600132D2B01200A0FF3FE5\n";
 
-/// Sleeps, and sends each byte that comes.
+// Sleeps, and sends each byte that comes.
 const ECHO: &str = ":0EC00000314000229243700032D01800FF3F02\n:08C03000D242740076000013F7\n\
 :02FFF40030C01B\n";
 
-/// Sends the letter T in each interrupt of the timer.
+// Sends the letter T in each interrupt of the timer.
 const TIMER: &str = ":14C0000031400022B24009006401B2400300600132D2FF3FA1\n\
 :08C03000F240540076000013F9\n:02FFF20030C01D\n";
 
-/// Records, script, steps, and the text that is printed.
+// Records, script, steps, and the text that is printed.
 const ROWS: [(&str, &str, &str, &str); 13] = [
     (
         ":06C000001542006AFF3F3B\n",

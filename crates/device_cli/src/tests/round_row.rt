@@ -16,19 +16,19 @@ use text_scan::{FaultAt, FaultKind, read_key};
 pub const POLICY: &str = "er C040 C046\nor 0300 0300\n\
      chal 000102030405060708090a0b0c0d0e0f101112131415161718191a1b1c1d1e1f\n";
 
-/// Its report. The MACs are from another program (HMAC of Python's library).
+// Its report. The MACs are from another program (HMAC of Python's library).
 pub const REPORT: &str = "report 557 exec 1 \
      chal 000102030405060708090a0b0c0d0e0f101112131415161718191a1b1c1d1e1f \
      er c040 c046 or 0300 0300 data 3412 \
      mac 284a196506045ee45937fae57138147665e982308b52f63a952bbf1f9e18063c\n";
 
-/// The report where the DMA has read the output.
+// The report where the DMA has read the output.
 const READ: &str = "report 557 exec 0 \
      chal 000102030405060708090a0b0c0d0e0f101112131415161718191a1b1c1d1e1f \
      er c040 c046 or 0300 0300 data 3412 \
      mac c3877b79ddfe18127d872f0a95f762aacb4a537934aa1a48e601c885dff8ff27\n";
 
-/// And where it has written it.
+// And where it has written it.
 const WRITTEN: &str = "report 557 exec 0 \
      chal 000102030405060708090a0b0c0d0e0f101112131415161718191a1b1c1d1e1f \
      er c040 c046 or 0300 0300 data 0000 \
@@ -40,7 +40,7 @@ const DISTURBED: &str = "verdict 1 exec-zero\nend 560 pc c03e exec 0\n";
 
 const OTHER_BOUNDS: &str = "verdict 1 bounds-differ\nend 560 pc c03e exec 1\n";
 
-/// The same firmware with its output in the stack word that the call of the ROM pushes.
+// The same firmware with its output in the stack word that the call of the ROM pushes.
 const PUSHED: &str = ":10C000003140002232C23540400292B37200FD2717\n\
 :10C01000D54274000000155335906002F623B240FB\n\
 :10C0200040C06002B24046C06202B240FE216402DB\n\
@@ -58,7 +58,7 @@ const PUSHED_REPORT: &str = "report 557 exec 0 \
 const LONGER_POLICY: &str = "er C040 C046\nor 0300 0302\n\
      chal 000102030405060708090a0b0c0d0e0f101112131415161718191a1b1c1d1e1f\n";
 
-/// Records, further lines of the script, policy, answer, the line of the report, and the rest.
+// Records, further lines of the script, policy, answer, the line of the report, and the rest.
 const ROWS: [(&str, &str, &str, Status, &str, &str); 6] = [
     (MEASURED, "", POLICY, Status::Done, REPORT, ACCEPTED),
     (
@@ -121,8 +121,8 @@ fn rounds_print_verdicts(rt: HostRuntime) -> Result<(), Fail> {
     Ok(())
 }
 
-/// The code is overwritten before it runs, so the device runs other code than the image has: the
-/// pair is that of the inner inputs of two HMACs under 32 zero bytes.
+// The code is overwritten before it runs, so the device runs other code than the image has: the
+// pair is that of the inner inputs of two HMACs under 32 zero bytes.
 const COLLISION: &str = "report 557 exec 1 \
      chal 000102030405060708090a0b0c0d0e0f101112131415161718191a1b1c1d1e1f \
      er c040 c046 or 0300 0300 data 0000 \

@@ -12,7 +12,7 @@ const CHALLENGE: &str = "chal 000102030405060708090a0b0c0d0e0f101112131415161718
 
 const REGIONS: &str = "er C040 C046\nor 0300 0300\n";
 
-/// The answer to `verify i p k r`, and what it put.
+// The answer to `verify i p k r`, and what it put.
 fn verify(
     alloc: Global,
     policy: &[&str],

@@ -3,7 +3,8 @@ use Rattle.device_trace.specs.Logs.{exec_of}
 use Rattle.device_trace.specs.Trace.{logs_after}
 use Rattle.outside_edge.proofs.SinkLemmas.{prefix_of_more, puts-failed, puts_after}
 use Rattle.device_cli.specs.Judgement.{judge_of}
-use Rattle.device_cli.proofs.RoundLines.{last_lines, last_report-told}
+use Rattle.device_cli.specs.LastStepLines.{last_step_lines}
+use Rattle.device_cli.proofs.RoundLines.{last_report-told}
 use Rattle.device_cli.proofs.Tallies.{verdicts-one_more}
 use Rattle.device_cli.proofs.WriteCounts.{counts-write, counts-later, stops-never}
 use Rattle.device_cli.proofs.round_text.print_judged_step.Goals as goal
@@ -12,7 +13,7 @@ pub returns-in_err-print_last_step-clause-puts : goal.returns-in_err-print_last_
 returns-in_err-print_last_step-clause-puts g c = λ start play stands.
     puts-failed g.W.Sink.stands _ _ _ c.from_residual.result c.from_residual.ensures.0
     (prefix_of_more g.W.Sink.stands c.args.sink.now c.print_last_step.new.sink
-    (last_lines start play c.args.step) _
+    (last_step_lines start play c.args.step) _
     (c.in_err-print_last_step.ensures.puts start play stands).prefix)
 
 pub returns-in_err-print_last_step-clause-memory : goal.returns-in_err-print_last_step-clause-memory
@@ -38,7 +39,7 @@ pub returns-clause-puts : goal.returns-clause-puts
 returns-clause-puts g c = λ start play stands.
     let logs = logs_after start play in
     puts_after g.W.Sink.stands c.args.sink.now c.print_last_step.new.sink c.judge_last.new.sink
-    (last_lines start play c.args.step) _ c.judge_last.result
+    (last_step_lines start play c.args.step) _ c.judge_last.result
     (c.in_ok-print_last_step.ensures.puts start play stands).all
     (rw (c.report.ensures.last start play stands)
     at (c.judge_last.ensures.puts start.power (exec_of logs) logs.memory

@@ -18,7 +18,7 @@ returns-in-Err-place_statement-clause-fault c =
     let statement = c.index-statements-i.result in
     let scope = layout-scope c.args.layout.now text statements i (scope_in c.scope-scope.result)
     c.requires c.loop-i-test.true c.scope-scope.ensures in
-    rw c.fault_in_line.ensures
+    rw c.in_line.ensures
     (fault_of_all (second_pass_fault text (reverse statements)) statements i _ statement
     c.in-Err-place_statement.fault c.loop-i-test.true c.index-statements-i.is
     c.loop-i.invariant.sound

@@ -11,7 +11,7 @@ returns-in-Err-take-clause-fault c =
     let text = c.args.text.now in
     let statements = c.args.statements.now in
     let earlier = reverse (take at.statement-index statements) in
-    rw c.fault_in_line.ensures
+    rw c.in_line.ensures
     (fault_of_all (first_pass_fault text) statements at.statement-index _ c.statement-item.result
     c.in-Err-take.fault c.loop-statement-test.true c.statement-item.is at.invariant.sound
     (c.in-Err-take.ensures.fault text earlier at.invariant.stands))

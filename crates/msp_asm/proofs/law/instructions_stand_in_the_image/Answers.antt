@@ -1,4 +1,4 @@
-use Rattle.msp_asm.proofs.Standing.{instructions_stand}
+use Rattle.msp_asm.proofs.HasBytes.{instructions_stand}
 use Rattle.msp_asm.proofs.law.instructions_stand_in_the_image.Goals as goal
 
 pub returns : goal.returns

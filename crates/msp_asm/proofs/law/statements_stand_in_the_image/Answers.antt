@@ -1,4 +1,4 @@
-use Rattle.msp_asm.proofs.Standing.{statements_stand}
+use Rattle.msp_asm.proofs.HasBytes.{statements_stand}
 use Rattle.msp_asm.proofs.law.statements_stand_in_the_image.Goals as goal
 
 pub returns : goal.returns

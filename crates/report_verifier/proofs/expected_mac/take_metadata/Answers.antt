@@ -9,11 +9,11 @@ pub returns : goal.returns
 returns g c = λ key message stands.
     let bounds = c.args.expect.now.bounds in
     subst (λ all. HmacStandsFor g.D.Digest32.has_taken g.D.Digest32.digest_of
-    c.take_word-5.new.running key all)
+    c.update_word-5.new.self key all)
     (append-six message c.args.expect.now.chal (bytes_of_words (bounds.er_min ∷ []))
     (bytes_of_words (bounds.er_max ∷ []))
     (bytes_of_words (bounds.or_min ∷ [])) (bytes_of_words (bounds.or_max ∷ []))
     (bytes_of_words (1 ∷ [])))
-    (c.take_word-5.ensures key _ (c.take_word-4.ensures key _ (c.take_word-3.ensures key _
-    (c.take_word-2.ensures key _ (c.take_word.ensures key _
+    (c.update_word-5.ensures key _ (c.update_word-4.ensures key _ (c.update_word-3.ensures key _
+    (c.update_word-2.ensures key _ (c.update_word.ensures key _
     (c.update.ensures key message stands))))))

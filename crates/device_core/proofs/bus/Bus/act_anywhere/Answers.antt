@@ -5,8 +5,8 @@ use Rattle.device_core.proofs.bus.Bus.act_anywhere.Goals as goal
 pub returns-then-permits-clause-answer : goal.returns-then-permits-clause-answer
 returns-then-permits-clause-answer c = λ start logs stands turn dma.
     let same = c.signals-now.ensures.value start logs c.args.regs.now stands turn dma in
-    rw (record_of-tried start logs c.args.script_reset c.args.regs.now c.signals-now.result None same
-    turn.same_regs
+    rw (record_of-tried start logs c.args.script_reset c.args.regs.now c.signals-now.result None
+    same turn.same_regs
     (no_rule _ (sym (c.permits.ensures logs.seen stands.same_monitors) ∙ c.if-permits.true)))
     (ap Some (c.perform.ensures.value start logs stands
     (signals-word start logs c.args.script_reset c.signals-now.result same)))
@@ -17,8 +17,8 @@ returns-then-permits-clause-stands c = λ start logs stands turn dma.
     let now =
     signals-stand start logs c.args.script_reset c.args.regs.now c.args.turn.now
     c.signals-now.result same turn in
-    rw (record_of-tried start logs c.args.script_reset c.args.regs.now c.signals-now.result None same
-    turn.same_regs
+    rw (record_of-tried start logs c.args.script_reset c.args.regs.now c.signals-now.result None
+    same turn.same_regs
     (no_rule _ (sym (c.permits.ensures logs.seen stands.same_monitors) ∙ c.if-permits.true)))
     (c.perform.ensures.stands start logs stands
     (signals-word start logs c.args.script_reset c.signals-now.result same)

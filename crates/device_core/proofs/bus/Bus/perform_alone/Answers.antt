@@ -5,7 +5,7 @@ use Rattle.device_core.proofs.bus.Bus.perform_alone.Goals as goal
 
 pub returns-clause-stands : goal.returns-clause-stands
 unfolding with_record
-returns-clause-stands c = λ start logs clear stands word asked accepted.
+returns-clause-stands c = λ start logs clear stands word same_dma same_acceptance.
     let value = c.make-values.ensures.cpu start logs stands word in
     let dma = c.make-values.ensures.dma start logs stands in
     let entry = c.record_of_step.ensures.value in
@@ -20,7 +20,7 @@ returns-clause-stands c = λ start logs clear stands word asked accepted.
           stands.same_memory);
       same_peripherals =
           rw c.record_alone.ensures.peripherals
-          (rw (accepted, dma) at
+          (rw (same_acceptance, dma) at
           (c.make-values.ensures.peripherals logs.peripherals stands.same_peripherals));
       same_monitors =
           rw (entry, value, dma) at

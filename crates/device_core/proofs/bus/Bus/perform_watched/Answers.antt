@@ -4,7 +4,7 @@ use Rattle.device_core.proofs.bus.Bus.perform_watched.Goals as goal
 
 pub returns-clause-stands : goal.returns-clause-stands
 unfolding with_record
-returns-clause-stands c = λ start logs stands word asked accepted.
+returns-clause-stands c = λ start logs stands word same_dma same_acceptance.
     let value = c.make-values.ensures.cpu start logs stands word in
     let dma = c.make-values.ensures.dma start logs stands in
     let bounds = c.bounds-bounds.ensures start.power (exec_of logs) logs.memory stands.same_memory
@@ -20,7 +20,7 @@ returns-clause-stands c = λ start logs stands word asked accepted.
           (rw c.make-values.ensures.monitors stands.same_monitors));
       same_peripherals =
           rw c.record.ensures.peripherals
-          (rw (accepted, dma) at
+          (rw (same_acceptance, dma) at
           (c.make-values.ensures.peripherals logs.peripherals stands.same_peripherals));
       same_monitors =
           rw (entry, value, dma, bounds) at

@@ -19,8 +19,7 @@ returns-in-Some-clause-stands g c = λ key image logs regs words within.
     let start : Start = with_key g.D.Digest32.digest_of key image in
     let same : TurnStandsFor c.registers-regs.result.now c.args.turn.now start logs =
     rw (c.registers-regs.ensures (Boundary regs) within.same_processor) within.same_turn in
-    let dma =
-    c.ask-dma.ensures.access logs.peripherals.dma within.same_bus.same_peripherals.same_dma in
+    let dma = c.dma_access-dma.ensures.access start logs within.same_bus in
     let answer : answer_in (record_of start logs c.args.script_reset) ≡ Some c.in-Some.value =
     sym (c.act.ensures.answer start logs within.same_bus same dma) ∙ c.in-Some.is in
     after-call g.D.Digest32.has_taken g.D.Digest32.digest_of _ _ c.leave_call.result start
@@ -42,13 +41,8 @@ returns-in-None-clause-stands g c = λ key image logs regs words within.
     let start : Start = with_key g.D.Digest32.digest_of key image in
     let same : TurnStandsFor c.registers-regs.result.now c.args.turn.now start logs =
     rw (c.registers-regs.ensures (Boundary regs) within.same_processor) within.same_turn in
-    let dma =
-    c.ask-dma.ensures.access logs.peripherals.dma within.same_bus.same_peripherals.same_dma in
+    let dma = c.dma_access-dma.ensures.access start logs within.same_bus in
     let answer : answer_in (record_of start logs c.args.script_reset) ≡ None =
     sym (c.act.ensures.answer start logs within.same_bus same dma) ∙ c.in-None.is in
-    rw c.hold.ensures.stage (record {
-      same_bus = rw c.hold.ensures.bus (c.act.ensures.stands start logs within.same_bus same dma);
-      same_progress = progress-refused start logs c.args.script_reset answer;
-      same_processor = c.hold.ensures.processor;
-      same_call = c.hold.ensures.call;
-    })
+    c.hold.ensures.stands start _ (c.act.ensures.stands start logs within.same_bus same dma)
+    (progress-refused start logs c.args.script_reset answer)

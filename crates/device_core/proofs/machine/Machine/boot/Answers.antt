@@ -12,8 +12,7 @@ returns-in-Some-clause-stands g c = λ start logs stands.
     let same : TurnStandsFor c.registers-regs.result.now c.boot-turn.result start logs =
     rw (c.boot-turn.ensures.value, c.registers-regs.ensures clear_cpu stands.same_processor)
     (boot-turn start logs stands.same_progress) in
-    let dma =
-    c.ask-dma.ensures.access logs.peripherals.dma stands.same_bus.same_peripherals.same_dma in
+    let dma = c.dma_access-dma.ensures.access start logs stands.same_bus in
     let answer : answer_in (record_of start logs c.args.script_reset) ≡ Some c.in-Some.vector =
     sym (c.act.ensures.answer start logs stands.same_bus same dma) ∙ c.in-Some.is in
     record {
@@ -33,13 +32,8 @@ returns-in-None-clause-stands g c = λ start logs stands.
     let same : TurnStandsFor c.registers-regs.result.now c.boot-turn.result start logs =
     rw (c.boot-turn.ensures.value, c.registers-regs.ensures clear_cpu stands.same_processor)
     (boot-turn start logs stands.same_progress) in
-    let dma =
-    c.ask-dma.ensures.access logs.peripherals.dma stands.same_bus.same_peripherals.same_dma in
+    let dma = c.dma_access-dma.ensures.access start logs stands.same_bus in
     let answer : answer_in (record_of start logs c.args.script_reset) ≡ None =
     sym (c.act.ensures.answer start logs stands.same_bus same dma) ∙ c.in-None.is in
-    rw c.hold.ensures.stage (record {
-      same_bus = rw c.hold.ensures.bus (c.act.ensures.stands start logs stands.same_bus same dma);
-      same_progress = progress-refused start logs c.args.script_reset answer;
-      same_processor = c.hold.ensures.processor;
-      same_call = c.hold.ensures.call;
-    })
+    c.hold.ensures.stands start _ (c.act.ensures.stands start logs stands.same_bus same dma)
+    (progress-refused start logs c.args.script_reset answer)

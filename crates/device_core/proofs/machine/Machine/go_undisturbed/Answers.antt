@@ -13,7 +13,7 @@ returns-in-true-None-clause-stands g c = λ key image logs running.
         same = rw (boundary-registers running.state here) at running.same;
       },
       sym c.in-true-None.is-1
-          ∙ c.ask.ensures.access logs.peripherals.dma running.same.same_bus.same_peripherals.same_dma,
+          ∙ c.dma_access.ensures.access _ logs running.same.same_bus,
     )
 
 pub returns-in-true-Some-clause-stands : goal.returns-in-true-Some-clause-stands
@@ -35,7 +35,7 @@ returns-in-false-None-clause-stands g c = λ key image logs running.
         middle = sym (c.in-false-None.ensures running.state running.same.same_processor);
       },
       sym c.in-false-None.is-1
-          ∙ c.ask.ensures.access logs.peripherals.dma running.same.same_bus.same_peripherals.same_dma,
+          ∙ c.dma_access.ensures.access _ logs running.same.same_bus,
     )
 
 pub returns-in-false-Some-clause-stands : goal.returns-in-false-Some-clause-stands

@@ -35,9 +35,5 @@ returns-in-None-clause-stands g c = λ start logs state within dma.
     rw (c.registers-regs.ensures state within.same_processor) within.same_turn in
     let answer : answer_in (record_of start logs c.args.script_reset) ≡ None =
     sym (c.act.ensures.answer start logs within.same_bus same dma) ∙ c.in-None.is in
-    rw c.hold.ensures.stage (record {
-      same_bus = rw c.hold.ensures.bus (c.act.ensures.stands start logs within.same_bus same dma);
-      same_progress = progress-refused start logs c.args.script_reset answer;
-      same_processor = c.hold.ensures.processor;
-      same_call = c.hold.ensures.call;
-    })
+    c.hold.ensures.stands start _ (c.act.ensures.stands start logs within.same_bus same dma)
+    (progress-refused start logs c.args.script_reset answer)

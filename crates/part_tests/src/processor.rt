@@ -1,15 +1,15 @@
-use super::*;
 use bus_signals::{Access, BusMaster};
+use msp_exec::Cpu;
 use std::process::Abort;
 use std::test::Fail;
 use word_arith::Size;
 
-/// The number of some hexadecimal digits.
+// The number of some hexadecimal digits.
 fn number(digits: &str) -> Result<u16, Fail> {
     Ok(u16::from_str_radix(digits, 16)?)
 }
 
-/// The index of a register, and the word for it.
+// The index of a register, and the word for it.
 fn setting(word: &str) -> Result<(usize, u16), Fail> {
     let (name, digits) = word.split_once('=').ok_or("a setting has =")?;
     let index = match name {
@@ -22,7 +22,7 @@ fn setting(word: &str) -> Result<(usize, u16), Fail> {
     Ok((index, number(digits)?))
 }
 
-/// An access and the value that it gives: a fetch, a read or write of a word, or one of a byte.
+// An access and the value that it gives: a fetch, a read or write of a word, or one of a byte.
 fn access(word: &str) -> Result<(Access, u16), Fail> {
     let (kind, numbers) = word.split_once(':').ok_or("an access has a place")?;
     let (place, value) = numbers.split_once(':').ok_or("an access has a number")?;
@@ -36,14 +36,14 @@ fn access(word: &str) -> Result<(Access, u16), Fail> {
     })
 }
 
-/// Takes MOV #N,R, which sets a register.
+// Takes MOV #N,R, which sets a register.
 fn set(cpu: &mut Cpu, index: usize, word: u16) {
     cpu.try_take(0x4030 + (index % 16) as u16);
     cpu.try_take(word);
 }
 
-/// A row has the opcode, which stands at C000, and the registers before, where SP is 2200 and the
-/// others are 0; the further accesses; and the registers that are changed.
+// A row has the opcode, which stands at C000, and the registers before, where SP is 2200 and the
+// others are 0; the further accesses; and the registers that are changed.
 fn check_row(rt: &impl Abort, row: &str) -> Result<(), Fail> {
     let (before, after) = row.split_once('|').ok_or("a row has accesses")?;
     let (accesses, changes) = after.split_once('|').ok_or("a row has changes")?;
@@ -326,4 +326,23 @@ fn an_entry_pushes_pc_and_sr(rt: HostRuntime) -> Result<(), Fail> {
     cpu.clear();
     assert_eq!(rt; cpu.regs(), [0; 16]);
     Ok(())
+}
+
+// MOV #N,R sets all registers but R3, which stays 0; a reset sets each to 0 (docs/step.md).
+#[test]
+fn a_clear_sets_every_register_to_0(rt: HostRuntime) {
+    let mut cpu = Cpu::new();
+    set(&mut cpu, 1, 0x2200);
+    set(&mut cpu, 2, 0x0107);
+    for number in 4..16u16 {
+        set(&mut cpu, usize::from(number), 0x0100 + number);
+    }
+    set(&mut cpu, 0, 0xC000);
+    let before = [
+        0xC000, 0x2200, 0x0107, 0, 0x0104, 0x0105, 0x0106, 0x0107, 0x0108, 0x0109, 0x010A, 0x010B,
+        0x010C, 0x010D, 0x010E, 0x010F,
+    ];
+    assert_eq!(rt; cpu.regs(), before);
+    cpu.clear();
+    assert_eq!(rt; cpu.regs(), [0; 16]);
 }

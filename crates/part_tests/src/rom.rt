@@ -1,6 +1,7 @@
-use super::*;
-use bus_signals::{KR, MR};
+use bus_signals::{Access, BusMaster, KR, MR};
+use hmac_core::{Digest32, Sha256Digest};
 use std::test::Fail;
+use swatt_rom::Rom;
 
 // The stack pointer at the start of each call.
 const SP: u16 = 0x21FE;

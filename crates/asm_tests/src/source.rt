@@ -1,4 +1,4 @@
-use super::*;
+use asm_text::{Body, Mnemonic, Operand, Span, Term, parse};
 use std::alloc::Global;
 use std::test::Fail;
 use text_scan::{FaultAt, FaultKind, TextFault};

@@ -1,20 +1,29 @@
-use super::*;
 use bus_signals::{Bounds, ReportView, Rule};
 use outside_edge::{Failed, MemSink};
+use report_text::{print_end, print_report, print_reset, print_sent};
 use std::test::Fail;
 
 #[test]
 fn each_line_has_its_form(rt: HostRuntime) -> Result<(), Fail> {
     let alloc = rt.alloc();
-    let mut sink = MemSink::new(Vec::new(alloc), 200, 3, Vec::new(alloc))?;
+    let mut sink = MemSink::new(Vec::new(alloc), 300, 3, Vec::new(alloc))?;
     for (step, byte) in [(4, 0x41), (17, 0x5A), (9_999_999, 0x0B)] {
         print_sent(step, byte, &mut sink)?;
     }
+    // the twelve rules of docs/monitors.md
     for (step, rule) in [
         (0, Rule::X0),
-        (1, Rule::I1),
+        (21, Rule::A3),
+        (22, Rule::A2),
+        (23, Rule::A1),
         (106, Rule::A4),
+        (31, Rule::K1),
+        (32, Rule::K2),
+        (33, Rule::K3),
+        (34, Rule::K4),
+        (35, Rule::K5),
         (10, Rule::K6),
+        (1, Rule::I1),
     ] {
         print_reset(step, rule, &mut sink)?;
     }
@@ -22,7 +31,9 @@ fn each_line_has_its_form(rt: HostRuntime) -> Result<(), Fail> {
         print_end(steps, pc, exec, &mut sink)?;
     }
     let text =
-        b"tx 4 41\ntx 17 5a\ntx 9999999 0b\nreset 0 X0\nreset 1 I1\nreset 106 A4\nreset 10 K6\n\
+        b"tx 4 41\ntx 17 5a\ntx 9999999 0b\nreset 0 X0\nreset 21 A3\nreset 22 A2\nreset 23 A1\n\
+          reset 106 A4\nreset 31 K1\nreset 32 K2\nreset 33 K3\nreset 34 K4\nreset 35 K5\n\
+          reset 10 K6\nreset 1 I1\n\
           end 5 pc c006 exec 0\nend 560 pc c03e exec 1\nend 4 pc 0000 exec 0\n";
     assert_eq!(rt; sink.held(), text.as_slice());
     Ok(())

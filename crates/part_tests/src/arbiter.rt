@@ -1,10 +1,10 @@
-use super::*;
-use bus_signals::{Access, BusMaster};
+use bus_arbiter::{Proposal, exchange};
+use bus_signals::Access;
 use mem_map::{Image, Memory};
 use std::test::Fail;
 use word_arith::Size;
 
-/// A fake that proposes any access, again and again.
+// A fake that proposes any access, again and again.
 fn fake(access: Option<Access>) -> Proposal {
     Proposal::new(match access {
         Some(Access::Fetch(place)) => Some(Access::Fetch(place / 2 * 2)),

@@ -1,4 +1,4 @@
-use super::*;
+use hex_loader::{read_hex, write_hex, write_memory};
 use mem_map::{Image, Memory};
 use outside_edge::MemSink;
 use std::alloc::{AllocError, Global};

@@ -13,7 +13,7 @@ use Rattle.msp_decode.specs.Law.{AreReadAs}
 use Rattle.text_scan.specs.declared.fault_kind.FaultKind.{FaultKind}
 use Rattle.text_scan.specs.declared.fault_at.FaultAt.{FaultAt}
 use Rattle.text_scan.specs.declared.text_fault.TextFault.{TextFault}
-use Rattle.text_scan.specs.Reader.{◌>>=◌, Reads}
+use Rattle.text_scan.specs.Reader.{◌>>=◌, Reads, value_as, value_or_fault}
 use Rattle.asm_text.specs.declared.body.Body.{Body}
 use Rattle.asm_text.specs.declared.body.Body.TheVariants.{Empty, Instr as Instruction, Org, Word, Byte, Ascii, Equ}
 use Rattle.asm_text.specs.declared.statement.Statement.{Statement}
@@ -21,12 +21,11 @@ use Rattle.asm_bytes.specs.Value.{Scope}
 use Rattle.asm_bytes.specs.Statement.{bytes_of, word_bytes, named_instruction, IsNamed}
 use Rattle.mem_map.specs.declared.image.Image.{Image}
 use Rattle.mem_map.specs.Image.{byte_in}
-use Rattle.msp_asm.specs.Assembly.{image_in}
 use Rattle.msp_asm.specs.FirstPass.{first_fault, first_pass_fault, is_placed, scope_after}
 use Rattle.mem_map.specs.PlacedBytes.{byte_among}
-use Rattle.msp_asm.specs.SecondPass.{given_byte, byte_placed, byte_of_image, fault_of, image_or_fault, image_of, scope_among, second_pass_fault}
+use Rattle.msp_asm.specs.SecondPass.{given_byte, byte_placed, byte_of_image, fault_of, image_of, scope_among, second_pass_fault}
 use Rattle.msp_asm.specs.Source.{source_image}
-use Rattle.msp_asm.specs.Standing.{HasBytes, HasBytesOf, HasInstruction, HasInstructionOf, OfEachStatement}
+use Rattle.msp_asm.specs.HasBytes.{HasBytes, HasBytesOf, HasInstruction, HasInstructionOf, OfEachStatement}
 use Rattle.msp_asm.proofs.LinesSoFar.{neither, no_fault_at}
 use Rattle.msp_asm.proofs.FreePlaces.{count_after, are_free, all_among, among_between}
 use Rattle.msp_asm.proofs.BytesStay.{sized, stays}
@@ -89,7 +88,7 @@ stand_among text all later earlier s image (Ok bytes) is sound none placed =
     ∙ ap (λ found. option_or (given_byte here found place) (byte_placed text all earlier place)) is)
 
 -- an image that was made, and nothing was at fault
-made : (fault : Option FaultAt) (bytes image : ℕ → Option ℕ) → image_or_fault fault bytes ≡ Ok image
+made : (fault : Option FaultAt) (bytes image : ℕ → Option ℕ) → value_or_fault fault bytes ≡ Ok image
     → (fault ≡ None) × (bytes ≡ image)
 made None bytes image is = (refl, cc)
 made (Some fault) bytes image is = absurd cc
@@ -158,7 +157,7 @@ instructions_stand are_read text image is before after s read =
 -- what holds of each statement in the image of a source, holds in the one that was made
 pub of_image : (Holds : (ℕ → Option ℕ) → Scope → Body → Type 0) (text : List ℕ)
     (result : Result Image TextFault)
-    → Reads (image_in result) (source_image text)
+    → Reads (value_as byte_in result) (source_image text)
     → ((image : ℕ → Option ℕ) → source_image text ≡ Ok image
     → OfEachStatement (Holds image) text)
     → IfOk result (λ image. OfEachStatement (Holds (byte_in image)) text)

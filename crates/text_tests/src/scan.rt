@@ -1,5 +1,5 @@
-use super::*;
 use std::test::Fail;
+use text_scan::{Bytes, FaultAt, FaultKind, Lines, TextFault, Words, decimal, read_key};
 
 const KEY: [u8; 128] = [b'a'; 128];
 
@@ -41,7 +41,6 @@ fn faults_show_their_line_and_kind(rt: HostRuntime) -> Result<(), Fail> {
         (FaultKind::Undefined, "Undefined"),
         (FaultKind::Twice, "Twice"),
         (FaultKind::Overlap, "Overlap"),
-        (FaultKind::NotBuilt, "NotBuilt"),
     ] {
         assert_eq!(rt; format!(in rt.alloc(); "{kind}")?.as_str(), name);
     }

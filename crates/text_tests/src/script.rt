@@ -1,5 +1,5 @@
-use super::*;
 use bus_signals::Event;
+use play_script::read_script;
 use std::alloc::Global;
 use std::test::Fail;
 use text_scan::{FaultAt, FaultKind, TextFault};

@@ -2,7 +2,7 @@ use Rattle.std.proofs.Common.{arith, ◌∙◌, sym, ◌≡◌, ◌++◌, ◌∷
 use Rattle.std.proofs.lemmas.Result.{err_from_is_err_and}
 use Rattle.asm_text.proofs.Answered.{ok_of_map_err}
 use Rattle.asm_text.proofs.TermSteps.{next_term, no_term, no_sign, last_term, term_missing}
-use Rattle.asm_text.proofs.expression.read_terms.Goals as goal
+use Rattle.asm_text.proofs.expr_reader.read_terms.Goals as goal
 
 pub returns-in_err-term_of : goal.returns-in_err-term_of
 returns-in_err-term_of c =

@@ -1,0 +1,16 @@
+//! Tables for the texts: lines, words, numbers and keys, images, some of which other tools wrote,
+//! scripts, and the lines that a play prints.
+//!
+//! The contracts say that readers and printers agree with the definitions. What stands here says
+//! that both are read as they are meant: a row fails also where code and definition are changed
+//! together.
+#![tactic(auto)]
+
+#[cfg(test)]
+mod image;
+#[cfg(test)]
+mod printed_line;
+#[cfg(test)]
+mod scan;
+#[cfg(test)]
+mod script;
