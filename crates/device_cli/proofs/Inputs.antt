@@ -12,7 +12,7 @@ use Rattle.device_cli.specs.declared.play_inputs.PlayInputs.{PlayInputs}
 use Rattle.device_cli.specs.declared.verify_inputs.ReportInputs.{ReportInputs}
 use Rattle.device_cli.specs.declared.verify_inputs.VerifyInputs.{VerifyInputs}
 use Rattle.device_cli.specs.Assembly.{assembly_outcome}
-use Rattle.device_cli.specs.FileKinds.{assembled_in, key_in, bytes_in, script_in, policy_in, reports_in}
+use Rattle.device_cli.specs.FileKinds.{source_in, key_in, bytes_in, script_in, policy_in, reports_in}
 use Rattle.device_cli.specs.Input.{OfOne}
 use Rattle.device_cli.specs.ImageListing.{listing_outcome}
 use Rattle.device_cli.specs.Play.{AreDeviceInputs, ArePlayInputs, play_outcome, plain, start_of, steps_of}
@@ -63,12 +63,12 @@ play-joined inputs (key ∷ image ∷ []) (bytes ∷ []) device script = (device
 
 pub verify-joined : (inputs : VerifyInputs) (texts rest : List (List ℕ))
     → AreDeviceInputs inputs.device texts
-    → AreReportInputs inputs.received rest
+    → AreReportInputs inputs.evidence rest
     → AreVerifyInputs inputs (texts ++ rest)
-verify-joined inputs [] rest device received = absurd device
-verify-joined inputs (key ∷ []) rest device received = absurd device
-verify-joined inputs (key ∷ image ∷ other ∷ texts) rest device received = absurd device
-verify-joined inputs (key ∷ image ∷ []) rest device received = (device, received)
+verify-joined inputs [] rest device evidence = absurd device
+verify-joined inputs (key ∷ []) rest device evidence = absurd device
+verify-joined inputs (key ∷ image ∷ other ∷ texts) rest device evidence = absurd device
+verify-joined inputs (key ∷ image ∷ []) rest device evidence = (device, evidence)
 
 -- what a play makes of its values
 pub play-outcome :
@@ -93,7 +93,7 @@ listing-outcome image (bytes ∷ other ∷ texts) stands = absurd stands
 listing-outcome image (bytes ∷ []) stands = rw stands refl
 
 pub assembly-outcome : (assembled : AssembledImage) (texts : List (List ℕ))
-    → OfOne (λ one bytes. byte_in one.image ≡ assembled_in bytes) assembled texts
+    → OfOne (λ one bytes. byte_in one.image ≡ source_in bytes) assembled texts
     → assembly_outcome texts ≡ plain (hex_text (byte_in assembled.image))
 assembly-outcome assembled [] stands = absurd stands
 assembly-outcome assembled (bytes ∷ other ∷ texts) stands = absurd stands

@@ -7,11 +7,11 @@ use Rattle.mem_map.specs.declared.image.Image.{Image}
 use Rattle.mem_map.specs.Image.{byte_in}
 use Rattle.msp_asm.specs.Source.{source_image}
 use Rattle.device_cli.specs.declared.assembled_image.AssembledImage.{AssembledImage}
-use Rattle.device_cli.specs.FileKinds.{source_kind, assembled_in}
+use Rattle.device_cli.specs.FileKinds.{source_kind, source_in}
 use Rattle.device_cli.specs.Input.{IsParse}
 
 abbrev IsAssembled : AssembledImage → List ℕ → Type 0
-IsAssembled assembled bytes = byte_in assembled.image ≡ assembled_in bytes
+IsAssembled assembled bytes = byte_in assembled.image ≡ source_in bytes
 
 pub source_kind-Ok : (bytes : List ℕ) (image : Image)
     → reader.Reads (reader.value_as byte_in (Ok image)) (source_image bytes)

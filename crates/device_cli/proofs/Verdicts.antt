@@ -18,7 +18,7 @@ abbrev pub verdicts_ahead : VerifyInputs → ℕ → List Decision
 verdicts_ahead inputs i =
     verdicts_from (λ n report.
     verdict sha256 inputs.device.key (byte_in inputs.device.image)
-    (expected_at inputs.received.policy n) report) i (drop i inputs.received.reports.items)
+    (expected_at inputs.evidence.policy n) report) i (drop i inputs.evidence.reports.items)
 
 verdicts-next :
     (decided : ℕ → ReportFields → Decision) (i : ℕ) (reports : List ReportFields) (k : ℕ)
@@ -34,29 +34,29 @@ verdicts-next decided i (first ∷ reports) (suc k) report here =
     verdicts-next decided i reports k report here
 
 verdict-next : (inputs : VerifyInputs) (i : ℕ) (found : Option ReportFields) (decision : Decision)
-    → slice_get inputs.received.reports.items i ≡ found
+    → slice_get inputs.evidence.reports.items i ≡ found
     → Some decision ≡ verdict_at inputs i found
     → verdicts_ahead inputs i ≡ decision ∷ verdicts_ahead inputs (i + 1)
 verdict-next inputs i None decision here decided = absurd (cc decided)
 verdict-next inputs i (Some report) decision here decided =
     let is : decision ≡ verdict sha256 inputs.device.key (byte_in inputs.device.image)
-    (expected_at inputs.received.policy i) report = cc decided in
+    (expected_at inputs.evidence.policy i) report = cc decided in
     rw (is, add-one)
     (rw add-one at (verdicts-next (λ n told.
     verdict sha256 inputs.device.key (byte_in inputs.device.image)
-    (expected_at inputs.received.policy n) told) i inputs.received.reports.items i report here))
+    (expected_at inputs.evidence.policy n) told) i inputs.evidence.reports.items i report here))
 
 -- the next verdict is the one that was decided
 pub ahead-next : (inputs : VerifyInputs) (i : ℕ) (decision : Decision)
-    → Some decision ≡ verdict_at inputs i (slice_get inputs.received.reports.items i)
+    → Some decision ≡ verdict_at inputs i (slice_get inputs.evidence.reports.items i)
     → verdicts_ahead inputs i ≡ decision ∷ verdicts_ahead inputs (i + 1)
 ahead-next inputs i decision decided =
-    verdict-next inputs i (slice_get inputs.received.reports.items i) decision refl decided
+    verdict-next inputs i (slice_get inputs.evidence.reports.items i) decision refl decided
 
 -- after the last report none is ahead
-pub ahead-end : (inputs : VerifyInputs) (i : ℕ) → length inputs.received.reports.items ≤ i
+pub ahead-end : (inputs : VerifyInputs) (i : ℕ) → length inputs.evidence.reports.items ≤ i
     → verdicts_ahead inputs i ≡ []
-ahead-end inputs i past = rw (drop_of_length-le inputs.received.reports.items past) refl
+ahead-end inputs i past = rw (drop_of_length-le inputs.evidence.reports.items past) refl
 
 -- the line of the next verdict
 pub lines-next : (inputs : VerifyInputs) (i : ℕ) (decision : Decision) (before whole : List ℕ)

@@ -3,11 +3,11 @@ use Rattle.std.specs.Prelude.{ℕ, List, [], ◌∷◌, Option, Some, None}
 use Rattle.hex_loader.specs.HexText.{hex_text}
 use Rattle.device_cli.specs.declared.assembly.Assembly.{Assembly}
 use Rattle.device_cli.specs.Row.{Outcome, Row}
-use Rattle.device_cli.specs.FileKinds.{source_file, assembled_in}
+use Rattle.device_cli.specs.FileKinds.{source_file, source_in}
 use Rattle.device_cli.specs.Play.{plain}
 
 abbrev pub assembly_outcome : List (List ℕ) → Outcome
-assembly_outcome (source ∷ []) = plain (hex_text (assembled_in source))
+assembly_outcome (source ∷ []) = plain (hex_text (source_in source))
 assembly_outcome files = plain []
 
 -- `asm SOURCE`

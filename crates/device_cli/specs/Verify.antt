@@ -85,7 +85,7 @@ AreReportInputs inputs files = ⊥
 -- of the key and the image, and of these two
 abbrev pub AreVerifyInputs : VerifyInputs → List (List ℕ) → Type 0
 AreVerifyInputs inputs (key ∷ image ∷ files) =
-    AreDeviceInputs inputs.device (key ∷ image ∷ []) × AreReportInputs inputs.received files
+    AreDeviceInputs inputs.device (key ∷ image ∷ []) × AreReportInputs inputs.evidence files
 AreVerifyInputs inputs files = ⊥
 
 -- the verdict on one of them, numbered from 0
@@ -93,10 +93,10 @@ abbrev pub verdict_at : VerifyInputs → ℕ → Option ReportFields → Option 
 verdict_at inputs i None = None
 verdict_at inputs i (Some report) =
     Some (verdict sha256 inputs.device.key (byte_in inputs.device.image)
-    (expected_at inputs.received.policy i) report)
+    (expected_at inputs.evidence.policy i) report)
 
 -- the verdicts on the values
 abbrev pub verdicts_in : VerifyInputs → List Decision
 verdicts_in inputs =
-    verdicts inputs.device.key (byte_in inputs.device.image) inputs.received.policy
-    inputs.received.reports.items
+    verdicts inputs.device.key (byte_in inputs.device.image) inputs.evidence.policy
+    inputs.evidence.reports.items

@@ -1,6 +1,6 @@
 ghost use Rattle.std.specs.Prelude.{◌≡◌};
 ghost use Rattle.mem_map.specs.Image.{byte_in};
-ghost use Rattle.device_cli.specs.FileKinds.{source_kind, assembled_in};
+ghost use Rattle.device_cli.specs.FileKinds.{source_kind, source_in};
 
 use crate::input::{Input, TEXT_LIMIT};
 use crate::status::Status;
@@ -18,7 +18,7 @@ pub struct AssembledImage {
 impl Input for AssembledImage {
     ghost kind = { source_kind };
 
-    ghost stands = { λ assembled bytes. byte_in assembled.image ≡ assembled_in bytes };
+    ghost stands = { λ input bytes. byte_in input.image ≡ source_in bytes };
 
     fn limit() -> usize {
         TEXT_LIMIT
@@ -35,5 +35,5 @@ impl Input for AssembledImage {
         Status::BadSource(fault)
     }
 
-    ghost named = { λ fault. tt };
+    ghost names_fault = { λ fault. tt };
 }

@@ -35,13 +35,13 @@ impl Task for Assembly<'_> {
 
     ghost use Rattle.std.specs.Prelude.{◌≡◌};
     ghost use Rattle.mem_map.specs.Image.{byte_in};
-    ghost use Rattle.device_cli.specs.FileKinds.{assembled_in};
+    ghost use Rattle.device_cli.specs.FileKinds.{source_in};
     ghost use Rattle.device_cli.specs.Input.{OfOne};
     ghost use Rattle.device_cli.specs.Assembly.{row_of_assembly};
 
     ghost command_row = { row_of_assembly };
 
-    ghost stands = { OfOne (λ assembled bytes. byte_in assembled.image ≡ assembled_in bytes) };
+    ghost stands = { OfOne (λ input bytes. byte_in input.image ≡ source_in bytes) };
 
     fn read<S: Shelf>(&self, alloc: Global, shelf: &mut S) -> Result<AssembledImage, Status> {
         read_input(alloc, shelf, self.source)
@@ -50,10 +50,10 @@ impl Task for Assembly<'_> {
     fn put<W: Sink>(
         &self,
         _alloc: Global,
-        assembled: &AssembledImage,
+        input: &AssembledImage,
         sink: &mut W,
     ) -> Result<(), Status> {
-        write_hex(&assembled.image, sink)?;
+        write_hex(&input.image, sink)?;
         Ok(())
     }
 }

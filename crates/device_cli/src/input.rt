@@ -46,7 +46,7 @@ pub trait Input: Drop + Sized {
     fn refusal(fault: FaultAt) -> Status
         ensures { result ≡ kind.refusal fault };
 
-    ghost named: { (fault : FaultAt) → NamesFault (kind.refusal fault) };
+    ghost names_fault: { (fault : FaultAt) → NamesFault (kind.refusal fault) };
 }
 
 impl Input for [u8; 64] {
@@ -66,7 +66,7 @@ impl Input for [u8; 64] {
         Status::BadKey(fault)
     }
 
-    ghost named = { λ fault. tt };
+    ghost names_fault = { λ fault. tt };
 }
 
 impl Input for Image {
@@ -86,7 +86,7 @@ impl Input for Image {
         Status::BadImage(fault)
     }
 
-    ghost named = { λ fault. tt };
+    ghost names_fault = { λ fault. tt };
 }
 
 impl Input for Policy {
@@ -106,7 +106,7 @@ impl Input for Policy {
         Status::BadPolicy(fault)
     }
 
-    ghost named = { λ fault. tt };
+    ghost names_fault = { λ fault. tt };
 }
 
 impl Input for Vec<Report> {
@@ -126,7 +126,7 @@ impl Input for Vec<Report> {
         Status::BadReports(fault)
     }
 
-    ghost named = { λ fault. tt };
+    ghost names_fault = { λ fault. tt };
 }
 
 impl Input for Script {
@@ -146,7 +146,7 @@ impl Input for Script {
         Status::BadScript(fault)
     }
 
-    ghost named = { λ fault. tt };
+    ghost names_fault = { λ fault. tt };
 }
 
 /// The value of the file of that name, or the answer that says why there is none.

@@ -303,92 +303,96 @@ fn answer_over_failing_shelf(
     Ok(run(alloc, arguments.as_slice(), &mut shelf, &mut sink))
 }
 
-// A key takes calls 1 to 4 of the shelf, the image without an end 5 and 6.
-#[test]
-fn a_failing_read_hides_no_fault_of_an_earlier_file(rt: HostRuntime) -> Result<(), Fail> {
-    let alloc = rt.alloc();
-    let bad_key = Status::BadKey(FaultAt {
+// Whether a failing call of the shelf is answered with `ReadFault` up to the last call for the
+// faulty file, and after it with the fault of that file.
+fn hides_no_fault(
+    alloc: Global,
+    words: &[&str],
+    files: &[(&str, &[u8])],
+    last: u64,
+    fault: Status,
+) -> Result<bool, AllocError> {
+    for call in 1..14u64 {
+        let status = if call > last {
+            fault
+        } else {
+            Status::ReadFault
+        };
+        if answer_over_failing_shelf(alloc, words, files, call)? != status {
+            return Ok(false);
+        }
+    }
+    Ok(true)
+}
+
+fn missing_in_line_1() -> FaultAt {
+    FaultAt {
         line: 1,
         kind: FaultKind::Missing,
-    });
-    let short = &KEY[1..];
-    let no_end = &LETTER_A[..43];
-    let rows: [(&[u8], &[u8], u64, Status); 6] = [
-        (LETTER_A, short, 4, Status::ReadFault),
-        (LETTER_A, short, 5, bad_key),
-        (LETTER_A, short, 8, bad_key),
-        (no_end, KEY, 6, Status::ReadFault),
-        (no_end, KEY, 7, bad_image(2, FaultKind::NoEnd)),
-        (no_end, KEY, 8, bad_image(2, FaultKind::NoEnd)),
+    }
+}
+
+// A key takes calls 1 to 4 of the shelf, the image without an end 5 and 6. A row has the image, the
+// key, the last call for the faulty file and its fault.
+#[test]
+fn a_failing_read_hides_no_fault_of_an_earlier_file(rt: HostRuntime) -> Result<(), Fail> {
+    let bad_key = Status::BadKey(missing_in_line_1());
+    let no_end = bad_image(2, FaultKind::NoEnd);
+    let rows: [(&[u8], &[u8], u64, Status); 2] = [
+        (LETTER_A, &KEY[1..], 4, bad_key),
+        (&LETTER_A[..43], KEY, 6, no_end),
     ];
-    for (image, key, call, status) in rows {
+    for (image, key, last, fault) in rows {
         let files: [(&str, &[u8]); 3] = [("i", image), ("s", b""), ("k", key)];
-        let answer = answer_over_failing_shelf(alloc, &["play", "i", "s", "k", "5"], &files, call)?;
-        assert_eq!(rt; answer, status);
+        let words = ["play", "i", "s", "k", "5"];
+        let is_answered = hides_no_fault(rt.alloc(), &words, &files, last, fault)?;
+        assert!(rt; is_answered, "after call {last}");
     }
     Ok(())
 }
 
 // A key takes calls 1 to 4 of the shelf, the image 5 to 7, and the policy without its second line 8
-// and 9. Whatever is read behind the faulty file: where that fails, the answer is the fault.
+// and 9. A row has the policy, the key, the last call for the faulty file and its fault.
 #[test]
 fn a_failing_read_of_verify_hides_no_fault_of_an_earlier_file(rt: HostRuntime) -> Result<(), Fail> {
-    let at = FaultAt {
-        line: 1,
-        kind: FaultKind::Missing,
-    };
-    let short = &KEY[1..];
+    let bad_key = Status::BadKey(missing_in_line_1());
+    let bad_policy = Status::BadPolicy(missing_in_line_1());
     let regions = b"er C040 C046\nor 0300 0300\n";
-    let half = &regions[..13];
-    // policy, key, the last call for the faulty file, its fault
     let rows: [(&[u8], &[u8], u64, Status); 3] = [
-        (half, KEY, 9, Status::BadPolicy(at)),
-        (regions, short, 4, Status::BadKey(at)),
-        (half, short, 4, Status::BadKey(at)),
+        (&regions[..13], KEY, 9, bad_policy),
+        (regions, &KEY[1..], 4, bad_key),
+        (&regions[..13], &KEY[1..], 4, bad_key),
     ];
     for (policy, key, last, fault) in rows {
         let files: [(&str, &[u8]); 4] = [("i", LETTER_A), ("p", policy), ("k", key), ("r", b"")];
         let words = ["verify", "i", "p", "k", "r"];
-        for call in 1..14u64 {
-            let status = if call > last {
-                fault
-            } else {
-                Status::ReadFault
-            };
-            let answer = answer_over_failing_shelf(rt.alloc(), &words, &files, call)?;
-            assert_eq!(rt; answer, status, "call {call}");
-        }
+        let is_answered = hides_no_fault(rt.alloc(), &words, &files, last, fault)?;
+        assert!(rt; is_answered, "after call {last}");
     }
     Ok(())
 }
 
 // A key takes calls 1 to 4 of the shelf, the image 5 to 7, without an end 5 and 6, and a script of
-// one byte 8 and 9. The policy is read last.
+// one byte 8 and 9. The policy is read last. A row has the image, the script, the key, the last
+// call for the faulty file and its fault.
 #[test]
 fn a_failing_policy_of_a_round_hides_no_earlier_fault(rt: HostRuntime) -> Result<(), Fail> {
-    let at = |kind| FaultAt { line: 1, kind };
-    let bad_key = Status::BadKey(at(FaultKind::Missing));
-    let bad_script = Status::BadScript(at(FaultKind::Word));
-    let short = &KEY[1..];
-    let no_end = &LETTER_A[..43];
-    // image, script, key, the last call for the faulty file, its fault
+    let bad_key = Status::BadKey(missing_in_line_1());
+    let no_end = bad_image(2, FaultKind::NoEnd);
+    let bad_script = Status::BadScript(FaultAt {
+        line: 1,
+        kind: FaultKind::Word,
+    });
     let rows: [(&[u8], &[u8], &[u8], u64, Status); 3] = [
-        (LETTER_A, b"", short, 4, bad_key),
-        (no_end, b"", KEY, 6, bad_image(2, FaultKind::NoEnd)),
+        (LETTER_A, b"", &KEY[1..], 4, bad_key),
+        (&LETTER_A[..43], b"", KEY, 6, no_end),
         (LETTER_A, b"x", KEY, 9, bad_script),
     ];
     for (image, script, key, last, fault) in rows {
         let files: [(&str, &[u8]); 4] = [("i", image), ("s", script), ("k", key), ("p", b"")];
         let words = ["round", "i", "s", "k", "p", "5"];
-        for call in 1..14u64 {
-            let status = if call > last {
-                fault
-            } else {
-                Status::ReadFault
-            };
-            let answer = answer_over_failing_shelf(rt.alloc(), &words, &files, call)?;
-            assert_eq!(rt; answer, status, "call {call}");
-        }
+        let is_answered = hides_no_fault(rt.alloc(), &words, &files, last, fault)?;
+        assert!(rt; is_answered, "after call {last}");
     }
     Ok(())
 }

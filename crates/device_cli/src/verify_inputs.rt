@@ -22,7 +22,7 @@ pub struct ReportInputs {
 #[derive(Drop)]
 pub struct VerifyInputs {
     pub device: DeviceInputs,
-    pub received: ReportInputs,
+    pub evidence: ReportInputs,
 }
 
 // Reads the policy and then the reports.
@@ -54,6 +54,6 @@ pub fn read_verify_inputs<S: Shelf>(
         ∷ reports_file reports.now ∷ []) AreVerifyInputs result }
 {
     let device = read_device_inputs(alloc, shelf, key, image)?;
-    let received = read_report_inputs(alloc, shelf, policy, reports)?;
-    Ok(VerifyInputs { device, received })
+    let evidence = read_report_inputs(alloc, shelf, policy, reports)?;
+    Ok(VerifyInputs { device, evidence })
 }

@@ -59,9 +59,9 @@ fn check_row(rt: &impl Abort, row: &str) -> Result<(), Fail> {
     assert_eq!(rt; cpu.access(), Access::Fetch(0xC000), "{row}");
     assert!(rt; cpu.try_take(number(opcode)?), "{row}");
     for word in accesses.split_whitespace() {
-        let (asked, value) = access(word)?;
+        let (proposal, value) = access(word)?;
         assert!(rt; !cpu.at_boundary(), "{row}");
-        assert_eq!(rt; cpu.access(), asked, "{row}");
+        assert_eq!(rt; cpu.access(), proposal, "{row}");
         assert!(rt; cpu.try_take(value), "{row}");
     }
     assert!(rt; cpu.at_boundary(), "{row}");
@@ -314,9 +314,9 @@ fn an_entry_pushes_pc_and_sr(rt: HostRuntime) -> Result<(), Fail> {
     cpu.start(0xC001, 0x2201);
     cpu.begin_irq(0xFFF2);
     for word in ["w:21FE:C000", "w:21FC:0000", "r:FFF2:D001"] {
-        let (asked, value) = access(word)?;
+        let (proposal, value) = access(word)?;
         assert!(rt; cpu.is_entering() && !cpu.at_boundary());
-        assert_eq!(rt; cpu.access(), asked);
+        assert_eq!(rt; cpu.access(), proposal);
         assert_eq!(rt; (cpu.pc(), cpu.sp()), (0xC000, 0x2200));
         assert!(rt; cpu.try_take(value));
     }

@@ -30,8 +30,8 @@ loop-i-preserved g c =
             taken.1 c.in_ok-print_verdict.ensures.puts.all,
         lines-next inputs at.i decision taken.0 _ next taken.2,
       );
-      accepted = rw c.is_accept-accepted.ensures
-          (accept-next inputs at.i decision at.accepted _ next at.invariant.accepted);
+      accepted = rw c.is_accept-all_accept.ensures
+          (accept-next inputs at.i decision at.all_accept _ next at.invariant.accepted);
       quiet = c.in_ok-print_verdict.ensures.counts.quiet ∙ at.invariant.quiet;
     }
 
@@ -68,4 +68,4 @@ pub returns-clause-accepted : goal.returns-clause-accepted
 returns-clause-accepted g c =
     let at = c.loop-i in
     let none = ahead-end c.args.inputs.now at.i (omega (arith, c.loop-i-test.false)) in
-    sym (and-true at.accepted) ∙ rw none at at.invariant.accepted
+    sym (and-true at.all_accept) ∙ rw none at at.invariant.accepted

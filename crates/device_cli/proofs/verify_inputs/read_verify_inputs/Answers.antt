@@ -6,13 +6,13 @@ use Rattle.device_cli.proofs.verify_inputs.read_verify_inputs.Goals as goal
 pub returns-in_err-device : goal.returns-in_err-device
 returns-in_err-device g c = first-refused _ _ c.in_err-device.ensures c.from_residual.ensures.1
 
-pub returns-in_err-received : goal.returns-in_err-received
-returns-in_err-received g c =
-    more-refused _ c.in_ok-device.ensures c.in_err-received.ensures
-    c.from_residual-in_err-received.ensures.1
+pub returns-in_err-evidence : goal.returns-in_err-evidence
+returns-in_err-evidence g c =
+    more-refused _ c.in_ok-device.ensures c.in_err-evidence.ensures
+    c.from_residual-in_err-evidence.ensures.1
 
 pub returns : goal.returns
 returns g c =
     let inputs : VerifyInputs =
-    record { device = c.in_ok-device.device; received = c.in_ok-received.received } in
-    both-read inputs c.in_ok-device.ensures c.in_ok-received.ensures (verify-joined inputs)
+    record { device = c.in_ok-device.device; evidence = c.in_ok-evidence.evidence } in
+    both-read inputs c.in_ok-device.ensures c.in_ok-evidence.ensures (verify-joined inputs)

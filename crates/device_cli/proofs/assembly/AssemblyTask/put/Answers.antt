@@ -10,14 +10,14 @@ use Rattle.device_cli.proofs.assembly.AssemblyTask.put.Goals as goal
 pub returns-in_err-write_hex-clause-puts : goal.returns-in_err-write_hex-clause-puts
 returns-in_err-write_hex-clause-puts g c = λ texts stands.
     failed g.W.Sink.stands g.W.Sink.faults c.args.sink.now c.write_hex.new.sink
-    (assembly_outcome texts) (hex_text (byte_in c.args.assembled.now.image))
+    (assembly_outcome texts) (hex_text (byte_in c.args.input.now.image))
     c.from_residual.result
-    (ap (λ (outcome : Outcome). outcome.text) (assembly-outcome c.args.assembled.now texts stands))
+    (ap (λ (outcome : Outcome). outcome.text) (assembly-outcome c.args.input.now texts stands))
     c.from_residual.ensures.1 c.in_err-write_hex.ensures.puts.prefix
     c.in_err-write_hex.ensures.counts.failed
 
 pub returns-clause-puts : goal.returns-clause-puts
 returns-clause-puts g c = λ texts stands.
     put g.W.Sink.stands g.W.Sink.faults c.args.sink.now c.write_hex.new.sink
-    (assembly_outcome texts) (hex_text (byte_in c.args.assembled.now.image))
-    (assembly-outcome c.args.assembled.now texts stands) c.in_ok-write_hex.ensures.puts.all
+    (assembly_outcome texts) (hex_text (byte_in c.args.input.now.image))
+    (assembly-outcome c.args.input.now texts stands) c.in_ok-write_hex.ensures.puts.all
