@@ -31,44 +31,44 @@ two-files one two both first second (left ∷ []) (right ∷ other ∷ rest) joi
 two-files one two both first second (left ∷ []) (right ∷ []) join stands more =
     join left right stands more
 
-pub device-joined : (inputs : DeviceInputs) (texts rest : List (List ℕ))
+pub device-join : (inputs : DeviceInputs) (texts rest : List (List ℕ))
     → OfOne (λ key bytes. key ≡ key_in bytes) inputs.key texts
     → OfOne (λ image bytes. byte_in image ≡ bytes_in bytes) inputs.image rest
     → AreDeviceInputs inputs (texts ++ rest)
-device-joined inputs texts rest =
+device-join inputs texts rest =
     two-files (λ key bytes. key ≡ key_in bytes)
     (λ image bytes. byte_in image ≡ bytes_in bytes) (AreDeviceInputs inputs) inputs.key inputs.image
     texts rest (λ left right key image. (key, image))
 
-pub reports-joined : (inputs : ReportInputs) (texts rest : List (List ℕ))
+pub reports-join : (inputs : ReportInputs) (texts rest : List (List ℕ))
     → OfOne (λ policy bytes. policy ≡ policy_in bytes) inputs.policy texts
     → OfOne (λ reports bytes. reports.items ≡ reports_in bytes) inputs.reports rest
     → AreReportInputs inputs (texts ++ rest)
-reports-joined inputs texts rest =
+reports-join inputs texts rest =
     two-files (λ policy bytes. policy ≡ policy_in bytes)
     (λ reports bytes. reports.items ≡ reports_in bytes) (AreReportInputs inputs) inputs.policy
     inputs.reports texts rest (λ left right policy reports. (policy, reports))
 
 -- a file after the key and the image
-pub play-joined : (inputs : PlayInputs) (texts rest : List (List ℕ))
+pub play-join : (inputs : PlayInputs) (texts rest : List (List ℕ))
     → AreDeviceInputs inputs.device texts
     → OfOne (λ script bytes. script ≡ script_in bytes) inputs.script rest
     → ArePlayInputs inputs (texts ++ rest)
-play-joined inputs [] rest device script = absurd device
-play-joined inputs (key ∷ []) rest device script = absurd device
-play-joined inputs (key ∷ image ∷ other ∷ texts) rest device script = absurd device
-play-joined inputs (key ∷ image ∷ []) [] device script = absurd script
-play-joined inputs (key ∷ image ∷ []) (bytes ∷ other ∷ rest) device script = absurd script
-play-joined inputs (key ∷ image ∷ []) (bytes ∷ []) device script = (device, script)
+play-join inputs [] rest device script = absurd device
+play-join inputs (key ∷ []) rest device script = absurd device
+play-join inputs (key ∷ image ∷ other ∷ texts) rest device script = absurd device
+play-join inputs (key ∷ image ∷ []) [] device script = absurd script
+play-join inputs (key ∷ image ∷ []) (bytes ∷ other ∷ rest) device script = absurd script
+play-join inputs (key ∷ image ∷ []) (bytes ∷ []) device script = (device, script)
 
-pub verify-joined : (inputs : VerifyInputs) (texts rest : List (List ℕ))
+pub verify-join : (inputs : VerifyInputs) (texts rest : List (List ℕ))
     → AreDeviceInputs inputs.device texts
     → AreReportInputs inputs.evidence rest
     → AreVerifyInputs inputs (texts ++ rest)
-verify-joined inputs [] rest device evidence = absurd device
-verify-joined inputs (key ∷ []) rest device evidence = absurd device
-verify-joined inputs (key ∷ image ∷ other ∷ texts) rest device evidence = absurd device
-verify-joined inputs (key ∷ image ∷ []) rest device evidence = (device, evidence)
+verify-join inputs [] rest device evidence = absurd device
+verify-join inputs (key ∷ []) rest device evidence = absurd device
+verify-join inputs (key ∷ image ∷ other ∷ texts) rest device evidence = absurd device
+verify-join inputs (key ∷ image ∷ []) rest device evidence = (device, evidence)
 
 -- what a play makes of its values
 pub play-outcome :

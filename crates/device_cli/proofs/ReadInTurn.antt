@@ -199,13 +199,13 @@ pub both-read : {S A B C : Type 0} {files : S → Files} {faults misses : S → 
     → ((texts rest : List (List ℕ)) → stands one texts → others two rest → both all (texts ++ rest))
     → Reads files faults misses old new (first ++ more) both (Ok all)
 both-read {files = files} {faults = faults} {misses = misses} {old = old} {mid = mid} {new = new}
-    {first = first} {more = more} all reads next joined =
+    {first = first} {more = more} all reads next join =
     record {
       values = (
         reads.values.0 ++ next.values.0,
         AreRead-both (files old) first more reads.values.0 next.values.0 reads.values.1
             (subst (λ told. AreRead told more next.values.0) reads.kept.same next.values.1),
-        joined reads.values.0 next.values.0 reads.values.2 next.values.2,
+        join reads.values.0 next.values.0 reads.values.2 next.values.2,
       );
       refusal = tt;
       order = order-both (files old) first more reads.order

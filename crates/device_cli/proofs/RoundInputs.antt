@@ -20,19 +20,19 @@ use Rattle.device_cli.specs.RoundText.{round_text, round_has_pair}
 use Rattle.device_cli.specs.Row.{Outcome}
 
 -- the bytes of a policy after those of a play
-pub round-joined :
+pub round-join :
     (inputs : RoundInputs) (texts rest : List (List ℕ))
     → ArePlayInputs inputs.play texts
     → OfOne (λ (policy : PolicyFields) (bytes : List ℕ). policy ≡ policy_in bytes) inputs.policy
     rest
     → AreRoundInputs inputs (texts ++ rest)
-round-joined inputs [] rest plays is = absurd plays
-round-joined inputs (key ∷ []) rest plays is = absurd plays
-round-joined inputs (key ∷ image ∷ []) rest plays is = absurd plays
-round-joined inputs (key ∷ image ∷ script ∷ []) [] plays is = absurd is
-round-joined inputs (key ∷ image ∷ script ∷ []) (policy ∷ []) plays is = (plays, is)
-round-joined inputs (key ∷ image ∷ script ∷ []) (policy ∷ next ∷ more) plays is = absurd is
-round-joined inputs (key ∷ image ∷ script ∷ next ∷ more) rest plays is = absurd plays
+round-join inputs [] rest plays is = absurd plays
+round-join inputs (key ∷ []) rest plays is = absurd plays
+round-join inputs (key ∷ image ∷ []) rest plays is = absurd plays
+round-join inputs (key ∷ image ∷ script ∷ []) [] plays is = absurd is
+round-join inputs (key ∷ image ∷ script ∷ []) (policy ∷ []) plays is = (plays, is)
+round-join inputs (key ∷ image ∷ script ∷ []) (policy ∷ next ∷ more) plays is = absurd is
+round-join inputs (key ∷ image ∷ script ∷ next ∷ more) rest plays is = absurd plays
 
 -- what is put of the values
 abbrev pub outcome_of : ℕ → RoundInputs → Outcome

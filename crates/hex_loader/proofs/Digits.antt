@@ -73,8 +73,8 @@ pub err_read : (read : Result (List ℕ) FaultKind) (kind : FaultKind) (old new 
     → MatchResult read (λ bytes. (answer ≡ Ok tt) × (new ≡ bytes))
     (λ fault. (answer ≡ Err fault) × (new ≡ old))
     → record_or_fault read ≡ Err kind
-err_read (Ok bytes) kind old new answer is given = absurd cc
-err_read (Err fault) kind old new answer is given = cc
+err_read (Ok bytes) kind old new answer is holds = absurd cc
+err_read (Err fault) kind old new answer is holds = cc
 
 -- where they were
 pub ok_read : (read : Result (List ℕ) FaultKind) (old new : List ℕ)
@@ -82,5 +82,5 @@ pub ok_read : (read : Result (List ℕ) FaultKind) (old new : List ℕ)
     → MatchResult read (λ bytes. (answer ≡ Ok tt) × (new ≡ bytes))
     (λ fault. (answer ≡ Err fault) × (new ≡ old))
     → record_or_fault read ≡ record_of new
-ok_read (Ok bytes) old new answer is given = rw given.1 refl
-ok_read (Err fault) old new answer is given = absurd cc
+ok_read (Ok bytes) old new answer is holds = rw holds.1 refl
+ok_read (Err fault) old new answer is holds = absurd cc

@@ -109,7 +109,7 @@ mac_write-passes digest key attested passed number value i at below is =
       word = cond-true (lies_in mac_region place) number 0 inside ∙ is;
       released = λ written so_far.
           cond-true (lies_in mac_region place) (written ++ number ∷ []) written inside
-          ∙ (joined written number (so_far ∙ ap (first_mac_words digest key attested) count) is
+          ∙ (append_same written number (so_far ∙ ap (first_mac_words digest key attested) count) is
           ∙ (sym (first_mac_words-more digest key attested i)
           ∙ ap (first_mac_words digest key attested) more));
       stored = λ power exec writes small stands.
@@ -122,9 +122,9 @@ mac_write-passes digest key attested passed number value i at below is =
           (mac-more power exec writes (tag_of digest key attested) i number below small is before);
     }
   where
-    joined : (written : List ℕ) (number : ℕ) {words : List ℕ} {word : ℕ}
+    append_same : (written : List ℕ) (number : ℕ) {words : List ℕ} {word : ℕ}
         → written ≡ words → number ≡ word → written ++ number ∷ [] ≡ words ++ word ∷ []
-    joined written number same same_number = λ j. same j ++ same_number j ∷ []
+    append_same written number same same_number = λ j. same j ++ same_number j ∷ []
 
 -- a word of the metadata and one of the region, of what stands in memory
 metadata-read : (device : Device) (logs : Logs) (attested : AttestedBytes) (i : ℕ) → i < 21

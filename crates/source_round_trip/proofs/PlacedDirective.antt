@@ -98,14 +98,14 @@ symbolic-are (expr ∷ exprs) all =
     and_from (is_writable_expr expr) (are_operands (map Symbolic exprs)) parts.0
     (symbolic-are exprs parts.1)
 
-parts-said : (source : List ℕ) (all : List Operand)
+parts-same : (source : List ℕ) (all : List Operand)
     → map (said_expr source) (map operand_part all)
     ≡ map said_part (map (said_operand source) all)
-parts-said source [] = refl
-parts-said source (operands.Symbolic expr ∷ all) =
-    ap (λ (rest : List SaidExpr). said_expr source expr ∷ rest) (parts-said source all)
-parts-said source (operand ∷ all) =
-    ap (λ (rest : List SaidExpr). [] ∷ rest) (parts-said source all)
+parts-same source [] = refl
+parts-same source (operands.Symbolic expr ∷ all) =
+    ap (λ (rest : List SaidExpr). said_expr source expr ∷ rest) (parts-same source all)
+parts-same source (operand ∷ all) =
+    ap (λ (rest : List SaidExpr). [] ∷ rest) (parts-same source all)
 
 parts-symbolic : (exprs : List SaidExpr) → map said_part (map Symbolic exprs) ≡ exprs
 parts-symbolic [] = refl
@@ -115,7 +115,7 @@ says-exprs : (source : List ℕ) (numerals : Numerals) (place : ℕ) (exprs : Li
     → Stands source place (operands_text numerals (map Symbolic exprs))
     → map (said_expr source) (placed_exprs numerals (place + 1) exprs) ≡ exprs
 says-exprs source numerals place exprs stands =
-    parts-said source (placed_operands numerals (place + 1) (map Symbolic exprs))
+    parts-same source (placed_operands numerals (place + 1) (map Symbolic exprs))
     ∙ ap (map said_part) (says-operands source numerals place (map Symbolic exprs) stands)
     ∙ parts-symbolic exprs
 

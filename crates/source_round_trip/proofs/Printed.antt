@@ -162,11 +162,11 @@ operands-printed numerals are (first ∷ rest) all =
     both-printed (codes " " ++ operand_text numerals first) (more_operands_text numerals rest)
     (operand-printed numerals are first parts.0) (more_operands-printed numerals are rest parts.1)
 
-given-are : (first second : Option SaidOperand) → is_given first ≡ true → is_given second ≡ true
+is_given-are : (first second : Option SaidOperand) → is_given first ≡ true → is_given second ≡ true
     → are_operands (given_operands first second) ≡ true
-given-are None second one two = refl
-given-are (Some first) None one two = rw one refl
-given-are (Some first) (Some second) one two = rw (one, two) refl
+is_given-are None second one two = refl
+is_given-are (Some first) None one two = rw one refl
+is_given-are (Some first) (Some second) one two = rw (one, two) refl
 
 body-printed : (numerals : Numerals) → AreNumerals numerals → (body : SaidBody)
     → is_writable_body body ≡ true → are_printed (body_text numerals body) ≡ true
@@ -177,7 +177,7 @@ body-printed numerals are (Instr mnemonic size first second) is =
     both-printed word (operands_text numerals (given_operands first second))
     (words-printed word (mnemonic-operation mnemonic size parts.sized).all)
     (operands-printed numerals are (given_operands first second)
-    (given-are first second parts.one parts.two))
+    (is_given-are first second parts.one parts.two))
 body-printed numerals are (Org expr) is =
     operands-printed numerals are (Symbolic expr ∷ []) (rw is refl)
 body-printed numerals are (Word exprs) is =
@@ -200,9 +200,9 @@ label-printed : (label : Option (List ℕ)) → is_free_label label ≡ true
 label-printed None is = refl
 label-printed (Some name) is = both-printed name (codes ": ") (name-printed name is) refl
 
-pub said-printed : (numerals : Numerals) → AreNumerals numerals → (said_line : SaidLine)
+pub line-printed : (numerals : Numerals) → AreNumerals numerals → (said_line : SaidLine)
     → is_writable said_line ≡ true → are_printed (said_text numerals said_line) ≡ true
-said-printed numerals are said_line is =
+line-printed numerals are said_line is =
     let parts = and_parts (is_free_label said_line.label) (is_writable_body said_line.body) is in
     both-printed (label_text said_line.label) (body_text numerals said_line.body)
     (label-printed said_line.label parts.0) (body-printed numerals are said_line.body parts.1)

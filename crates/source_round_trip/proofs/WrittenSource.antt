@@ -18,7 +18,7 @@ use Rattle.source_round_trip.specs.ReadBack.{AreNumerals, source_text, IsSourceR
 use Rattle.source_round_trip.specs.SaidLine.{SaidLine, said_by}
 use Rattle.source_round_trip.specs.SaidText.{Numerals, said_text}
 use Rattle.source_round_trip.specs.Writable.{is_writable}
-use Rattle.source_round_trip.proofs.Printed.{is_printed, are_printed, said-printed}
+use Rattle.source_round_trip.proofs.Printed.{is_printed, are_printed, line-printed}
 use Rattle.source_round_trip.proofs.WrittenLine.{read-back}
 
 -- a printed line and its end
@@ -120,7 +120,7 @@ read-from numerals are (said_line ∷ rest) writable before number =
     ∷ lines_from (length before + length line + 1) (number + 1) left =
     ap (λ (text : List ℕ). lines_from (length before) number text)
     (text-cut numerals said_line rest)
-    ∙ next-lines (length before) number line left (said-printed numerals are said_line parts.0) in
+    ∙ next-lines (length before) number line left (line-printed numerals are said_line parts.0) in
     let says : said_by source first.statement ≡ said_line =
     ap (λ (text : List ℕ). said_by text first.statement) (sym whole) ∙ first.says in
     record {
@@ -148,7 +148,7 @@ source-ascii numerals are (said_line ∷ rest) writable =
     let parts = and_parts (is_writable said_line) (list_all is_writable rest) writable in
     subst (λ (text : List ℕ). IsAscii text) (sym (text-cut numerals said_line rest))
     (printed-ascii (said_text numerals said_line) (source_text numerals rest)
-    (said-printed numerals are said_line parts.0) (source-ascii numerals are rest parts.1))
+    (line-printed numerals are said_line parts.0) (source-ascii numerals are rest parts.1))
 
 pub source-read_back : (numerals : Numerals) (all : List SaidLine) → AreNumerals numerals
     → list_all is_writable all ≡ true → IsSourceReadBack numerals all
