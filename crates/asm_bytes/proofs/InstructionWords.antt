@@ -15,7 +15,7 @@ use Rattle.msp_decode.specs.Spelling.{has_size, has_form, has_range, takes_write
 use Rattle.msp_decode.specs.Completion.{head_part, source_form, source_words as words_of_source, dest_words as words_of_dest, words_of}
 use Rattle.msp_decode.specs.EncodeFault.{first_fault}
 use Rattle.msp_decode.specs.Law.{AreReadAs, WordsAreRead}
-use Rattle.part_definitions.specs.Words.{plus}
+use Rattle.part_definitions.specs.AddressSum.{plus}
 use Rattle.text_scan.specs.declared.fault_kind.FaultKind.{FaultKind}
 use Rattle.text_scan.specs.declared.fault_kind.FaultKind.TheVariants as fault
 use Rattle.text_scan.specs.Reader.{◌>>=◌}
@@ -61,18 +61,18 @@ two_words from to a b source dest =
     omega (arith, length-append (words_of_source from) (words_of_dest to))
 
 -- an operand of an instruction of one
-one_faultless : (sized writing taken formed : Bool)
-    → (sized && (taken || not writing)) ≡ true
-    → formed ≡ true
-    → (if not sized then Some NoByteForm else if writing && not taken then Some NotWritable
-    else if not formed then Some NoSuchForm else None) ≡ None
-one_faultless sized writing taken formed takes is = grind (arith, nat_tests)
+one_faultless : (is_sized writes is_taken is_formed : Bool)
+    → (is_sized && (is_taken || not writes)) ≡ true
+    → is_formed ≡ true
+    → (if not is_sized then Some NoByteForm else if writes && not is_taken then Some NotWritable
+    else if not is_formed then Some NoSuchForm else None) ≡ None
+one_faultless is_sized writes is_taken is_formed takes is = grind (arith, nat_tests)
 
 one_has_words : (op : OneOp) (size : Size) (it : Source) (count : ℕ) (takes : Bool)
     → takes_source op size it ≡ takes
     → IsWritten it count
     → IfOk {E = FaultKind} (if takes then Ok (instr.One op size it) else Err fault.Operand)
-    (λ made. HasWords made (2 * (1 + count)))
+    (λ answer. HasWords answer (2 * (1 + count)))
 one_has_words op size it count true takes is =
     record {
       size = omega (arith, is.words);
@@ -84,7 +84,7 @@ one_has_words op size it count false takes is = tt
 jump_has_words : (cond : Cond) (offset : ℤ) (even fits : Bool)
     → has_range offset ≡ fits
     → IfOk {E = FaultKind} (if even && fits then Ok (instr.Jump cond offset) else Err fault.Range)
-    (λ made. HasWords made 2)
+    (λ answer. HasWords answer 2)
 jump_has_words cond offset true true is =
     record {
       size = refl;
@@ -120,7 +120,7 @@ instruction_has_words scope (Two op source dest) size operands =
     (dest_at-written dest size (plus scope.here (2 + 2 * source_count)) operands second)
     (λ to same. record {
       size = two_words from to source_count dest_count is.words same;
-      faultless = ap (λ formed. if not formed then Some NoSuchForm else None) is.form;
+      faultless = ap (λ is_formed. if not is_formed then Some NoSuchForm else None) is.form;
     }))))
 instruction_has_words scope (One op) size operands =
     let count : ℕ = operand_words size operands.first in
@@ -139,13 +139,13 @@ instruction_has_words scope (Jump cond) size operands =
     (λ target. let offset : ℤ = half_way (scope.here + 2) target in
     jump_has_words cond offset (target % 2 == 0) (has_range offset) refl))
 
-read_as : WordsAreRead → (named : Result Instr FaultKind) (count : ℕ) (it : Instr)
-    → IfOk named (λ made. HasWords made count)
-    → named ≡ Ok it
+read_as : WordsAreRead → (result : Result Instr FaultKind) (count : ℕ) (it : Instr)
+    → IfOk result (λ answer. HasWords answer count)
+    → result ≡ Ok it
     → AreReadAs (words_of it) it
-read_as are_read named count it has is =
+read_as are_read result count it has is =
     let words : HasWords it count =
-    subst (λ (read : Result Instr FaultKind). IfOk read (λ made. HasWords made count)) is has in
+    subst (λ (code : Result Instr FaultKind). IfOk code (λ answer. HasWords answer count)) is has in
     are_read it words.faultless
 
 -- its words are read as the instruction

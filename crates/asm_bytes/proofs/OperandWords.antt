@@ -18,7 +18,7 @@ use Rattle.text_scan.specs.declared.fault_kind.FaultKind.TheVariants as fault
 use Rattle.text_scan.specs.Reader.{◌>>=◌}
 use Rattle.asm_text.specs.declared.operand.Operand.{Operand}
 use Rattle.asm_text.specs.declared.operand.Operand.TheVariants.{Reg, Imm, Abs, Indexed, Symbolic, Indirect, IndirectInc}
-use Rattle.part_definitions.specs.Words.{minus}
+use Rattle.part_definitions.specs.AddressSum.{minus}
 use Rattle.asm_bytes.specs.Value.{address_of, word_of}
 use Rattle.asm_bytes.specs.Operand.{generated_constant, operand_words, immediate_word, immediate, source_of, dest_of}
 

@@ -12,7 +12,7 @@ use Rattle.msp_decode.specs.declared.instr.Instr.{Instr}
 use Rattle.msp_decode.specs.declared.instr.Instr.TheVariants as instr
 use Rattle.msp_decode.specs.Spelling.{has_size, has_range, takes_write, writes_operand}
 use Rattle.msp_decode.specs.Completion.{source_form}
-use Rattle.part_definitions.specs.Words.{plus}
+use Rattle.part_definitions.specs.AddressSum.{plus}
 use Rattle.text_scan.specs.declared.fault_kind.FaultKind.{FaultKind}
 use Rattle.text_scan.specs.declared.fault_kind.FaultKind.TheVariants as fault
 use Rattle.text_scan.specs.Reader.{◌>>=◌}

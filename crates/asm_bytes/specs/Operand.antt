@@ -18,7 +18,7 @@ use Rattle.asm_text.specs.declared.term.Term.TheVariants.{Number, Name, Here}
 use Rattle.asm_text.specs.declared.operand.Operand.{Operand}
 use Rattle.asm_text.specs.declared.operand.Operand.TheVariants.{Reg, Imm, Abs, Indexed, Symbolic, Indirect, IndirectInc}
 use Rattle.asm_text.specs.Expr.{SignedTerm}
-use Rattle.part_definitions.specs.Words.{minus}
+use Rattle.part_definitions.specs.AddressSum.{minus}
 use Rattle.asm_bytes.specs.Value.{with_sign, address_of, word_of, byte_immediate_of}
 
 -- the expression of an operand; the empty one where it has none

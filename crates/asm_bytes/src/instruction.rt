@@ -2,13 +2,13 @@ ghost use Rattle.std.specs.Prelude.{◌≡◌, ◌≤◌, ◌+◌, ◌*◌, IfOk
 ghost use Rattle.msp_decode.specs.Completion.{head_part, source_form};
 ghost use Rattle.msp_decode.specs.Spelling.{has_form};
 ghost use Rattle.msp_decode.specs.EncodeFault.{first_fault};
-ghost use Rattle.part_definitions.specs.Words.{plus};
+ghost use Rattle.part_definitions.specs.AddressSum.{plus};
 ghost use Rattle.asm_bytes.specs.declared.form.Form.TheVariants.{Two as TwoForm, One as OneForm, Jump as JumpForm};
 ghost use Rattle.asm_bytes.specs.Value.{value, known_value};
 ghost use Rattle.asm_bytes.specs.Scope.{scope_in};
 ghost use Rattle.asm_bytes.specs.Operands.{operands_in};
 ghost use Rattle.asm_bytes.specs.Operand.{expr_in, operand_words};
-ghost use Rattle.asm_bytes.specs.Instruction.{takes_source, one_of, half_way, jump_of, form_size, instruction_of};
+ghost use Rattle.asm_bytes.specs.Instruction.{takes_source, one_of, jump_of, form_size, instruction_of};
 
 use crate::form::{DestRole, Form, SourceRole};
 use crate::number::address_of;

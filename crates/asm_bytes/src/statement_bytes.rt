@@ -54,11 +54,11 @@ fn push_word(bytes: &mut Vec<u8>, word: u16) -> Result<(), AllocError>
 fn push_value(bytes: &mut Vec<u8>, size: Size, value: i128) -> Result<(), WordFault>
     ensures { AddsBytes result bytes.old.items bytes.new.items (value_bytes size value) }
 {
-    let added = match size {
+    let outcome = match size {
         Size::Word => push_word(bytes, word_of(value)?),
         Size::Byte => bytes.extend_from_slice(&[byte_of(value)?]),
     };
-    added.map_err(WordFault::Memory)
+    outcome.map_err(WordFault::Memory)
 }
 
 // Puts values of this size after the bytes.

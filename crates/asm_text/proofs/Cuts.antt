@@ -19,10 +19,10 @@ pub position-within : {X : Type 0} (p : X → Bool) (xs : List X) → position_o
 position-within p xs = prefix_len-le-length (λ x. not (p x)) xs
 
 -- a first place, or else the length
-pub first_or_length : {X : Type 0} (p : X → Bool) (xs : List X) (found : Option ℕ)
-    → found ≡ cond (nat_lt (position_or_len p xs) (length xs)) (Some (position_or_len p xs)) None
-    → unwrap_or found (length xs) ≡ position_or_len p xs
-first_or_length p xs found is =
+pub first_or_length : {X : Type 0} (p : X → Bool) (xs : List X) (place : Option ℕ)
+    → place ≡ cond (nat_lt (position_or_len p xs) (length xs)) (Some (position_or_len p xs)) None
+    → unwrap_or place (length xs) ≡ position_or_len p xs
+first_or_length p xs place is =
     ap (λ (o : Option ℕ). unwrap_or o (length xs)) is
     ∙ by_test (position_or_len p xs) (length xs) (nat_lt (position_or_len p xs) (length xs)) refl
     (position-within p xs)

@@ -5,7 +5,7 @@ use Rattle.text_scan.specs.declared.fault_kind.FaultKind.{FaultKind}
 use Rattle.text_scan.specs.Reader.{◌>>=◌, in_line}
 use Rattle.text_scan.proofs.WholeText.{text_read, text_refused, later_read, later_fault}
 use Rattle.asm_text.specs.declared.statement.Statement.{Statement}
-use Rattle.asm_text.specs.Meaning.{said_in, IsSource, IsFirstFault, IsFaultOf}
+use Rattle.asm_text.specs.Meaning.{lone_statement, IsSource, IsFirstFault, IsFaultOf}
 use Rattle.asm_text.specs.Operand.{all_of}
 use Rattle.asm_text.specs.Source.{PlacedLine, placed_lines, statement_of, source_of}
 
@@ -15,11 +15,11 @@ then_later lines statement =
     all_of (map statement_of lines) >>= (λ later. Ok (statement ∷ later))
 
 said_first : (line : PlacedLine) (lines : List PlacedLine) (statements : List Statement)
-    (found : Result Statement FaultKind) → said_in line ≡ found
+    (answer : Result Statement FaultKind) → lone_statement line ≡ answer
     → ((later : List Statement) → all_of (map statement_of lines) ≡ Ok later
-    → map said_in lines ≡ map Ok later)
-    → (in_line line.1.0 found >>= then_later lines) ≡ Ok statements
-    → map said_in (line ∷ lines) ≡ map Ok statements
+    → map lone_statement lines ≡ map Ok later)
+    → (in_line line.1.0 answer >>= then_later lines) ≡ Ok statements
+    → map lone_statement (line ∷ lines) ≡ map Ok statements
 said_first line lines statements (Err kind) is later h = absurd (cc h)
 said_first line lines statements (Ok statement) is later h =
     let rest = later_read (λ (later : List Statement). statement ∷ later)
@@ -27,16 +27,16 @@ said_first line lines statements (Ok statement) is later h =
     rw rest.2 (cc (is, later rest.0 rest.1))
 
 all_said : (lines : List PlacedLine) (statements : List Statement)
-    → all_of (map statement_of lines) ≡ Ok statements → map said_in lines ≡ map Ok statements
+    → all_of (map statement_of lines) ≡ Ok statements → map lone_statement lines ≡ map Ok statements
 all_said [] statements h =
     let none : [] ≡ statements = cc h in ap (map Ok) none
 all_said (line ∷ lines) statements h =
-    said_first line lines statements (said_in line) refl (all_said lines) h
+    said_first line lines statements (lone_statement line) refl (all_said lines) h
 
 fault_first : (line : PlacedLine) (lines : List PlacedLine) (fault : FaultAt)
-    (found : Result Statement FaultKind) → said_in line ≡ found
+    (answer : Result Statement FaultKind) → lone_statement line ≡ answer
     → (all_of (map statement_of lines) ≡ Err fault → IsFirstFault lines fault)
-    → (in_line line.1.0 found >>= then_later lines) ≡ Err fault
+    → (in_line line.1.0 answer >>= then_later lines) ≡ Err fault
     → IsFirstFault (line ∷ lines) fault
 fault_first line lines fault (Err kind) is later h =
     let same : record { line = line.1.0; kind = kind } ≡ fault = cc h in record {
@@ -66,7 +66,7 @@ first_fault : (lines : List PlacedLine) (fault : FaultAt)
     → all_of (map statement_of lines) ≡ Err fault → IsFirstFault lines fault
 first_fault [] fault h = absurd (cc h)
 first_fault (line ∷ lines) fault h =
-    fault_first line lines fault (said_in line) refl (first_fault lines fault) h
+    fault_first line lines fault (lone_statement line) refl (first_fault lines fault) h
 
 pub source_of-lines : (text : List ℕ) (statements : List Statement)
     → source_of text ≡ Ok statements → IsSource text statements
@@ -80,6 +80,6 @@ pub source_of-fault : (text : List ℕ) (fault : FaultAt) → source_of text ≡
 unfolding source_of
 source_of-fault text fault h =
     elim (text_refused text (all_of (map statement_of (placed_lines text))) fault h) [
-      | inl broken ↦ inl broken
+      | inl not_utf8 ↦ inl not_utf8
       | inr sound ↦ inr (sound.0, first_fault (placed_lines text) fault sound.1)
     ]

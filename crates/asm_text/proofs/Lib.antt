@@ -1,5 +1,5 @@
-pub mod Gathered
-pub mod Answered
+pub mod Behind
+pub mod MapError
 pub mod Cuts
 pub mod TokenSteps
 pub mod TermSteps

@@ -32,7 +32,7 @@ places-cut place (suc n) (c ∷ rest) below before at =
     ap (λ (m : ℕ). drop m (c ∷ rest)) count in
     rw (ne_eqb c 10 (before 0 (omega arith))) (next
     ∙ ap (λ (p : ℕ). p ∷ places_behind_ends p (drop (n + 1) rest)) there
-    ∙ ap (λ (left : List ℕ). (place + suc n + 1) ∷ places_behind_ends (place + suc n + 1) left)
+    ∙ ap (λ (later : List ℕ). (place + suc n + 1) ∷ places_behind_ends (place + suc n + 1) later)
     same)
 
 -- no LF
@@ -44,17 +44,17 @@ places-none place (c ∷ rest) before =
     (places-none (place + 1) rest (λ k h. before (suc k) (omega arith)))
 
 -- the lines that are left of a text from a place on
-pub record LinesLeft (text : List ℕ) (place : ℕ) (left : List (ℕ × List ℕ)) : Type 0 where
+pub record LinesLeft (text : List ℕ) (place : ℕ) (later : List (ℕ × List ℕ)) : Type 0 where
   pub within : place ≤ length text
   pub number : ℕ
-  pub are : left ≡ numbered_lines number (lines (drop place text))
+  pub are : later ≡ numbered_lines number (lines (drop place text))
 
 -- what is known behind the first of these lines
 pub record NextLine (text : List ℕ) (place : ℕ) (line : ℕ × List ℕ)
-    (left next : List (ℕ × List ℕ)) : Type 0 where
+    (later next : List (ℕ × List ℕ)) : Type 0 where
   pub fits : place + length line.1 ≤ length text
   pub lines : LinesLeft text (behind_end text (place + length line.1)) next
-  pub placed : zip (line_starts place (drop place text)) left
+  pub placed : zip (line_starts place (drop place text)) later
       ≡ (place, line) ∷ zip (line_starts (behind_end text (place + length line.1))
       (drop (behind_end text (place + length line.1)) text)) next
 
@@ -101,18 +101,18 @@ by_return text place n (c ∷ rest) true below long same lf is =
       omega (arith, short),
     )
 
-next-cut : (text : List ℕ) (place number : ℕ) (left : List (ℕ × List ℕ)) → place ≤ length text
+next-cut : (text : List ℕ) (place number : ℕ) (later : List (ℕ × List ℕ)) → place ≤ length text
     → position_or_len is_end (drop place text) < length (drop place text)
-    → left ≡ numbered_lines number (lines (drop place text))
+    → later ≡ numbered_lines number (lines (drop place text))
     → NextLine text place (
       number,
       strip_carriage_return (take (position_or_len is_end (drop place text)) (drop place
           text)),
     )
-    left
+    later
     (numbered_lines (number + 1) (lines (drop (position_or_len is_end (drop place text) + 1) (drop
     place text))))
-next-cut text place number left within below are =
+next-cut text place number later within below are =
     let rest : List ℕ = drop place text in
     let end : ℕ = position_or_len is_end rest in
     let whole : List ℕ = take end rest in
@@ -129,7 +129,7 @@ next-cut text place number left within below are =
     let behind : drop (end + 1) rest ≡ drop (behind_end text (place + length line)) text =
     drop-drop (end + 1) place text ∙ ap (λ (m : ℕ). drop m text) (omega (arith, there)) in
     let next : List (ℕ × List ℕ) = numbered_lines (number + 1) (lines (drop (end + 1) rest)) in
-    let cut : left ≡ (number, line) ∷ next =
+    let cut : later ≡ (number, line) ∷ next =
     are ∙ ap (numbered_lines number) (lines_cut rest end below refl) in
     let starts : places_behind_ends place rest
     ≡ line_starts (place + end + 1) (drop (end + 1) rest) =
@@ -163,12 +163,12 @@ behind_end-last text end is =
       le-ltb end (length text) (omega (arith, is)),
     ) refl
 
-next-uncut : (text : List ℕ) (place number : ℕ) (left : List (ℕ × List ℕ)) → place ≤ length text
+next-uncut : (text : List ℕ) (place number : ℕ) (later : List (ℕ × List ℕ)) → place ≤ length text
     → position_or_len is_end (drop place text) ≡ length (drop place text)
     → 0 < length (drop place text)
-    → left ≡ numbered_lines number (lines (drop place text))
-    → NextLine text place (number, drop place text) left []
-next-uncut text place number left within is some are =
+    → later ≡ numbered_lines number (lines (drop place text))
+    → NextLine text place (number, drop place text) later []
+next-uncut text place number later within is some are =
     let rest : List ℕ = drop place text in
     let long : length rest ≡ length text - place = length-drop place text in
     let end : place + length rest ≡ length text = omega (arith, long, within) in
@@ -176,7 +176,7 @@ next-uncut text place number left within is some are =
     behind_end-last text (place + length rest) end in
     let none : drop (behind_end text (place + length rest)) text ≡ [] =
     drop_of_length-le text (omega (arith, there, end)) in
-    let cut : left ≡ (number, rest) ∷ [] = are ∙ ap (numbered_lines number) (lines_uncut rest is
+    let cut : later ≡ (number, rest) ∷ [] = are ∙ ap (numbered_lines number) (lines_uncut rest is
     some) in
     let starts : places_behind_ends place rest ≡ [] =
     places-none place rest
@@ -193,37 +193,37 @@ next-uncut text place number left within is some are =
           ∙ ap (λ (l : List ℕ). (place, (number, rest)) ∷ zip l []) starts;
     }
 
-as_first : (text : List ℕ) (place : ℕ) (left : List (ℕ × List ℕ)) (line other : ℕ × List ℕ)
-    (next others : List (ℕ × List ℕ)) → left ≡ line ∷ next → left ≡ other ∷ others
-    → NextLine text place other left others → NextLine text place line left next
-as_first text place left line other next others is cut made =
+as_first : (text : List ℕ) (place : ℕ) (later : List (ℕ × List ℕ)) (line other : ℕ × List ℕ)
+    (next others : List (ℕ × List ℕ)) → later ≡ line ∷ next → later ≡ other ∷ others
+    → NextLine text place other later others → NextLine text place line later next
+as_first text place later line other next others is cut holds =
     let both : other ∷ others ≡ line ∷ next = sym cut ∙ is in
     let head : ◌≡◌ {A = ℕ × List ℕ} other line = cc both in
     let tail : others ≡ next = cc both in
-    subst (λ (l : ℕ × List ℕ). NextLine text place l left next) head
-    (subst (λ (n : List (ℕ × List ℕ)). NextLine text place other left n) tail made)
+    subst (λ (l : ℕ × List ℕ). NextLine text place l later next) head
+    (subst (λ (n : List (ℕ × List ℕ)). NextLine text place other later n) tail holds)
 
-none_left : (number : ℕ) (rest : List ℕ) (left : List (ℕ × List ℕ)) (line : ℕ × List ℕ)
-    (next : List (ℕ × List ℕ)) → left ≡ numbered_lines number (lines rest) → left ≡ line ∷ next
+none_left : (number : ℕ) (rest : List ℕ) (later : List (ℕ × List ℕ)) (line : ℕ × List ℕ)
+    (next : List (ℕ × List ℕ)) → later ≡ numbered_lines number (lines rest) → later ≡ line ∷ next
     → 0 < length rest
-none_left number [] left line next are is = absurd (cc (are, is))
-none_left number (c ∷ rest) left line next are is = omega arith
+none_left number [] later line next are is = absurd (cc (are, is))
+none_left number (c ∷ rest) later line next are is = omega arith
 
 -- the first of the lines that are left
-pub next_line : (text : List ℕ) (place : ℕ) (line : ℕ × List ℕ) (left next : List (ℕ × List ℕ))
-    → LinesLeft text place left → left ≡ line ∷ next → NextLine text place line left next
-next_line text place line left next to is =
+pub next_line : (text : List ℕ) (place : ℕ) (line : ℕ × List ℕ) (later next : List (ℕ × List ℕ))
+    → LinesLeft text place later → later ≡ line ∷ next → NextLine text place line later next
+next_line text place line later next to is =
     let rest : List ℕ = drop place text in
     let end : ℕ = position_or_len is_end rest in
-    let some = none_left to.number rest left line next to.are is in
+    let some = none_left to.number rest later line next to.are is in
     ⊎_elim
-    (λ below. as_first text place left line _ next _ is
+    (λ below. as_first text place later line _ next _ is
     (to.are ∙ ap (numbered_lines to.number) (lines_cut rest end below refl))
-    (next-cut text place to.number left to.within below to.are))
+    (next-cut text place to.number later to.within below to.are))
     (λ over.
     let whole : end ≡ length rest = omega
     (arith, over, prefix_len-le-length (λ x. not (is_end x)) rest) in
-    as_first text place left line _ next _ is
+    as_first text place later line _ next _ is
     (to.are ∙ ap (numbered_lines to.number) (lines_uncut rest whole some))
-    (next-uncut text place to.number left to.within whole some to.are))
+    (next-uncut text place to.number later to.within whole some to.are))
     (cases_lt end (length rest))

@@ -11,55 +11,56 @@ use Rattle.asm_text.specs.declared.piece.Piece.{Piece}
 use Rattle.asm_text.specs.declared.piece.Piece.TheVariants as pieces
 use Rattle.asm_text.specs.declared.token.Token.{Token}
 use Rattle.asm_text.specs.Token.{piece_of, IsWithin, token_before, with_later, tokens_behind}
-use Rattle.asm_text.proofs.Answered.{ok_of_map_err}
-use Rattle.asm_text.proofs.Gathered.{behind}
+use Rattle.asm_text.proofs.MapError.{ok_of_map_err}
+use Rattle.asm_text.proofs.Behind.{behind}
 
 -- characters that are passed
-tokens_behind-passed : (passed place : ℕ) (line : List ℕ)
-    → tokens_behind passed place line ≡ tokens_behind 0 (place + passed) (drop passed line)
+tokens_behind-passed : (count place : ℕ) (line : List ℕ)
+    → tokens_behind count place line ≡ tokens_behind 0 (place + count) (drop count line)
 unfolding tokens_behind
 tokens_behind-passed zero place line =
     let there : place ≡ place + 0 = omega arith in
     ap (λ (p : ℕ). tokens_behind 0 p line) there
-tokens_behind-passed (suc passed) place [] = refl
-tokens_behind-passed (suc passed) place (c ∷ rest) =
-    let there : place + 1 + passed ≡ place + suc passed = omega arith in
-    tokens_behind-passed passed (place + 1) rest
-    ∙ ap (λ (p : ℕ). tokens_behind 0 p (drop passed rest)) there
+tokens_behind-passed (suc count) place [] = refl
+tokens_behind-passed (suc count) place (c ∷ rest) =
+    let there : place + 1 + count ≡ place + suc count = omega arith in
+    tokens_behind-passed count (place + 1) rest
+    ∙ ap (λ (p : ℕ). tokens_behind 0 p (drop count rest)) there
 
-behind-token : (done : List Token) (token : Token) (later : Result (List Token) FaultKind)
-    → behind done (token_before token later) ≡ behind (done ++ token ∷ []) later
-behind-token done token (Ok later) = ap (λ all. Ok all) (sym (append_assoc done (token ∷ []) later))
-behind-token done token (Err kind) = refl
+behind-token : (prefix : List Token) (token : Token) (rest : Result (List Token) FaultKind)
+    → behind prefix (token_before token rest) ≡ behind (prefix ++ token ∷ []) rest
+behind-token prefix token (Ok rest) =
+    ap (λ all. Ok all) (sym (append_assoc prefix (token ∷ []) rest))
+behind-token prefix token (Err kind) = refl
 
 -- what the characters from an index on give
-abbrev pub left_at : (place at : ℕ) → List ℕ → Result (List Token) FaultKind
-left_at place at line = tokens_behind 0 (place + at) (drop at line)
+abbrev pub tokens_from : (place at : ℕ) → List ℕ → Result (List Token) FaultKind
+tokens_from place at line = tokens_behind 0 (place + at) (drop at line)
 
 left-cons : (place at : ℕ) (line : List ℕ) → at < length line
-    → left_at place at line
+    → tokens_from place at line
     ≡ with_later (piece_of (place + at) (drop at line))
-    (λ passed. tokens_behind passed (place + at + 1) (drop (suc at) line))
+    (λ count. tokens_behind count (place + at + 1) (drop (suc at) line))
 unfolding tokens_behind
 left-cons place at line below =
     subst (λ (rest : List ℕ). tokens_behind 0 (place + at) rest
     ≡ with_later (piece_of (place + at) rest)
-    (λ passed. tokens_behind passed (place + at + 1) (drop (suc at) line)))
+    (λ count. tokens_behind count (place + at + 1) (drop (suc at) line)))
     (sym (drop-cons line at 0 below)) refl
 
 -- what the first of them give
 left-piece : (place at : ℕ) (line : List ℕ) (piece : Piece) → at < length line
     → piece_of (place + at) (drop at line) ≡ piece
-    → left_at place at line
-    ≡ with_later piece (λ passed. tokens_behind passed (place + at + 1) (drop (suc at) line))
+    → tokens_from place at line
+    ≡ with_later piece (λ count. tokens_behind count (place + at + 1) (drop (suc at) line))
 left-piece place at line piece below is =
     left-cons place at line below
-    ∙ ap (λ found. with_later found
-    (λ passed. tokens_behind passed (place + at + 1) (drop (suc at) line))) is
+    ∙ ap (λ answer. with_later answer
+    (λ count. tokens_behind count (place + at + 1) (drop (suc at) line))) is
 
 pub left-blank : (place at : ℕ) (line : List ℕ) → at < length line
     → piece_of (place + at) (drop at line) ≡ pieces.Blank
-    → left_at place at line ≡ left_at place (at + 1) line
+    → tokens_from place at line ≡ tokens_from place (at + 1) line
 left-blank place at line below is =
     let there : place + at + 1 ≡ place + (at + 1) = omega arith in
     left-piece place at line pieces.Blank below is
@@ -69,7 +70,7 @@ left-blank place at line below is =
 pub left-token : (place at count : ℕ) (line : List ℕ) (token : Token) → at < length line
     → 0 < count
     → piece_of (place + at) (drop at line) ≡ pieces.Token token count
-    → left_at place at line ≡ token_before token (left_at place (at + count) line)
+    → tokens_from place at line ≡ token_before token (tokens_from place (at + count) line)
 left-token place at count line token below some is =
     let next : ℕ = place + at + 1 + (count - 1) in
     let there : next ≡ place + (at + count) = omega (arith, some) in
@@ -83,72 +84,72 @@ left-token place at count line token below some is =
 
 -- how far a line was read
 pub record ReadTo (whole : Result (List Token) FaultKind) (place at : ℕ) (line : List ℕ)
-    (done : List Token) : Type 0 where
+    (prefix : List Token) : Type 0 where
   pub within : at ≤ length line
-  pub so_far : whole ≡ behind done (left_at place at line)
+  pub so_far : whole ≡ behind prefix (tokens_from place at line)
 
 pub read_to-blank : {whole : Result (List Token) FaultKind} {place at : ℕ} {line : List ℕ}
-    {done : List Token} → ReadTo whole place at line done → at < length line
-    → piece_of (place + at) (drop at line) ≡ pieces.Blank → ReadTo whole place (at + 1) line done
-read_to-blank {place = place} {at = at} {line = line} {done = done} to below is = record {
+    {prefix : List Token} → ReadTo whole place at line prefix → at < length line
+    → piece_of (place + at) (drop at line) ≡ pieces.Blank → ReadTo whole place (at + 1) line prefix
+read_to-blank {place = place} {at = at} {line = line} {prefix = prefix} to below is = record {
   within = omega arith;
-  so_far = to.so_far ∙ ap (behind done) (left-blank place at line below is);
+  so_far = to.so_far ∙ ap (behind prefix) (left-blank place at line below is);
 }
 
 pub read_to-token : {whole : Result (List Token) FaultKind} {place at : ℕ} {line : List ℕ}
-    {done : List Token} (more : List Token) (token : Token) (count : ℕ)
-    → ReadTo whole place at line done → at < length line → 0 < count → at + count ≤ length line
-    → piece_of (place + at) (drop at line) ≡ pieces.Token token count → more ≡ done ++ token ∷ []
+    {prefix : List Token} (more : List Token) (token : Token) (count : ℕ)
+    → ReadTo whole place at line prefix → at < length line → 0 < count → at + count ≤ length line
+    → piece_of (place + at) (drop at line) ≡ pieces.Token token count → more ≡ prefix ++ token ∷ []
     → ReadTo whole place (at + count) line more
-read_to-token {place = place} {at = at} {line = line} {done = done} more token count to below some
-    within is added = rw added record {
+read_to-token {place = place} {at = at} {line = line} {prefix = prefix} more token count to below
+    some within is adds = rw adds record {
       within = within;
-      so_far = to.so_far ∙ ap (behind done) (left-token place at count line token below some is)
-          ∙ behind-token done token (left_at place (at + count) line);
+      so_far = to.so_far ∙ ap (behind prefix) (left-token place at count line token below some is)
+          ∙ behind-token prefix token (tokens_from place (at + count) line);
     }
 
 pub read_to-comment : {whole : Result (List Token) FaultKind} {place at : ℕ} {line : List ℕ}
-    {done : List Token} → ReadTo whole place at line done → at < length line
-    → piece_of (place + at) (drop at line) ≡ pieces.Comment → whole ≡ Ok done
-read_to-comment {place = place} {at = at} {line = line} {done = done} to below is =
-    to.so_far ∙ ap (behind done) (left-piece place at line pieces.Comment below is)
-    ∙ ap (λ all. Ok all) (append-nil done)
+    {prefix : List Token} → ReadTo whole place at line prefix → at < length line
+    → piece_of (place + at) (drop at line) ≡ pieces.Comment → whole ≡ Ok prefix
+read_to-comment {place = place} {at = at} {line = line} {prefix = prefix} to below is =
+    to.so_far ∙ ap (behind prefix) (left-piece place at line pieces.Comment below is)
+    ∙ ap (λ all. Ok all) (append-nil prefix)
 
 pub read_to-stray : {whole : Result (List Token) FaultKind} {place at : ℕ} {line : List ℕ}
-    {done : List Token} → ReadTo whole place at line done → at < length line
+    {prefix : List Token} → ReadTo whole place at line prefix → at < length line
     → piece_of (place + at) (drop at line) ≡ pieces.Stray → whole ≡ Err Syntax
-read_to-stray {place = place} {at = at} {line = line} {done = done} to below is =
-    to.so_far ∙ ap (behind done) (left-piece place at line pieces.Stray below is)
+read_to-stray {place = place} {at = at} {line = line} {prefix = prefix} to below is =
+    to.so_far ∙ ap (behind prefix) (left-piece place at line pieces.Stray below is)
 
-left-none : (place at : ℕ) (line : List ℕ) → length line ≤ at → left_at place at line ≡ Ok []
+left-none : (place at : ℕ) (line : List ℕ) → length line ≤ at → tokens_from place at line ≡ Ok []
 unfolding tokens_behind
 left-none place at line over = rw (drop_of_length-le line over) refl
 
 pub read_to-end : {whole : Result (List Token) FaultKind} {place at : ℕ} {line : List ℕ}
-    {done : List Token} → ReadTo whole place at line done → length line ≤ at → whole ≡ Ok done
-read_to-end {place = place} {at = at} {line = line} {done = done} to over =
-    to.so_far ∙ ap (behind done) (left-none place at line over)
-    ∙ ap (λ all. Ok all) (append-nil done)
+    {prefix : List Token} → ReadTo whole place at line prefix → length line ≤ at → whole ≡ Ok prefix
+read_to-end {place = place} {at = at} {line = line} {prefix = prefix} to over =
+    to.so_far ∙ ap (behind prefix) (left-none place at line over)
+    ∙ ap (λ all. Ok all) (append-nil prefix)
 
 -- the piece that a call gave
-pub given_piece : {piece : Piece} (P : AllocError → Type 0) (r : Result Piece AllocError)
+pub piece_gives : {piece : Piece} (P : AllocError → Type 0) (r : Result Piece AllocError)
     (s : Result Piece WordFault) (place at : ℕ) (line : List ℕ)
     → MatchResult r (λ y. s ≡ Ok y) P → is_ok s ≡ is_ok r → s ≡ Ok piece
     → IfOk r (λ p. p ≡ piece_of (place + at) (take (length line - at) (drop at line)))
     → piece_of (place + at) (drop at line) ≡ piece
-given_piece {piece = piece} P r s place at line cases variant is said =
-    let read : piece ≡ piece_of (place + at) (take (length line - at) (drop at line)) =
-    rw (ok_of_map_err P r s piece cases variant is) at said in
-    ap (piece_of (place + at)) (sym (take_rest line at)) ∙ sym read
+piece_gives {piece = piece} P r s place at line cases variant is says =
+    let reads : piece ≡ piece_of (place + at) (take (length line - at) (drop at line)) =
+    rw (ok_of_map_err P r s piece cases variant is) at says in
+    ap (piece_of (place + at)) (sym (take_rest line at)) ∙ sym reads
 
-pub given_within : {token : Token} {count at : ℕ} (P : AllocError → Type 0)
+pub token_within : {token : Token} {count at : ℕ} (P : AllocError → Type 0)
     (r : Result Piece AllocError) (s : Result Piece WordFault) (line : List ℕ)
     → MatchResult r (λ y. s ≡ Ok y) P → is_ok s ≡ is_ok r → s ≡ Ok (pieces.Token token count)
     → IfOk r (λ p. IsWithin p (length (take (length line - at) (drop at line))))
     → at ≤ length line
     → (0 < count) × (at + count ≤ length line)
-given_within {token = token} {count = count} {at = at} P r s line cases variant is said within =
+token_within {token = token} {count = count} {at = at} P r s line cases variant is says within =
     let fits : (0 < count) × (count ≤ length (take (length line - at) (drop at line))) =
-    rw (ok_of_map_err P r s (pieces.Token token count) cases variant is) at said in
+    rw (ok_of_map_err P r s (pieces.Token token count) cases variant is) at says in
     let long : length (drop at line) ≡ length line - at = length-drop at line in
     (fits.0, omega (arith, fits.1, ap length (take_rest line at), long, within))

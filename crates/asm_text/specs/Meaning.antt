@@ -7,13 +7,13 @@ use Rattle.asm_text.specs.declared.statement.Statement.{Statement}
 use Rattle.asm_text.specs.Source.{PlacedLine, placed_lines, line_statement}
 
 -- what a line says, read alone
-abbrev pub said_in : PlacedLine → Result Statement FaultKind
-said_in line = line_statement line.1.0 line.0 line.1.1
+abbrev pub lone_statement : PlacedLine → Result Statement FaultKind
+lone_statement line = line_statement line.1.0 line.0 line.1.1
 
 -- a text is a source: it is UTF-8, and each of its lines says its statement
 pub record IsSource (text : List ℕ) (statements : List Statement) : Type 0 where
   pub utf8 : IsUtf8 text
-  pub each : map said_in (placed_lines text) ≡ map Ok statements
+  pub each : map lone_statement (placed_lines text) ≡ map Ok statements
 
 -- the first of these lines that has a fault, after others that have none
 pub record IsFirstFault (lines : List PlacedLine) (fault : FaultAt) : Type 0 where
@@ -22,9 +22,9 @@ pub record IsFirstFault (lines : List PlacedLine) (fault : FaultAt) : Type 0 whe
   pub after : List PlacedLine
   pub cut : lines ≡ before ++ line ∷ after
   pub statements : List Statement
-  pub sound : map said_in before ≡ map Ok statements
+  pub sound : map lone_statement before ≡ map Ok statements
   pub number : fault.line ≡ line.1.0
-  pub kind : said_in line ≡ Err fault.kind
+  pub kind : lone_statement line ≡ Err fault.kind
 
 -- a text is no source: a line of it is not UTF-8, or it is UTF-8 and this is its first fault
 abbrev pub IsFaultOf : List ℕ → FaultAt → Type 0

@@ -40,14 +40,14 @@ abbrev pub placed_lines : List ℕ → List PlacedLine
 placed_lines text = zip (line_starts 0 text) (lines_of text)
 
 abbrev pub statement_in_line : ℕ → (Option Span × Body) → Statement
-statement_in_line line said = record { line = line; label = said.0; body = said.1 }
+statement_in_line line content = record { line = line; label = content.0; body = content.1 }
 
 -- what a line says that begins at a place
 unfoldable pub line_statement : (number place : ℕ) → List ℕ → Result Statement FaultKind
 line_statement number place line = do
   tokens ← tokens_of place line
-  said ← labelled_body tokens
-  Ok (statement_in_line number said)
+  content ← labelled_body tokens
+  Ok (statement_in_line number content)
 
 abbrev pub statement_of : PlacedLine → Result Statement FaultAt
 statement_of line = in_line line.1.0 (line_statement line.1.0 line.0 line.1.1)

@@ -99,11 +99,11 @@ with_later (pieces.Token token count) later = token_before token (later (count -
 with_later pieces.Stray later = Err Syntax
 
 -- the tokens of a line from a place on, where the next characters may be passed
-unfoldable pub tokens_behind : (passed place : ℕ) → List ℕ → Result (List Token) FaultKind
-tokens_behind passed place [] = Ok []
-tokens_behind (suc passed) place (c ∷ rest) = tokens_behind passed (place + 1) rest
+unfoldable pub tokens_behind : (skip place : ℕ) → List ℕ → Result (List Token) FaultKind
+tokens_behind skip place [] = Ok []
+tokens_behind (suc skip) place (c ∷ rest) = tokens_behind skip (place + 1) rest
 tokens_behind zero place (c ∷ rest) =
-    with_later (piece_of place (c ∷ rest)) (λ passed. tokens_behind passed (place + 1) rest)
+    with_later (piece_of place (c ∷ rest)) (λ skip. tokens_behind skip (place + 1) rest)
 
 -- the tokens of a line that begins at a place
 abbrev pub tokens_of : ℕ → List ℕ → Result (List Token) FaultKind

@@ -119,8 +119,8 @@ jump_of word =
     else None
 
 -- the emulated instructions that compute
-abbrev pub computing_of : List ℕ → Option Mnemonic
-computing_of word =
+abbrev pub arithmetic_of : List ℕ → Option Mnemonic
+arithmetic_of word =
     if bytes_eq word (codes "adc") then Some Adc
     else if bytes_eq word (codes "dadc") then Some Dadc
     else if bytes_eq word (codes "dec") then Some Dec
@@ -136,8 +136,8 @@ computing_of word =
     else None
 
 -- the other emulated instructions
-abbrev pub moving_of : List ℕ → Option Mnemonic
-moving_of word =
+abbrev pub move_of : List ℕ → Option Mnemonic
+move_of word =
     if bytes_eq word (codes "br") then Some Br
     else if bytes_eq word (codes "pop") then Some Pop
     else if bytes_eq word (codes "ret") then Some Ret
@@ -155,11 +155,11 @@ moving_of word =
 abbrev pub mnemonic_of : List ℕ → Option Mnemonic
 mnemonic_of word =
     option_or (option_or (option_or (option_or (two_operand_of word) (one_operand_of word))
-    (jump_of word)) (computing_of word)) (moving_of word)
+    (jump_of word)) (arithmetic_of word)) (move_of word)
 
 -- the directives, by what stands behind the dot
-abbrev pub dotted_of : List ℕ → Option Operation
-dotted_of name =
+abbrev pub dot_operation_of : List ℕ → Option Operation
+dot_operation_of name =
     if bytes_eq name (codes "org") then Some Org
     else if bytes_eq name (codes "word") then Some Word
     else if bytes_eq name (codes "byte") then Some Byte
@@ -169,7 +169,7 @@ dotted_of name =
 
 abbrev pub directive_of : List ℕ → Option Operation
 directive_of [] = None
-directive_of (c ∷ name) = if c == 46 then dotted_of name else None
+directive_of (c ∷ name) = if c == 46 then dot_operation_of name else None
 
 -- the instructions that have a byte form
 abbrev pub has_byte_form : Mnemonic → Bool

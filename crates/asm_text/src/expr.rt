@@ -12,7 +12,7 @@ pub struct Expr {
     terms: Vec<(bool, Term)>,
 }
 
-// SeenRecord as its terms in the order written, each with whether it is subtracted.
+// Seen as its terms in the order written, each with whether it is subtracted.
 impl Model for Expr {
     ghost Value = { List SignedTerm };
 

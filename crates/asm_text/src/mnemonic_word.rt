@@ -1,5 +1,5 @@
 ghost use Rattle.std.specs.Prelude.{◌≡◌};
-ghost use Rattle.asm_text.specs.Word.{two_operand_of, one_operand_of, jump_of, computing_of, moving_of, mnemonic_of};
+ghost use Rattle.asm_text.specs.Word.{two_operand_of, one_operand_of, jump_of, arithmetic_of, move_of, mnemonic_of};
 
 use crate::mnemonic::Mnemonic;
 
@@ -10,8 +10,8 @@ pub fn mnemonic_of(word: &[u8]) -> Option<Mnemonic>
     two_operand_of(word)
         .or(one_operand_of(word))
         .or(jump_of(word))
-        .or(computing_of(word))
-        .or(moving_of(word))
+        .or(arithmetic_of(word))
+        .or(move_of(word))
 }
 
 // The instructions of two operands.
@@ -69,8 +69,8 @@ fn jump_of(word: &[u8]) -> Option<Mnemonic>
 }
 
 // The emulated instructions that compute.
-fn computing_of(word: &[u8]) -> Option<Mnemonic>
-    ensures { result ≡ computing_of word.now }
+fn arithmetic_of(word: &[u8]) -> Option<Mnemonic>
+    ensures { result ≡ arithmetic_of word.now }
 {
     match word {
         b"adc" => Some(Mnemonic::Adc),
@@ -90,8 +90,8 @@ fn computing_of(word: &[u8]) -> Option<Mnemonic>
 }
 
 // The other emulated instructions.
-fn moving_of(word: &[u8]) -> Option<Mnemonic>
-    ensures { result ≡ moving_of word.now }
+fn move_of(word: &[u8]) -> Option<Mnemonic>
+    ensures { result ≡ move_of word.now }
 {
     match word {
         b"br" => Some(Mnemonic::Br),

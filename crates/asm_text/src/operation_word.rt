@@ -1,5 +1,5 @@
 ghost use Rattle.std.specs.Prelude.{◌≡◌};
-ghost use Rattle.asm_text.specs.Word.{has_byte_form, byte_form, word_form, instruction_of, dotted_of, directive_of, operation_of};
+ghost use Rattle.asm_text.specs.Word.{has_byte_form, byte_form, word_form, instruction_of, dot_operation_of, directive_of, operation_of};
 
 use crate::mnemonic::Mnemonic;
 use crate::mnemonic_word::mnemonic_of;
@@ -17,14 +17,14 @@ fn directive_of(word: &[u8]) -> Option<Operation>
     ensures { result ≡ directive_of word.now }
 {
     match word {
-        [b'.', name @ ..] => dotted_of(name),
+        [b'.', name @ ..] => dot_operation_of(name),
         _ => None,
     }
 }
 
 // The directives, by what stands behind the dot.
-fn dotted_of(name: &[u8]) -> Option<Operation>
-    ensures { result ≡ dotted_of name.now }
+fn dot_operation_of(name: &[u8]) -> Option<Operation>
+    ensures { result ≡ dot_operation_of name.now }
 {
     match name {
         b"org" => Some(Operation::Org),

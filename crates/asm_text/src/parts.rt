@@ -14,7 +14,7 @@ pub struct Parts<'a> {
     rest: Option<&'a [Token]>,
 }
 
-// SeenRecord as the parts that are left.
+// Seen as the parts that are left.
 impl<'a> Model for Parts<'a> {
     ghost Value = { List (List Token) };
 
@@ -35,9 +35,9 @@ impl<'a> Parts<'a> {
 impl<'a> Iterator for Parts<'a> {
     type Item = &'a [Token];
 
-    ghost next_gives = { YieldsFirstRef (λ left. left) };
+    ghost next_gives = { YieldsFirstRef (λ rest. rest) };
 
-    ghost remaining = { item_count (λ left. left) };
+    ghost remaining = { item_count (λ rest. rest) };
 
     fn next(&mut self) -> Option<&'a [Token]> {
         let tokens = self.rest?;

@@ -2,9 +2,9 @@
 use Rattle.std.specs.Prelude.{◌≡◌, List}
 use Rattle.bus_signals.specs.SeenRecord.{SeenRecord}
 use Rattle.part_definitions.specs.Flag.{last_pc}
-use Rattle.part_definitions.specs.Monitors.{was_inside}
+use Rattle.part_definitions.specs.MonitorRule.{was_inside}
 use Rattle.atomicity_monitor.specs.declared.atom_monitor.AtomMonitor.{AtomMonitor}
 
 -- the monitor is as these records, the newest first, left it
-pub record AtomMonitorStandsFor (monitor : AtomMonitor) (seen : List SeenRecord) : Type 0 where
-  pub same_place : monitor.is_inside ≡ was_inside (last_pc seen)
+pub record AtomMonitorStandsFor (monitor : AtomMonitor) (records : List SeenRecord) : Type 0 where
+  pub same_place : monitor.is_inside ≡ was_inside (last_pc records)

@@ -1,11 +1,10 @@
-ghost use Rattle.std.specs.Prelude.{◌≡◌, [], ◌∷◌, true, List, IfSome};
+ghost use Rattle.std.specs.Prelude.{◌≡◌, [], true, IfSome};
 ghost use Rattle.bus_signals.specs.declared.bounds.Bounds.{Bounds};
 ghost use Rattle.bus_signals.specs.Access.{IsFormed};
-ghost use Rattle.bus_signals.specs.SeenRecord.{SeenRecord};
 ghost use Rattle.part_definitions.specs.Flag.{last_pc};
-ghost use Rattle.part_definitions.specs.Part.{Answers};
-ghost use Rattle.part_definitions.specs.Monitors.{in_rom, atomicity_rule};
-ghost use Rattle.part_definitions.specs.Monitors.{breaks_a1, breaks_a2, breaks_a3, breaks_a4};
+ghost use Rattle.part_definitions.specs.Part.{Answers, Takes};
+ghost use Rattle.part_definitions.specs.MonitorRule.{in_rom, atomicity_rule};
+ghost use Rattle.part_definitions.specs.MonitorRule.{breaks_a1, breaks_a2, breaks_a3, breaks_a4};
 
 use bus_signals::{BusRecord, CR, KR, Kind, Rule, Signals, XS, some_reads, some_touches};
 
@@ -34,11 +33,11 @@ impl AtomMonitor {
 
     /// The first of A3, A2, A1 and A4 that a step breaks after the records seen.
     #[inline(always)]
-    #[tactic(auto, unfolding(part_definitions::specs::Monitors::atomicity_rule))]
+    #[tactic(auto, unfolding(part_definitions::specs::MonitorRule::atomicity_rule))]
     pub fn check(&self, now: &Signals) -> Option<Rule>
         requires { IfSome now.now.cpu IsFormed }
         ensures { Answers AtomMonitorStandsFor self.now
-            (λ seen. atomicity_rule (last_pc seen) now.now) result }
+            (λ records. atomicity_rule (last_pc records) now.now) result }
     {
         if CR.contains(now.pc) {
             self.check_within(now)
@@ -51,12 +50,12 @@ impl AtomMonitor {
 
     // Likewise for a step in the ROM, which is all that A3, A2 and A4 look at.
     #[inline(always)]
-    #[tactic(auto, unfolding(part_definitions::specs::Monitors::atomicity_rule))]
+    #[tactic(auto, unfolding(part_definitions::specs::MonitorRule::atomicity_rule))]
     fn check_within(&self, now: &Signals) -> Option<Rule>
         requires formed { IfSome now.now.cpu IsFormed }
         requires inside { in_rom now.now.pc ≡ true }
         ensures { Answers AtomMonitorStandsFor self.now
-            (λ seen. atomicity_rule (last_pc seen) now.now) result }
+            (λ records. atomicity_rule (last_pc records) now.now) result }
     {
         if breaks_a3(now, true) {
             Some(Rule::A3)
@@ -71,9 +70,9 @@ impl AtomMonitor {
 
     /// Sees the next record.
     pub fn see(&mut self, entry: &BusRecord)
-        ensures { (bounds : Bounds) (seen : List SeenRecord)
-            → AtomMonitorStandsFor self.old seen
-            → AtomMonitorStandsFor self.new (record { entry = entry.now; bounds = bounds } ∷ seen) }
+        ensures { (bounds : Bounds)
+            → Takes AtomMonitorStandsFor self.old
+            (record { entry = entry.now; bounds = bounds }) self.new }
     {
         self.is_inside = CR.contains(entry.pc) && entry.pc != ROM_EXIT;
     }
@@ -83,7 +82,7 @@ impl AtomMonitor {
     fn breaks_a1(&self, now: &Signals, inside: bool) -> bool
         requires { inside ≡ in_rom now.now.pc }
         ensures { Answers AtomMonitorStandsFor self.now
-            (λ seen. breaks_a1 (last_pc seen) now.now) result }
+            (λ records. breaks_a1 (last_pc records) now.now) result }
     {
         self.is_inside && !inside && now.kind != Kind::Boot
     }
@@ -93,7 +92,7 @@ impl AtomMonitor {
     fn breaks_a2(&self, now: &Signals, inside: bool) -> bool
         requires { inside ≡ in_rom now.now.pc }
         ensures { Answers AtomMonitorStandsFor self.now
-            (λ seen. breaks_a2 (last_pc seen) now.now) result }
+            (λ records. breaks_a2 (last_pc records) now.now) result }
     {
         inside && now.pc != ROM_ENTRY && !self.is_inside
     }

@@ -1,2 +1,2 @@
-pub mod Formed
+pub mod FormedProp
 pub mod Proposal

@@ -17,32 +17,32 @@ pub struct Values {
 /// Asks two masters for their accesses, and makes the first's and then the second's.
 #[inline(always)]
 pub fn exchange<A: BusMaster, B: BusMaster>(memory: &mut Memory, first: &A, second: &B) -> Values
-    ensures first { (leading : A.Meaning) (start : PowerOn) (exec : Bool)
+    ensures first { (one : A.Meaning) (start : PowerOn) (exec : Bool)
         (writes : List MemoryWrite)
-        → A.stands first.now leading
+        → A.stands first.now one
         → MemoryStandsFor memory.old start exec writes
-        → result.first ≡ memory_read (byte_at start exec writes) (A.asks leading) }
-    ensures second { (leading : A.Meaning) (following : B.Meaning) (start : PowerOn) (exec : Bool)
+        → result.first ≡ memory_read (byte_at start exec writes) (A.asks one) }
+    ensures second { (one : A.Meaning) (other : B.Meaning) (start : PowerOn) (exec : Bool)
         (writes : List MemoryWrite)
-        → A.stands first.now leading
-        → B.stands second.now following
+        → A.stands first.now one
+        → B.stands second.now other
         → MemoryStandsFor memory.old start exec writes
         → result.second
-        ≡ memory_read (byte_at start exec (with_access (A.asks leading) writes))
-        (B.asks following) }
-    ensures memory { (leading : A.Meaning) (following : B.Meaning) (start : PowerOn) (exec : Bool)
+        ≡ memory_read (byte_at start exec (with_access (A.asks one) writes))
+        (B.asks other) }
+    ensures memory { (one : A.Meaning) (other : B.Meaning) (start : PowerOn) (exec : Bool)
         (writes : List MemoryWrite)
-        → A.stands first.now leading
-        → B.stands second.now following
+        → A.stands first.now one
+        → B.stands second.now other
         → MemoryStandsFor memory.old start exec writes
         → MemoryStandsFor memory.new start exec
-        (with_access (B.asks following) (with_access (A.asks leading) writes)) }
+        (with_access (B.asks other) (with_access (A.asks one) writes)) }
 {
-    let leading = serve(memory, first.ask());
-    let following = serve(memory, second.ask());
+    let first_value = serve(memory, first.ask());
+    let second_value = serve(memory, second.ask());
     Values {
-        first: leading,
-        second: following,
+        first: first_value,
+        second: second_value,
     }
 }
 

@@ -1,6 +1,6 @@
-ghost use Rattle.std.specs.Prelude.{◌≡◌, IfSome};
+ghost use Rattle.std.specs.Prelude.{IfSome};
 ghost use Rattle.bus_signals.specs.Access.{IsFormed};
-ghost use Rattle.bus_arbiter.specs.Formed.{formed-prop};
+ghost use Rattle.bus_arbiter.specs.FormedProp.{formed-prop};
 
 use bus_signals::{Access, BusMaster};
 

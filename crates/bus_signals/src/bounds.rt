@@ -1,4 +1,4 @@
-ghost use Rattle.std.specs.Prelude.{◌≡◌, ◌≤◌};
+ghost use Rattle.std.specs.Prelude.{◌≡◌};
 ghost use Rattle.bus_signals.specs.Bounds.{words_region, executable_region, output_region, is_part_of, is_free_region, is_valid_region, are_valid, is_disjoint};
 
 use crate::region::{META, MR, RAM, Region};

@@ -1,8 +1,8 @@
-pub mod Answered
+pub mod RowAnswer
 pub mod DrawnScript
 pub mod FileRead
 pub mod Inputs
-pub mod Judged
+pub mod IsJudged
 pub mod LawfulPlay
 pub mod Lines
 pub mod LoadText

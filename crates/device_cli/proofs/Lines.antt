@@ -11,7 +11,7 @@ use Rattle.device_trace.specs.Step.{next_record}
 use Rattle.device_trace.specs.Trace.{trace, last_record, logs_after, play_of}
 use Rattle.device_trace.specs.Text.{byte_sent_in, last_byte_sent, report_in, last_report, sent_lines, reset_lines, report_lines, step_lines, lines_of, play_text}
 use Rattle.device_core.specs.Silence.{last_rule, is_silent}
-use Rattle.printed_lines.specs.Lines.{end_line}
+use Rattle.printed_lines.specs.Line.{end_line}
 use Rattle.outside_edge.specs.Sink.{Takes, Puts}
 use Rattle.device_cli.proofs.PutsLemmas.{puts-append}
 
@@ -22,16 +22,16 @@ length-play_of events_at (suc steps) = ap suc (length-play_of events_at steps)
 
 -- the lines of a step from what is told of it
 step_lines-told :
-    (start : Start) (step made : ℕ) (newest : BusRecord) (logs : Logs) (sent : Option ℕ)
+    (start : Start) (step number : ℕ) (newest : BusRecord) (logs : Logs) (tx : Option ℕ)
     (rule : Option Rule) (report : Option ReportFields)
-    → made ≡ step
-    → sent ≡ byte_sent_in newest
+    → number ≡ step
+    → tx ≡ byte_sent_in newest
     → rule ≡ newest.reset
-    → report ≡ report_in start logs made newest
-    → step_lines start made newest logs
-    ≡ sent_lines step sent ++ reset_lines step rule ++ report_lines report
-step_lines-told start step made newest logs sent rule report size byte broken told =
-    rw (byte, broken, told, size) refl
+    → report ≡ report_in start logs number newest
+    → step_lines start number newest logs
+    ≡ sent_lines step tx ++ reset_lines step rule ++ report_lines report
+step_lines-told start step number newest logs tx rule report size byte breaks tells =
+    rw (byte, breaks, tells, size) refl
 
 -- one more step adds its lines
 pub lines_of-cons :
@@ -84,36 +84,36 @@ last_rule-of (newest ∷ history) entry last =
     ap (λ (one : Option BusRecord). (unwrap_or one newest).reset) last
 
 same-pieces :
-    (step : ℕ) (sent sent' : Option ℕ) (rule rule' : Option Rule)
+    (step : ℕ) (tx tx' : Option ℕ) (rule rule' : Option Rule)
     (report report' : Option ReportFields)
-    → sent ≡ sent' → rule ≡ rule' → report ≡ report'
-    → sent_lines step sent ++ reset_lines step rule ++ report_lines report
-    ≡ sent_lines step sent' ++ reset_lines step rule' ++ report_lines report'
-same-pieces step sent sent' rule rule' report report' byte broken told =
-    rw (byte, broken, told) refl
+    → tx ≡ tx' → rule ≡ rule' → report ≡ report'
+    → sent_lines step tx ++ reset_lines step rule ++ report_lines report
+    ≡ sent_lines step tx' ++ reset_lines step rule' ++ report_lines report'
+same-pieces step tx tx' rule rule' report report' byte breaks tells =
+    rw (byte, breaks, tells) refl
 
 -- what is printed in a step, of its record, is its lines
 pub lines_of-printed :
-    (start : Start) (events_at : ℕ → List Event) (steps : ℕ) (entry : BusRecord) (sent : Option ℕ)
+    (start : Start) (events_at : ℕ → List Event) (steps : ℕ) (entry : BusRecord) (tx : Option ℕ)
     (report : Option ReportFields)
     → last_record (trace start (play_of events_at (suc steps))) ≡ Some entry
-    → sent ≡ last_byte_sent (trace start (play_of events_at (suc steps)))
+    → tx ≡ last_byte_sent (trace start (play_of events_at (suc steps)))
     → report ≡ last_report start (play_of events_at (suc steps))
     → lines_of start (play_of events_at (suc steps))
     ≡ lines_of start (play_of events_at steps)
-    ++ (sent_lines steps sent ++ reset_lines steps entry.reset ++ report_lines report)
-lines_of-printed start events_at steps entry sent report last byte told =
+    ++ (sent_lines steps tx ++ reset_lines steps entry.reset ++ report_lines report)
+lines_of-printed start events_at steps entry tx report last byte tells =
     let play : List (List Event) = play_of events_at (suc steps) in
     lines_of-last start events_at steps
     ∙ ap (λ lines. lines_of start (play_of events_at steps) ++ lines)
-    (same-pieces steps (last_byte_sent (trace start play)) sent (last_rule (trace start play))
+    (same-pieces steps (last_byte_sent (trace start play)) tx (last_rule (trace start play))
     entry.reset (last_report start play) report (sym byte)
-    (last_rule-of (trace start play) entry last) (sym told))
+    (last_rule-of (trace start play) entry last) (sym tells))
 
 silent-pieces :
-    (step : ℕ) (sent : Option ℕ) (rule : Option Rule) (report : Option ReportFields)
-    → (is_none sent && is_none rule && is_none report) ≡ true
-    → sent_lines step sent ++ reset_lines step rule ++ report_lines report ≡ []
+    (step : ℕ) (tx : Option ℕ) (rule : Option Rule) (report : Option ReportFields)
+    → (is_none tx && is_none rule && is_none report) ≡ true
+    → sent_lines step tx ++ reset_lines step rule ++ report_lines report ≡ []
 silent-pieces step None None None silent = refl
 silent-pieces step None None (Some report) silent = absurd cc
 silent-pieces step None (Some rule) report silent = absurd cc
@@ -192,7 +192,7 @@ pub play_text-begins :
     → (rest : List ℕ)
     × (play_text start (play_of events_at steps)
     ≡ lines_of start (play_of events_at fewer) ++ (lines ++ rest))
-play_text-begins start events_at fewer steps lines within printed =
+play_text-begins start events_at fewer steps lines within prints =
     let sum : steps ≡ (steps - suc fewer) + suc fewer = omega arith in
     let begins = lines_of-begins start events_at (steps - suc fewer) (suc fewer) steps sum in
     let ending : List ℕ = end_line steps
@@ -202,31 +202,31 @@ play_text-begins start events_at fewer steps lines within printed =
       four-pieces (lines_of start (play_of events_at fewer))
           (lines_of start (play_of events_at (suc fewer))) lines begins.0
           (lines_of start (play_of events_at steps)) (play_text start (play_of events_at steps))
-          ending printed begins.1 (play_text-lines start events_at steps),
+          ending prints begins.1 (play_text-lines start events_at steps),
     )
 
 -- the whole text, once all steps are made
 play_text-ended :
-    (start : Start) (events_at : ℕ → List Event) (made steps pc : ℕ) (exec : Bool)
-    → made ≡ steps
-    → pc ≡ next_pc_of (logs_after start (play_of events_at made)).progress
-    → exec ≡ exec_of (logs_after start (play_of events_at made))
+    (start : Start) (events_at : ℕ → List Event) (number steps pc : ℕ) (exec : Bool)
+    → number ≡ steps
+    → pc ≡ next_pc_of (logs_after start (play_of events_at number)).progress
+    → exec ≡ exec_of (logs_after start (play_of events_at number))
     → play_text start (play_of events_at steps)
-    ≡ lines_of start (play_of events_at made) ++ end_line steps pc exec
-play_text-ended start events_at made steps pc exec same here flag =
+    ≡ lines_of start (play_of events_at number) ++ end_line steps pc exec
+play_text-ended start events_at number steps pc exec same here flag =
     rw (here, flag, same) (play_text-lines start events_at steps)
 
 pub play_text-put :
     {S V E : Type 0} (stands : S → List ℕ → Type 0) (old mid new : S) (start : Start)
-    (events_at : ℕ → List Event) (made steps pc : ℕ) (exec : Bool) (result : Result V E)
-    → made ≡ steps
-    → pc ≡ next_pc_of (logs_after start (play_of events_at made)).progress
-    → exec ≡ exec_of (logs_after start (play_of events_at made))
-    → Takes stands old mid (lines_of start (play_of events_at made))
+    (events_at : ℕ → List Event) (number steps pc : ℕ) (exec : Bool) (result : Result V E)
+    → number ≡ steps
+    → pc ≡ next_pc_of (logs_after start (play_of events_at number)).progress
+    → exec ≡ exec_of (logs_after start (play_of events_at number))
+    → Takes stands old mid (lines_of start (play_of events_at number))
     → Puts stands mid new (end_line steps pc exec) result
     → Puts stands old new (play_text start (play_of events_at steps)) result
-play_text-put stands old mid new start events_at made steps pc exec result same here flag takes
+play_text-put stands old mid new start events_at number steps pc exec result same here flag takes
     ends =
-    puts-append stands old mid new (lines_of start (play_of events_at made))
+    puts-append stands old mid new (lines_of start (play_of events_at number))
     (end_line steps pc exec) (play_text start (play_of events_at steps)) result
-    (play_text-ended start events_at made steps pc exec same here flag) takes ends
+    (play_text-ended start events_at number steps pc exec same here flag) takes ends

@@ -10,7 +10,7 @@ use Rattle.device_trace.specs.Start.{Start}
 use Rattle.device_trace.specs.Step.{next_record}
 use Rattle.device_trace.specs.Trace.{logs_after, byte_after, play_of}
 use Rattle.device_trace.specs.Text.{finishes_call, report_of, last_report, step_lines, lines_of}
-use Rattle.printed_lines.specs.Lines.{end_line}
+use Rattle.printed_lines.specs.Line.{end_line}
 use Rattle.outside_edge.specs.Sink.{Takes, Puts}
 use Rattle.device_cli.specs.Judge.{Judge}
 use Rattle.device_cli.specs.LastStepLines.{last_step_lines}
@@ -53,12 +53,12 @@ pub round_lines-last :
 round_lines-last judge start events_at steps i count =
     let play : List (List Event) = play_of events_at steps in
     let more : List (List Event) = play_of events_at (suc steps) in
-    let judged : ℕ → List ℕ = λ k.
+    let remark : ℕ → List ℕ = λ k.
     judgement_lines judge k (byte_after start more) (last_report start more) in
     round_lines-cons judge start (events_at steps) play
     ∙ ap (λ (lines : List ℕ). round_lines judge start play
-    ++ (lines ++ judged (length (reports_in start play)))) (step_lines-last start events_at steps)
-    ∙ ap (λ (k : ℕ). round_lines judge start play ++ (last_step_lines start more steps ++ judged k))
+    ++ (lines ++ remark (length (reports_in start play)))) (step_lines-last start events_at steps)
+    ∙ ap (λ (k : ℕ). round_lines judge start play ++ (last_step_lines start more steps ++ remark k))
     (sym count)
 
 -- a report tells the output that stands in memory after its step
@@ -124,7 +124,7 @@ pub round_text-begins :
     → (rest : List ℕ)
     × (round_text judge start (play_of events_at steps)
     ≡ round_lines judge start (play_of events_at fewer) ++ (lines ++ rest))
-round_text-begins judge start events_at fewer steps lines within printed =
+round_text-begins judge start events_at fewer steps lines within prints =
     let sum : steps ≡ (steps - suc fewer) + suc fewer = omega arith in
     let begins = round_lines-begins judge start events_at (steps - suc fewer) (suc fewer) steps sum
     in
@@ -135,37 +135,37 @@ round_text-begins judge start events_at fewer steps lines within printed =
       begins.0 ++ ending,
       round_text-lines judge start events_at steps
           ∙ ap (λ (all : List ℕ). all ++ ending) begins.1
-          ∙ ap (λ (all : List ℕ). (all ++ begins.0) ++ ending) printed
+          ∙ ap (λ (all : List ℕ). (all ++ begins.0) ++ ending) prints
           ∙ append_assoc (before ++ lines) begins.0 ending
           ∙ append_assoc before lines (begins.0 ++ ending),
     )
 
 -- the whole text, once all steps are made
 round_text-ended :
-    (judge : Judge) (start : Start) (events_at : ℕ → List Event) (made steps pc : ℕ) (exec : Bool)
-    → made ≡ steps
-    → pc ≡ next_pc_of (logs_after start (play_of events_at made)).progress
-    → exec ≡ exec_of (logs_after start (play_of events_at made))
+    (judge : Judge) (start : Start) (events_at : ℕ → List Event) (number steps pc : ℕ) (exec : Bool)
+    → number ≡ steps
+    → pc ≡ next_pc_of (logs_after start (play_of events_at number)).progress
+    → exec ≡ exec_of (logs_after start (play_of events_at number))
     → round_text judge start (play_of events_at steps)
-    ≡ round_lines judge start (play_of events_at made) ++ end_line steps pc exec
-round_text-ended judge start events_at made steps pc exec same here flag =
+    ≡ round_lines judge start (play_of events_at number) ++ end_line steps pc exec
+round_text-ended judge start events_at number steps pc exec same here flag =
     rw (here, flag, same) (round_text-lines judge start events_at steps)
 
 pub round_text-put :
     {S V E : Type 0} (stands : S → List ℕ → Type 0) (old mid new : S) (judge : Judge)
-    (start : Start) (events_at : ℕ → List Event) (made steps pc : ℕ) (exec : Bool)
+    (start : Start) (events_at : ℕ → List Event) (number steps pc : ℕ) (exec : Bool)
     (result : Result V E)
-    → made ≡ steps
-    → pc ≡ next_pc_of (logs_after start (play_of events_at made)).progress
-    → exec ≡ exec_of (logs_after start (play_of events_at made))
-    → Takes stands old mid (round_lines judge start (play_of events_at made))
+    → number ≡ steps
+    → pc ≡ next_pc_of (logs_after start (play_of events_at number)).progress
+    → exec ≡ exec_of (logs_after start (play_of events_at number))
+    → Takes stands old mid (round_lines judge start (play_of events_at number))
     → Puts stands mid new (end_line steps pc exec) result
     → Puts stands old new (round_text judge start (play_of events_at steps)) result
-round_text-put stands old mid new judge start events_at made steps pc exec result same here flag
+round_text-put stands old mid new judge start events_at number steps pc exec result same here flag
     takes ends =
-    puts-append stands old mid new (round_lines judge start (play_of events_at made))
+    puts-append stands old mid new (round_lines judge start (play_of events_at number))
     (end_line steps pc exec) (round_text judge start (play_of events_at steps)) result
-    (round_text-ended judge start events_at made steps pc exec same here flag) takes ends
+    (round_text-ended judge start events_at number steps pc exec same here flag) takes ends
 
 round_has_pair-cons :
     (judge : Judge) (start : Start) (events : List Event) (play : List (List Event))

@@ -4,7 +4,7 @@ pub mod Assembly
 pub mod Command
 pub mod Dump
 pub mod Example
-pub mod FileKinds
+pub mod FileKind
 pub mod ImageListing
 pub mod Input
 pub mod Judge

@@ -23,31 +23,31 @@ use report_text::{print_end, print_report, print_reset, print_sent};
 // Puts the lines of one step.
 fn print_step<W: Sink>(
     step: u64,
-    sent: Option<u8>,
+    sent_byte: Option<u8>,
     reset: Option<Rule>,
     report: Option<ReportView<'_>>,
     sink: &mut W,
 ) -> Result<(), Failed>
     ensures puts { Puts W.stands sink.old sink.new
-        (sent_lines step sent ++ reset_lines step reset
+        (sent_lines step sent_byte ++ reset_lines step reset
         ++ report_lines (option_map fields_of report.entry)) result }
     ensures counts { CountsFaults W.faults sink.old sink.new result }
 {
-    print_sent_and_reset(step, sent, reset, sink)?;
+    print_sent_and_reset(step, sent_byte, reset, sink)?;
     print_finished_call(report, sink)
 }
 
 fn print_sent_and_reset<W: Sink>(
     step: u64,
-    sent: Option<u8>,
+    sent_byte: Option<u8>,
     reset: Option<Rule>,
     sink: &mut W,
 ) -> Result<(), Failed>
     ensures puts { Puts W.stands sink.old sink.new
-        (sent_lines step sent ++ reset_lines step reset) result }
+        (sent_lines step sent_byte ++ reset_lines step reset) result }
     ensures counts { CountsFaults W.faults sink.old sink.new result }
 {
-    print_sent_byte(step, sent, sink)?;
+    print_sent_byte(step, sent_byte, sink)?;
     print_broken_rule(step, reset, sink)
 }
 
@@ -62,11 +62,11 @@ fn print_finished_call<W: Sink>(report: Option<ReportView<'_>>, sink: &mut W) ->
     }
 }
 
-fn print_sent_byte<W: Sink>(step: u64, sent: Option<u8>, sink: &mut W) -> Result<(), Failed>
-    ensures puts { Puts W.stands sink.old sink.new (sent_lines step sent) result }
+fn print_sent_byte<W: Sink>(step: u64, sent_byte: Option<u8>, sink: &mut W) -> Result<(), Failed>
+    ensures puts { Puts W.stands sink.old sink.new (sent_lines step sent_byte) result }
     ensures counts { CountsFaults W.faults sink.old sink.new result }
 {
-    match sent {
+    match sent_byte {
         Some(byte) => print_sent(step, byte, sink),
         None => Ok(()),
     }

@@ -7,10 +7,10 @@ use Rattle.bus_signals.specs.declared.kind.Kind.{Kind}
 use Rattle.bus_signals.specs.declared.kind.Kind.TheVariants.{Boot, Cpu, Idle, Irq, Rom}
 use Rattle.part_definitions.specs.Attestation.{CallItem, KeyRead, MetadataRead, DerivedKeyWrite, RegionRead, InnerDigestWrite, MacWrite, ReturnRead, call_item, item_access, item_pc, is_return, word_passed}
 use Rattle.bus_signals.specs.declared.bounds.Bounds.{Bounds}
-use Rattle.part_definitions.specs.CpuRegisters.{clear_registers, pc_of}
+use Rattle.part_definitions.specs.CpuRegister.{clear_registers, pc_of}
 use Rattle.part_definitions.specs.CpuState.{CpuState, Boundary, Executing, Entering, registers_of, cpu_pc, cpu_takes, is_at_boundary, is_entering}
 use Rattle.part_definitions.specs.NextAccess.{next_access, is_illegal}
-use Rattle.part_definitions.specs.Words.{even}
+use Rattle.part_definitions.specs.AddressSum.{even}
 use Rattle.device_trace.specs.Logs.{Logs, vector_of, step_progress, is_timer_vector}
 use Rattle.device_trace.specs.Progress.{Held, Runs, InCall, progress_from_boundary, boundary_kind, call_access, running_access, fetches_opcode}
 use Rattle.device_trace.specs.Signals.{step_kind, proposed_access}
@@ -25,15 +25,15 @@ use Rattle.device_core.proofs.NextProgress.{fetch-legal}
 pub boot-turn :
     (start : Start) (logs : Logs) → logs.progress ≡ Held → TurnStandsFor clear_registers boot_turn
     start logs
-boot-turn start logs held =
+boot-turn start logs holds =
     record {
-      same_regs = rw held refl;
-      same_kind = rw held refl;
-      same_pc = rw held refl;
-      same_access = rw held refl;
-      same_irq = rw held refl;
-      same_opcode = rw held refl;
-      same_acceptance = rw held refl;
+      same_regs = rw holds refl;
+      same_kind = rw holds refl;
+      same_pc = rw holds refl;
+      same_access = rw holds refl;
+      same_irq = rw holds refl;
+      same_opcode = rw holds refl;
+      same_acceptance = rw holds refl;
     }
 
 -- in a call
@@ -164,7 +164,7 @@ pub turn-begun :
     → timer ≡ (is_irq kind && is_timer_vector vector)
     → TurnStandsFor (registers_of (state_begun regs kind vector))
     (turn_told kind (state_begun regs kind vector) irq opcode timer) start logs
-turn-begun start logs regs kind vector irq opcode timer runs here same other told fetches accepts =
+turn-begun start logs regs kind vector irq opcode timer runs here same other tells fetches accepts =
     let now : kind ≡ step_kind logs = boundary-kind logs regs kind runs (sym same) in
     let within = turn-within logs regs kind vector runs here same other in
     record {
@@ -172,7 +172,7 @@ turn-begun start logs regs kind vector irq opcode timer runs here same other tol
       same_kind = now;
       same_pc = rw within refl;
       same_access = rw (within, sym now) refl;
-      same_irq = told ∙ rw (sym here, runs) refl;
+      same_irq = tells ∙ rw (sym here, runs) refl;
       same_opcode = fetches ∙ rw (sym now, runs) (opcode-begun regs kind);
       same_acceptance = accepts ∙ rw (sym now, sym here, runs) refl;
     }
@@ -333,7 +333,7 @@ takes-awake :
     → (kind ≡ Idle) ⊎ (not (is_illegal word) ≡ true)
     → not (is_illegal word) ≡ true
 takes-awake kind word cpu (inl idle) = absurd cc
-takes-awake kind word cpu (inr taken) = taken
+takes-awake kind word cpu (inr takes) = takes
 
 -- at an opcode fetch it takes the word
 pub takes-opcode :

@@ -24,15 +24,15 @@ abbrev pub last_seen : List SeenRecord → Option BusRecord
 last_seen [] = None
 last_seen (now ∷ before) = Some now.entry
 
-pub record PastStandsFor (past : Past) (seen : List SeenRecord) : Type 0 where
-  pub same_steps : past.steps ≡ length seen
-  pub same_last : past.last ≡ last_seen seen
+pub record PastStandsFor (past : Past) (records : List SeenRecord) : Type 0 where
+  pub same_steps : past.steps ≡ length records
+  pub same_last : past.last ≡ last_seen records
 
 pub record BusStandsFor (bus : Bus) (start : Start) (logs : Logs) : Type 0 where
   pub same_memory : MemoryStandsFor bus.memory start.power (exec_of logs) logs.memory
   pub same_peripherals : PeripheralsStandFor bus.peripherals logs.peripherals
-  pub same_monitors : MonitorsStandFor bus.monitors logs.seen
-  pub same_past : PastStandsFor bus.past logs.seen
+  pub same_monitors : MonitorsStandFor bus.monitors logs.records
+  pub same_past : PastStandsFor bus.past logs.records
 
 -- it is the turn of the step that comes next, from these registers
 pub record TurnStandsFor (regs : List ℕ) (turn : Turn) (start : Start) (logs : Logs) : Type 0 where
@@ -129,4 +129,4 @@ StaysClear start logs pc =
     (entry : BusRecord)
     → entry.pc ≡ pc
     → (exec_of logs ≡ false)
-    × (exec (record { entry = entry; bounds = logged_bounds start logs } ∷ logs.seen) ≡ false)
+    × (exec (record { entry = entry; bounds = logged_bounds start logs } ∷ logs.records) ≡ false)

@@ -1,21 +1,22 @@
 ghost use Rattle.std.specs.Prelude.{◌≡◌, ◌<◌, ◌^◌, ◌∷◌, ℕ, Bool, true, List, Option, IfSome, IfOk, Some, None};
 ghost use Rattle.bus_signals.specs.Access.{IsFormed};
-ghost use Rattle.bus_signals.specs.declared.access.Access.{Access as AccessAsked};
+ghost use Rattle.bus_signals.specs.declared.access.Access.{Access as AccessValue};
 ghost use Rattle.bus_signals.specs.declared.bounds.Bounds.{Bounds as BoundsBefore};
 ghost use Rattle.bus_signals.specs.declared.event.Event.{Event};
 ghost use Rattle.bus_signals.specs.declared.rule.Rule.{Rule};
 ghost use Rattle.bus_signals.specs.declared.signals.Signals.{Signals};
 ghost use Rattle.bus_signals.specs.SeenRecord.{SeenRecord};
 ghost use Rattle.part_definitions.specs.Dma.{dma_access};
-ghost use Rattle.part_definitions.specs.Flag.{exec, last_pc};
+ghost use Rattle.part_definitions.specs.Flag.{exec};
 ghost use Rattle.part_definitions.specs.Memory.{PowerOn, MemoryWrite};
+ghost use Rattle.part_definitions.specs.Part.{Takes};
 ghost use Rattle.mem_map.specs.Memory.{MemoryStandsFor};
-ghost use Rattle.mem_map.specs.Image.{powered_on};
+ghost use Rattle.mem_map.specs.Image.{power_on_of};
 ghost use Rattle.device_trace.specs.Start.{Start};
 ghost use Rattle.device_trace.specs.Logs.{Logs, power_on_logs, accepts_timer, memory_after, with_events, with_record, exec_of, vector_of};
 ghost use Rattle.device_trace.specs.Signals.{signals_of, word_fetched, value_read};
 ghost use Rattle.device_trace.specs.Peripherals.{Peripherals as PeripheralLogs};
-ghost use Rattle.device_trace.specs.Step.{is_reset, asks_reset, dma_value_read, record_from, record_of};
+ghost use Rattle.device_trace.specs.Step.{is_reset, asks_reset, dma_value_read, record_from};
 ghost use Rattle.device_core.specs.Peripherals.{PeripheralsStandFor};
 
 use crate::access::{value_read, word_fetched};
@@ -105,7 +106,7 @@ impl Bus {
     #[tactic(auto, unfolding(part_definitions::specs::Flag::exec))]
     pub fn new(alloc: Global, key: &[u8; 64], image: &Image) -> Result<Bus, AllocError>
         ensures stands { (start : Start)
-            → start.power ≡ powered_on key.now image.now
+            → start.power ≡ power_on_of key.now image.now
             → IfOk result (λ bus. BusStandsFor bus start power_on_logs) }
         ensures none { IfOk result (λ bus. bus.past.steps ≡ 0) }
     {
@@ -178,18 +179,15 @@ impl Bus {
         requires dma { IfSome entry.dma IsFormed }
         ensures past_steps { StepsFrom self.old.past self.new.past }
         ensures peripherals { self.new.peripherals ≡ self.old.peripherals }
-        ensures memory { (start : PowerOn) (writes : List MemoryWrite) (seen : List SeenRecord)
-            → MemoryStandsFor self.old.memory start (exec seen) writes
-            → MonitorsStandFor self.old.monitors seen
+        ensures memory { (start : PowerOn) (writes : List MemoryWrite) (records : List SeenRecord)
+            → MemoryStandsFor self.old.memory start (exec records) writes
+            → MonitorsStandFor self.old.monitors records
             → MemoryStandsFor self.new.memory start
-            (exec (record { entry = entry; bounds = bounds.now } ∷ seen)) writes }
-        ensures monitors { (seen : List SeenRecord)
-            → MonitorsStandFor self.old.monitors seen
-            → MonitorsStandFor self.new.monitors
-            (record { entry = entry; bounds = bounds.now } ∷ seen) }
-        ensures past { (seen : List SeenRecord)
-            → PastStandsFor self.old.past seen
-            → PastStandsFor self.new.past (record { entry = entry; bounds = bounds.now } ∷ seen) }
+            (exec (record { entry = entry; bounds = bounds.now } ∷ records)) writes }
+        ensures monitors { Takes MonitorsStandFor self.old.monitors
+            (record { entry = entry; bounds = bounds.now }) self.new.monitors }
+        ensures past { Takes PastStandsFor self.old.past
+            (record { entry = entry; bounds = bounds.now }) self.new.past }
     {
         let was_set = self.monitors.exec();
         self.past.steps += 1;
@@ -205,14 +203,14 @@ impl Bus {
         ensures past_steps { StepsFrom self.old.past self.new.past }
         ensures memory { self.new.memory ≡ self.old.memory }
         ensures peripherals { self.new.peripherals ≡ self.old.peripherals }
-        ensures monitors { (bounds : BoundsBefore) (seen : List SeenRecord)
-            → MonitorsStandFor self.old.monitors seen
-            → exec (record { entry = entry; bounds = bounds } ∷ seen) ≡ exec seen
+        ensures monitors { (bounds : BoundsBefore) (records : List SeenRecord)
+            → MonitorsStandFor self.old.monitors records
+            → exec (record { entry = entry; bounds = bounds } ∷ records) ≡ exec records
             → MonitorsStandFor self.new.monitors
-            (record { entry = entry; bounds = bounds } ∷ seen) }
-        ensures past { (bounds : BoundsBefore) (seen : List SeenRecord)
-            → PastStandsFor self.old.past seen
-            → PastStandsFor self.new.past (record { entry = entry; bounds = bounds } ∷ seen) }
+            (record { entry = entry; bounds = bounds } ∷ records) }
+        ensures past { (bounds : BoundsBefore)
+            → Takes PastStandsFor self.old.past
+            (record { entry = entry; bounds = bounds }) self.new.past }
     {
         self.past.steps += 1;
         let entry = self.past.last.insert(entry);
@@ -383,9 +381,9 @@ impl Bus {
         requires few { self.old.past.steps < 2 ^ 63 }
         requires formed { IfSome turn.access IsFormed }
         ensures past_steps { StepsFrom self.old.past self.new.past }
-        ensures answer { (dma : Option AccessAsked)
+        ensures answer { (dma : Option AccessValue)
             → AnswersTurn self.old regs.now turn dma script_reset result }
-        ensures stands { (dma : Option AccessAsked)
+        ensures stands { (dma : Option AccessValue)
             → MakesTurn self.old regs.now turn dma script_reset self.new }
     {
         let dma = self.dma_access();

@@ -4,7 +4,7 @@ use Rattle.bus_signals.specs.declared.rule.Rule.{Rule}
 use Rattle.bus_signals.specs.declared.rule.Rule.TheVariants.{X0, I1}
 use Rattle.bus_signals.specs.declared.signals.Signals.{Signals}
 use Rattle.part_definitions.specs.NextAccess.{is_illegal}
-use Rattle.part_definitions.specs.Monitors.{key_rule, atomicity_rule}
+use Rattle.part_definitions.specs.MonitorRule.{key_rule, atomicity_rule}
 
 -- X0: the script asks for a reset
 abbrev pub breaks_x0 : Signals → Bool

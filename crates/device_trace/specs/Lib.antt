@@ -6,11 +6,11 @@ pub mod Signals
 pub mod FirstRule
 pub mod Step
 pub mod Trace
-pub mod Formed
+pub mod AccessesAreFormed
 pub mod Blank
 pub mod WholeRun
 pub mod Text
-pub mod Reports
+pub mod Report
 pub mod Example
 pub mod WorkedPlay
 pub mod WorkedRecord

@@ -11,7 +11,7 @@ use Rattle.bus_signals.specs.declared.bounds.Bounds.{Bounds}
 use Rattle.bus_signals.specs.Kind.{is_irq}
 use Rattle.bus_signals.specs.Map.{lies_in, mac_region}
 use Rattle.bus_signals.specs.SeenRecord.{SeenRecord}
-use Rattle.part_definitions.specs.CpuRegisters.{allows_interrupts}
+use Rattle.part_definitions.specs.CpuRegister.{allows_interrupts}
 use Rattle.part_definitions.specs.CpuState.{Boundary}
 use Rattle.part_definitions.specs.Flag.{exec}
 use Rattle.part_definitions.specs.Interrupt.{TIMER_VECTOR, accepted_vector}
@@ -28,7 +28,7 @@ pub record Logs : Type 0 where
   pub memory : List MemoryWrite
   pub peripherals : Peripherals
   -- all records with the bounds before each, the newest first
-  pub seen : List SeenRecord
+  pub records : List SeenRecord
   -- the words that calls wrote to the MAC, oldest first
   pub released_words : List ℕ
 
@@ -38,13 +38,13 @@ power_on_logs =
       progress = Held;
       memory = [];
       peripherals = power_on_peripherals;
-      seen = [];
+      records = [];
       released_words = [];
     }
 
 -- the EXEC flag
 abbrev pub exec_of : Logs → Bool
-exec_of logs = exec logs.seen
+exec_of logs = exec logs.records
 
 -- the byte at a place of the memory
 abbrev pub logged_byte : Start → Logs → ℕ → ℕ
@@ -96,9 +96,9 @@ released_words_after rule kind access words = words
 
 abbrev pub peripherals_after : Logs → BusRecord → Peripherals
 peripherals_after logs entry =
-    let accepted : Bool = accepts_timer logs.progress entry.kind (vector_of logs) in
+    let accepts : Bool = accepts_timer logs.progress entry.kind (vector_of logs) in
     record {
-      timer = timer_after entry.reset accepted entry.cpu logs.peripherals.timer;
+      timer = timer_after entry.reset accepts entry.cpu logs.peripherals.timer;
       serial = serial_after entry.reset entry.cpu logs.peripherals.serial;
       dma = dma_after entry.reset entry.cpu entry.dma entry.dma_value logs.peripherals.dma;
       pins = logs.peripherals.pins;
@@ -116,6 +116,6 @@ with_record start logs entry =
       progress = progress_after entry.reset entry.kind before entry.cpu entry.value;
       memory = memory_after entry.reset entry.cpu entry.dma logs.memory;
       peripherals = peripherals_after logs entry;
-      seen = record { entry = entry; bounds = logged_bounds start logs } ∷ logs.seen;
+      records = record { entry = entry; bounds = logged_bounds start logs } ∷ logs.records;
       released_words = released_words_after entry.reset entry.kind entry.cpu logs.released_words;
     }

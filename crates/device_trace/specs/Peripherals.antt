@@ -55,13 +55,13 @@ with_timer_access access events = events
 
 -- the entry of its interrupt begins in this step
 abbrev pub with_acceptance : Bool → List TimerEvent → List TimerEvent
-with_acceptance accepted events = if accepted then Acceptance ∷ events else events
+with_acceptance accepts events = if accepts then Acceptance ∷ events else events
 
 -- a step ends; a refused one resets the timer
 abbrev pub timer_after : Option Rule → Bool → Option Access → List TimerEvent → List TimerEvent
-timer_after None accepted access events =
-    Tick ∷ with_acceptance accepted (with_timer_access access events)
-timer_after (Some rule) accepted access events = IntervalTimer.DeviceReset ∷ events
+timer_after None accepts access events =
+    Tick ∷ with_acceptance accepts (with_timer_access access events)
+timer_after (Some rule) accepts access events = IntervalTimer.DeviceReset ∷ events
 
 -- the processor's access, where it is the serial port's
 abbrev pub with_serial_read : ℕ → Size → List SerialEvent → List SerialEvent

@@ -6,11 +6,11 @@ use Rattle.bus_signals.specs.declared.access.Access.{Access}
 use Rattle.bus_signals.specs.declared.kind.Kind.{Kind}
 use Rattle.bus_signals.specs.declared.kind.Kind.TheVariants.{Boot, Cpu, Idle, Irq, Rom}
 use Rattle.bus_signals.specs.Map.{ROM_ENTRY, RESET_VECTOR}
-use Rattle.part_definitions.specs.Accesses.{read_at}
+use Rattle.part_definitions.specs.BusAccess.{read_at}
 use Rattle.part_definitions.specs.Attestation.{call_item, item_access, item_pc, bounds_read, is_return, word_passed}
-use Rattle.part_definitions.specs.CpuRegisters.{clear_registers, pc_of, sp_of, with_pc, after_pop, is_asleep}
+use Rattle.part_definitions.specs.CpuRegister.{clear_registers, pc_of, sp_of, with_pc, after_pop, is_asleep}
 use Rattle.part_definitions.specs.CpuState.{CpuState, Boundary, Executing, Entering, registers_of, cpu_pc, cpu_access, cpu_after, entry_begun}
-use Rattle.part_definitions.specs.Monitors.{in_rom}
+use Rattle.part_definitions.specs.MonitorRule.{in_rom}
 use Rattle.device_trace.specs.Start.{Start}
 
 pub data Progress : Type 0 where
@@ -47,7 +47,7 @@ abbrev pub kind_of : Progress → Option ℕ → Kind
 kind_of Held vector = Boot
 kind_of (Runs (Boundary regs)) vector = boundary_kind regs vector
 kind_of (Runs (Executing regs values)) vector = Cpu
-kind_of (Runs (Entering regs chosen values)) vector = Irq
+kind_of (Runs (Entering regs other values)) vector = Irq
 kind_of (InCall regs words) vector = Rom
 
 -- at a boundary a step of this kind may begin a call, or the entry of this interrupt
@@ -97,13 +97,13 @@ abbrev pub call_after : List ℕ → List ℕ → ℕ → Progress
 call_after regs words word =
     if is_return (call_item words) then after_return regs word else InCall regs (words ++ word ∷ [])
 
-abbrev pub running_after : Kind → CpuState → ℕ → CpuState
-running_after Idle cpu value = cpu
-running_after kind cpu value = cpu_after cpu value
+abbrev pub cpu_state_after : Kind → CpuState → ℕ → CpuState
+cpu_state_after Idle cpu value = cpu
+cpu_state_after kind cpu value = cpu_after cpu value
 
 -- after the access of a step and the value that this read; the reset vector gives PC
 abbrev pub next_progress : Kind → Progress → Option Access → ℕ → Progress
 next_progress kind Held access value = Runs (Boundary (with_pc clear_registers value))
-next_progress kind (Runs cpu) access value = Runs (running_after kind cpu value)
+next_progress kind (Runs cpu) access value = Runs (cpu_state_after kind cpu value)
 next_progress kind (InCall regs words) access value =
     call_after regs words (word_passed access value)

@@ -27,5 +27,5 @@ abbrev pub without_key : List ℕ → (ℕ → ℕ) → Start
 without_key words image =
     record {
       power = record { key = λ i. 0; image = image };
-      call_word = λ releases item passed. given_word words releases item;
+      call_word = λ releases item _. given_word words releases item;
     }

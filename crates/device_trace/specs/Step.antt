@@ -68,7 +68,7 @@ record_from regs now rule value dma_value =
 abbrev pub record_with : Start → Logs → Signals → BusRecord
 record_with start logs now =
     record_from (last_registers logs.progress) now
-    (first_rule (last_pc logs.seen) now)
+    (first_rule (last_pc logs.records) now)
     (value_read start logs now.cpu)
     (dma_value_read start logs now)
 

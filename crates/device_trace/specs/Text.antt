@@ -13,7 +13,7 @@ use Rattle.bus_signals.specs.Map.{ROM_EXIT}
 use Rattle.bus_signals.specs.Bounds.{are_valid}
 use Rattle.part_definitions.specs.Region.{challenge_bytes, mac_bytes, output_bytes}
 use Rattle.part_definitions.specs.Serial.{byte_sent}
-use Rattle.printed_lines.specs.Lines.{sent_line, reset_line, report_line, end_line}
+use Rattle.printed_lines.specs.Line.{sent_line, reset_line, report_line, end_line}
 use Rattle.device_trace.specs.Logs.{Logs, exec_of, logged_byte, logged_bounds}
 use Rattle.device_trace.specs.Progress.{next_pc_of}
 use Rattle.device_trace.specs.Start.{Start}

@@ -1,7 +1,7 @@
 ghost use Rattle.std.specs.Prelude.{List, All};
 ghost use Rattle.bus_signals.specs.declared.event.Event.{Event};
 ghost use Rattle.device_trace.specs.Start.{Start};
-ghost use Rattle.device_trace.specs.Formed.{AccessesAreFormed};
+ghost use Rattle.device_trace.specs.AccessesAreFormed.{AccessesAreFormed};
 ghost use Rattle.device_trace.specs.Trace.{trace};
 
 /// In each record of each play a word access has an even address, and a byte write carries one

@@ -12,8 +12,8 @@ use Rattle.part_definitions.specs.Dma.{DmaEvent, TransferStart, Store, DmaAccess
 use Rattle.dma_engine.specs.Distance.{Start, start_of, is_reset, values_of, IsUnderWay, GoesByDistance}
 
 -- a transfer of this start, of which these values were taken
-abbrev begun : Start → List ℕ → Transfer
-begun start values =
+abbrev stage : Start → List ℕ → Transfer
+stage start values =
     record {
       source = start.source;
       destination = start.destination;
@@ -71,30 +71,30 @@ transfer_of-written : (place : ℕ) (size : Size) (number : ℕ) (before : List 
     → transfer_of (Store place size number ∷ before) ≡ transfer_of before
 transfer_of-written place size number before active = elim (cases_Bool (starts place size number)) [
   | inl is ↦ rw is
-      (after_start-active (transfer_of before) (begun (register_start before) []) active)
+      (after_start-active (transfer_of before) (stage (register_start before) []) active)
   | inr is ↦ rw is refl
 ]
 
 -- a start that counts begins its transfer
 begins : (event : DmaEvent) (before : List DmaEvent) (start : Start)
     → start_of event before ≡ Some start
-    → is_active (transfer_of before) ≡ false → transfer_of (event ∷ before) ≡ begun start []
+    → is_active (transfer_of before) ≡ false → transfer_of (event ∷ before) ≡ stage start []
 begins (TransferStart source destination words) before start asks idle =
     after_start-idle (transfer_of before) (new_transfer source destination words) idle
-    ∙ ap (λ (s : Start). begun s [])
+    ∙ ap (λ (s : Start). stage s [])
     (some_same
     (record { source = source; destination = destination; words = words }) start asks)
 begins (Store place size number) before start asks idle =
     elim (cases_Bool (starts place size number)) [
       | inl is ↦
-          let named : start_of (Store place size number) before ≡ Some (register_start before) =
+          let names : start_of (Store place size number) before ≡ Some (register_start before) =
           rw is refl in
           let same : register_start before ≡ start =
-          some_same (register_start before) start (sym named ∙ asks) in
+          some_same (register_start before) start (sym names ∙ asks) in
           let begins : transfer_of (Store place size number ∷ before)
-          ≡ begun (register_start before) [] =
-          rw is (after_start-idle (transfer_of before) (begun (register_start before) []) idle) in
-          begins ∙ ap (λ (s : Start). begun s []) same
+          ≡ stage (register_start before) [] =
+          rw is (after_start-idle (transfer_of before) (stage (register_start before) []) idle) in
+          begins ∙ ap (λ (s : Start). stage s []) same
       | inr is ↦
           let none : start_of (Store place size number) before ≡ None = rw is refl in
           absurd (none_is_no_some start (sym none ∙ asks))
@@ -104,10 +104,10 @@ begins DeviceReset before start asks idle = absurd (none_is_no_some start asks)
 
 -- fewer steps than two a word
 begun-active : (start : Start) (values : List ℕ) → length values < 2 * start.words
-    → is_active (begun start values) ≡ true
+    → is_active (stage start values) ≡ true
 begun-active start values within = grind (arith, nat_tests)
 
-begun-within : (start : Start) (values : List ℕ) → is_active (begun start values) ≡ true
+begun-within : (start : Start) (values : List ℕ) → is_active (stage start values) ≡ true
     → length values < 2 * start.words
 begun-within start values active = grind (arith, nat_tests)
 
@@ -116,7 +116,7 @@ transfer_of-since :
     (start : Start) (event : DmaEvent) (before since : List DmaEvent)
     → start_of event before ≡ Some start → is_active (transfer_of before) ≡ false
     → list_any is_reset since ≡ false → length (values_of since) < 2 * start.words
-    → transfer_of (since ++ event ∷ before) ≡ begun start (values_of since)
+    → transfer_of (since ++ event ∷ before) ≡ stage start (values_of since)
 transfer_of-since start event before [] asks idle lasts within = begins event before start asks idle
 transfer_of-since start event before
     (TransferStart source destination words ∷ since) asks idle lasts within =
@@ -138,24 +138,24 @@ transfer_of-since start event before (DeviceReset ∷ since) asks idle lasts wit
 
 -- what is under way of the events is the transfer that they make
 transfer_of-under_way : (start : Start) (values : List ℕ) (events : List DmaEvent)
-    → IsUnderWay start values events → transfer_of events ≡ begun start values
+    → IsUnderWay start values events → transfer_of events ≡ stage start values
 transfer_of-under_way start values events way =
     let within : length (values_of way.since) < 2 * start.words =
-    subst (λ (taken : List ℕ). length taken < 2 * start.words) (sym way.steps) way.within in
+    subst (λ (vs : List ℕ). length vs < 2 * start.words) (sym way.steps) way.within in
     ap transfer_of way.order
     ∙ transfer_of-since start way.event way.before way.since way.asks
     (is_active-none (transfer_of way.before) way.counts) way.lasts within
-    ∙ ap (λ (taken : List ℕ). begun start taken) way.steps
+    ∙ ap (λ (vs : List ℕ). stage start vs) way.steps
 
 -- the access of a transfer by the number of its steps so far
 transfer_access-even : (start : Start) (values : List ℕ) (i : ℕ) → i < start.words
     → length values ≡ 2 * i
-    → transfer_access (begun start values) ≡ Some (Read (place_of_word start.source i) Word)
+    → transfer_access (stage start values) ≡ Some (Read (place_of_word start.source i) Word)
 transfer_access-even start values i within even = rw even (grind (arith, nat_tests))
 
 transfer_access-odd : (start : Start) (values : List ℕ) (i : ℕ) → i < start.words
     → length values ≡ 2 * i + 1
-    → transfer_access (begun start values)
+    → transfer_access (stage start values)
     ≡ Some (Write (place_of_word start.destination i) Word (latch values))
 transfer_access-odd start values i within odd = rw odd (grind (arith, nat_tests))
 
@@ -163,7 +163,7 @@ transfer_access-odd start values i within odd = rw odd (grind (arith, nat_tests)
 abbrev IsBegun : List DmaEvent → Type 0
 IsBegun events =
     (start : Start) × (values : List ℕ) × IsUnderWay start values events
-    × (transfer_of events ≡ begun start values)
+    × (transfer_of events ≡ stage start values)
 
 -- an event that leaves the transfer as it is
 still_begun :
@@ -172,21 +172,21 @@ still_begun :
     → ((since : List DmaEvent) → values_of (event ∷ since) ≡ values_of since)
     → transfer_of (event ∷ events) ≡ transfer_of events
     → IsBegun events → IsBegun (event ∷ events)
-still_begun event events lasts steps kept begun = (
-  begun.0,
-  begun.1,
+still_begun event events lasts steps keeps stage = (
+  stage.0,
+  stage.1,
   record {
-    since = event ∷ begun.2.since;
-    event = begun.2.event;
-    before = begun.2.before;
-    order = ap (λ (es : List DmaEvent). event ∷ es) begun.2.order;
-    asks = begun.2.asks;
-    counts = begun.2.counts;
-    lasts = rw lasts begun.2.lasts;
-    steps = steps begun.2.since ∙ begun.2.steps;
-    within = begun.2.within;
+    since = event ∷ stage.2.since;
+    event = stage.2.event;
+    before = stage.2.before;
+    order = ap (λ (es : List DmaEvent). event ∷ es) stage.2.order;
+    asks = stage.2.asks;
+    counts = stage.2.counts;
+    lasts = rw lasts stage.2.lasts;
+    steps = steps stage.2.since ∙ stage.2.steps;
+    within = stage.2.within;
   },
-  kept ∙ begun.3,
+  keeps ∙ stage.3,
 )
 
 -- an event that starts a transfer
@@ -197,7 +197,7 @@ newly_begun :
     → is_active (transfer_of (event ∷ events)) ≡ true
     → IsBegun (event ∷ events)
 newly_begun event events start asks idle active =
-    let now : transfer_of (event ∷ events) ≡ begun start [] =
+    let now : transfer_of (event ∷ events) ≡ stage start [] =
     begins event events start asks idle in (
       start,
       [],
@@ -220,40 +220,40 @@ active_before : (transfer : Transfer) (value : ℕ) → is_active (with_value tr
 active_before transfer value active = grind (arith, nat_tests)
 
 -- an active transfer has begun
-begun_where_active : (events : List DmaEvent) → is_active (transfer_of events) ≡ true
+begins_where_active : (events : List DmaEvent) → is_active (transfer_of events) ≡ true
     → IsBegun events
-begun_where_active [] active = absurd (true≢false (sym active))
-begun_where_active (TransferStart source destination words ∷ events) active =
+begins_where_active [] active = absurd (true≢false (sym active))
+begins_where_active (TransferStart source destination words ∷ events) active =
     elim (cases_Bool (is_active (transfer_of events))) [
       | inl is ↦
           still_begun (TransferStart source destination words) events refl (λ since. refl)
           (after_start-active (transfer_of events) (new_transfer source destination words) is)
-          (begun_where_active events is)
+          (begins_where_active events is)
       | inr idle ↦
           newly_begun (TransferStart source destination words) events
           (record { source = source; destination = destination; words = words }) refl idle active
     ]
-begun_where_active (Store place size number ∷ events) active =
+begins_where_active (Store place size number ∷ events) active =
     elim (cases_Bool (is_active (transfer_of events))) [
       | inl is ↦
           still_begun (Store place size number) events refl (λ since. refl)
           (transfer_of-written place size number events is)
-          (begun_where_active events is)
+          (begins_where_active events is)
       | inr idle ↦ elim (cases_Bool (starts place size number)) [
-        | inl starting ↦
+        | inl is_start ↦
             newly_begun (Store place size number) events (register_start events)
-            (rw starting refl) idle active
+            (rw is_start refl) idle active
         | inr other ↦
-            let kept : transfer_of (Store place size number ∷ events) ≡ transfer_of events =
+            let keeps : transfer_of (Store place size number ∷ events) ≡ transfer_of events =
             rw other refl in
-            absurd (true≢false (sym active ∙ ap is_active kept ∙ idle))
+            absurd (true≢false (sym active ∙ ap is_active keeps ∙ idle))
       ]
     ]
-begun_where_active (DmaAccess value ∷ events) active =
+begins_where_active (DmaAccess value ∷ events) active =
     let before : IsBegun events =
-    begun_where_active events (active_before (transfer_of events) value active) in
+    begins_where_active events (active_before (transfer_of events) value active) in
     let way : IsUnderWay before.0 before.1 events = before.2 in
-    let now : transfer_of (DmaAccess value ∷ events) ≡ begun (before.0) (value ∷ before.1) =
+    let now : transfer_of (DmaAccess value ∷ events) ≡ stage (before.0) (value ∷ before.1) =
     ap (λ transfer. with_value transfer value) before.3 in (
       before.0,
       value ∷ before.1,
@@ -265,12 +265,12 @@ begun_where_active (DmaAccess value ∷ events) active =
         asks = way.asks;
         counts = way.counts;
         lasts = way.lasts;
-        steps = ap (λ (taken : List ℕ). value ∷ taken) way.steps;
+        steps = ap (λ (vs : List ℕ). value ∷ vs) way.steps;
         within = begun-within (before.0) (value ∷ before.1) (ap is_active (sym now) ∙ active);
       },
       now,
     )
-begun_where_active (DeviceReset ∷ events) active = absurd (true≢false (sym active))
+begins_where_active (DeviceReset ∷ events) active = absurd (true≢false (sym active))
 
 -- DCTL tells of the access
 control : (events : List DmaEvent)
@@ -290,8 +290,8 @@ goes_by_distance events =
           ap transfer_access (transfer_of-under_way start values events way)
           ∙ transfer_access-odd start values i (let within = way.within in omega arith) odd;
       only = λ access some.
-          let begun : IsBegun events =
-          begun_where_active events (is_active-some (transfer_of events) access some) in
-          (begun.0, begun.1, begun.2);
+          let stage : IsBegun events =
+          begins_where_active events (is_active-some (transfer_of events) access some) in
+          (stage.0, stage.1, stage.2);
       control = control events;
     }

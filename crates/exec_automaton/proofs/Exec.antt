@@ -13,9 +13,9 @@ unfolding exec
 exec_cons now before =
     let was_set : Bool = list_any starts_run (records_since_clear before) in
     elim (clears (last_pc before) now) as
-    (λ cleared.
-    list_any starts_run (if cleared then [] else now ∷ records_since_clear before)
-    ≡ ((was_set || starts_run now) && not cleared)) [
+    (λ is_clear.
+    list_any starts_run (if is_clear then [] else now ∷ records_since_clear before)
+    ≡ ((was_set || starts_run now) && not is_clear)) [
       | true ↦ sym (and-false (was_set || starts_run now))
       | false ↦ or_comm (starts_run now) was_set ∙ sym (and-true (was_set || starts_run now))
     ]
@@ -24,10 +24,10 @@ exec_cons now before =
 starts_run-elsewhere : (now : SeenRecord)
     → (now.entry.pc == now.bounds.er_min) ≡ false → starts_run now ≡ false
 starts_run-elsewhere now elsewhere =
-    let fetched : Bool = is_opcode_fetch now.entry in
+    let fetches : Bool = is_opcode_fetch now.entry in
     let valid : Bool = are_valid now.bounds in
-    ap (λ here. fetched && here && valid) elsewhere
-    ∙ elim fetched as (λ fetched. (fetched && false && valid) ≡ false) [
+    ap (λ here. fetches && here && valid) elsewhere
+    ∙ elim fetches as (λ fetches. (fetches && false && valid) ≡ false) [
       | true ↦ refl
       | false ↦ refl
     ]
@@ -38,7 +38,7 @@ pub exec_elsewhere : (now : SeenRecord) (before : List SeenRecord)
     → (now.entry.pc == now.bounds.er_min) ≡ false
     → exec (now ∷ before) ≡ false
 exec_elsewhere now before unset elsewhere =
-    let kept : Bool = not (clears (last_pc before) now) in
+    let keeps : Bool = not (clears (last_pc before) now) in
     exec_cons now before
-    ∙ ap (λ was_set. (was_set || starts_run now) && kept) unset
-    ∙ ap (λ starts. starts && kept) (starts_run-elsewhere now elsewhere)
+    ∙ ap (λ was_set. (was_set || starts_run now) && keeps) unset
+    ∙ ap (λ starts. starts && keeps) (starts_run-elsewhere now elsewhere)

@@ -33,8 +33,8 @@ newest_clears (now ∷ before) = clears (last_pc before) now
 
 -- no moment of these clears the flag, of those with at most so many records after it
 abbrev NoneClears : List SeenRecord → ℕ → Type 0
-NoneClears seen most =
-    (moment : Moment seen)
+NoneClears records most =
+    (moment : Moment records)
     → length moment.after ≤ most
     → clears (last_pc moment.before) moment.now ≡ true
     → ⊥
@@ -51,20 +51,20 @@ none_clears-cons : (now : SeenRecord) (before : List SeenRecord) (most : ℕ)
     → length after ≤ most
     → clears (last_pc rest) this ≡ true
     → ⊥
-none_clears-cons now before most kept others [] this rest whole near cleared =
-    both_ways (clears (last_pc rest) this) (sym (ap newest_clears whole) ∙ kept) cleared
-none_clears-cons now before most kept others (x ∷ after) this rest whole near cleared =
-    others (record { after = after; now = this; before = rest; whole = cc }) (omega arith) cleared
+none_clears-cons now before most keeps others [] this rest whole near is_clear =
+    both_ways (clears (last_pc rest) this) (sym (ap newest_clears whole) ∙ keeps) is_clear
+none_clears-cons now before most keeps others (x ∷ after) this rest whole near is_clear =
+    others (record { after = after; now = this; before = rest; whole = cc }) (omega arith) is_clear
 
 -- a start since which nothing cleared, and one more record that keeps the flag
 start-cons : (now : SeenRecord) (before : List SeenRecord)
     → clears (last_pc before) now ≡ false → UnclearedStart before → UnclearedStart (now ∷ before)
-start-cons now before kept run =
+start-cons now before keeps run =
     record {
       start = earlier now before run.start;
       starts = run.starts;
       kept = λ moment near.
-          none_clears-cons now before (length run.start.after + 1) kept
+          none_clears-cons now before (length run.start.after + 1) keeps
           (λ moment near. run.kept moment (omega (arith, near)))
           moment.after moment.now moment.before moment.whole (omega (arith, near));
     }
@@ -72,12 +72,12 @@ start-cons now before kept run =
 -- the newest record is a start that keeps the flag
 start-newest : (now : SeenRecord) (before : List SeenRecord)
     → starts_run now ≡ true → clears (last_pc before) now ≡ false → UnclearedStart (now ∷ before)
-start-newest now before starts kept =
+start-newest now before starts keeps =
     record {
       start = newest now before;
       starts = starts;
       kept = λ moment near.
-          none_clears-cons now before 0 kept
+          none_clears-cons now before 0 keeps
           (λ moment near. absurd (omega (arith, near)))
           moment.after moment.now moment.before moment.whole near;
     }
@@ -91,16 +91,16 @@ set_parts now before is_set =
     (sym (exec_cons now before) ∙ is_set)
 
 -- where the flag is set, there is such a start
-start_from_exec : (seen : List SeenRecord) → exec seen ≡ true → UnclearedStart seen
+start_from_exec : (records : List SeenRecord) → exec records ≡ true → UnclearedStart records
 unfolding exec
 start_from_exec [] is_set = absurd (cc)
 start_from_exec (now ∷ before) is_set =
-    let kept : clears (last_pc before) now ≡ false =
+    let keeps : clears (last_pc before) now ≡ false =
     not-true (clears (last_pc before) now) (set_parts now before is_set).1
     in
     elim (or_cases (exec before) (starts_run now) (set_parts now before is_set).0) [
-      | inl was_set ↦ start-cons now before kept (start_from_exec before was_set)
-      | inr starts ↦ start-newest now before starts kept
+      | inl was_set ↦ start-cons now before keeps (start_from_exec before was_set)
+      | inr starts ↦ start-newest now before starts keeps
     ]
 
 -- the newest record keeps the flag
@@ -111,11 +111,11 @@ newest_keeps now before most none =
     (false_from_ne_true (clears (last_pc before) now) (none (newest now before) (omega arith)))
 
 -- where there is such a start, the flag is set
-exec_from_start : (seen after : List SeenRecord) (this : SeenRecord) (rest : List SeenRecord)
-    → seen ≡ after ++ this ∷ rest
+exec_from_start : (records after : List SeenRecord) (this : SeenRecord) (rest : List SeenRecord)
+    → records ≡ after ++ this ∷ rest
     → starts_run this ≡ true
-    → NoneClears seen (length after)
-    → exec seen ≡ true
+    → NoneClears records (length after)
+    → exec records ≡ true
 exec_from_start [] [] this rest whole starts none = absurd (cc)
 exec_from_start [] (x ∷ after) this rest whole starts none = absurd (cc)
 exec_from_start (now ∷ before) [] this rest whole starts none =
@@ -132,10 +132,10 @@ exec_from_start (now ∷ before) (x ∷ after) this rest whole starts none =
     (newest_keeps now before (length (x ∷ after)) none)
 
 -- the flag is set exactly where there is such a start
-pub exec_iff : (seen : List SeenRecord) → IsTrue (exec seen) ↔ UnclearedStart seen
-exec_iff seen = (
-  start_from_exec seen,
-  λ (run : UnclearedStart seen).
-      exec_from_start seen run.start.after run.start.now run.start.before run.start.whole
+pub exec_iff : (records : List SeenRecord) → IsTrue (exec records) ↔ UnclearedStart records
+exec_iff records = (
+  start_from_exec records,
+  λ (run : UnclearedStart records).
+      exec_from_start records run.start.after run.start.now run.start.before run.start.whole
       run.starts run.kept,
 )

@@ -4,16 +4,16 @@ use Rattle.bus_signals.specs.SeenRecord.{SeenRecord}
 use Rattle.part_definitions.specs.Flag.{clears, starts_run, last_pc}
 
 -- one of these records, the newest first: those after it, itself, and those before it
-pub record Moment (seen : List SeenRecord) : Type 0 where
+pub record Moment (records : List SeenRecord) : Type 0 where
   pub after : List SeenRecord
   pub now : SeenRecord
   pub before : List SeenRecord
-  pub whole : seen ≡ after ++ now ∷ before
+  pub whole : records ≡ after ++ now ∷ before
 
 -- a record starts a run, and neither it nor a later one clears the flag
-pub record UnclearedStart (seen : List SeenRecord) : Type 0 where
-  pub start : Moment seen
+pub record UnclearedStart (records : List SeenRecord) : Type 0 where
+  pub start : Moment records
   pub starts : IsTrue (starts_run start.now)
-  pub kept : (moment : Moment seen)
+  pub kept : (moment : Moment records)
       → length moment.after ≤ length start.after
       → ¬ IsTrue (clears (last_pc moment.before) moment.now)

@@ -38,7 +38,7 @@ impl ExecFlag {
         requires cpu { IfSome entry.now.cpu IsFormed }
         requires dma { IfSome entry.now.dma IsFormed }
         ensures { Answers ExecFlagStandsFor self.now
-            (λ seen. exec (record { entry = entry.now; bounds = bounds.now } ∷ seen)) result }
+            (λ records. exec (record { entry = entry.now; bounds = bounds.now } ∷ records)) result }
     {
         self.may_be_set(entry, bounds) && !clears(self.last_pc, entry, *bounds)
     }
@@ -74,8 +74,8 @@ impl ExecFlag {
     #[inline(always)]
     fn may_be_set(&self, entry: &BusRecord, bounds: &Bounds) -> bool
         ensures { Answers ExecFlagStandsFor self.now
-            (λ seen. exec seen || starts_run (record { entry = entry.now; bounds = bounds.now }))
-            result }
+            (λ records. exec records
+            || starts_run (record { entry = entry.now; bounds = bounds.now })) result }
     {
         self.is_set || starts_run(entry, bounds)
     }

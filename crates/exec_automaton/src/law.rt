@@ -6,5 +6,5 @@ ghost use Rattle.exec_automaton.specs.UnclearedStart.{UnclearedStart};
 /// The flag is set exactly where one of the records seen starts a run, and neither it nor a later
 /// one clears the flag.
 pub fn flag_is_set_by_an_uncleared_start()
-    ensures { (seen : List SeenRecord) → IsTrue (exec seen) ↔ UnclearedStart seen }
+    ensures { (records : List SeenRecord) → IsTrue (exec records) ↔ UnclearedStart records }
 {}

@@ -15,16 +15,16 @@ use Rattle.text_scan.specs.Hexadecimal.{or_count, hex_bytes_of}
 use Rattle.hex_loader.specs.HexRecord.{record_of, record_or_fault}
 
 -- bytes that are more than any record has
-too_many : (decoded : Result (List ℕ) FromHexError)
-    → ((bytes : List ℕ) → decoded ≡ Ok bytes → (260 < length bytes) × IsBytes bytes)
-    → record_or_fault (or_count decoded) ≡ Err Count
-too_many (Ok bytes) known =
-    let long = known bytes refl in
+too_many : (result : Result (List ℕ) FromHexError)
+    → ((bytes : List ℕ) → result ≡ Ok bytes → (260 < length bytes) × IsBytes bytes)
+    → record_or_fault (or_count result) ≡ Err Count
+too_many (Ok bytes) gives =
+    let long = gives bytes refl in
     elim (eqb_tells (length bytes) (get_or bytes 0 0 + 5)) [
       | inl same ↦ absurd (omega (arith, same.1, long.1 0))
       | inr other ↦ rw other.0 refl
     ]
-too_many (Err error) known = refl
+too_many (Err error) gives = refl
 
 -- too little room
 no_room : (digits : List ℕ) (count : ℕ) → length digits ≢ 2 * count
@@ -56,10 +56,10 @@ record_or_fault-room digits =
       | inl over ↦
           let small : min (length digits / 2) 260 ≡ 260 = omega arith in
           let count : ℕ = length digits / 2 in
-          let long = too_many (decode_sized digits count) (λ bytes decoded.
-          let twice = decode_sized-ok digits count bytes decoded in
+          let long = too_many (decode_sized digits count) (λ bytes result.
+          let twice = decode_sized-ok digits count bytes result in
           let ok = decode_of-ok digits bytes (sym (decode_sized-twice digits count twice)
-          ∙ decoded) in
+          ∙ result) in
           (omega (arith, ok.2, over), ok.3)) in
           rw small (same_fault (list_all is_ascii_hexdigit digits)
           (or_count (decode_sized digits 260)) (or_count (decode_sized digits count))
@@ -68,19 +68,19 @@ record_or_fault-room digits =
     ]
 
 -- where no bytes were read
-pub err_read : (read : Result (List ℕ) FaultKind) (kind : FaultKind) (old new : List ℕ)
+pub err_read : (outcome : Result (List ℕ) FaultKind) (kind : FaultKind) (old new : List ℕ)
     (answer : Result Unit FaultKind) → answer ≡ Err kind
-    → MatchResult read (λ bytes. (answer ≡ Ok tt) × (new ≡ bytes))
+    → MatchResult outcome (λ bytes. (answer ≡ Ok tt) × (new ≡ bytes))
     (λ fault. (answer ≡ Err fault) × (new ≡ old))
-    → record_or_fault read ≡ Err kind
+    → record_or_fault outcome ≡ Err kind
 err_read (Ok bytes) kind old new answer is holds = absurd cc
 err_read (Err fault) kind old new answer is holds = cc
 
 -- where they were
-pub ok_read : (read : Result (List ℕ) FaultKind) (old new : List ℕ)
+pub ok_read : (outcome : Result (List ℕ) FaultKind) (old new : List ℕ)
     (answer : Result Unit FaultKind) → answer ≡ Ok tt
-    → MatchResult read (λ bytes. (answer ≡ Ok tt) × (new ≡ bytes))
+    → MatchResult outcome (λ bytes. (answer ≡ Ok tt) × (new ≡ bytes))
     (λ fault. (answer ≡ Err fault) × (new ≡ old))
-    → record_or_fault read ≡ record_of new
+    → record_or_fault outcome ≡ record_of new
 ok_read (Ok bytes) old new answer is holds = rw holds.1 refl
 ok_read (Err fault) old new answer is holds = absurd cc

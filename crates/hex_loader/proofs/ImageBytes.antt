@@ -8,7 +8,7 @@ use Rattle.text_scan.specs.declared.fault_at.FaultAt.{FaultAt}
 use Rattle.text_scan.specs.declared.fault_kind.FaultKind.{FaultKind}
 use Rattle.text_scan.specs.Hexadecimal.{hex_bytes_of}
 use Rattle.text_scan.proofs.HexBytes.{hex_bytes_of-ok}
-use Rattle.mem_map.specs.PlacedBytes.{byte_among}
+use Rattle.mem_map.specs.ByteAmong.{byte_among}
 use Rattle.text_scan.specs.Reader.{value_or_fault}
 use Rattle.hex_loader.specs.HexImage.{byte_placed, byte_after, base_after, hex_byte, hex_fault, image_of}
 use Rattle.hex_loader.specs.HexRecord.{Meaning, Places, Ends, SetsBase, Starts, with_count, record_of_type, record_of, record_or_fault, record_in, big_endian}
@@ -34,7 +34,7 @@ bytes_placed (Ok (Places address bytes)) = bytes
 bytes_placed _ = []
 
 abbrev PlacesBytes : Result Meaning FaultKind → Type 0
-PlacesBytes read = IsBytes (bytes_placed read)
+PlacesBytes answer = IsBytes (bytes_placed answer)
 
 either : (first : Bool) (left right : Result Meaning FaultKind)
     → PlacesBytes left → PlacesBytes right → PlacesBytes (if first then left else right)
@@ -64,9 +64,9 @@ of_bytes bytes are =
     no_bytes)
     no_bytes
 
-of_digits : (read : Result (List ℕ) FaultKind)
-    → ((bytes : List ℕ) → read ≡ Ok bytes → IsBytes bytes)
-    → PlacesBytes (record_or_fault read)
+of_digits : (answer : Result (List ℕ) FaultKind)
+    → ((bytes : List ℕ) → answer ≡ Ok bytes → IsBytes bytes)
+    → PlacesBytes (record_or_fault answer)
 of_digits (Ok bytes) are = of_bytes bytes (are bytes refl)
 of_digits (Err fault) are = no_bytes
 
@@ -98,8 +98,8 @@ byte_among-byte first (byte ∷ bytes) place are =
     IsByte-if (place == first) byte (byte_among (first + 1) bytes place) (are 0)
     (byte_among-byte (first + 1) bytes place (λ i. are (suc i)))
 
-byte_placed-byte : (base : ℕ) (read : Result Meaning FaultKind) (place : ℕ) → PlacesBytes read
-    → IsByte (byte_placed base read place)
+byte_placed-byte : (base : ℕ) (answer : Result Meaning FaultKind) (place : ℕ) → PlacesBytes answer
+    → IsByte (byte_placed base answer place)
 byte_placed-byte base (Ok (Places address bytes)) place are =
     byte_among-byte (base + address) bytes place are
 byte_placed-byte base (Ok Ends) place are = tt

@@ -1,5 +1,5 @@
 pub mod Digits
-pub mod Encoded
+pub mod UpperDigits
 pub mod ImageBytes
 pub mod Placing
 pub mod ReadBack
@@ -7,4 +7,4 @@ pub mod ReadLines
 pub mod RecordRead
 pub mod Runs
 pub mod ShownBytes
-pub mod Written
+pub mod WritePieces

@@ -12,10 +12,10 @@ and_true false b h = absurd cc
 pub are_image_places-more : (bytes : List ℕ) (i place : ℕ) → i < length bytes
     → is_image_place place ≡ true
     → are_image_places place (drop i bytes) ≡ are_image_places (place + 1) (drop (i + 1) bytes)
-are_image_places-more bytes i place within taken =
+are_image_places-more bytes i place within takes =
     let at_hand = ap (are_image_places place) (drop-cons bytes i 0 within) in
     let next : drop (suc i) bytes ≡ drop (i + 1) bytes = ap (λ (k : ℕ). drop k bytes)
     (sym (add-one i)) in
     at_hand ∙ and_true (is_image_place place) (are_image_places (place + 1) (drop (suc i) bytes))
-    taken
+    takes
     ∙ ap (are_image_places (place + 1)) next

@@ -9,12 +9,12 @@ use mathlib.Core.List.{reverse_aux}
 use Rattle.hex.specs.Hex.{decode_pairs, encode_upper, IsBytes}
 use Rattle.part_definitions.specs.Memory.{is_image_place}
 use Rattle.hex_loader.specs.HexRecord.{Places, Ends, record_in}
-use Rattle.mem_map.specs.PlacedBytes.{byte_among}
+use Rattle.mem_map.specs.ByteAmong.{byte_among}
 use Rattle.hex_loader.specs.HexImage.{base_after, has_ended, byte_after, are_image_places, first_fault}
 use Rattle.hex_loader.specs.HexText.{is_record_start, record_bytes, line_of, line_at, lines_below, end_line, hex_text}
 use Rattle.mem_map.specs.ImagePlace.{IsImage}
 use Rattle.hex_loader.specs.ReadBack.{IsReadBack}
-use Rattle.hex_loader.proofs.Encoded.{behind-encoded, behind-line, lines-behind}
+use Rattle.hex_loader.proofs.UpperDigits.{behind-encoded, behind-line, lines-behind}
 use Rattle.hex_loader.proofs.RecordRead.{record_line, written_bytes, record_in-line, record_of-written, IsBytes-written}
 use Rattle.hex_loader.proofs.Runs.{run-sound, run-short, run-bytes, run-places, byte_among-some, is_covered}
 
@@ -45,18 +45,18 @@ line_says image is place below =
 
 -- the lines of the text
 lines-line_at : (image : ℕ → Option ℕ) → IsImage image → (place : ℕ) → place < 65536
-    → (begun : Bool) (rest : List ℕ) (before : List (List ℕ))
-    → reverse_aux before (lines (cond begun (line_of place (record_bytes image place)) [] ++ rest))
-    ≡ reverse_aux (cond begun (line_text image place ∷ before) before) (lines rest)
+    → (begins : Bool) (rest : List ℕ) (before : List (List ℕ))
+    → reverse_aux before (lines (cond begins (line_of place (record_bytes image place)) [] ++ rest))
+    ≡ reverse_aux (cond begins (line_text image place ∷ before) before) (lines rest)
 lines-line_at image is place below false rest before = refl
 lines-line_at image is place below true rest before =
     let digits : List ℕ = encode_upper (written_bytes place (record_bytes image place)) in
     let behind = behind-line digits (behind-encoded (written_bytes place
     (record_bytes image place)) (fits_bytes image is place below)) in
-    let grouped : line_of place (record_bytes image place) ++ rest
+    let groups : line_of place (record_bytes image place) ++ rest
     ≡ line_text image place ++ (10 ∷ rest) =
     append_assoc (line_text image place) (10 ∷ []) rest in
-    ap (λ (text : List ℕ). reverse_aux before (lines text)) grouped
+    ap (λ (text : List ℕ). reverse_aux before (lines text)) groups
     ∙ ap (reverse_aux before) (lines-behind (line_text image place) rest (omega arith) behind)
 
 lines-lines_below : (image : ℕ → Option ℕ) → IsImage image → (place : ℕ) → place ≤ 65536
@@ -92,21 +92,21 @@ plain-cons : (image : ℕ → Option ℕ) (first : ℕ) (rest : List ℕ) (place
     → record_in (first ∷ rest) ≡ Ok (Places place bytes) → are_image_places place bytes ≡ true
     → ((other byte : ℕ) → byte_among place bytes other ≡ Some byte → image other ≡ Some byte)
     → IsPlain image before → IsPlain image ((first ∷ rest) ∷ before)
-plain-cons image first rest place bytes before says places held plain = record {
+plain-cons image first rest place bytes before says places has plain = record {
   base = rw (says, plain.base) refl;
   unended = rw (says, plain.unended) refl;
   sound = rw (plain.sound, plain.unended, says, plain.base, zero-add, places) refl;
-  bytes = λ other byte found.
+  bytes = λ other byte finds.
       elim (either_some (byte_among place bytes other) (byte_after before other) byte
-      (rw (says, plain.base, zero-add) at found)) [
-        | inl here ↦ held other byte here
+      (rw (says, plain.base, zero-add) at finds)) [
+        | inl here ↦ has other byte here
         | inr there ↦ plain.bytes other byte there
       ];
 }
 
 plain-line : (image : ℕ → Option ℕ) → IsImage image → (place : ℕ) → place < 65536
-    → (begun : Bool) (before : List (List ℕ))
-    → IsPlain image before → IsPlain image (cond begun (line_text image place ∷ before) before)
+    → (begins : Bool) (before : List (List ℕ))
+    → IsPlain image before → IsPlain image (cond begins (line_text image place ∷ before) before)
 plain-line image is place below false before plain = plain
 plain-line image is place below true before plain =
     plain-cons image 58 (encode_upper (written_bytes place (record_bytes image place))) place
@@ -121,7 +121,7 @@ plain-written image is zero within = record {
   base = refl;
   unended = refl;
   sound = refl;
-  bytes = λ place byte found. absurd cc;
+  bytes = λ place byte finds. absurd cc;
 }
 plain-written image is (suc place) within =
     plain-line image is place (omega (arith, within)) (is_record_start image place)
@@ -152,21 +152,21 @@ covers : (image : ℕ → Option ℕ) → IsImage image → (count : ℕ) → co
     → first ≤ other → other < first + length (record_bytes image first)
     → IsSome (byte_after (record_lines image count) other)
 unfolding record_lines
-covers image is zero within first other below begun from to = absurd (omega (arith, below))
-covers image is (suc count) within first other below begun from to =
+covers image is zero within first other below begins from to = absurd (omega (arith, below))
+covers image is (suc count) within first other below begins from to =
     let before : List (List ℕ) = record_lines image count in
     elim (cases_lt first count) [
       | inl earlier ↦
-          let held = covers image is count (omega (arith, within)) first other earlier begun from
+          let has = covers image is count (omega (arith, within)) first other earlier begins from
           to in
           elim (is_record_start image count) as (λ b. IsSome
           (byte_after (cond b (line_text image count ∷ before) before) other)) [
-            | true ↦ some_second _ (byte_after before other) held
-            | false ↦ held
+            | true ↦ some_second _ (byte_after before other) has
+            | false ↦ has
           ]
       | inr last ↦
           let same : first ≡ count = omega (arith, below, last) in
-          let here : is_record_start image count ≡ true = rw (← same) begun in
+          let here : is_record_start image count ≡ true = rw (← same) begins in
           let plain = plain-written image is count (omega (arith, within)) in
           rw here (covers-line image is count (omega (arith, within)) before plain other
           (omega (arith, same, from)) (rw (← same) to))
@@ -184,8 +184,8 @@ end-text image is =
     ∙ ap (λ (before : List (List ℕ)). codes ":00000001FF" ∷ before)
     (append-nil (record_lines image 65536))
 
-same_byte : (held : Option ℕ) (read : Option ℕ) → ((byte : ℕ) → read ≡ Some byte → held ≡ Some byte)
-    → ((byte : ℕ) → held ≡ Some byte → IsSome read) → read ≡ held
+same_byte : (has : Option ℕ) (read : Option ℕ) → ((byte : ℕ) → read ≡ Some byte → has ≡ Some byte)
+    → ((byte : ℕ) → has ≡ Some byte → IsSome read) → read ≡ has
 same_byte None None sound whole = refl
 same_byte None (Some byte) sound whole = sym (sound byte refl)
 same_byte (Some byte) None sound whole = absurd (cc (whole byte refl))
@@ -200,9 +200,9 @@ in_either false false true false h = absurd cc
 in_either false false false false h = absurd cc
 
 place_small : (place : ℕ) → is_image_place place ≡ true → place < 65536
-place_small place held =
+place_small place has =
     elim (in_either (nat_le 0x0200 place) (nat_le place 0x21FF) (nat_le 0xC000 place)
-    (nat_le place 0xFFFF) held) [
+    (nat_le place 0xFFFF) has) [
       | inl ram ↦ omega (arith, leb-true place 0x21FF ram)
       | inr program ↦ omega (arith, leb-true place 0xFFFF program)
     ]
@@ -214,9 +214,9 @@ read_back image is =
       rw (all, plain.sound, plain.unended, end_says) refl,
       λ place. rw (all, end_says)
           (same_byte (image place) (byte_after (record_lines image 65536) place) (plain.bytes place)
-          (λ byte held.
-          let covered = is_covered image place byte held in
-          let small = place_small place (is place byte held).0 in
-          covers image is 65536 (omega arith) covered.first place
-          (omega (arith, covered.from, small)) covered.begun covered.from covered.to)),
+          (λ byte has.
+          let cover = is_covered image place byte has in
+          let small = place_small place (is place byte has).0 in
+          covers image is 65536 (omega arith) cover.first place
+          (omega (arith, cover.from, small)) cover.begun cover.from cover.to)),
     )

@@ -10,7 +10,7 @@ use Rattle.text_scan.specs.declared.fault_kind.FaultKind.TheVariants.{Count, Che
 use Rattle.text_scan.specs.Hexadecimal.{hex_bytes_of}
 use Rattle.hex_loader.specs.HexRecord.{Meaning, Places, record_in, record_of, record_of_type, record_or_fault, big_endian}
 use Rattle.hex_loader.specs.HexText.{check_of, data_record}
-use Rattle.hex_loader.proofs.Encoded.{hexdigits-encoded}
+use Rattle.hex_loader.proofs.UpperDigits.{hexdigits-encoded}
 
 -- the line of a record, without its end
 abbrev pub record_line : List ℕ → List ℕ
@@ -22,10 +22,10 @@ record_in-line bytes fits =
     let digits : List ℕ = encode_upper bytes in
     let twice : length digits ≡ 2 * length bytes = length-encode_with upper_digits bytes in
     let half : length digits / 2 ≡ length bytes = omega arith in
-    let decoded : decode_sized digits (length bytes) ≡ Ok bytes =
+    let decodes : decode_sized digits (length bytes) ≡ Ok bytes =
     decode_sized-twice digits (length bytes) twice ∙ decode_of-encode_upper bytes fits in
     ap (λ (n : ℕ). record_or_fault (hex_bytes_of n digits)) half
-    ∙ rw (hexdigits-encoded bytes fits, decoded) refl
+    ∙ rw (hexdigits-encoded bytes fits, decodes) refl
 
 -- the bytes of a record that is written
 abbrev pub written_bytes : ℕ → List ℕ → List ℕ
@@ -34,25 +34,25 @@ written_bytes address bytes = data_record address bytes ++ check_of (data_record
 sums_to_0 : (bytes : List ℕ) → sum (bytes ++ check_of bytes ∷ []) % 256 ≡ 0
 sums_to_0 bytes = omega (arith, sum_by-append (λ (x : ℕ). x) bytes (check_of bytes ∷ []))
 
-passed : (counted summed : Bool) (found : Result Meaning FaultKind) → counted ≡ true → summed ≡ true
-    → cond counted (cond summed found (Err Check)) (Err Count) ≡ found
-passed counted summed found x y = rw (x, y) refl
+passes : (counts sums : Bool) (answer : Result Meaning FaultKind) → counts ≡ true → sums ≡ true
+    → cond counts (cond sums answer (Err Check)) (Err Count) ≡ answer
+passes counts sums answer x y = rw (x, y) refl
 
 pub record_of-written : (address : ℕ) (bytes : List ℕ)
     → record_of (written_bytes address bytes) ≡ Ok (Places address bytes)
 record_of-written address bytes =
     let check : ℕ = check_of (data_record address bytes) in
     let all : List ℕ = written_bytes address bytes in
-    let counted = eq-eqb (length all) (length bytes + 5)
+    let counts = eq-eqb (length all) (length bytes + 5)
     (omega (arith, length-append bytes (check ∷ []))) in
-    let summed = eq-eqb (sum all % 256) 0 (sums_to_0 (data_record address bytes)) in
+    let sums = eq-eqb (sum all % 256) 0 (sums_to_0 (data_record address bytes)) in
     let place : big_endian (drop 1 all) ≡ address = omega arith in
     let data_bytes : take (length bytes) (drop 4 all)
     ≡ bytes = take-append_seam bytes (check ∷ []) in
-    passed (eqb (length all) (length bytes + 5)) (eqb (sum all % 256) 0)
-    (record_of_type 0 (big_endian (drop 1 all)) (take (length bytes) (drop 4 all))) counted summed
+    passes (eqb (length all) (length bytes + 5)) (eqb (sum all % 256) 0)
+    (record_of_type 0 (big_endian (drop 1 all)) (take (length bytes) (drop 4 all))) counts sums
     ∙ ap (λ (n : ℕ). Ok (Places n (take (length bytes) (drop 4 all)))) place
-    ∙ ap (λ (held : List ℕ). Ok (Places address held)) data_bytes
+    ∙ ap (λ (items : List ℕ). Ok (Places address items)) data_bytes
 
 IsBytes-cons : (byte : ℕ) (bytes : List ℕ) → byte < 256 → IsBytes bytes → IsBytes (byte ∷ bytes)
 IsBytes-cons byte bytes small fits zero = small

@@ -5,7 +5,7 @@ use Rattle.std.proofs.lemmas.Bool.{and_from, cases_lt}
 use Rattle.std.proofs.lemmas.Bool.Decides.{eqb_tells}
 use Rattle.hex.specs.Hex.{IsBytes}
 use Rattle.part_definitions.specs.Memory.{is_image_place}
-use Rattle.mem_map.specs.PlacedBytes.{byte_among}
+use Rattle.mem_map.specs.ByteAmong.{byte_among}
 use Rattle.hex_loader.specs.HexImage.{are_image_places}
 use Rattle.hex_loader.specs.HexText.{is_record_start, run_after, run, record_bytes}
 use Rattle.mem_map.specs.ImagePlace.{IsImage}
@@ -13,8 +13,8 @@ use Rattle.mem_map.specs.ImagePlace.{IsImage}
 -- a byte among those of a run is the image's
 pub run-sound : (image : ℕ → Option ℕ) (first most place byte : ℕ)
     → byte_among first (run image first most) place ≡ Some byte → image place ≡ Some byte
-run-sound image first zero place byte found = absurd cc
-run-sound image first (suc most) place byte found =
+run-sound image first zero place byte finds = absurd cc
+run-sound image first (suc most) place byte finds =
     elim (image first) as (λ o. image first ≡ o
     → byte_among first (run_after o (run image (first + 1) most)) place ≡ Some byte
     → image place ≡ Some byte) [
@@ -24,7 +24,7 @@ run-sound image first (suc most) place byte found =
             | inl same ↦ ap image same.1 ∙ is ∙ rw same.0 at among
             | inr other ↦ run-sound image (first + 1) most place byte (rw other.0 at among)
           ]
-    ] refl found
+    ] refl finds
 
 -- bytes cover their places
 pub byte_among-some : (first : ℕ) (bytes : List ℕ) (place : ℕ) → first ≤ place
@@ -61,32 +61,32 @@ run-ends image first (suc most) =
 
 run-some : (image : ℕ → Option ℕ) (first most byte : ℕ) → 0 < most → image first ≡ Some byte
     → 0 < length (run image first most)
-run-some image first zero byte some held = absurd (omega (arith, some))
-run-some image first (suc most) byte some held = rw held (omega arith)
+run-some image first zero byte some has = absurd (omega (arith, some))
+run-some image first (suc most) byte some has = rw has (omega arith)
 
 -- a record begins at or before each byte, and covers it
-pub record Covered (image : ℕ → Option ℕ) (place : ℕ) : Type 0 where
+pub record IsCovered (image : ℕ → Option ℕ) (place : ℕ) : Type 0 where
   pub first : ℕ
   pub from : first ≤ place
   pub begun : is_record_start image first ≡ true
   pub to : place < first + length (record_bytes image first)
 
 here : (image : ℕ → Option ℕ) (place byte : ℕ) → image place ≡ Some byte
-    → is_record_start image place ≡ true → Covered image place
-here image place byte held begun =
+    → is_record_start image place ≡ true → IsCovered image place
+here image place byte has begins =
     let some : 0 < 16 - place % 16 = omega arith in
-    let long = run-some image place (16 - place % 16) byte some held in
-    record { first = place; from = omega arith; begun = begun; to = omega (arith, long) }
+    let long = run-some image place (16 - place % 16) byte some has in
+    record { first = place; from = omega arith; begun = begins; to = omega (arith, long) }
 
-not_begun : (aligned : Bool) (before : Option ℕ) → (aligned || is_none before) ≡ false
-    → (aligned ≡ false) × ((byte : ℕ) × (before ≡ Some byte))
+not_begun : (aligns : Bool) (before : Option ℕ) → (aligns || is_none before) ≡ false
+    → (aligns ≡ false) × ((byte : ℕ) × (before ≡ Some byte))
 not_begun true before h = absurd cc
 not_begun false None h = absurd cc
 not_begun false (Some byte) h = (refl, (byte, refl))
 
 goes_on : (image : ℕ → Option ℕ) (place byte : ℕ) → image (suc place) ≡ Some byte
-    → eqb (suc place % 16) 0 ≡ false → Covered image place → Covered image (suc place)
-goes_on image place byte held inside before =
+    → eqb (suc place % 16) 0 ≡ false → IsCovered image place → IsCovered image (suc place)
+goes_on image place byte has inside before =
     let count : ℕ = length (record_bytes image before.first) in
     elim (cases_lt (suc place) (before.first + count)) [
       | inl within ↦ record {
@@ -99,24 +99,24 @@ goes_on image place byte held inside before =
           let same : suc place ≡ before.first + count = omega (arith, past, before.to) in
           elim (run-ends image before.first (16 - before.first % 16)) [
             | inl full ↦
-                let aligned : suc place % 16 ≡ 0 = omega (arith, same, full) in
-                absurd (cc (ap (λ (n : ℕ). eqb n 0) aligned))
+                let aligns : suc place % 16 ≡ 0 = omega (arith, same, full) in
+                absurd (cc (ap (λ (n : ℕ). eqb n 0) aligns))
             | inr none ↦ absurd cc
           ]
     ]
 
 pub is_covered : (image : ℕ → Option ℕ) (place byte : ℕ) → image place ≡ Some byte
-    → Covered image place
-is_covered image zero byte held = here image 0 byte held (rw held refl)
-is_covered image (suc place) byte held =
+    → IsCovered image place
+is_covered image zero byte has = here image 0 byte has (rw has refl)
+is_covered image (suc place) byte has =
     elim (is_record_start image (suc place)) as (λ b. is_record_start image (suc place) ≡ b
-    → Covered image (suc place)) [
-      | true ↦ λ begun. here image (suc place) byte held begun
-      | false ↦ λ begun.
+    → IsCovered image (suc place)) [
+      | true ↦ λ begins. here image (suc place) byte has begins
+      | false ↦ λ begins.
           let inside = not_begun (eqb (suc place % 16) 0) (image (suc place - 1))
-          (rw held at begun) in
+          (rw has at begins) in
           let back : place ≡ suc place - 1 = omega arith in
-          goes_on image place byte held inside.0 (is_covered image place inside.1.0
+          goes_on image place byte has inside.0 (is_covered image place inside.1.0
           (ap image back ∙ inside.1.1))
     ] refl
 
@@ -136,7 +136,7 @@ run-bytes image is first (suc most) =
     elim (image first) as (λ o. image first ≡ o
     → IsBytes (run_after o (run image (first + 1) most))) [
       | None ↦ λ none i. omega arith
-      | Some byte ↦ λ held. cons byte (run image (first + 1) most) (is first byte held).1
+      | Some byte ↦ λ has. cons byte (run image (first + 1) most) (is first byte has).1
           (run-bytes image is (first + 1) most)
     ] refl
   where
@@ -151,7 +151,7 @@ run-places image is first (suc most) =
     elim (image first) as (λ o. image first ≡ o
     → are_image_places first (run_after o (run image (first + 1) most)) ≡ true) [
       | None ↦ λ none. refl
-      | Some byte ↦ λ held. and_from (is_image_place first)
-          (are_image_places (first + 1) (run image (first + 1) most)) (is first byte held).0
+      | Some byte ↦ λ has. and_from (is_image_place first)
+          (are_image_places (first + 1) (run image (first + 1) most)) (is first byte has).0
           (run-places image is (first + 1) most)
     ] refl

@@ -14,9 +14,9 @@ either true false program h = and_self program h
     and_self false h = h
 either false ram program h = absurd cc
 
-chosen : (b : Bool) (byte : ℕ) → b ≡ true → Some byte ≡ cond b (Some byte) None
-chosen true byte h = refl
-chosen false byte h = absurd cc
+choice : (b : Bool) (byte : ℕ) → b ≡ true → Some byte ≡ cond b (Some byte) None
+choice true byte h = refl
+choice false byte h = absurd cc
 
 -- the span of one place is the byte there
 pub span-one : (start : PowerOn) (exec : Bool) (writes : List MemoryWrite) (place : ℕ)
@@ -27,5 +27,5 @@ pub span-one : (start : PowerOn) (exec : Bool) (writes : List MemoryWrite) (plac
     → slice_get bytes 0 ≡ image_of start exec writes place
 span-one start exec writes place bytes within is =
     let one : place + 1 - place ≡ suc zero = omega arith in
-    let held = either (nat_le place place) (is_ram place) (is_program place) within in
-    rw (is, one) (chosen (is_image_place place) (byte_at start exec writes place) held)
+    let holds = either (nat_le place place) (is_ram place) (is_program place) within in
+    rw (is, one) (choice (is_image_place place) (byte_at start exec writes place) holds)

@@ -7,7 +7,7 @@ use Rattle.text_scan.specs.declared.fault_kind.FaultKind.{FaultKind}
 use Rattle.text_scan.specs.declared.fault_kind.FaultKind.TheVariants.{AfterEnd, NoEnd, Place}
 use Rattle.text_scan.specs.Reader.{value_or_fault}
 use Rattle.part_definitions.specs.Memory.{is_image_place}
-use Rattle.mem_map.specs.PlacedBytes.{byte_among}
+use Rattle.mem_map.specs.ByteAmong.{byte_among}
 use Rattle.hex_loader.specs.HexRecord.{Meaning, Places, Ends, SetsBase, record_in}
 
 -- the base that a record sets

@@ -4,7 +4,7 @@ use Rattle.text_scan.specs.declared.fault_kind.FaultKind.{FaultKind}
 use Rattle.text_scan.specs.declared.fault_kind.FaultKind.TheVariants.{NoColon, Count, Check, RecordType}
 use Rattle.text_scan.specs.Hexadecimal.{hex_bytes_of}
 use Rattle.hex_loader.specs.declared.hex_record.HexRecord.{HexRecord}
-use Rattle.hex_loader.specs.declared.hex_record.HexRecord.TheVariants as parsed
+use Rattle.hex_loader.specs.declared.hex_record.HexRecord.TheVariants as variants
 
 -- what a record says: bytes from an address on, the end, a base, or a start address, which is
 -- passed over
@@ -20,7 +20,7 @@ big_endian bytes = slice_index bytes 0 * 256 + slice_index bytes 1
 
 -- the meaning, where the record has as many data bytes as its type wants
 abbrev pub with_count : ℕ → List ℕ → Meaning → Result Meaning FaultKind
-with_count wanted bytes meaning = if length bytes == wanted then Ok meaning else Err Count
+with_count count bytes meaning = if length bytes == count then Ok meaning else Err Count
 
 -- the record of a type
 abbrev pub record_of_type : ℕ → ℕ → List ℕ → Result Meaning FaultKind
@@ -55,12 +55,12 @@ record_in (first ∷ digits) =
 
 -- a record of the program, seen as what it says
 abbrev pub meaning : HexRecord → Meaning
-meaning (parsed.Data address bytes) = Places address bytes.now
-meaning parsed.End = Ends
-meaning (parsed.Base base) = SetsBase base
-meaning parsed.Start = Starts
+meaning (variants.Data address bytes) = Places address bytes.now
+meaning variants.End = Ends
+meaning (variants.Base base) = SetsBase base
+meaning variants.Start = Starts
 
 -- what was read is this record, or this fault
 abbrev pub GivesRecord : Result HexRecord FaultKind → Result Meaning FaultKind → Type 0
-GivesRecord (Ok found) read = read ≡ Ok (meaning found)
-GivesRecord (Err kind) read = read ≡ Err kind
+GivesRecord (Ok entry) answer = answer ≡ Ok (meaning entry)
+GivesRecord (Err kind) answer = answer ≡ Err kind

@@ -1,6 +1,6 @@
-ghost use Rattle.std.specs.Prelude.{◌≡◌, ◌<◌, ◌≤◌, ◌+◌, ◌*◌, ◌/◌, ◌%◌, length, sum, MatchResult};
+ghost use Rattle.std.specs.Prelude.{◌≡◌, ◌*◌, ◌/◌, ◌%◌, length, sum};
 ghost use Rattle.text_scan.specs.Hexadecimal.{hex_bytes_of};
-ghost use Rattle.hex_loader.specs.HexRecord.{big_endian, record_of_type, record_of, record_or_fault, record_in, GivesRecord};
+ghost use Rattle.hex_loader.specs.HexRecord.{record_of_type, record_of, record_or_fault, record_in, GivesRecord};
 
 use text_scan::{FaultKind, hex_bytes};
 

@@ -1,4 +1,4 @@
-ghost use Rattle.std.specs.Prelude.{◌≡◌, ◌<◌, ◌≤◌, ℕ, Option};
+ghost use Rattle.std.specs.Prelude.{◌≡◌, ℕ, Option};
 ghost use Rattle.hex_loader.specs.HexText.{is_record_start, record_bytes};
 
 use crate::record_line::MOST_DATA;
@@ -55,12 +55,12 @@ pub fn record_bytes<P: Places>(bytes: &P, place: u16) -> ArrayVec<u8, MOST_DATA>
         → P.shows bytes.now image
         → result.items ≡ record_bytes image place }
 {
-    let mut found = ArrayVec::new();
+    let mut data = ArrayVec::new();
     for offset in 0..MOST_PLACES - place % MOST_PLACES {
         let Some(byte) = bytes.byte(place + offset) else {
-            return found;
+            return data;
         };
-        found.push(byte);
+        data.push(byte);
     }
-    found
+    data
 }

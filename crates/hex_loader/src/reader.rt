@@ -1,4 +1,4 @@
-ghost use Rattle.std.specs.Prelude.{◌≡◌, ◌+◌, ◌∷◌, ◌==◌, ◌<◌, ◌^◌, ◌&&◌, ℕ, Bool, true, false, List, Option, Some, None, length, MatchResult, IfErr, IfOk, OnOk, if◌then◌else◌};
+ghost use Rattle.std.specs.Prelude.{◌≡◌, ◌+◌, ◌∷◌, ◌==◌, ◌<◌, ◌^◌, ◌&&◌, ℕ, true, false, List, Some, None, length, IfErr, IfOk, OnOk, if◌then◌else◌};
 ghost use Rattle.std.specs.Option.{option_or};
 ghost use Rattle.std.specs.Result.{result_err};
 ghost use Rattle.part_definitions.specs.Memory.{is_image_place};
@@ -6,8 +6,8 @@ ghost use Rattle.mem_map.specs.Image.{byte_in};
 ghost use Rattle.text_scan.specs.declared.fault_at.FaultAt.{FaultAt};
 ghost use Rattle.hex_loader.specs.HexRecord.{meaning, record_in};
 ghost use Rattle.text_scan.specs.Reader.{Reads, value_as};
-ghost use Rattle.mem_map.specs.PlacedBytes.{byte_among};
-ghost use Rattle.hex_loader.specs.HexImage.{image_of, are_image_places, base_after, has_ended, byte_after, line_fault, hex_fault, hex_byte};
+ghost use Rattle.mem_map.specs.ByteAmong.{byte_among};
+ghost use Rattle.hex_loader.specs.HexImage.{image_of, are_image_places, base_after, has_ended, line_fault, hex_fault, hex_byte};
 
 use crate::hex_record::{HexRecord, MOST_BYTES, record_of_line};
 use mem_map::Image;
@@ -101,16 +101,16 @@ impl Reader {
     ghost use Rattle.hex_loader.specs.Reader.{ReaderStandsFor};
 
     // Does what a record says.
-    fn take(&mut self, found: HexRecord<'_>) -> Result<(), FaultKind>
+    fn take(&mut self, item: HexRecord<'_>) -> Result<(), FaultKind>
         ensures fault { (earlier : List (List ℕ))
             → ReaderStandsFor self.old earlier
-            → result_err result ≡ record_fault (base_after earlier) (Ok (meaning found.entry)) }
+            → result_err result ≡ record_fault (base_after earlier) (Ok (meaning item.entry)) }
         ensures taken { (earlier : List (List ℕ)) (line : List ℕ)
             → ReaderStandsFor self.old earlier
-            → record_in line ≡ Ok (meaning found.entry)
+            → record_in line ≡ Ok (meaning item.entry)
             → OnOk result (ReaderStandsFor self.new (line ∷ earlier)) }
     {
-        match found {
+        match item {
             HexRecord::Data(address, bytes) => {
                 let first = u64::from(self.base) + u64::from(address);
                 set_bytes(&mut self.image, first, bytes)

@@ -1,6 +1,6 @@
 ghost use Rattle.std.specs.Prelude.{◌≡◌, ◌<◌, ◌≤◌, ◌++◌, ◌∷◌, [], length, slice_index, codes};
 ghost use Rattle.hex.specs.Hex.{upper_digits, encode_upper};
-ghost use Rattle.hex_loader.specs.HexText.{check_of, data_record, line_of};
+ghost use Rattle.hex_loader.specs.HexText.{data_record, line_of};
 
 use crate::hex_record::sum_of;
 use arrayvec::ArrayVec;

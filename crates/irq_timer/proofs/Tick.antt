@@ -51,4 +51,4 @@ timer_flag_over events runs some past =
     grind (arith, nat_tests, timer_count_over, timer_count-ticked, timer_flag-ticked)
 
 -- a step more of a timer that runs: the count goes on, or a period ends and the flag rises
-pub ruleset ticked = (timer_count_within, timer_count_over, timer_flag_within, timer_flag_over)
+pub ruleset tick_facts = (timer_count_within, timer_count_over, timer_flag_within, timer_flag_over)

@@ -87,7 +87,7 @@ impl Timer {
     }
 
     // Counts one step.
-    #[tactic(auto, using(crate::proofs::Tick::ticked))]
+    #[tactic(auto, using(crate::proofs::Tick::tick_facts))]
     fn advance(&mut self)
         ensures { (events : List TimerEvent)
             → TimerStandsFor self.old events

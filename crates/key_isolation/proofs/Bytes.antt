@@ -54,8 +54,8 @@ byte_at-hide power exec writes place off =
     (last_written (map hide_write writes) place (first_byte power place))
     (last_written writes place (first_byte power place)) (fixed_byte (keyless power) exec place)
     (fixed_byte power exec place)
-    (λ taken. last_written-hide writes place (first_byte power place) parts.1)
-    (λ fixed.
+    (λ takes. last_written-hide writes place (first_byte power place) parts.1)
+    (λ is_fixed.
     same_if (lies_in key_region place) 0 (power.key (place - key_region.first)) _ _
     (λ key. absurd (let clash : true ≡ false = sym key ∙ parts.0 in cc))
     (λ other. refl))

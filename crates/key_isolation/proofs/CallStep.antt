@@ -16,36 +16,36 @@ use Rattle.device_trace.specs.Signals.{value_read}
 use Rattle.device_trace.specs.Start.{Start, given_word}
 use Rattle.key_isolation.proofs.Bytes.{key_byte-hide, zero_either}
 use Rattle.key_isolation.proofs.Numbers.{key_word-zero}
-use Rattle.key_isolation.proofs.Hiding.{opened, hide}
+use Rattle.key_isolation.proofs.Hiding.{open_start, hide}
 use Rattle.key_isolation.proofs.Reading.{value_read-hide}
 use Rattle.trace_facts.proofs.CallPlaces.{ItemFits, mac_place, metadata_off, region_off}
 
 -- a read of no secret
-pub record ReadsOpenly (start : Start) (released : List ℕ) (logs : Logs)
+pub record ReadsOpenly (start : Start) (free : List ℕ) (logs : Logs)
     (access : Access) : Type 0 where
   pub same : blank_access (Some access) ≡ Some access
   pub value :
       blank_value (Some access) (value_read start logs (Some access))
-      ≡ value_read (opened released start) (hide logs) (Some access)
+      ≡ value_read (open_start free start) (hide logs) (Some access)
 
 -- the real access of a call and the one without the key, after so many words
-pub record SameItem (start : Start) (released : List ℕ) (logs : Logs) (passed : ℕ)
-    (real seen : Access) : Type 0 where
-  pub access : blank_access (Some real) ≡ Some seen
+pub record SameItem (start : Start) (free : List ℕ) (logs : Logs) (count : ℕ)
+    (real view : Access) : Type 0 where
+  pub access : blank_access (Some real) ≡ Some view
   pub value :
       blank_value (Some real) (value_read start logs (Some real))
-      ≡ value_read (opened released start) (hide logs) (Some seen)
-  pub hidden : passed < 32
-      → word_passed (Some seen) (value_read (opened released start) (hide logs) (Some seen)) ≡ 0
-  pub kept : 32 ≤ passed
-      → word_passed (Some seen) (value_read (opened released start) (hide logs) (Some seen))
+      ≡ value_read (open_start free start) (hide logs) (Some view)
+  pub hidden : count < 32
+      → word_passed (Some view) (value_read (open_start free start) (hide logs) (Some view)) ≡ 0
+  pub kept : 32 ≤ count
+      → word_passed (Some view) (value_read (open_start free start) (hide logs) (Some view))
       ≡ word_passed (Some real) (value_read start logs (Some real))
 
-read_off : (start : Start) (released : List ℕ) (logs : Logs) (passed place : ℕ)
-    → 32 ≤ passed → touches_secrets (Read place Word) ≡ false
-    → SameItem start released logs passed (Read place Word) (Read place Word)
-read_off start released logs passed place past off =
-    let same = value_read-hide start released logs (Read place Word) off in
+read_off : (start : Start) (free : List ℕ) (logs : Logs) (count place : ℕ)
+    → 32 ≤ count → touches_secrets (Read place Word) ≡ false
+    → SameItem start free logs count (Read place Word) (Read place Word)
+read_off start free logs count place past off =
+    let same = value_read-hide start free logs (Read place Word) off in
     record {
       access = refl;
       value =
@@ -63,16 +63,16 @@ key_off_peripherals : (i : ℕ) → i < 32
     → lies_in peripheral_region ((0x6A00 + 2 * i) / 2 * 2) ≡ false
 key_off_peripherals i within = grind (arith, nat_tests)
 
-read_key : (start : Start) (released : List ℕ) (logs : Logs) (passed i : ℕ)
-    → i < 32 → passed < 32
-    → SameItem start released logs passed (Read ((0x6A00 + 2 * i) / 2 * 2) Word)
+read_key : (start : Start) (free : List ℕ) (logs : Logs) (count i : ℕ)
+    → i < 32 → count < 32
+    → SameItem start free logs count (Read ((0x6A00 + 2 * i) / 2 * 2) Word)
     (Read ((0x6A00 + 2 * i) / 2 * 2) Word)
-read_key start released logs passed i within fewer =
-    let zero_word : value_read (opened released start) (hide logs)
+read_key start free logs count i within fewer =
+    let zero_word : value_read (open_start free start) (hide logs)
     (Some (Read ((0x6A00 + 2 * i) / 2 * 2) Word)) ≡ 0 =
     cond-false (lies_in peripheral_region ((0x6A00 + 2 * i) / 2 * 2)) _ _
     (key_off_peripherals i within)
-    ∙ key_word-zero (logged_byte (opened released start) (hide logs))
+    ∙ key_word-zero (logged_byte (open_start free start) (hide logs))
     (λ place key. key_byte-hide start.power (exec_of (hide logs))
     (hide logs).memory place key) i within in
     record {
@@ -87,12 +87,12 @@ read_key start released logs passed i within fewer =
     }
 
 -- a word of the exclusive stack
-write_stack : (start : Start) (released : List ℕ) (logs : Logs) (passed place number : ℕ)
-    → 32 ≤ passed
+write_stack : (start : Start) (free : List ℕ) (logs : Logs) (count place number : ℕ)
+    → 32 ≤ count
     → touches (Read place Word) stack_region ≡ true
     → lies_in mac_region place ≡ false
-    → SameItem start released logs passed (Write place Word number) (Write place Word 0)
-write_stack start released logs passed place number past stack off_mac =
+    → SameItem start free logs count (Write place Word number) (Write place Word 0)
+write_stack start free logs count place number past stack off_mac =
     record {
       access =
           ap (λ (n : ℕ). Some (Write place Word n))
@@ -105,12 +105,12 @@ write_stack start released logs passed place number past stack off_mac =
     }
 
 -- a word of the MAC
-write_mac : (start : Start) (released : List ℕ) (logs : Logs) (passed place number other : ℕ)
-    → 32 ≤ passed
+write_mac : (start : Start) (free : List ℕ) (logs : Logs) (count place number other : ℕ)
+    → 32 ≤ count
     → touches (Read place Word) stack_region ≡ false
     → other ≡ number
-    → SameItem start released logs passed (Write place Word number) (Write place Word other)
-write_mac start released logs passed place number other past off same =
+    → SameItem start free logs count (Write place Word number) (Write place Word other)
+write_mac start free logs count place number other past off same =
     record {
       access =
           ap (λ (n : ℕ). Some (Write place Word n))
@@ -141,11 +141,11 @@ next_given : (old : List ℕ) (number : ℕ) (more : List ℕ)
 next_given [] number more = refl
 next_given (first ∷ old) number more = next_given old number more
 
-next_released : (old released more : List ℕ) (place number : ℕ)
+next_released : (old free more : List ℕ) (place number : ℕ)
     → lies_in mac_region place ≡ true
-    → released ≡ with_released_word (Some (Write place Word number)) old ++ more
-    → slice_index released (length old) ≡ number
-next_released old released more place number mac split =
+    → free ≡ with_released_word (Some (Write place Word number)) old ++ more
+    → slice_index free (length old) ≡ number
+next_released old free more place number mac split =
     ap (λ (words : List ℕ). slice_index words (length old))
     (split ∙ ap (λ (words : List ℕ). words ++ more)
     (cond-true (lies_in mac_region place) (old ++ number ∷ []) old mac))
@@ -158,31 +158,31 @@ return_off : (place : ℕ)
     → touches_secrets (Read place Word) ≡ false
 return_off place off = off
 
-pub same_item : (start : Start) (released more : List ℕ) (logs : Logs) (sp passed number : ℕ)
+pub same_item : (start : Start) (free more : List ℕ) (logs : Logs) (sp count number : ℕ)
     (bounds : Bounds) (item : CallItem)
-    → ItemFits (region_words bounds) passed item
+    → ItemFits (region_words bounds) count item
     → ((item_pc item == ROM_EXIT) && some_reads (Some (item_access sp bounds item number))
     && (some_touches (Some (item_access sp bounds item number)) key_region
     || some_touches (Some (item_access sp bounds item number)) stack_region)) ≡ false
-    → released ≡ with_released_word (Some (item_access sp bounds item number)) logs.released_words
+    → free ≡ with_released_word (Some (item_access sp bounds item number)) logs.released_words
     ++ more
-    → SameItem start released logs passed (item_access sp bounds item number)
-    (item_access sp bounds item (given_word released (length logs.released_words) item))
-same_item start released more logs sp passed number bounds (KeyRead i) fits a4 split =
-    read_key start released logs passed i fits.0 fits.1
-same_item start released more logs sp passed number bounds (MetadataRead i) fits a4 split =
-    read_off start released logs passed _ fits.1 (metadata_off i fits.0)
-same_item start released more logs sp passed number bounds (DerivedKeyWrite i) fits a4 split =
-    write_stack start released logs passed _ number fits.1 (derived_in_stack i fits.0)
+    → SameItem start free logs count (item_access sp bounds item number)
+    (item_access sp bounds item (given_word free (length logs.released_words) item))
+same_item start free more logs sp count number bounds (KeyRead i) fits a4 split =
+    read_key start free logs count i fits.0 fits.1
+same_item start free more logs sp count number bounds (MetadataRead i) fits a4 split =
+    read_off start free logs count _ fits.1 (metadata_off i fits.0)
+same_item start free more logs sp count number bounds (DerivedKeyWrite i) fits a4 split =
+    write_stack start free logs count _ number fits.1 (derived_in_stack i fits.0)
     (above_mac (0x4000 + 2 * i) (omega arith))
-same_item start released more logs sp passed number bounds (RegionRead i) fits a4 split =
-    read_off start released logs passed _ fits.1 (region_off bounds i fits.0)
-same_item start released more logs sp passed number bounds (InnerDigestWrite i) fits a4 split =
-    write_stack start released logs passed _ number fits.1 (inner_in_stack i fits.0)
+same_item start free more logs sp count number bounds (RegionRead i) fits a4 split =
+    read_off start free logs count _ fits.1 (region_off bounds i fits.0)
+same_item start free more logs sp count number bounds (InnerDigestWrite i) fits a4 split =
+    write_stack start free logs count _ number fits.1 (inner_in_stack i fits.0)
     (above_mac (0x4020 + 2 * i) (omega arith))
-same_item start released more logs sp passed number bounds (MacWrite i) fits a4 split =
-    write_mac start released logs passed _ number _ fits.1 (mac_off_stack i fits.0)
-    (next_released logs.released_words released more ((0x200 + 2 * i) / 2 * 2) number
+same_item start free more logs sp count number bounds (MacWrite i) fits a4 split =
+    write_mac start free logs count _ number _ fits.1 (mac_off_stack i fits.0)
+    (next_released logs.released_words free more ((0x200 + 2 * i) / 2 * 2) number
     (mac_place i fits.0) split)
-same_item start released more logs sp passed number bounds ReturnRead fits a4 split =
-    read_off start released logs passed _ fits (return_off (sp / 2 * 2) a4)
+same_item start free more logs sp count number bounds ReturnRead fits a4 split =
+    read_off start free logs count _ fits (return_off (sp / 2 * 2) a4)

@@ -27,9 +27,9 @@ reads_same : (left right : ℕ → ℕ) (access : Access)
     → blank_access (Some access) ≡ Some access → touches_secrets access ≡ false
     → memory_read left (Some access) ≡ memory_read right (Some access)
     → SameDma left right (Some access)
-reads_same left right access same off read =
-    let kept = cond-false (touches_secrets access) 0 (memory_read right (Some access)) off in
-    record { same = same; value = kept ∙ sym read; kept = kept }
+reads_same left right access same off answer =
+    let keeps = cond-false (touches_secrets access) 0 (memory_read right (Some access)) off in
+    record { same = same; value = keeps ∙ sym answer; kept = keeps }
 
 pub dma_same : (left right : ℕ → ℕ) → SameOutside left right → (access : Option Access)
     → some_touches access key_region ≡ false → some_touches access stack_region ≡ false
@@ -54,17 +54,17 @@ dma_same left right same (Some (Write place size number)) key stack =
     }
 
 -- memory with the processor's write of the step
-pub written-outside : (start : Start) (logs : Logs) (real seen : Option Access)
-    → IfSome real IsFormed → blank_access real ≡ seen
+pub written-outside : (start : Start) (logs : Logs) (real view : Option Access)
+    → IfSome real IsFormed → blank_access real ≡ view
     → SameOutside
     (byte_at (keyless start.power) (exec_of (hide logs))
-    (with_access seen (map hide_write logs.memory)))
+    (with_access view (map hide_write logs.memory)))
     (byte_at start.power (exec_of logs) (with_access real logs.memory))
-written-outside start logs real seen formed same place off =
+written-outside start logs real view is_formed same place off =
     ap (λ (exec : Bool). byte_at (keyless start.power) exec
-    (with_access seen (map hide_write logs.memory)) place)
-    (exec-blank logs.seen)
+    (with_access view (map hide_write logs.memory)) place)
+    (exec-blank logs.records)
     ∙ (ap (λ (writes : List MemoryWrite). byte_at (keyless start.power) (exec_of logs) writes place)
     (ap (λ (access : Option Access). with_access access (map hide_write logs.memory)) (sym same)
-    ∙ with_access-hide real logs.memory formed)
+    ∙ with_access-hide real logs.memory is_formed)
     ∙ byte_at-hide start.power (exec_of logs) (with_access real logs.memory) place off)

@@ -16,18 +16,18 @@ clears-blank last now = grind arith
 starts_run-blank : (now : SeenRecord) → starts_run (blank_seen now) ≡ starts_run now
 starts_run-blank now = grind arith
 
-pub last_pc-blank : (seen : List SeenRecord) → last_pc (map blank_seen seen) ≡ last_pc seen
+pub last_pc-blank : (records : List SeenRecord) → last_pc (map blank_seen records) ≡ last_pc records
 last_pc-blank [] = refl
 last_pc-blank (now ∷ before) = refl
 
-goes_on : (test test' : Bool) (now : SeenRecord) (kept kept' : List SeenRecord)
-    → test' ≡ test → kept' ≡ map blank_seen kept
-    → (if test' then [] else blank_seen now ∷ kept')
-    ≡ map blank_seen (if test then [] else now ∷ kept)
-goes_on test test' now kept kept' same rest = grind arith
+goes_on : (test test' : Bool) (now : SeenRecord) (older older' : List SeenRecord)
+    → test' ≡ test → older' ≡ map blank_seen older
+    → (if test' then [] else blank_seen now ∷ older')
+    ≡ map blank_seen (if test then [] else now ∷ older)
+goes_on test test' now older older' same rest = grind arith
 
-records_since_clear-blank : (seen : List SeenRecord)
-    → records_since_clear (map blank_seen seen) ≡ map blank_seen (records_since_clear seen)
+records_since_clear-blank : (records : List SeenRecord)
+    → records_since_clear (map blank_seen records) ≡ map blank_seen (records_since_clear records)
 records_since_clear-blank [] = refl
 records_since_clear-blank (now ∷ before) =
     goes_on (clears (last_pc before) now)
@@ -37,16 +37,16 @@ records_since_clear-blank (now ∷ before) =
     ∙ ap (λ (last : Option ℕ). clears last now) (last_pc-blank before))
     (records_since_clear-blank before)
 
-any_start-blank : (seen : List SeenRecord)
-    → list_any starts_run (map blank_seen seen) ≡ list_any starts_run seen
+any_start-blank : (records : List SeenRecord)
+    → list_any starts_run (map blank_seen records) ≡ list_any starts_run records
 any_start-blank [] = refl
 any_start-blank (now ∷ before) =
     ap (λ (first : Bool). first || list_any starts_run (map blank_seen before))
     (starts_run-blank now)
     ∙ ap (λ (rest : Bool). starts_run now || rest) (any_start-blank before)
 
-pub exec-blank : (seen : List SeenRecord) → exec (map blank_seen seen) ≡ exec seen
+pub exec-blank : (records : List SeenRecord) → exec (map blank_seen records) ≡ exec records
 unfolding exec
-exec-blank seen =
-    ap (list_any starts_run) (records_since_clear-blank seen)
-    ∙ any_start-blank (records_since_clear seen)
+exec-blank records =
+    ap (list_any starts_run) (records_since_clear-blank records)
+    ∙ any_start-blank (records_since_clear records)

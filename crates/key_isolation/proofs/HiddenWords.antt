@@ -65,5 +65,5 @@ pub call_item-hide : (words : List ℕ) → call_item (hide_first 32 words) ≡ 
 call_item-hide words =
     ap (λ (bounds : Bounds). item_after (region_words bounds) (length (hide_first 32 words)))
     (bounds_read-hide words)
-    ∙ ap (λ (passed : ℕ). item_after (region_words (bounds_read words)) passed)
+    ∙ ap (λ (count : ℕ). item_after (region_words (bounds_read words)) count)
     (length-hide_first 32 words)

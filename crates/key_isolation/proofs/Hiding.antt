@@ -2,7 +2,7 @@
 use Rattle.std.proofs.Common.{arith, ◌≡◌, ℕ, Bool, false, List, Option, map, refl, ap, ◌∙◌}
 use Rattle.bus_signals.specs.declared.kind.Kind.{Kind}
 use Rattle.part_definitions.specs.Attestation.{item_pc}
-use Rattle.part_definitions.specs.CpuRegisters.{allows_interrupts}
+use Rattle.part_definitions.specs.CpuRegister.{allows_interrupts}
 use Rattle.part_definitions.specs.Interrupt.{accepted_vector}
 use Rattle.part_definitions.specs.Memory.{byte_at}
 use Rattle.part_definitions.specs.Serial.{serial_requests}
@@ -18,8 +18,8 @@ use Rattle.key_isolation.proofs.Numbers.{bounds_in-outside}
 use Rattle.key_isolation.proofs.FlagBlank.{blank_seen, exec-blank}
 
 -- the same start without its key, where the calls release these words
-abbrev pub opened : List ℕ → Start → Start
-opened words start = without_key words start.power.image
+abbrev pub open_start : List ℕ → Start → Start
+open_start words start = without_key words start.power.image
 
 abbrev pub hide_progress : Progress → Progress
 hide_progress Held = Held
@@ -32,7 +32,7 @@ hide logs =
       progress = hide_progress logs.progress;
       memory = map hide_write logs.memory;
       peripherals = logs.peripherals;
-      seen = map blank_seen logs.seen;
+      records = map blank_seen logs.records;
       released_words = logs.released_words;
     }
 
@@ -96,14 +96,14 @@ step_progress-hide logs kind =
 -- bytes
 pub logged_byte-hide : (start : Start) (words : List ℕ) (logs : Logs) (place : ℕ)
     → is_secret place ≡ false
-    → logged_byte (opened words start) (hide logs) place ≡ logged_byte start logs place
+    → logged_byte (open_start words start) (hide logs) place ≡ logged_byte start logs place
 logged_byte-hide start words logs place off =
     ap (λ (exec : Bool). byte_at (keyless start.power) exec (map hide_write logs.memory) place)
-    (exec-blank logs.seen)
+    (exec-blank logs.records)
     ∙ byte_at-hide start.power (exec_of logs) logs.memory place off
 
 pub logged_bounds-hide : (start : Start) (words : List ℕ) (logs : Logs)
-    → logged_bounds (opened words start) (hide logs) ≡ logged_bounds start logs
+    → logged_bounds (open_start words start) (hide logs) ≡ logged_bounds start logs
 logged_bounds-hide start words logs =
-    bounds_in-outside (logged_byte (opened words start) (hide logs)) (logged_byte start logs)
+    bounds_in-outside (logged_byte (open_start words start) (hide logs)) (logged_byte start logs)
     (logged_byte-hide start words logs)

@@ -8,13 +8,13 @@ use Rattle.device_trace.specs.Start.{Start}
 use Rattle.device_trace.specs.Step.{next_record}
 use Rattle.device_trace.specs.Trace.{next_logs, logs_after, trace}
 use Rattle.trace_facts.proofs.SoundPlay.{logs_after-sound}
-use Rattle.key_isolation.proofs.Hiding.{opened, hide}
+use Rattle.key_isolation.proofs.Hiding.{open_start, hide}
 use Rattle.key_isolation.proofs.LogsBlank.{step_hides}
 use Rattle.key_isolation.proofs.Projections.{released_words_after-more}
 
-pub record PlayHides (start : Start) (released : List ℕ) (play : List (List Event)) : Type 0 where
-  pub history : blank (trace start play) ≡ trace (opened released start) play
-  pub logs : hide (logs_after start play) ≡ logs_after (opened released start) play
+pub record PlayHides (start : Start) (free : List ℕ) (play : List (List Event)) : Type 0 where
+  pub history : blank (trace start play) ≡ trace (open_start free start) play
+  pub logs : hide (logs_after start play) ≡ logs_after (open_start free start) play
 
 -- a step only adds to the released words
 next_released : (start : Start) (logs : Logs) (events : List Event)
@@ -26,32 +26,32 @@ next_released start logs events =
     (next_record start logs events).cpu logs.released_words
 
 -- so what is released after the step begins with what was released before it
-pub released_before : (start : Start) (released more : List ℕ) (logs : Logs) (events : List Event)
-    → released ≡ (next_logs start logs events).released_words ++ more
-    → (rest : List ℕ) × (released ≡ logs.released_words ++ rest)
-released_before start released more logs events split =
-    let added = next_released start logs events in (
-      added.0 ++ more,
-      split ∙ (ap (λ (words : List ℕ). words ++ more) added.1
-          ∙ append_assoc logs.released_words added.0 more),
+pub releases_before : (start : Start) (free more : List ℕ) (logs : Logs) (events : List Event)
+    → free ≡ (next_logs start logs events).released_words ++ more
+    → (rest : List ℕ) × (free ≡ logs.released_words ++ rest)
+releases_before start free more logs events split =
+    let adds = next_released start logs events in (
+      adds.0 ++ more,
+      split ∙ (ap (λ (words : List ℕ). words ++ more) adds.1
+          ∙ append_assoc logs.released_words adds.0 more),
     )
 
-pub play_hides : (start : Start) (released : List ℕ) (play : List (List Event)) (more : List ℕ)
-    → released ≡ (logs_after start play).released_words ++ more → PlayHides start released play
+pub play_hides : (start : Start) (free : List ℕ) (play : List (List Event)) (more : List ℕ)
+    → free ≡ (logs_after start play).released_words ++ more → PlayHides start free play
 unfolding trace logs_after
-play_hides start released [] more split = record { history = refl; logs = refl }
-play_hides start released (events ∷ play) more split =
+play_hides start free [] more split = record { history = refl; logs = refl }
+play_hides start free (events ∷ play) more split =
     let logs : Logs = logs_after start play in
-    let rest = released_before start released more logs events split in
-    let before = play_hides start released play rest.0 rest.1 in
-    let step = step_hides start released more logs events (logs_after-sound start play) split in
+    let rest = releases_before start free more logs events split in
+    let before = play_hides start free play rest.0 rest.1 in
+    let step = step_hides start free more logs events (logs_after-sound start play) split in
     record {
       history =
           ap (λ (entry : BusRecord). entry ∷ blank (trace start play)) (sym step.entry)
-          ∙ (ap (λ (ls : Logs). next_record (opened released start) ls events ∷ blank
+          ∙ (ap (λ (ls : Logs). next_record (open_start free start) ls events ∷ blank
           (trace start play)) before.logs
-          ∙ ap (λ (history : List BusRecord). next_record (opened released start)
-          (logs_after (opened released start) play) events ∷ history) before.history);
+          ∙ ap (λ (history : List BusRecord). next_record (open_start free start)
+          (logs_after (open_start free start) play) events ∷ history) before.history);
       logs = sym step.after
-          ∙ ap (λ (ls : Logs). next_logs (opened released start) ls events) before.logs;
+          ∙ ap (λ (ls : Logs). next_logs (open_start free start) ls events) before.logs;
     }

@@ -7,7 +7,7 @@ use Rattle.bus_signals.specs.declared.rule.Rule.{Rule}
 use Rattle.part_definitions.specs.Flag.{last_pc}
 use Rattle.device_trace.specs.Blank.{blank_access, blank_value, blank_record}
 use Rattle.device_trace.specs.FirstRule.{first_rule}
-use Rattle.device_trace.specs.Formed.{AccessesAreFormed}
+use Rattle.device_trace.specs.AccessesAreFormed.{AccessesAreFormed}
 use Rattle.device_trace.specs.Logs.{Logs, vector_of, step_progress, accepts_timer, progress_after, released_words_after, with_events, with_record}
 use Rattle.device_trace.specs.Peripherals.{timer_after}
 use Rattle.device_trace.specs.Progress.{Progress, last_registers, next_progress}
@@ -15,14 +15,14 @@ use Rattle.device_trace.specs.Signals.{value_read, step_kind, proposed_access, s
 use Rattle.device_trace.specs.Start.{Start}
 use Rattle.device_trace.specs.Step.{access_recorded, dma_value_read, record_from, record_of, asks_reset, next_record}
 use Rattle.device_trace.specs.Trace.{next_logs}
-use Rattle.device_trace.proofs.Formed.{record_of-formed}
+use Rattle.device_trace.proofs.FormedAccess.{record_of-formed}
 use Rattle.trace_facts.proofs.Sound.{IsSound}
 use Rattle.trace_facts.proofs.SoundPlay.{with_events-sound}
-use Rattle.key_isolation.proofs.Hiding.{opened, hide_progress, hide, vector_of-hide, step_progress-hide, accepts_timer-hide, logged_bounds-hide}
+use Rattle.key_isolation.proofs.Hiding.{open_start, hide_progress, hide, vector_of-hide, step_progress-hide, accepts_timer-hide, logged_bounds-hide}
 use Rattle.key_isolation.proofs.FlagBlank.{blank_seen}
 use Rattle.key_isolation.proofs.WrittenBytes.{memory_after-hide}
 use Rattle.key_isolation.proofs.Projections.{timer_after-blank, serial_after-blank, dma_after-blank, released_words_after-blank}
-use Rattle.key_isolation.proofs.RecordBlank.{SameUnrefused, unrefused_same, record_of-hide}
+use Rattle.key_isolation.proofs.RecordBlank.{SameWithoutRule, unrefused_same, record_of-hide}
 
 -- what the logs need of a record
 pub record FollowsBlank (logs : Logs) (entry : BusRecord) : Type 0 where
@@ -47,22 +47,22 @@ timer-hide logs entry =
     (accepts_timer (hide_progress logs.progress) entry.kind vector)
     (blank_access entry.cpu) logs.peripherals.timer)
     (vector_of-hide logs)
-    ∙ (ap (λ (accepted : Bool). timer_after entry.reset accepted
+    ∙ (ap (λ (accepts : Bool). timer_after entry.reset accepts
     (blank_access entry.cpu) logs.peripherals.timer)
     (accepts_timer-hide logs.progress entry.kind (vector_of logs))
     ∙ timer_after-blank entry.reset
     (accepts_timer logs.progress entry.kind (vector_of logs)) entry.cpu logs.peripherals.timer)
 
-with_record-blank : (start : Start) (released : List ℕ) (logs : Logs) (entry : BusRecord)
+with_record-blank : (start : Start) (free : List ℕ) (logs : Logs) (entry : BusRecord)
     → AccessesAreFormed entry → FollowsBlank logs entry
-    → with_record (opened released start) (hide logs) (blank_record entry)
+    → with_record (open_start free start) (hide logs) (blank_record entry)
     ≡ hide (with_record start logs entry)
 unfolding with_record
-with_record-blank start released logs entry formed follows =
+with_record-blank start free logs entry forms follows =
     λ i. record {
       progress = follows.progress i;
       memory =
-          memory_after-hide entry.reset entry.cpu entry.dma logs.memory formed.cpu formed.dma i;
+          memory_after-hide entry.reset entry.cpu entry.dma logs.memory forms.cpu forms.dma i;
       peripherals =
           record {
             timer = timer-hide logs entry i;
@@ -73,23 +73,23 @@ with_record-blank start released logs entry formed follows =
                 logs.peripherals.dma follows.dma_kept i;
             pins = logs.peripherals.pins;
           };
-      seen =
-          record { entry = blank_record entry; bounds = logged_bounds-hide start released logs i }
-          ∷ map blank_seen logs.seen;
+      records =
+          record { entry = blank_record entry; bounds = logged_bounds-hide start free logs i }
+          ∷ map blank_seen logs.records;
       released_words =
           released_words_after-blank entry.reset entry.kind entry.cpu logs.released_words i;
     }
 
 -- the record of a step has it
-follows_at : (start : Start) (released : List ℕ) (logs : Logs) (reset : Bool) (rule : Option Rule)
-    → (rule ≡ None → SameUnrefused start released logs reset)
+follows_at : (start : Start) (free : List ℕ) (logs : Logs) (reset : Bool) (rule : Option Rule)
+    → (rule ≡ None → SameWithoutRule start free logs reset)
     → FollowsBlank logs
     (record_from (last_registers logs.progress) (signals_of start logs reset) rule
     (value_read start logs (signals_of start logs reset).cpu)
     (dma_value_read start logs (signals_of start logs reset)))
 unfolding signals_at
-follows_at start released logs reset None unrefused =
-    let same : SameUnrefused start released logs reset = unrefused refl in
+follows_at start free logs reset None is_same =
+    let same : SameWithoutRule start free logs reset = is_same refl in
     let real : Option Access = proposed_access start logs (step_kind logs) in
     record {
       dma_kept = λ none. same.numbers.dma_kept;
@@ -100,28 +100,28 @@ follows_at start released logs reset None unrefused =
           (step_progress-hide logs (step_kind logs))
           ∙ same.next;
     }
-follows_at start released logs reset (Some rule) unrefused =
+follows_at start free logs reset (Some rule) is_same =
     record { dma_kept = λ none. absurd (cc); progress = refl }
 
-follows_record : (start : Start) (released : List ℕ) (logs : Logs) (reset : Bool)
-    → (first_rule (last_pc logs.seen) (signals_of start logs reset) ≡ None
-    → SameUnrefused start released logs reset)
+follows_record : (start : Start) (free : List ℕ) (logs : Logs) (reset : Bool)
+    → (first_rule (last_pc logs.records) (signals_of start logs reset) ≡ None
+    → SameWithoutRule start free logs reset)
     → FollowsBlank logs (record_of start logs reset)
 unfolding record_of
-follows_record start released logs reset unrefused =
-    follows_at start released logs reset
-    (first_rule (last_pc logs.seen) (signals_of start logs reset)) unrefused
+follows_record start free logs reset is_same =
+    follows_at start free logs reset
+    (first_rule (last_pc logs.records) (signals_of start logs reset)) is_same
 
 -- a step that is not refused releases what its proposed access carries
-split_unrefused : (start : Start) (released more : List ℕ) (logs : Logs) (reset : Bool)
-    → released
+split_unrefused : (start : Start) (free more : List ℕ) (logs : Logs) (reset : Bool)
+    → free
     ≡ released_words_after (record_of start logs reset).reset (record_of start logs reset).kind
     (record_of start logs reset).cpu logs.released_words ++ more
-    → first_rule (last_pc logs.seen) (signals_of start logs reset) ≡ None
-    → released ≡ released_words_after None (step_kind logs)
+    → first_rule (last_pc logs.records) (signals_of start logs reset) ≡ None
+    → free ≡ released_words_after None (step_kind logs)
     (proposed_access start logs (step_kind logs)) logs.released_words ++ more
 unfolding record_of signals_at
-split_unrefused start released more logs reset split none =
+split_unrefused start free more logs reset split none =
     split
     ∙ ap
     (λ (rule : Option Rule). released_words_after rule (step_kind logs)
@@ -130,33 +130,33 @@ split_unrefused start released more logs reset split none =
     none
 
 -- record and logs of a step
-pub record StepHides (start : Start) (released : List ℕ) (logs : Logs)
+pub record StepHides (start : Start) (free : List ℕ) (logs : Logs)
     (events : List Event) : Type 0 where
-  pub entry : next_record (opened released start) (hide logs) events
+  pub entry : next_record (open_start free start) (hide logs) events
       ≡ blank_record (next_record start logs events)
-  pub after : next_logs (opened released start) (hide logs) events
+  pub after : next_logs (open_start free start) (hide logs) events
       ≡ hide (next_logs start logs events)
 
-step_hides_after_events : (start : Start) (released more : List ℕ) (logs : Logs) (reset : Bool)
-    → IsSound logs.progress (last_pc logs.seen)
-    → released
+step_hides_after_events : (start : Start) (free more : List ℕ) (logs : Logs) (reset : Bool)
+    → IsSound logs.progress (last_pc logs.records)
+    → free
     ≡ released_words_after (record_of start logs reset).reset (record_of start logs reset).kind
     (record_of start logs reset).cpu logs.released_words ++ more
-    → (record_of (opened released start) (hide logs) reset
+    → (record_of (open_start free start) (hide logs) reset
     ≡ blank_record (record_of start logs reset))
-    × (with_record (opened released start) (hide logs) (blank_record (record_of start logs reset))
+    × (with_record (open_start free start) (hide logs) (blank_record (record_of start logs reset))
     ≡ hide (with_record start logs (record_of start logs reset)))
-step_hides_after_events start released more logs reset sound split =
-    let unrefused : first_rule (last_pc logs.seen) (signals_of start logs reset) ≡ None
-    → SameUnrefused start released logs reset =
-    λ none. unrefused_same start released more logs reset sound none
-    (split_unrefused start released more logs reset split none) in (
-      record_of-hide start released more logs reset
-          (first_rule (last_pc logs.seen) (signals_of start logs reset)) sound refl
-          unrefused,
-      with_record-blank start released logs (record_of start logs reset)
+step_hides_after_events start free more logs reset sound split =
+    let is_same : first_rule (last_pc logs.records) (signals_of start logs reset) ≡ None
+    → SameWithoutRule start free logs reset =
+    λ none. unrefused_same start free more logs reset sound none
+    (split_unrefused start free more logs reset split none) in (
+      record_of-hide start free more logs reset
+          (first_rule (last_pc logs.records) (signals_of start logs reset)) sound refl
+          is_same,
+      with_record-blank start free logs (record_of start logs reset)
           (record_of-formed start logs reset)
-          (follows_record start released logs reset unrefused),
+          (follows_record start free logs reset is_same),
     )
 
 with_events-hide : (logs : Logs) (events : List Event)
@@ -164,27 +164,27 @@ with_events-hide : (logs : Logs) (events : List Event)
 unfolding with_events
 with_events-hide logs events = refl
 
-pub step_hides : (start : Start) (released more : List ℕ) (logs : Logs) (events : List Event)
-    → IsSound logs.progress (last_pc logs.seen)
-    → released ≡ (next_logs start logs events).released_words ++ more
-    → StepHides start released logs events
+pub step_hides : (start : Start) (free more : List ℕ) (logs : Logs) (events : List Event)
+    → IsSound logs.progress (last_pc logs.records)
+    → free ≡ (next_logs start logs events).released_words ++ more
+    → StepHides start free logs events
 unfolding next_record with_record
-step_hides start released more logs events sound split =
+step_hides start free more logs events sound split =
     let after : Logs = with_events logs events in
     let both =
-    step_hides_after_events start released more after (asks_reset events)
+    step_hides_after_events start free more after (asks_reset events)
     (with_events-sound logs events sound) split in
-    let entry : next_record (opened released start) (hide logs) events
+    let entry : next_record (open_start free start) (hide logs) events
     ≡ blank_record (next_record start logs events) =
-    ap (λ (ls : Logs). record_of (opened released start) ls (asks_reset events))
+    ap (λ (ls : Logs). record_of (open_start free start) ls (asks_reset events))
     (with_events-hide logs events)
     ∙ both.0 in
     record {
       entry = entry;
       after =
           ap
-          (λ (ls : Logs). with_record (opened released start) ls
-          (next_record (opened released start) (hide logs) events))
+          (λ (ls : Logs). with_record (open_start free start) ls
+          (next_record (open_start free start) (hide logs) events))
           (with_events-hide logs events)
-          ∙ (ap (with_record (opened released start) (hide after)) entry ∙ both.1);
+          ∙ (ap (with_record (open_start free start) (hide after)) entry ∙ both.1);
     }

@@ -12,9 +12,9 @@ use Rattle.bus_signals.specs.declared.kind.Kind.TheVariants.{Rom}
 use Rattle.bus_signals.specs.Access.{some_writes, some_reads}
 use Rattle.bus_signals.specs.Map.{touches, some_touches, key_region, stack_region, ROM_EXIT}
 use Rattle.part_definitions.specs.Attestation.{CallItem, KeyRead, region_words, item_after, call_item, item_access, item_pc, is_return, bounds_read}
-use Rattle.part_definitions.specs.CpuRegisters.{sp_of}
+use Rattle.part_definitions.specs.CpuRegister.{sp_of}
 use Rattle.part_definitions.specs.CpuState.{CpuState, cpu_pc}
-use Rattle.part_definitions.specs.Monitors.{in_rom}
+use Rattle.part_definitions.specs.MonitorRule.{in_rom}
 use Rattle.device_trace.specs.Blank.{touches_secrets, blank_access, blank_value}
 use Rattle.device_trace.specs.Logs.{Logs, with_released_word, released_words_after}
 use Rattle.device_trace.specs.Progress.{Progress, Held, Runs, InCall, next_pc_of, running_access, access_of, after_return, call_after, next_progress}
@@ -24,7 +24,7 @@ use Rattle.key_isolation.proofs.Bytes.{zero_either}
 use Rattle.trace_facts.proofs.Choices.{first_false}
 use Rattle.trace_facts.proofs.Sound.{IsWithin}
 use Rattle.key_isolation.proofs.HiddenWords.{hide_first, call_item-hide, hide_first-hidden, hide_first-kept}
-use Rattle.key_isolation.proofs.Hiding.{opened, hide_progress, hide}
+use Rattle.key_isolation.proofs.Hiding.{open_start, hide_progress, hide}
 use Rattle.key_isolation.proofs.Reading.{value_read-hide}
 use Rattle.key_isolation.proofs.SignalShape.{item_access-hide}
 use Rattle.trace_facts.proofs.CallPlaces.{item_after-fits}
@@ -39,33 +39,33 @@ pub record KeepsSecrets (access : Option Access) (pc : ℕ) : Type 0 where
       && (some_touches access key_region || some_touches access stack_region)) ≡ false
 
 -- access and value of a step, real and without the key, and where they lead
-pub record SameStep (start : Start) (released : List ℕ) (logs : Logs) (kind : Kind)
-    (progress : Progress) (real seen : Option Access) : Type 0 where
-  pub access : blank_access real ≡ seen
+pub record SameStep (start : Start) (free : List ℕ) (logs : Logs) (kind : Kind)
+    (progress : Progress) (real view : Option Access) : Type 0 where
+  pub access : blank_access real ≡ view
   pub value : blank_value real (value_read start logs real)
-      ≡ value_read (opened released start) (hide logs) seen
+      ≡ value_read (open_start free start) (hide logs) view
   pub next :
-      next_progress kind (hide_progress progress) seen
-      (value_read (opened released start) (hide logs) seen)
+      next_progress kind (hide_progress progress) view
+      (value_read (open_start free start) (hide logs) view)
       ≡ hide_progress (next_progress kind progress real (value_read start logs real))
 
 -- an access outside the ROM
-record SameAccess (start : Start) (released : List ℕ) (logs : Logs)
+record SameAccess (start : Start) (free : List ℕ) (logs : Logs)
     (access : Option Access) : Type 0 where
   same : blank_access access ≡ access
   blanked : blank_value access (value_read start logs access)
-      ≡ value_read (opened released start) (hide logs) access
-  value : value_read (opened released start) (hide logs) access ≡ value_read start logs access
+      ≡ value_read (open_start free start) (hide logs) access
+  value : value_read (open_start free start) (hide logs) access ≡ value_read start logs access
 
-unwritten : (key stack : Bool) → (key && true) ≡ false → stack ≡ false → (key || stack) ≡ false
-unwritten true stack off rest = absurd (cc)
-unwritten false stack off rest = rest
+no_write : (key stack : Bool) → (key && true) ≡ false → stack ≡ false → (key || stack) ≡ false
+no_write true stack off rest = absurd (cc)
+no_write false stack off rest = rest
 
-reads_same : (start : Start) (released : List ℕ) (logs : Logs) (access : Access)
+reads_same : (start : Start) (free : List ℕ) (logs : Logs) (access : Access)
     → blank_access (Some access) ≡ Some access → touches_secrets access ≡ false
-    → SameAccess start released logs (Some access)
-reads_same start released logs access same off =
-    let value = value_read-hide start released logs access off in
+    → SameAccess start free logs (Some access)
+reads_same start free logs access same off =
+    let value = value_read-hide start free logs access off in
     record {
       same = same;
       blanked = cond-false (touches_secrets access) 0 (value_read start logs (Some access)) off
@@ -73,17 +73,17 @@ reads_same start released logs access same off =
       value = value;
     }
 
-access_same : (start : Start) (released : List ℕ) (logs : Logs) (access : Option Access)
+access_same : (start : Start) (free : List ℕ) (logs : Logs) (access : Option Access)
     → (some_touches access key_region && not (some_writes access)) ≡ false
     → some_touches access stack_region ≡ false
-    → SameAccess start released logs access
-access_same start released logs None key stack =
+    → SameAccess start free logs access
+access_same start free logs None key stack =
     record { same = refl; blanked = refl; value = refl }
-access_same start released logs (Some (Fetch place)) key stack =
-    reads_same start released logs (Fetch place) refl (unwritten _ _ key stack)
-access_same start released logs (Some (Read place size)) key stack =
-    reads_same start released logs (Read place size) refl (unwritten _ _ key stack)
-access_same start released logs (Some (Write place size number)) key stack =
+access_same start free logs (Some (Fetch place)) key stack =
+    reads_same start free logs (Fetch place) refl (no_write _ _ key stack)
+access_same start free logs (Some (Read place size)) key stack =
+    reads_same start free logs (Read place size) refl (no_write _ _ key stack)
+access_same start free logs (Some (Write place size number)) key stack =
     record {
       same =
           ap (λ (n : ℕ). Some (Write place size n))
@@ -93,14 +93,14 @@ access_same start released logs (Some (Write place size number)) key stack =
     }
 
 -- outside the ROM the rules have less to say
-runs_same : (start : Start) (released : List ℕ) (logs : Logs) (kind : Kind) (cpu : CpuState)
+runs_same : (start : Start) (free : List ℕ) (logs : Logs) (kind : Kind) (cpu : CpuState)
     → in_rom (cpu_pc cpu) ≡ false
     → KeepsSecrets (running_access kind cpu) (cpu_pc cpu)
-    → SameStep start released logs kind (Runs cpu) (running_access kind cpu)
+    → SameStep start free logs kind (Runs cpu) (running_access kind cpu)
     (running_access kind cpu)
-runs_same start released logs kind cpu outside keeps =
+runs_same start free logs kind cpu outside keeps =
     let access : Option Access = running_access kind cpu in
-    let same = access_same start released logs access
+    let same = access_same start free logs access
     (first_false (some_touches access key_region && not (some_writes access))
     (in_rom (cpu_pc cpu)) keeps.k1 outside)
     (first_false (some_touches access stack_region) (in_rom (cpu_pc cpu)) keeps.k2 outside) in
@@ -111,22 +111,22 @@ runs_same start released logs kind cpu outside keeps =
     }
 
 -- what a call goes on with
-call_item-first : (region passed : ℕ) → passed < 32 → is_return (item_after region passed) ≡ false
-call_item-first region passed fewer =
-    ap is_return (cond-true (nat_lt passed 32) (KeyRead passed) _ (lt-ltb passed 32 fewer))
+call_item-first : (region count : ℕ) → count < 32 → is_return (item_after region count) ≡ false
+call_item-first region count fewer =
+    ap is_return (cond-true (nat_lt count 32) (KeyRead count) _ (lt-ltb count 32 fewer))
 
-goes_either : (returns : Bool) (regs words hidden : List ℕ) (word word' : ℕ)
+goes_either : (returns : Bool) (regs words blanks : List ℕ) (word word' : ℕ)
     → (returns ≡ true → word' ≡ word)
-    → hidden ++ word' ∷ [] ≡ hide_first 32 (words ++ word ∷ [])
-    → (if returns then after_return regs word' else InCall regs (hidden ++ word' ∷ []))
+    → blanks ++ word' ∷ [] ≡ hide_first 32 (words ++ word ∷ [])
+    → (if returns then after_return regs word' else InCall regs (blanks ++ word' ∷ []))
     ≡ hide_progress (if returns then after_return regs word else InCall regs (words ++ word ∷ []))
-goes_either true regs words hidden word word' same more = ap (after_return regs) (same refl)
-goes_either false regs words hidden word word' same more = ap (λ (ws : List ℕ). InCall regs ws) more
+goes_either true regs words blanks word word' same more = ap (after_return regs) (same refl)
+goes_either false regs words blanks word word' same more = ap (λ (ws : List ℕ). InCall regs ws) more
 
 call_after-hide : (regs words : List ℕ) (word word' : ℕ)
     → (length words < 32 → word' ≡ 0) → (32 ≤ length words → word' ≡ word)
     → call_after regs (hide_first 32 words) word' ≡ hide_progress (call_after regs words word)
-call_after-hide regs words word word' hidden kept =
+call_after-hide regs words word word' blanks stays =
     ap
     (λ (item : CallItem). if is_return item then after_return regs word'
     else InCall regs (hide_first 32 words ++ word' ∷ []))
@@ -137,43 +137,43 @@ call_after-hide regs words word word' hidden kept =
           (λ returns. absurd
           (let no = call_item-first (region_words (bounds_read words))
           (length words) fewer in let clash : true ≡ false = sym returns ∙ no in cc))
-          (ap (λ (w : ℕ). hide_first 32 words ++ w ∷ []) (hidden fewer)
+          (ap (λ (w : ℕ). hide_first 32 words ++ w ∷ []) (blanks fewer)
           ∙ sym (hide_first-hidden 32 words word fewer))
       | inr past ↦
           goes_either (is_return (call_item words)) regs words (hide_first 32 words) word word'
-          (λ returns. kept past)
-          (ap (λ (w : ℕ). hide_first 32 words ++ w ∷ []) (kept past)
+          (λ returns. stays past)
+          (ap (λ (w : ℕ). hide_first 32 words ++ w ∷ []) (stays past)
           ∙ sym (hide_first-kept 32 words word past))
     ])
 
-call_same : (start : Start) (released more : List ℕ) (logs : Logs) (regs words : List ℕ)
+call_same : (start : Start) (free more : List ℕ) (logs : Logs) (regs words : List ℕ)
     → KeepsSecrets (access_of start (length logs.released_words) Rom (InCall regs words))
     (item_pc (call_item words))
-    → released ≡ with_released_word
+    → free ≡ with_released_word
     (access_of start (length logs.released_words) Rom (InCall regs words)) logs.released_words
     ++ more
-    → SameStep start released logs Rom (InCall regs words)
+    → SameStep start free logs Rom (InCall regs words)
     (access_of start (length logs.released_words) Rom (InCall regs words))
-    (access_of (opened released start) (length logs.released_words) Rom
+    (access_of (open_start free start) (length logs.released_words) Rom
     (hide_progress (InCall regs words)))
-call_same start released more logs regs words keeps split =
+call_same start free more logs regs words keeps split =
     let access_given : Access =
     item_access (sp_of regs) (bounds_read words) (call_item words)
-    (given_word released (length logs.released_words) (call_item words)) in
-    let seen : access_of (opened released start) (length logs.released_words) Rom
+    (given_word free (length logs.released_words) (call_item words)) in
+    let view : access_of (open_start free start) (length logs.released_words) Rom
     (hide_progress (InCall regs words)) ≡ Some access_given =
     ap (λ (access : Access). Some access) (item_access-hide (sp_of regs) words _)
     ∙ ap (λ (item : CallItem). Some
     (item_access (sp_of regs) (bounds_read words) (call_item words)
-    (given_word released (length logs.released_words) item)))
+    (given_word free (length logs.released_words) item)))
     (call_item-hide words) in
     let same =
-    same_item start released more logs (sp_of regs) (length words)
+    same_item start free more logs (sp_of regs) (length words)
     (start.call_word (length logs.released_words) (call_item words) words) (bounds_read words)
     (call_item words)
     (item_after-fits (region_words (bounds_read words)) (length words)) keeps.a4 split in
     let claim : Option Access → Type 0 =
-    λ access. SameStep start released logs Rom (InCall regs words)
+    λ access. SameStep start free logs Rom (InCall regs words)
     (access_of start (length logs.released_words) Rom (InCall regs words)) access in
     let at_access : claim (Some access_given) =
     record {
@@ -181,38 +181,38 @@ call_same start released more logs regs words keeps split =
       value = same.value;
       next = call_after-hide regs words _ _ same.hidden same.kept;
     } in
-    subst claim (sym seen) at_access
+    subst claim (sym view) at_access
 
-pub step_same : (start : Start) (released more : List ℕ) (logs : Logs) (kind : Kind)
+pub step_same : (start : Start) (free more : List ℕ) (logs : Logs) (kind : Kind)
     (progress : Progress)
     → IsWithin kind progress
     → KeepsSecrets (access_of start (length logs.released_words) kind progress)
     (next_pc_of progress)
-    → released
+    → free
     ≡ released_words_after None kind
     (access_of start (length logs.released_words) kind progress) logs.released_words ++ more
-    → SameStep start released logs kind progress
+    → SameStep start free logs kind progress
     (access_of start (length logs.released_words) kind progress)
-    (access_of (opened released start) (length logs.released_words) kind (hide_progress progress))
-step_same start released more logs kind Held within keeps split =
-    let same = reads_same start released logs (Read 0xFFFE Word) refl refl in
+    (access_of (open_start free start) (length logs.released_words) kind (hide_progress progress))
+step_same start free more logs kind Held within keeps split =
+    let same = reads_same start free logs (Read 0xFFFE Word) refl refl in
     record {
       access = refl;
       value = same.blanked;
       next = ap (λ (value : ℕ). next_progress kind Held None value) same.value;
     }
-step_same start released more logs kind (Runs cpu) within keeps split =
-    runs_same start released logs kind cpu within keeps
-step_same start released more logs kind (InCall regs words) within keeps split =
+step_same start free more logs kind (Runs cpu) within keeps split =
+    runs_same start free logs kind cpu within keeps
+step_same start free more logs kind (InCall regs words) within keeps split =
     subst
-    (λ (k : Kind). released
+    (λ (k : Kind). free
     ≡ released_words_after None k
     (access_of start (length logs.released_words) k (InCall regs words)) logs.released_words
     ++ more
-    → SameStep start released logs k (InCall regs words)
+    → SameStep start free logs k (InCall regs words)
     (access_of start (length logs.released_words) k (InCall regs words))
-    (access_of (opened released start) (length logs.released_words) k
+    (access_of (open_start free start) (length logs.released_words) k
     (hide_progress (InCall regs words))))
     (sym within)
-    (λ rom_split. call_same start released more logs regs words keeps rom_split)
+    (λ rom_split. call_same start free more logs regs words keeps rom_split)
     split

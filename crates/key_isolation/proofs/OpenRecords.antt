@@ -35,7 +35,7 @@ blank_record-open entry cpu dma =
     }
 
 pub image_place-open : (place : ℕ) → IsTrue (is_image_place place) → IsFalse (is_secret place)
-image_place-open place held = grind (arith, nat_tests)
+image_place-open place holds = grind (arith, nat_tests)
 
 -- an access that does not write to the MAC
 with_released_word-elsewhere : (access : Option Access) (words : List ℕ)

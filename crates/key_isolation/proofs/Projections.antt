@@ -23,11 +23,11 @@ with_timer_access-blank : (access : Option Access) (events : List TimerEvent)
     → with_timer_access (blank_access access) events ≡ with_timer_access access events
 with_timer_access-blank access events = grind (arith, nat_tests)
 
-pub timer_after-blank : (rule : Option Rule) (accepted : Bool) (access : Option Access)
+pub timer_after-blank : (rule : Option Rule) (accepts : Bool) (access : Option Access)
     (events : List TimerEvent)
-    → timer_after rule accepted (blank_access access) events
-    ≡ timer_after rule accepted access events
-timer_after-blank rule accepted access events = grind (arith, with_timer_access-blank)
+    → timer_after rule accepts (blank_access access) events
+    ≡ timer_after rule accepts access events
+timer_after-blank rule accepts access events = grind (arith, with_timer_access-blank)
 
 pub serial_after-blank : (rule : Option Rule) (access : Option Access) (events : List SerialEvent)
     → serial_after rule (blank_access access) events ≡ serial_after rule access events

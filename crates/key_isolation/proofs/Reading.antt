@@ -8,34 +8,35 @@ use Rattle.word_arith.specs.declared.size.Size.TheVariants.{Word}
 use Rattle.bus_signals.specs.declared.access.Access.{Access}
 use Rattle.bus_signals.specs.declared.access.Access.TheVariants.{Fetch, Read, Write}
 use Rattle.bus_signals.specs.Map.{lies_in, touches, peripheral_region, key_region, stack_region}
-use Rattle.part_definitions.specs.Accesses.{fetch_at}
+use Rattle.part_definitions.specs.BusAccess.{fetch_at}
 use Rattle.part_definitions.specs.Memory.{number_at}
-use Rattle.part_definitions.specs.Monitors.{in_rom}
+use Rattle.part_definitions.specs.MonitorRule.{in_rom}
 use Rattle.device_trace.specs.Blank.{touches_secrets}
 use Rattle.device_trace.specs.Logs.{Logs, logged_byte}
 use Rattle.device_trace.specs.Peripherals.{peripheral_read}
 use Rattle.device_trace.specs.Signals.{number_read, value_read, word_fetched}
 use Rattle.device_trace.specs.Start.{Start}
 use Rattle.key_isolation.proofs.Bytes.{same_if}
-use Rattle.key_isolation.proofs.Hiding.{opened, hide, logged_byte-hide}
+use Rattle.key_isolation.proofs.Hiding.{open_start, hide, logged_byte-hide}
 use Rattle.key_isolation.proofs.Numbers.{number_at-outside}
 
 number_read-hide : (start : Start) (words : List ℕ) (logs : Logs) (place : ℕ) (size : Size)
     → touches_secrets (Read place size) ≡ false
-    → number_read (opened words start) (hide logs) place size ≡ number_read start logs place size
+    → number_read (open_start words start) (hide logs) place size
+    ≡ number_read start logs place size
 number_read-hide start words logs place size off =
     same_if (lies_in peripheral_region place) (peripheral_read logs.peripherals place size)
     (peripheral_read logs.peripherals place size)
-    (number_at (logged_byte (opened words start) (hide logs)) place size)
+    (number_at (logged_byte (open_start words start) (hide logs)) place size)
     (number_at (logged_byte start logs) place size)
     (λ peripheral. refl)
     (λ memory.
-    number_at-outside (logged_byte (opened words start) (hide logs)) (logged_byte start logs)
+    number_at-outside (logged_byte (open_start words start) (hide logs)) (logged_byte start logs)
     (logged_byte-hide start words logs) place size off)
 
 pub value_read-hide : (start : Start) (words : List ℕ) (logs : Logs) (access : Access)
     → touches_secrets access ≡ false
-    → value_read (opened words start) (hide logs) (Some access)
+    → value_read (open_start words start) (hide logs) (Some access)
     ≡ value_read start logs (Some access)
 value_read-hide start words logs (Fetch place) off =
     number_read-hide start words logs place Word off
@@ -52,6 +53,6 @@ fetch_off pc key stack = grind (arith, nat_tests)
 
 pub word_fetched-hide : (start : Start) (words : List ℕ) (logs : Logs) (pc : ℕ)
     → touches_secrets (fetch_at pc) ≡ false
-    → word_fetched (opened words start) (hide logs) (Some (fetch_at pc))
+    → word_fetched (open_start words start) (hide logs) (Some (fetch_at pc))
     ≡ word_fetched start logs (Some (fetch_at pc))
 word_fetched-hide start words logs pc off = number_read-hide start words logs (pc / 2 * 2) Word off

@@ -15,22 +15,22 @@ use Rattle.device_trace.specs.Progress.{Progress, last_registers, next_pc_of, ac
 use Rattle.device_trace.specs.Signals.{value_read, step_kind, proposed_access, signals_at, signals_of}
 use Rattle.device_trace.specs.Start.{Start}
 use Rattle.device_trace.specs.Step.{without_number, dma_value_read, record_from, record_of}
-use Rattle.device_trace.proofs.Formed.{access_of-formed}
+use Rattle.device_trace.proofs.FormedAccess.{access_of-formed}
 use Rattle.key_isolation.proofs.Bytes.{zero_either}
-use Rattle.trace_facts.proofs.Unbroken.{BreaksNoRule, first_rule-none}
+use Rattle.trace_facts.proofs.BreaksNoRule.{BreaksNoRule, first_rule-none}
 use Rattle.trace_facts.proofs.Sound.{IsSound, progress_within-right}
 use Rattle.key_isolation.proofs.FlagBlank.{last_pc-blank}
-use Rattle.key_isolation.proofs.Hiding.{opened, hide_progress, hide, last_registers-hide, step_kind-hide, step_progress-hide}
+use Rattle.key_isolation.proofs.Hiding.{open_start, hide_progress, hide, last_registers-hide, step_kind-hide, step_progress-hide}
 use Rattle.key_isolation.proofs.SameRule.{SameSignals, first_rule-same}
 use Rattle.key_isolation.proofs.SignalShape.{signals_of-hide}
 use Rattle.key_isolation.proofs.OneStep.{KeepsSecrets, SameStep, step_same}
 use Rattle.key_isolation.proofs.DmaStep.{dma_same, written-outside}
 
 -- accesses and values of two records
-pub record SameNumbers (now seen : Signals) (read read' dma_read dma_read' : ℕ) : Type 0 where
-  pub cpu : blank_access now.cpu ≡ seen.cpu
+pub record SameNumbers (now view : Signals) (read read' dma_read dma_read' : ℕ) : Type 0 where
+  pub cpu : blank_access now.cpu ≡ view.cpu
   pub value : blank_value now.cpu read ≡ read'
-  pub dma : blank_access now.dma ≡ seen.dma
+  pub dma : blank_access now.dma ≡ view.dma
   pub dma_value : blank_value now.dma dma_read ≡ dma_read'
   pub dma_kept : blank_value now.dma dma_read ≡ dma_read
 
@@ -47,14 +47,14 @@ pub blank_value-zero : (access : Option Access) → blank_value access 0 ≡ 0
 blank_value-zero None = refl
 blank_value-zero (Some access) = zero_either (touches_secrets access)
 
-record_from-blank : (rule : Option Rule) (regs regs' : List ℕ) (now seen : Signals)
+record_from-blank : (rule : Option Rule) (regs regs' : List ℕ) (now view : Signals)
     (value value' dma_value dma_value' : ℕ)
     → regs' ≡ regs
-    → SameSignals seen now
-    → (rule ≡ None → SameNumbers now seen value value' dma_value dma_value')
-    → record_from regs' seen rule value' dma_value'
+    → SameSignals view now
+    → (rule ≡ None → SameNumbers now view value value' dma_value dma_value')
+    → record_from regs' view rule value' dma_value'
     ≡ blank_record (record_from regs now rule value dma_value)
-record_from-blank None regs regs' now seen value value' dma_value dma_value' registers same
+record_from-blank None regs regs' now view value value' dma_value dma_value' registers same
     numbers =
     let open_numbers = numbers refl in
     λ i. record {
@@ -69,7 +69,7 @@ record_from-blank None regs regs' now seen value value' dma_value dma_value' reg
       reset = None;
     }
 record_from-blank
-    (Some rule) regs regs' now seen value value' dma_value dma_value' registers same numbers =
+    (Some rule) regs regs' now view value value' dma_value dma_value' registers same numbers =
     λ i. record {
       kind = same.kind i;
       pc = same.pc i;
@@ -83,27 +83,27 @@ record_from-blank
     }
 
 -- the proposed access without the key
-proposed-hide : (start : Start) (released : List ℕ) (logs : Logs)
-    → proposed_access (opened released start) (hide logs) (step_kind (hide logs))
-    ≡ access_of (opened released start) (length logs.released_words) (step_kind logs)
+proposed-hide : (start : Start) (free : List ℕ) (logs : Logs)
+    → proposed_access (open_start free start) (hide logs) (step_kind (hide logs))
+    ≡ access_of (open_start free start) (length logs.released_words) (step_kind logs)
     (hide_progress (step_progress logs (step_kind logs)))
-proposed-hide start released logs =
-    ap (proposed_access (opened released start) (hide logs)) (step_kind-hide logs)
-    ∙ ap (access_of (opened released start) (length logs.released_words) (step_kind logs))
+proposed-hide start free logs =
+    ap (proposed_access (open_start free start) (hide logs)) (step_kind-hide logs)
+    ∙ ap (access_of (open_start free start) (length logs.released_words) (step_kind logs))
     (step_progress-hide logs (step_kind logs))
 
 -- all that a step which is not refused has in common with that without the key
-pub record SameUnrefused (start : Start) (released : List ℕ) (logs : Logs)
+pub record SameWithoutRule (start : Start) (free : List ℕ) (logs : Logs)
     (reset : Bool) : Type 0 where
   pub numbers :
       SameNumbers (signals_of start logs reset)
-      (signals_of (opened released start) (hide logs) reset)
+      (signals_of (open_start free start) (hide logs) reset)
       (value_read start logs (proposed_access start logs (step_kind logs)))
-      (value_read (opened released start) (hide logs)
-      (proposed_access (opened released start) (hide logs) (step_kind (hide logs))))
+      (value_read (open_start free start) (hide logs)
+      (proposed_access (open_start free start) (hide logs) (step_kind (hide logs))))
       (dma_value_read start logs (signals_of start logs reset))
-      (dma_value_read (opened released start) (hide logs)
-      (signals_of (opened released start) (hide logs) reset))
+      (dma_value_read (open_start free start) (hide logs)
+      (signals_of (open_start free start) (hide logs) reset))
   pub next :
       next_progress (step_kind logs) (hide_progress (step_progress logs (step_kind logs)))
       (blank_access (proposed_access start logs (step_kind logs)))
@@ -114,35 +114,35 @@ pub record SameUnrefused (start : Start) (released : List ℕ) (logs : Logs)
       (proposed_access start logs (step_kind logs))
       (value_read start logs (proposed_access start logs (step_kind logs))))
 
-pub unrefused_same : (start : Start) (released more : List ℕ) (logs : Logs) (reset : Bool)
-    → IsSound logs.progress (last_pc logs.seen)
-    → first_rule (last_pc logs.seen) (signals_of start logs reset) ≡ None
-    → released ≡ released_words_after None (step_kind logs)
+pub unrefused_same : (start : Start) (free more : List ℕ) (logs : Logs) (reset : Bool)
+    → IsSound logs.progress (last_pc logs.records)
+    → first_rule (last_pc logs.records) (signals_of start logs reset) ≡ None
+    → free ≡ released_words_after None (step_kind logs)
     (proposed_access start logs (step_kind logs)) logs.released_words ++ more
-    → SameUnrefused start released logs reset
+    → SameWithoutRule start free logs reset
 unfolding signals_at
-unrefused_same start released more logs reset sound none split =
+unrefused_same start free more logs reset sound none split =
     let now : Signals = signals_of start logs reset in
-    let unbroken : BreaksNoRule (last_pc logs.seen) now =
-    first_rule-none (last_pc logs.seen) now none in
+    let breaks_none : BreaksNoRule (last_pc logs.records) now =
+    first_rule-none (last_pc logs.records) now none in
     let kind : Kind = step_kind logs in
     let progress : Progress = step_progress logs kind in
     let real : Option Access = proposed_access start logs kind in
-    let seen : Option Access =
-    proposed_access (opened released start) (hide logs) (step_kind (hide logs)) in
+    let view : Option Access =
+    proposed_access (open_start free start) (hide logs) (step_kind (hide logs)) in
     let keeps : KeepsSecrets real (next_pc_of progress) =
-    record { k1 = unbroken.key.k1; k2 = unbroken.key.k2; a4 = unbroken.atomicity.a4 } in
-    let step : SameStep start released logs kind progress real seen =
-    subst (λ (access : Option Access). SameStep start released logs kind progress real access)
-    (sym (proposed-hide start released logs))
-    (step_same start released more logs kind progress
+    record { k1 = breaks_none.key.k1; k2 = breaks_none.key.k2; a4 = breaks_none.atomicity.a4 } in
+    let step : SameStep start free logs kind progress real view =
+    subst (λ (access : Option Access). SameStep start free logs kind progress real access)
+    (sym (proposed-hide start free logs))
+    (step_same start free more logs kind progress
     (progress_within-right logs.progress (vector_of logs)
-    (last_pc logs.seen) sound unbroken.atomicity.a2) keeps split) in
+    (last_pc logs.records) sound breaks_none.atomicity.a2) keeps split) in
     let dma =
     dma_same _ _
-    (written-outside start logs real seen
+    (written-outside start logs real view
     (access_of-formed start (length logs.released_words) kind progress) step.access)
-    (dma_access logs.peripherals.dma) unbroken.key.k4 unbroken.key.k5 in
+    (dma_access logs.peripherals.dma) breaks_none.key.k4 breaks_none.key.k5 in
     record {
       numbers =
           record {
@@ -155,50 +155,50 @@ unrefused_same start released more logs reset sound none split =
       next =
           ap (λ (access : Option Access). next_progress kind (hide_progress progress) access
           (blank_value real (value_read start logs real))) step.access
-          ∙ (ap (next_progress kind (hide_progress progress) seen) step.value ∙ step.next);
+          ∙ (ap (next_progress kind (hide_progress progress) view) step.value ∙ step.next);
     }
 
 -- the values are those of the signals' accesses
-numbers_at : (start : Start) (released : List ℕ) (logs : Logs) (reset : Bool)
-    → SameUnrefused start released logs reset
+numbers_at : (start : Start) (free : List ℕ) (logs : Logs) (reset : Bool)
+    → SameWithoutRule start free logs reset
     → SameNumbers (signals_of start logs reset)
-    (signals_of (opened released start) (hide logs) reset)
+    (signals_of (open_start free start) (hide logs) reset)
     (value_read start logs (signals_of start logs reset).cpu)
-    (value_read (opened released start) (hide logs)
-    (signals_of (opened released start) (hide logs) reset).cpu)
+    (value_read (open_start free start) (hide logs)
+    (signals_of (open_start free start) (hide logs) reset).cpu)
     (dma_value_read start logs (signals_of start logs reset))
-    (dma_value_read (opened released start) (hide logs)
-    (signals_of (opened released start) (hide logs) reset))
+    (dma_value_read (open_start free start) (hide logs)
+    (signals_of (open_start free start) (hide logs) reset))
 unfolding signals_at
-numbers_at start released logs reset same = same.numbers
+numbers_at start free logs reset same = same.numbers
 
 -- the record of the next step
-pub record_of-hide : (start : Start) (released more : List ℕ) (logs : Logs) (reset : Bool)
+pub record_of-hide : (start : Start) (free more : List ℕ) (logs : Logs) (reset : Bool)
     (rule : Option Rule)
-    → IsSound logs.progress (last_pc logs.seen)
-    → first_rule (last_pc logs.seen) (signals_of start logs reset) ≡ rule
-    → (rule ≡ None → SameUnrefused start released logs reset)
-    → record_of (opened released start) (hide logs) reset
+    → IsSound logs.progress (last_pc logs.records)
+    → first_rule (last_pc logs.records) (signals_of start logs reset) ≡ rule
+    → (rule ≡ None → SameWithoutRule start free logs reset)
+    → record_of (open_start free start) (hide logs) reset
     ≡ blank_record (record_of start logs reset)
 unfolding record_of
-record_of-hide start released more logs reset rule sound is_rule unrefused =
+record_of-hide start free more logs reset rule sound is_rule is_same =
     let now : Signals = signals_of start logs reset in
-    let seen : Signals = signals_of (opened released start) (hide logs) reset in
-    let same : SameSignals seen now = signals_of-hide start released logs reset in
-    let seen_rule : first_rule (last_pc (hide logs).seen) seen ≡ rule =
-    ap (λ (last : Option ℕ). first_rule last seen) (last_pc-blank logs.seen)
-    ∙ (first_rule-same (last_pc logs.seen) seen now same ∙ is_rule) in
+    let view : Signals = signals_of (open_start free start) (hide logs) reset in
+    let same : SameSignals view now = signals_of-hide start free logs reset in
+    let seen_rule : first_rule (last_pc (hide logs).records) view ≡ rule =
+    ap (λ (last : Option ℕ). first_rule last view) (last_pc-blank logs.records)
+    ∙ (first_rule-same (last_pc logs.records) view now same ∙ is_rule) in
     ap
-    (λ (r : Option Rule). record_from (last_registers (hide logs).progress) seen r
-    (value_read (opened released start) (hide logs) seen.cpu)
-    (dma_value_read (opened released start) (hide logs) seen))
+    (λ (r : Option Rule). record_from (last_registers (hide logs).progress) view r
+    (value_read (open_start free start) (hide logs) view.cpu)
+    (dma_value_read (open_start free start) (hide logs) view))
     seen_rule
     ∙ (record_from-blank rule (last_registers logs.progress)
-    (last_registers (hide logs).progress) now seen
-    (value_read start logs now.cpu) (value_read (opened released start) (hide logs) seen.cpu)
-    (dma_value_read start logs now) (dma_value_read (opened released start) (hide logs) seen)
+    (last_registers (hide logs).progress) now view
+    (value_read start logs now.cpu) (value_read (open_start free start) (hide logs) view.cpu)
+    (dma_value_read start logs now) (dma_value_read (open_start free start) (hide logs) view)
     (last_registers-hide logs.progress) same
-    (λ none. numbers_at start released logs reset (unrefused none))
+    (λ none. numbers_at start free logs reset (is_same none))
     ∙ ap
     (λ (r : Option Rule). blank_record
     (record_from (last_registers logs.progress) now r (value_read start logs now.cpu)

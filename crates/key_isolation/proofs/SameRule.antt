@@ -7,19 +7,19 @@ use Rattle.bus_signals.specs.declared.rule.Rule.{Rule}
 use Rattle.bus_signals.specs.declared.rule.Rule.TheVariants.{X0, I1}
 use Rattle.bus_signals.specs.declared.signals.Signals.{Signals}
 use Rattle.part_definitions.specs.NextAccess.{is_illegal}
-use Rattle.part_definitions.specs.Monitors.{key_rule, atomicity_rule}
+use Rattle.part_definitions.specs.MonitorRule.{key_rule, atomicity_rule}
 use Rattle.device_trace.specs.FirstRule.{breaks_x0, breaks_i1, rule_where, or_else, first_rule}
 use Rattle.device_trace.specs.Step.{without_number}
 
-pub record SameSignals (seen real : Signals) : Type 0 where
-  pub kind : seen.kind ≡ real.kind
-  pub pc : seen.pc ≡ real.pc
-  pub shape : without_number seen.cpu ≡ without_number real.cpu
-  pub dma : seen.dma ≡ real.dma
-  pub irq : seen.irq ≡ real.irq
-  pub opcode : seen.opcode ≡ real.opcode
-  pub script_reset : seen.script_reset ≡ real.script_reset
-  pub word : key_rule real ≡ None → real.opcode ≡ true → seen.word ≡ real.word
+pub record SameSignals (view real : Signals) : Type 0 where
+  pub kind : view.kind ≡ real.kind
+  pub pc : view.pc ≡ real.pc
+  pub shape : without_number view.cpu ≡ without_number real.cpu
+  pub dma : view.dma ≡ real.dma
+  pub irq : view.irq ≡ real.irq
+  pub opcode : view.opcode ≡ real.opcode
+  pub script_reset : view.script_reset ≡ real.script_reset
+  pub word : key_rule real ≡ None → real.opcode ≡ true → view.word ≡ real.word
 
 abbrev with_cpu : Signals → Option Access → Signals
 with_cpu now cpu = record now { cpu = cpu; word = 0 }
@@ -48,8 +48,8 @@ atomicity_rule-word last now = refl
 abbrev shape : Signals → Signals
 shape now = with_cpu now (without_number now.cpu)
 
-same_shape : (seen real : Signals) → SameSignals seen real → shape seen ≡ shape real
-same_shape seen real same =
+same_shape : (view real : Signals) → SameSignals view real → shape view ≡ shape real
+same_shape view real same =
     λ i. record {
       kind = same.kind i;
       pc = same.pc i;
@@ -61,17 +61,17 @@ same_shape seen real same =
       script_reset = same.script_reset i;
     }
 
-pub key_rule-same : (seen real : Signals) → SameSignals seen real → key_rule seen ≡ key_rule real
-key_rule-same seen real same =
-    sym (key_rule-shape seen seen.cpu ∙ key_rule-word seen)
-    ∙ (ap key_rule (same_shape seen real same)
+pub key_rule-same : (view real : Signals) → SameSignals view real → key_rule view ≡ key_rule real
+key_rule-same view real same =
+    sym (key_rule-shape view view.cpu ∙ key_rule-word view)
+    ∙ (ap key_rule (same_shape view real same)
     ∙ (key_rule-shape real real.cpu ∙ key_rule-word real))
 
-atomicity_rule-same : (last : Option ℕ) (seen real : Signals)
-    → SameSignals seen real → atomicity_rule last seen ≡ atomicity_rule last real
-atomicity_rule-same last seen real same =
-    sym (atomicity_rule-shape last seen seen.cpu ∙ atomicity_rule-word last seen)
-    ∙ (ap (atomicity_rule last) (same_shape seen real same)
+atomicity_rule-same : (last : Option ℕ) (view real : Signals)
+    → SameSignals view real → atomicity_rule last view ≡ atomicity_rule last real
+atomicity_rule-same last view real same =
+    sym (atomicity_rule-shape last view view.cpu ∙ atomicity_rule-word last view)
+    ∙ (ap (atomicity_rule last) (same_shape view real same)
     ∙ (atomicity_rule-shape last real real.cpu ∙ atomicity_rule-word last real))
 
 -- an illegal word counts where no key rule is broken
@@ -84,22 +84,22 @@ illegal-same None true word word' same =
 illegal-same None false word word' same = refl
 illegal-same (Some rule) opcode word word' same = refl
 
-pub first_rule-same : (last : Option ℕ) (seen real : Signals)
-    → SameSignals seen real → first_rule last seen ≡ first_rule last real
+pub first_rule-same : (last : Option ℕ) (view real : Signals)
+    → SameSignals view real → first_rule last view ≡ first_rule last real
 unfolding first_rule
-first_rule-same last seen real same =
+first_rule-same last view real same =
     ap
     (λ (breaks : Bool). or_else (rule_where breaks X0)
-    (or_else (atomicity_rule last seen) (or_else (key_rule seen) (rule_where (breaks_i1 seen) I1))))
+    (or_else (atomicity_rule last view) (or_else (key_rule view) (rule_where (breaks_i1 view) I1))))
     same.script_reset
     ∙ (ap
     (λ (rule : Option Rule). or_else (rule_where (breaks_x0 real) X0)
-    (or_else rule (or_else (key_rule seen) (rule_where (breaks_i1 seen) I1))))
-    (atomicity_rule-same last seen real same)
+    (or_else rule (or_else (key_rule view) (rule_where (breaks_i1 view) I1))))
+    (atomicity_rule-same last view real same)
     ∙ ap (λ (rule : Option Rule). or_else (rule_where (breaks_x0 real) X0)
     (or_else (atomicity_rule last real) rule))
-    (ap (λ (rule : Option Rule). or_else rule (rule_where (breaks_i1 seen) I1))
-    (key_rule-same seen real same)
+    (ap (λ (rule : Option Rule). or_else rule (rule_where (breaks_i1 view) I1))
+    (key_rule-same view real same)
     ∙ (ap (λ (opcode : Bool). or_else (key_rule real)
-    (rule_where (opcode && is_illegal seen.word) I1)) same.opcode
-    ∙ illegal-same (key_rule real) real.opcode real.word seen.word same.word)))
+    (rule_where (opcode && is_illegal view.word) I1)) same.opcode
+    ∙ illegal-same (key_rule real) real.opcode real.word view.word same.word)))

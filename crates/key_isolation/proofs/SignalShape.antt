@@ -7,11 +7,11 @@ use Rattle.bus_signals.specs.declared.kind.Kind.{Kind}
 use Rattle.bus_signals.specs.declared.kind.Kind.TheVariants.{Boot, Cpu, Idle, Irq, Rom}
 use Rattle.bus_signals.specs.Access.{some_writes}
 use Rattle.bus_signals.specs.Map.{some_touches, key_region, stack_region}
-use Rattle.part_definitions.specs.Accesses.{fetch_at}
+use Rattle.part_definitions.specs.BusAccess.{fetch_at}
 use Rattle.part_definitions.specs.Attestation.{CallItem, item_access, bounds_read, call_item}
-use Rattle.part_definitions.specs.CpuRegisters.{sp_of}
+use Rattle.part_definitions.specs.CpuRegister.{sp_of}
 use Rattle.part_definitions.specs.CpuState.{Boundary, Executing, Entering}
-use Rattle.part_definitions.specs.Monitors.{in_rom, key_rule}
+use Rattle.part_definitions.specs.MonitorRule.{in_rom, key_rule}
 use Rattle.part_definitions.specs.NextAccess.{next_access}
 use Rattle.device_trace.specs.Blank.{touches_secrets}
 use Rattle.device_trace.specs.Logs.{Logs, vector_of, step_progress}
@@ -19,9 +19,9 @@ use Rattle.device_trace.specs.Progress.{Progress, Held, Runs, InCall, next_pc_of
 use Rattle.device_trace.specs.Signals.{word_fetched, step_kind, proposed_access, signals_at, signals_of}
 use Rattle.device_trace.specs.Start.{Start}
 use Rattle.device_trace.specs.Step.{without_number}
-use Rattle.trace_facts.proofs.Unbroken.{BreaksNoKeyRule, key_rule-none}
+use Rattle.trace_facts.proofs.BreaksNoRule.{BreaksNoKeyRule, key_rule-none}
 use Rattle.key_isolation.proofs.HiddenWords.{hide_first, bounds_read-hide, call_item-hide}
-use Rattle.key_isolation.proofs.Hiding.{opened, hide_progress, hide, next_pc_of-hide, tells_irq-hide, fetches_opcode-hide, vector_of-hide, step_kind-hide, step_progress-hide}
+use Rattle.key_isolation.proofs.Hiding.{open_start, hide_progress, hide, next_pc_of-hide, tells_irq-hide, fetches_opcode-hide, vector_of-hide, step_kind-hide, step_progress-hide}
 use Rattle.key_isolation.proofs.Reading.{fetch_off, word_fetched-hide}
 use Rattle.key_isolation.proofs.SameRule.{SameSignals}
 
@@ -41,13 +41,13 @@ item_access-hide sp words number =
     ∙ ap (λ (item : CallItem). item_access sp (bounds_read words) item number)
     (call_item-hide words)
 
-access_of-shape : (start : Start) (released : List ℕ) (releases : ℕ) (kind : Kind)
+access_of-shape : (start : Start) (free : List ℕ) (releases : ℕ) (kind : Kind)
     (progress : Progress)
-    → without_number (access_of (opened released start) releases kind (hide_progress progress))
+    → without_number (access_of (open_start free start) releases kind (hide_progress progress))
     ≡ without_number (access_of start releases kind progress)
-access_of-shape start released releases kind Held = refl
-access_of-shape start released releases kind (Runs cpu) = refl
-access_of-shape start released releases kind (InCall regs words) =
+access_of-shape start free releases kind Held = refl
+access_of-shape start free releases kind (Runs cpu) = refl
+access_of-shape start free releases kind (InCall regs words) =
     ap (λ (access : Access). without_number (Some access)) (item_access-hide (sp_of regs) words _)
     ∙ item_access-shape (sp_of regs) (bounds_read words) (call_item words) _ _
 
@@ -62,7 +62,7 @@ opcode_fetch start releases Boot progress vector fetches = absurd (cc)
 opcode_fetch start releases Cpu Held vector fetches = absurd (cc)
 opcode_fetch start releases Cpu (Runs (Boundary regs)) vector fetches = refl
 opcode_fetch start releases Cpu (Runs (Executing regs values)) vector fetches = absurd (cc)
-opcode_fetch start releases Cpu (Runs (Entering regs chosen values)) vector fetches = absurd (cc)
+opcode_fetch start releases Cpu (Runs (Entering regs choice values)) vector fetches = absurd (cc)
 opcode_fetch start releases Cpu (InCall regs words) vector fetches = absurd (cc)
 opcode_fetch start releases Idle progress vector fetches = absurd (cc)
 opcode_fetch start releases Irq progress vector fetches = absurd (cc)
@@ -80,45 +80,45 @@ opcode_off cpu pc fetch k1 k2 =
     (subst (λ (c : Option Access). (some_touches c stack_region && not (in_rom pc))
     ≡ false) fetch k2)
 
-word-hide : (start : Start) (released : List ℕ) (logs : Logs) (kind : Kind) (reset : Bool)
+word-hide : (start : Start) (free : List ℕ) (logs : Logs) (kind : Kind) (reset : Bool)
     → key_rule (signals_at start logs kind reset) ≡ None
     → fetches_opcode kind logs.progress ≡ true
-    → word_fetched (opened released start) (hide logs)
-    (proposed_access (opened released start) (hide logs) kind)
+    → word_fetched (open_start free start) (hide logs)
+    (proposed_access (open_start free start) (hide logs) kind)
     ≡ word_fetched start logs (proposed_access start logs kind)
 unfolding signals_at
-word-hide start released logs kind reset unbroken fetches =
-    let open_start : Start = opened released start in
+word-hide start free logs kind reset none fetches =
+    let blank_start : Start = open_start free start in
     let pc : ℕ = next_pc_of (step_progress logs kind) in
-    let key : BreaksNoKeyRule (signals_at start logs kind reset) = key_rule-none _ unbroken in
+    let key : BreaksNoKeyRule (signals_at start logs kind reset) = key_rule-none _ none in
     let real : proposed_access start logs kind ≡ Some (fetch_at pc) =
     opcode_fetch start (length logs.released_words) kind logs.progress (vector_of logs) fetches in
-    let seen : proposed_access open_start (hide logs) kind
+    let view : proposed_access blank_start (hide logs) kind
     ≡ Some (fetch_at (next_pc_of (step_progress (hide logs) kind))) =
-    opcode_fetch open_start (length logs.released_words) kind (hide_progress logs.progress)
+    opcode_fetch blank_start (length logs.released_words) kind (hide_progress logs.progress)
     (vector_of (hide logs))
     (fetches_opcode-hide kind logs.progress ∙ fetches) in
     let same_pc : next_pc_of (step_progress (hide logs) kind) ≡ pc =
     ap next_pc_of (step_progress-hide logs kind) ∙ next_pc_of-hide (step_progress logs kind) in
-    ap (word_fetched open_start (hide logs)) (seen ∙ ap (λ (p : ℕ). Some (fetch_at p)) same_pc)
-    ∙ (word_fetched-hide start released logs pc
+    ap (word_fetched blank_start (hide logs)) (view ∙ ap (λ (p : ℕ). Some (fetch_at p)) same_pc)
+    ∙ (word_fetched-hide start free logs pc
     (opcode_off (proposed_access start logs kind) pc real key.k1 key.k2)
     ∙ ap (word_fetched start logs) (sym real))
 
-signals_at-hide : (start : Start) (released : List ℕ) (logs : Logs) (kind : Kind) (reset : Bool)
-    → SameSignals (signals_at (opened released start) (hide logs) kind reset)
+signals_at-hide : (start : Start) (free : List ℕ) (logs : Logs) (kind : Kind) (reset : Bool)
+    → SameSignals (signals_at (open_start free start) (hide logs) kind reset)
     (signals_at start logs kind reset)
 unfolding signals_at
-signals_at-hide start released logs kind reset =
+signals_at-hide start free logs kind reset =
     record {
       kind = refl;
       pc = ap next_pc_of (step_progress-hide logs kind) ∙ next_pc_of-hide (step_progress logs kind);
       shape =
           ap
           (λ (progress : Progress). without_number
-          (access_of (opened released start) (length logs.released_words) kind progress))
+          (access_of (open_start free start) (length logs.released_words) kind progress))
           (step_progress-hide logs kind)
-          ∙ access_of-shape start released (length logs.released_words) kind
+          ∙ access_of-shape start free (length logs.released_words) kind
           (step_progress logs kind);
       dma = refl;
       irq =
@@ -128,14 +128,14 @@ signals_at-hide start released logs kind reset =
           (vector_of-hide logs);
       opcode = fetches_opcode-hide kind logs.progress;
       script_reset = refl;
-      word = word-hide start released logs kind reset;
+      word = word-hide start free logs kind reset;
     }
 
-pub signals_of-hide : (start : Start) (released : List ℕ) (logs : Logs) (reset : Bool)
-    → SameSignals (signals_of (opened released start) (hide logs) reset)
+pub signals_of-hide : (start : Start) (free : List ℕ) (logs : Logs) (reset : Bool)
+    → SameSignals (signals_of (open_start free start) (hide logs) reset)
     (signals_of start logs reset)
-signals_of-hide start released logs reset =
+signals_of-hide start free logs reset =
     subst
-    (λ (kind : Kind). SameSignals (signals_at (opened released start) (hide logs) kind reset)
+    (λ (kind : Kind). SameSignals (signals_at (open_start free start) (hide logs) kind reset)
     (signals_of start logs reset))
-    (sym (step_kind-hide logs)) (signals_at-hide start released logs (step_kind logs) reset)
+    (sym (step_kind-hide logs)) (signals_at-hide start free logs (step_kind logs) reset)

@@ -10,7 +10,7 @@ use Rattle.bus_signals.specs.Report.{ReportFields}
 use Rattle.bus_signals.proofs.ValidRange.{IsValidRange, are_valid-ranges}
 use Rattle.part_definitions.specs.Memory.{bytes_from}
 use Rattle.part_definitions.specs.Region.{output_bytes}
-use Rattle.printed_lines.specs.Lines.{end_line}
+use Rattle.printed_lines.specs.Line.{end_line}
 use Rattle.device_trace.specs.Blank.{is_secret, SameOutside, blank_record}
 use Rattle.device_trace.specs.Logs.{Logs, exec_of, logged_byte, logged_bounds}
 use Rattle.device_trace.specs.Progress.{next_pc_of}
@@ -21,8 +21,8 @@ use Rattle.device_trace.specs.Trace.{next_logs, logs_after}
 use Rattle.trace_facts.proofs.SoundPlay.{logs_after-sound}
 use Rattle.key_isolation.proofs.Bytes.{same_if}
 use Rattle.key_isolation.proofs.FlagBlank.{exec-blank}
-use Rattle.key_isolation.proofs.Hiding.{opened, hide, next_pc_of-hide, logged_byte-hide, logged_bounds-hide}
-use Rattle.key_isolation.proofs.Induction.{play_hides, released_before}
+use Rattle.key_isolation.proofs.Hiding.{open_start, hide, next_pc_of-hide, logged_byte-hide, logged_bounds-hide}
+use Rattle.key_isolation.proofs.Induction.{play_hides, releases_before}
 use Rattle.key_isolation.proofs.LogsBlank.{step_hides}
 use Rattle.key_isolation.proofs.Projections.{byte_sent_by-blank}
 
@@ -62,7 +62,7 @@ valid_bytes : (left right : ℕ → ℕ) → SameOutside left right → (first l
     → IsValidRange first last
     → bytes_from left first (last + 2 - first) ≡ bytes_from right first (last + 2 - first)
 valid_bytes left right same first last range =
-    let ordered : first ≤ last = range.ordered in
+    let in_order : first ≤ last = range.ordered in
     elim range.place [
       | inl ram ↦
           let low : 0x200 ≤ first = ram.0 in
@@ -86,82 +86,82 @@ output-outside left right same bounds =
     (λ invalid. refl)
 
 -- the report
-report_of-hide : (start : Start) (released : List ℕ) (logs : Logs) (step : ℕ)
-    → report_of (opened released start) (hide logs) step ≡ report_of start logs step
-report_of-hide start released logs step =
-    let left : ℕ → ℕ = logged_byte (opened released start) (hide logs) in
+report_of-hide : (start : Start) (free : List ℕ) (logs : Logs) (step : ℕ)
+    → report_of (open_start free start) (hide logs) step ≡ report_of start logs step
+report_of-hide start free logs step =
+    let left : ℕ → ℕ = logged_byte (open_start free start) (hide logs) in
     let right : ℕ → ℕ = logged_byte start logs in
-    let same : SameOutside left right = logged_byte-hide start released logs in
+    let same : SameOutside left right = logged_byte-hide start free logs in
     λ i. record {
       step = step;
-      exec = exec-blank logs.seen i;
+      exec = exec-blank logs.records i;
       chal = ram_bytes left right same 0x240 32 (lit≤ tt) (lit≤ tt) i;
-      bounds = logged_bounds-hide start released logs i;
+      bounds = logged_bounds-hide start free logs i;
       output =
-          (ap (reported_output left) (logged_bounds-hide start released logs)
+          (ap (reported_output left) (logged_bounds-hide start free logs)
           ∙ output-outside left right same (logged_bounds start logs)) i;
       mac = ram_bytes left right same 0x200 32 (lit≤ tt) (lit≤ tt) i;
     }
 
 -- the lines of a step
-step_lines-hide : (start : Start) (released : List ℕ) (step : ℕ) (entry : BusRecord) (logs : Logs)
-    → step_lines (opened released start) step (blank_record entry) (hide logs)
+step_lines-hide : (start : Start) (free : List ℕ) (step : ℕ) (entry : BusRecord) (logs : Logs)
+    → step_lines (open_start free start) step (blank_record entry) (hide logs)
     ≡ step_lines start step entry logs
-step_lines-hide start released step entry logs =
+step_lines-hide start free step entry logs =
     ap
     (λ (byte : Option ℕ). sent_lines step byte ++ reset_lines step entry.reset
-    ++ report_lines (report_in (opened released start) (hide logs) step entry))
+    ++ report_lines (report_in (open_start free start) (hide logs) step entry))
     (byte_sent_by-blank entry.reset entry.cpu)
     ∙ ap
     (λ (report : ReportFields). sent_lines step (byte_sent_in entry) ++ reset_lines step entry.reset
     ++ report_lines (if finishes_call entry then Some report else None))
-    (report_of-hide start released logs step)
+    (report_of-hide start free logs step)
 
 end_of-hide : (steps : ℕ) (logs : Logs) → end_of steps (hide logs) ≡ end_of steps logs
 end_of-hide steps logs =
     ap (λ (pc : ℕ). end_line steps pc (exec_of (hide logs))) (next_pc_of-hide logs.progress)
-    ∙ ap (λ (exec : Bool). end_line steps (next_pc_of logs.progress) exec) (exec-blank logs.seen)
+    ∙ ap (λ (exec : Bool). end_line steps (next_pc_of logs.progress) exec) (exec-blank logs.records)
 
-lines_of-hide : (start : Start) (released : List ℕ) (play : List (List Event)) (more : List ℕ)
-    → released ≡ (logs_after start play).released_words ++ more
-    → lines_of start play ≡ lines_of (opened released start) play
+lines_of-hide : (start : Start) (free : List ℕ) (play : List (List Event)) (more : List ℕ)
+    → free ≡ (logs_after start play).released_words ++ more
+    → lines_of start play ≡ lines_of (open_start free start) play
 unfolding lines_of logs_after
-lines_of-hide start released [] more split = refl
-lines_of-hide start released (events ∷ play) more split =
+lines_of-hide start free [] more split = refl
+lines_of-hide start free (events ∷ play) more split =
     let logs : Logs = logs_after start play in
-    let open_start : Start = opened released start in
-    let rest = released_before start released more logs events split in
-    let before = play_hides start released play rest.0 rest.1 in
-    let step = step_hides start released more logs events (logs_after-sound start play) split in
+    let blank_start : Start = open_start free start in
+    let rest = releases_before start free more logs events split in
+    let before = play_hides start free play rest.0 rest.1 in
+    let step = step_hides start free more logs events (logs_after-sound start play) split in
     let lines : step_lines start (length play) (next_record start logs events)
     (next_logs start logs events)
-    ≡ step_lines open_start (length play) (next_record open_start (hide logs) events)
-    (next_logs open_start (hide logs) events) =
+    ≡ step_lines blank_start (length play) (next_record blank_start (hide logs) events)
+    (next_logs blank_start (hide logs) events) =
     sym
-    (ap (λ (entry : BusRecord). step_lines open_start (length play) entry
-    (next_logs open_start (hide logs) events)) step.entry
-    ∙ (ap (step_lines open_start (length play)
+    (ap (λ (entry : BusRecord). step_lines blank_start (length play) entry
+    (next_logs blank_start (hide logs) events)) step.entry
+    ∙ (ap (step_lines blank_start (length play)
     (blank_record (next_record start logs events))) step.after
-    ∙ step_lines-hide start released (length play) (next_record start logs events)
+    ∙ step_lines-hide start free (length play) (next_record start logs events)
     (next_logs start logs events))) in
     ap (λ (text : List ℕ). text
     ++ step_lines start (length play) (next_record start logs events)
     (next_logs start logs events))
-    (lines_of-hide start released play rest.0 rest.1)
-    ∙ (ap (λ (text : List ℕ). lines_of open_start play ++ text) lines
+    (lines_of-hide start free play rest.0 rest.1)
+    ∙ (ap (λ (text : List ℕ). lines_of blank_start play ++ text) lines
     ∙ ap
-    (λ (ls : Logs). lines_of open_start play
-    ++ step_lines open_start (length play) (next_record open_start ls events)
-    (next_logs open_start ls events))
+    (λ (ls : Logs). lines_of blank_start play
+    ++ step_lines blank_start (length play) (next_record blank_start ls events)
+    (next_logs blank_start ls events))
     before.logs)
 
-pub play_text-hide : (start : Start) (released : List ℕ) (play : List (List Event)) (more : List ℕ)
-    → released ≡ (logs_after start play).released_words ++ more
-    → play_text start play ≡ play_text (opened released start) play
+pub play_text-hide : (start : Start) (free : List ℕ) (play : List (List Event)) (more : List ℕ)
+    → free ≡ (logs_after start play).released_words ++ more
+    → play_text start play ≡ play_text (open_start free start) play
 unfolding play_text
-play_text-hide start released play more split =
-    let hides = play_hides start released play more split in
+play_text-hide start free play more split =
+    let hides = play_hides start free play more split in
     ap (λ (text : List ℕ). text ++ end_of (length play) (logs_after start play))
-    (lines_of-hide start released play more split)
-    ∙ ap (λ (text : List ℕ). lines_of (opened released start) play ++ text)
+    (lines_of-hide start free play more split)
+    ∙ ap (λ (text : List ℕ). lines_of (open_start free start) play ++ text)
     (sym (end_of-hide (length play) (logs_after start play)) ∙ ap (end_of (length play)) hides.logs)

@@ -7,7 +7,7 @@ use Rattle.device_trace.specs.Start.{Start, without_key}
 use Rattle.device_trace.specs.Text.{play_text}
 use Rattle.device_trace.specs.Trace.{logs_after, trace, released_words, byte_after}
 use Rattle.key_isolation.specs.Agreement.{Agree}
-use Rattle.key_isolation.proofs.Hiding.{opened, logged_byte-hide}
+use Rattle.key_isolation.proofs.Hiding.{open_start, logged_byte-hide}
 use Rattle.key_isolation.proofs.Induction.{play_hides}
 use Rattle.key_isolation.proofs.TextBlank.{play_text-hide}
 
@@ -56,7 +56,7 @@ abbrev SameImage : Start → Start → Type 0
 SameImage left right = left.power.image ≡ right.power.image
 
 opened-same : (words : List ℕ) (left right : Start) → SameImage left right
-    → opened words left ≡ opened words right
+    → open_start words left ≡ open_start words right
 opened-same words left right same = ap (λ (image : ℕ → ℕ). without_key words image) same
 
 text_of_two : (left right : Start) (play : List (List Event)) → SameImage left right
@@ -67,13 +67,13 @@ text_of_two left right play image both =
     ∙ (ap (λ (start : Start). play_text start play) (opened-same both.whole left right image)
     ∙ sym (play_text-hide right both.whole play both.after_right both.is_right))
 
-byte-hide : (start : Start) (released : List ℕ) (play : List (List Event)) (more : List ℕ)
-    → released ≡ released_words start play ++ more
-    → SameOutside (byte_after start play) (byte_after (opened released start) play)
-byte-hide start released play more split place off =
-    sym (logged_byte-hide start released (logs_after start play) place off)
-    ∙ ap (λ (logs : Logs). logged_byte (opened released start) logs place)
-    (play_hides start released play more split).logs
+byte-hide : (start : Start) (free : List ℕ) (play : List (List Event)) (more : List ℕ)
+    → free ≡ released_words start play ++ more
+    → SameOutside (byte_after start play) (byte_after (open_start free start) play)
+byte-hide start free play more split place off =
+    sym (logged_byte-hide start free (logs_after start play) place off)
+    ∙ ap (λ (logs : Logs). logged_byte (open_start free start) logs place)
+    (play_hides start free play more split).logs
 
 memory_of_two : (left right : Start) (play : List (List Event)) → SameImage left right
     → BeginsWithBoth (released_words left play) (released_words right play)

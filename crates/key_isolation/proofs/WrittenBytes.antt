@@ -42,24 +42,24 @@ pub with_access-hide : (access : Option Access) (writes : List MemoryWrite)
     → IfSome access IsFormed
     → with_access (blank_access access) (map hide_write writes)
     ≡ map hide_write (with_access access writes)
-with_access-hide None writes formed = refl
-with_access-hide (Some (Fetch place)) writes formed = refl
-with_access-hide (Some (Read place size)) writes formed = refl
-with_access-hide (Some (Write place Byte number)) writes formed =
+with_access-hide None writes is_formed = refl
+with_access-hide (Some (Fetch place)) writes is_formed = refl
+with_access-hide (Some (Read place size)) writes is_formed = refl
+with_access-hide (Some (Write place Byte number)) writes is_formed =
     λ i. record {
       place = place;
       byte =
           byte-blank (lies_in stack_region place) number i;
     } ∷ map hide_write writes
-with_access-hide (Some (Write place Word number)) writes formed =
+with_access-hide (Some (Write place Word number)) writes is_formed =
     λ i. record {
       place = place / 2 * 2 + 1;
       byte = high-blank _ (lies_in stack_region (place / 2 * 2 + 1)) number
-          (high_side place formed) i;
+          (high_side place is_formed) i;
     }
     ∷ record {
       place = place / 2 * 2;
-      byte = low-blank _ (lies_in stack_region (place / 2 * 2)) number (low_side place formed) i;
+      byte = low-blank _ (lies_in stack_region (place / 2 * 2)) number (low_side place is_formed) i;
     }
     ∷ map hide_write writes
 

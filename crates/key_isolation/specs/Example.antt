@@ -10,8 +10,8 @@ abbrev pub counting_digest : List ℕ → List ℕ
 counting_digest bytes = upwards 1 32
 
 -- a device with the key from this byte upwards, and the program that attests
-abbrev pub attesting_with : ℕ → Start
-attesting_with first_byte = with_key counting_digest (upwards first_byte 64) attestation
+abbrev pub attestation_start : ℕ → Start
+attestation_start first_byte = with_key counting_digest (upwards first_byte 64) attestation
 
 -- up to the call's second read of the key
 abbrev pub until_key_read : List (List Event)

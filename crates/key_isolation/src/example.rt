@@ -1,16 +1,16 @@
 ghost use Rattle.std.specs.Prelude.{◌≡◌};
 ghost use Rattle.device_trace.specs.Blank.{blank};
 ghost use Rattle.device_trace.specs.Trace.{released_words, trace};
-ghost use Rattle.key_isolation.specs.Example.{attesting_with, counting_words, last_value, until_key_read, whole_call};
+ghost use Rattle.key_isolation.specs.Example.{attestation_start, counting_words, last_value, until_key_read, whole_call};
 
 /// A call reads the second word of the key, which the trace has and the blanked trace has not.
 pub fn blank_hides_key_word()
-    ensures real { last_value (trace (attesting_with 0) until_key_read) ≡ 0x0302 }
-    ensures hidden { last_value (blank (trace (attesting_with 0) until_key_read)) ≡ 0 }
+    ensures real { last_value (trace (attestation_start 0) until_key_read) ≡ 0x0302 }
+    ensures hidden { last_value (blank (trace (attestation_start 0) until_key_read)) ≡ 0 }
 {}
 
 /// Two keys, under a digest that gives both the same: their calls release the same 16 words.
 pub fn two_keys_release_alike()
-    ensures first { released_words (attesting_with 0) whole_call ≡ counting_words }
-    ensures second { released_words (attesting_with 100) whole_call ≡ counting_words }
+    ensures first { released_words (attestation_start 0) whole_call ≡ counting_words }
+    ensures second { released_words (attestation_start 100) whole_call ≡ counting_words }
 {}

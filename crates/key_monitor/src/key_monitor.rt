@@ -1,8 +1,8 @@
 ghost use Rattle.std.specs.Prelude.{◌≡◌, ◌%◌, IfSome};
 ghost use Rattle.bus_signals.specs.Map.{some_touches};
 ghost use Rattle.bus_signals.specs.Access.{IsFormed};
-ghost use Rattle.part_definitions.specs.Monitors.{in_rom, is_written_by_rom, leaves_stack_and_mac, key_rule};
-ghost use Rattle.part_definitions.specs.Monitors.{breaks_k1, breaks_k2, breaks_k3, breaks_k4, breaks_k5, breaks_k6};
+ghost use Rattle.part_definitions.specs.MonitorRule.{in_rom, is_written_by_rom, leaves_stack_and_mac, key_rule};
+ghost use Rattle.part_definitions.specs.MonitorRule.{breaks_k1, breaks_k2, breaks_k3, breaks_k4, breaks_k5, breaks_k6};
 
 use bus_signals::{Access, CR, KR, MR, Region, Rule, Signals, XS, some_writes};
 
@@ -17,7 +17,7 @@ impl KeyMonitor {
 
     /// The first of the rules that a step breaks.
     #[inline(always)]
-    #[tactic(auto, unfolding(part_definitions::specs::Monitors::key_rule))]
+    #[tactic(auto, unfolding(part_definitions::specs::MonitorRule::key_rule))]
     pub fn check(&self, now: &Signals) -> Option<Rule>
         requires cpu { IfSome now.now.cpu IsFormed }
         requires dma { IfSome now.now.dma IsFormed }

@@ -1,6 +1,6 @@
-ghost use Rattle.std.specs.Prelude.{◌≡◌, ◌+◌, ◌*◌, ◌≤◌, ◌/◌, ◌%◌, ◌++◌, ◌∷◌, [], ℕ, List, length, decimal};
+ghost use Rattle.std.specs.Prelude.{◌≡◌, ◌+◌, ◌*◌, ◌≤◌, ◌++◌, [], ℕ, List, length, decimal};
 ghost use Rattle.hex.specs.Hex.{encode_lower};
-ghost use Rattle.printed_lines.specs.Lines.{byte_digits, word_digits};
+ghost use Rattle.printed_lines.specs.Line.{byte_digits, word_digits};
 ghost use Rattle.line_buffer.specs.declared.line_buffer.TheConstants.{ROOM};
 
 use arrayvec::ArrayVec;

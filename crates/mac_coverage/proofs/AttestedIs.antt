@@ -9,7 +9,7 @@ use Rattle.part_definitions.specs.Attestation.{executable_words, region_place, r
 use Rattle.part_definitions.specs.Metadata.{bounds_in}
 use Rattle.part_definitions.specs.Region.{bounded_bytes, bytes_between, output_bytes}
 use Rattle.mac_coverage.specs.AttestedBytes.{attested_bytes_in}
-use Rattle.mac_coverage.proofs.Planned.{IsAttested, attested_bounds}
+use Rattle.mac_coverage.proofs.WordPlan.{IsAttested, attested_bounds}
 use Rattle.part_definitions.proofs.BytesFrom.{length-bytes_from}
 use Rattle.bus_signals.proofs.ValidRange.{AreValidRanges, IsValidRange, are_valid-ranges}
 use Rattle.mac_coverage.proofs.ValidPlaces.{IsFreePlace, range-free}
@@ -21,13 +21,13 @@ range-size : (first last : ℕ) → IsValidRange first last
 range-size first last range =
     let first_even = range.first_even in
     let last_even = range.last_even in
-    let ordered = range.ordered in
-    even_distance first last first_even last_even ordered
+    let in_order = range.ordered in
+    even_distance first last first_even last_even in_order
   where
     even_distance : (first last : ℕ) → first % 2 ≡ 0 → last % 2 ≡ 0 → first ≤ last
         → last + 2 - first ≡ 2 * ((last - first) / 2 + 1)
-    even_distance first last first_even last_even ordered =
-        omega (arith, first_even, last_even, ordered)
+    even_distance first last first_even last_even in_order =
+        omega (arith, first_even, last_even, in_order)
 
 append-are : (left right : List ℕ) → AreBytes left → AreBytes right → AreBytes (left ++ right)
 append-are [] right small small_right i = small_right i
@@ -92,7 +92,7 @@ both-word bytes bounds i ranges within =
           let place : region_place bounds i ≡ bounds.er_min + 2 * i =
           cond-true (nat_lt i (executable_words bounds)) (bounds.er_min + 2 * i) _
           (lt-ltb i (executable_words bounds) early) in
-          moved bytes _ _ _ _ (left_word code output i (omega (arith, size, early))) place at
+          moves bytes _ _ _ _ (left_word code output i (omega (arith, size, early))) place at
       | inr past ↦
           let at = range-word bytes bounds.or_min bounds.or_max (i - executable_words bounds)
           ranges.output (omega (arith, past, within)) in
@@ -101,12 +101,12 @@ both-word bytes bounds i ranges within =
           cond-false (nat_lt i (executable_words bounds)) (bounds.er_min + 2 * i) _
           (le-ltb i (executable_words bounds) past) in
           let word = right_word code output (executable_words bounds) i size past in
-          moved bytes _ _ _ _ word place at
+          moves bytes _ _ _ _ word place at
     ]
   where
-    moved : (bytes : ℕ → ℕ) (word other place spot : ℕ) → word ≡ other → place ≡ spot
+    moves : (bytes : ℕ → ℕ) (word other place spot : ℕ) → word ≡ other → place ≡ spot
         → IsWordAt bytes other spot → IsWordAt bytes word place
-    moved bytes word other place spot same same_place at =
+    moves bytes word other place spot same same_place at =
         let pair : (place : ℕ) → ℕ = λ p. bytes p + 256 * bytes (p + 1) in
         record {
           is = same ∙ (at.is ∙ ap pair (sym same_place));
@@ -132,8 +132,8 @@ rest-word bytes bounds i within =
     by_case true valid within = both-word bytes bounds i (are_valid-ranges bounds valid) within
     by_case false invalid within = absurd (omega (arith, within))
 
-added : (m n : ℕ) {a b c : ℕ} → a ≡ 2 * m → b ≡ 2 * n → c ≡ a + b → c ≡ 2 * (m + n)
-added m n first second sum = omega (arith, first, second, sum)
+adds : (m n : ℕ) {a b c : ℕ} → a ≡ 2 * m → b ≡ 2 * n → c ≡ a + b → c ≡ 2 * (m + n)
+adds m n first second sum = omega (arith, first, second, sum)
 
 rest-size : (bytes : ℕ → ℕ) (bounds : Bounds)
     → length (bounded_bytes bytes bounds) ≡ 2 * region_words bounds
@@ -153,7 +153,7 @@ rest-size bytes bounds = by_case (are_valid bounds) refl
         ∙ range-size bounds.or_min bounds.or_max ranges.output in
         let sum = length-append (bytes_between bytes bounds.er_min bounds.er_max)
         (output_bytes bytes bounds) in
-        added (executable_words bounds) (words_between bounds.or_min bounds.or_max) code output sum
+        adds (executable_words bounds) (words_between bounds.or_min bounds.or_max) code output sum
     by_case false invalid = refl
 
 rest-are : (bytes : ℕ → ℕ) (bounds : Bounds) → ((p : ℕ) → bytes p < 256)

@@ -18,17 +18,17 @@ pub region_item : (region i : ℕ) → i < region → item_after region (69 + i)
 region_item region i within = grind (arith, nat_tests)
 
 -- before the region is read its size does not matter
-pub item_after-early : (region other passed : ℕ) → passed < 69
-    → item_after region passed ≡ item_after other passed
-item_after-early region other passed early = grind (arith, nat_tests)
+pub item_after-early : (region other count : ℕ) → count < 69
+    → item_after region count ≡ item_after other count
+item_after-early region other count early = grind (arith, nat_tests)
 
 -- the ROM is entered with the first word alone, and left with the return read alone
-pub only_first_enters : (region passed : ℕ) → 1 ≤ passed
-    → (item_pc (item_after region passed) == ROM_ENTRY) ≡ false
-only_first_enters region passed later =
-    enters (item_after region passed) (item_after-at region passed)
+pub only_first_enters : (region count : ℕ) → 1 ≤ count
+    → (item_pc (item_after region count) == ROM_ENTRY) ≡ false
+only_first_enters region count later =
+    enters (item_after region count) (item_after-at region count)
   where
-    enters : (item : CallItem) → IsItemAt region passed item → (item_pc item == ROM_ENTRY) ≡ false
+    enters : (item : CallItem) → IsItemAt region count item → (item_pc item == ROM_ENTRY) ≡ false
     enters (KeyRead i) at =
         let other : (i == 0) ≡ false = ne_eqb i 0 (λ zero_word. omega (arith, at.0, zero_word)) in
         ap (λ (pc : ℕ). pc == ROM_ENTRY) (cond-false (i == 0) ROM_ENTRY ROM_BODY other)
@@ -51,28 +51,28 @@ exit_returns (MacWrite i) exit = absurd (cc)
 exit_returns ReturnRead exit = refl
 
 -- before the return there are fewer words, and at the return all have passed
-pub not_last : (region passed : ℕ) (item : CallItem) → IsItemAt region passed item
-    → is_return item ≡ false → passed < 101 + region
-not_last region passed (KeyRead i) at goes_on =
+pub not_last : (region count : ℕ) (item : CallItem) → IsItemAt region count item
+    → is_return item ≡ false → count < 101 + region
+not_last region count (KeyRead i) at goes_on =
     let first = at.0 in let below = at.1 in omega (arith, first, below)
-not_last region passed (MetadataRead i) at goes_on =
+not_last region count (MetadataRead i) at goes_on =
     let first = at.0 in let below = at.1 in omega (arith, first, below)
-not_last region passed (DerivedKeyWrite i) at goes_on =
+not_last region count (DerivedKeyWrite i) at goes_on =
     let first = at.0 in let below = at.1 in omega (arith, first, below)
-not_last region passed (RegionRead i) at goes_on =
+not_last region count (RegionRead i) at goes_on =
     let first = at.0 in let below = at.1 in omega (arith, first, below)
-not_last region passed (InnerDigestWrite i) at goes_on =
+not_last region count (InnerDigestWrite i) at goes_on =
     let first = at.0 in let below = at.1 in omega (arith, first, below)
-not_last region passed (MacWrite i) at goes_on =
+not_last region count (MacWrite i) at goes_on =
     let first = at.0 in let below = at.1 in omega (arith, first, below)
-not_last region passed ReturnRead at goes_on = absurd (cc)
+not_last region count ReturnRead at goes_on = absurd (cc)
 
-pub is_last : (region passed : ℕ) (item : CallItem) → IsItemAt region passed item
-    → is_return item ≡ true → 101 + region ≤ passed
-is_last region passed (KeyRead i) at returns = absurd (cc)
-is_last region passed (MetadataRead i) at returns = absurd (cc)
-is_last region passed (DerivedKeyWrite i) at returns = absurd (cc)
-is_last region passed (RegionRead i) at returns = absurd (cc)
-is_last region passed (InnerDigestWrite i) at returns = absurd (cc)
-is_last region passed (MacWrite i) at returns = absurd (cc)
-is_last region passed ReturnRead at returns = at
+pub is_last : (region count : ℕ) (item : CallItem) → IsItemAt region count item
+    → is_return item ≡ true → 101 + region ≤ count
+is_last region count (KeyRead i) at returns = absurd (cc)
+is_last region count (MetadataRead i) at returns = absurd (cc)
+is_last region count (DerivedKeyWrite i) at returns = absurd (cc)
+is_last region count (RegionRead i) at returns = absurd (cc)
+is_last region count (InnerDigestWrite i) at returns = absurd (cc)
+is_last region count (MacWrite i) at returns = absurd (cc)
+is_last region count ReturnRead at returns = at

@@ -5,7 +5,7 @@ use Rattle.std.proofs.lemmas.Bool.{and_right, cond-true, cond-false, lt-leb}
 use Rattle.std.proofs.lemmas.Bool.Decides.{nat_tests}
 use Rattle.word_arith.specs.declared.size.Size.TheVariants.{Word}
 use Rattle.bus_signals.specs.Map.{lies_in, key_region, peripheral_region}
-use Rattle.part_definitions.specs.Accesses.{read_at}
+use Rattle.part_definitions.specs.BusAccess.{read_at}
 use Rattle.part_definitions.specs.Attestation.{word_of_bytes}
 use Rattle.part_definitions.specs.Memory.{takes_write}
 use Rattle.device_trace.specs.Logs.{Logs, logged_byte}

@@ -14,7 +14,7 @@ use Rattle.bus_signals.specs.Kind.{is_cpu}
 use Rattle.bus_signals.specs.Map.{some_touches, touches, metadata_region}
 use Rattle.bus_signals.specs.SeenRecord.{SeenRecord}
 use Rattle.part_definitions.specs.Flag.{accesses_in, writes_to, runs_inside, ran_inside, fetches_at, clears_e1, clears_e2, clears_e3, clears_e4, clears_e5, clears_e6, clears_e7, clears_e8, clears_e9, clears, starts_run, last_pc, records_since_clear, exec}
-use Rattle.part_definitions.specs.Monitors.{in_rom, leaves_stack_and_mac}
+use Rattle.part_definitions.specs.MonitorRule.{in_rom, leaves_stack_and_mac}
 use Rattle.bus_signals.proofs.ValidRange.{AreValidRanges, are_valid-ranges}
 use Rattle.trace_facts.proofs.MissedPlace.{writes_nowhere}
 use Rattle.mac_coverage.proofs.ValidPlaces.{rom_outside, writes_outside, writes_off_metadata}
@@ -38,10 +38,10 @@ touches_nowhere region (Some access) apart within =
     off (is_write access) (leaves_stack_and_mac (Some access)) (touches access region) within
     (apart access)
   where
-    off : (writes leaves touched : Bool) → (writes && leaves) ≡ false
-        → (leaves ≡ false → touched ≡ false) → (writes && touched) ≡ false
-    off true leaves touched none apart = apart none
-    off false leaves touched none apart = refl
+    off : (writes leaves hits : Bool) → (writes && leaves) ≡ false
+        → (leaves ≡ false → hits ≡ false) → (writes && hits) ≡ false
+    off true leaves hits none apart = apart none
+    off false leaves hits none apart = refl
 
 -- after a record in the ROM it clears no flag
 rom_step-keeps : (last : ℕ) (now : SeenRecord) → IsRomStep now.entry → in_rom last ≡ true
@@ -95,13 +95,13 @@ rom_step-starts_none now step =
     and_left _ (are_valid now.bounds) (and_left _ (now.entry.pc == now.bounds.er_min)
     (and_left (is_cpu now.entry.kind) (fetches_at now.entry.cpu now.entry.pc) not_cpu))
 
-kept_flag : (cleared : Bool) (now : SeenRecord) (kept : List SeenRecord) → starts_run now ≡ false
-    → (list_any starts_run kept ≡ true → cleared ≡ false)
-    → list_any starts_run (if cleared then [] else now ∷ kept) ≡ list_any starts_run kept
-kept_flag true now kept starts keeps =
-    sym (false_from_ne_true (list_any starts_run kept)
+kept_flag : (falls : Bool) (now : SeenRecord) (older : List SeenRecord) → starts_run now ≡ false
+    → (list_any starts_run older ≡ true → falls ≡ false)
+    → list_any starts_run (if falls then [] else now ∷ older) ≡ list_any starts_run older
+kept_flag true now older starts keeps =
+    sym (false_from_ne_true (list_any starts_run older)
     (λ set. let wrong : true ≡ false = keeps set in cc))
-kept_flag false now kept starts keeps = ap (λ (b : Bool). b || list_any starts_run kept) starts
+kept_flag false now older starts keeps = ap (λ (b : Bool). b || list_any starts_run older) starts
 
 pub exec-rom_step : (last : ℕ) (now : SeenRecord) (before : List SeenRecord)
     → last_pc before ≡ Some last → IsRomStep now.entry → in_rom last ≡ true

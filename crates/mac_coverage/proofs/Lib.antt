@@ -4,11 +4,11 @@ pub mod ValidPlaces
 pub mod MemoryKept
 pub mod MemoryBytes
 pub mod ExecKept
-pub mod Planned
+pub mod WordPlan
 pub mod AttestedIs
 pub mod Device
 pub mod MacStored
-pub mod Passed
+pub mod Passes
 pub mod Steps
 pub mod Calls
 pub mod PlaySteps

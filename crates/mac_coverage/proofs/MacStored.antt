@@ -4,7 +4,7 @@ use Rattle.std.specs.Prelude.{◌==◌, slice_index, if◌then◌else◌}
 use Rattle.std.proofs.lemmas.Bool.{cases_eq, cases_lt, cond-true, cond-false, eq-eqb, ne_eqb}
 use Rattle.std.proofs.lemmas.Bool.Decides.{nat_tests}
 use Rattle.word_arith.specs.declared.size.Size.TheVariants.{Word}
-use Rattle.part_definitions.specs.Accesses.{write_at}
+use Rattle.part_definitions.specs.BusAccess.{write_at}
 use Rattle.part_definitions.specs.Attestation.{word_of_bytes}
 use Rattle.part_definitions.specs.Memory.{MemoryWrite, PowerOn, byte_at, bytes_from, first_byte, is_exec_word, last_written, takes_write, with_access, with_bytes}
 use Rattle.mac_coverage.proofs.Words.{AreBytes}
@@ -16,8 +16,8 @@ MacStands bytes tag count = (i : ℕ) → i < 2 * count → bytes (0x200 + i) �
 off_exec : (i : ℕ) → i < 32 → is_exec_word (0x200 + i) ≡ false
 off_exec i within = grind (arith, nat_tests)
 
-taken : (i : ℕ) → i < 32 → takes_write (0x200 + i) ≡ true
-taken i within = grind (arith, nat_tests)
+takes : (i : ℕ) → i < 32 → takes_write (0x200 + i) ≡ true
+takes i within = grind (arith, nat_tests)
 
 -- in memories that are equal where EXEC does not show
 pub mac-alike : (left right : ℕ → ℕ) (tag : List ℕ) (count : ℕ) → count ≤ 16
@@ -91,7 +91,7 @@ byte_put j i number before writes tag small is within earlier =
 stored_byte : (power : PowerOn) (exec : Bool) (writes : List MemoryWrite) (i : ℕ) → i < 32
     → byte_at power exec writes (0x200 + i)
     ≡ last_written writes (0x200 + i) (first_byte power (0x200 + i))
-stored_byte power exec writes i within = cond-true (takes_write (0x200 + i)) _ _ (taken i within)
+stored_byte power exec writes i within = cond-true (takes_write (0x200 + i)) _ _ (takes i within)
 
 -- one word more
 pub mac-more : (power : PowerOn) (exec : Bool) (writes : List MemoryWrite) (tag : List ℕ)
@@ -121,7 +121,7 @@ bytes_from-is bytes place (suc count) (byte ∷ list) size same =
     let rest : bytes_from bytes (place + 1) count ≡ list =
     bytes_from-is bytes (place + 1) count list (omega (arith, size))
     (λ i within.
-    ap bytes (let moved : place + 1 + i ≡ place + suc i = omega arith in moved)
+    ap bytes (let moves : place + 1 + i ≡ place + suc i = omega arith in moves)
     ∙ same (suc i) (omega (arith, within))) in
     λ j. first j ∷ rest j
 

@@ -12,7 +12,7 @@ use Rattle.bus_signals.specs.Bounds.{are_valid}
 use Rattle.bus_signals.specs.Map.{lies_in, key_region, rom_region, EXEC_WORD}
 use Rattle.part_definitions.specs.Memory.{MemoryWrite, PowerOn, byte_at, first_byte, fixed_byte, is_exec_word, last_written, rom_byte, takes_write, with_access, bytes_from}
 use Rattle.part_definitions.specs.Metadata.{bounds_in}
-use Rattle.part_definitions.specs.Monitors.{is_written_by_rom, leaves_stack_and_mac}
+use Rattle.part_definitions.specs.MonitorRule.{is_written_by_rom, leaves_stack_and_mac}
 use Rattle.part_definitions.specs.Region.{bounded_bytes, bytes_between, metadata_bytes, rest_bytes}
 use Rattle.trace_facts.proofs.MissedPlace.{MissesPlace, last_written-missed}
 use Rattle.mac_coverage.specs.AttestedBytes.{attested_bytes_in, without_exec_word}
@@ -134,10 +134,10 @@ front-alike : (left right : ℕ → ℕ) → AreAlike left right
     → bytes_from left 0x240 40 ≡ bytes_from right 0x240 40
 front-alike left right alike =
     bytes_from-same left right 0x240 40
-    (λ i within. alike (0x240 + i) (unwritten i within) (off_exec i within))
+    (λ i within. alike (0x240 + i) (no_write i within) (off_exec i within))
   where
-    unwritten : (i : ℕ) → i < 40 → is_written_by_rom (0x240 + i) ≡ false
-    unwritten i within = grind (arith, nat_tests)
+    no_write : (i : ℕ) → i < 40 → is_written_by_rom (0x240 + i) ≡ false
+    no_write i within = grind (arith, nat_tests)
 
     off_exec : (i : ℕ) → i < 40 → is_exec_word (0x240 + i) ≡ false
     off_exec i within = grind (arith, nat_tests)
@@ -157,9 +157,9 @@ pub attested-same : (left right : ℕ → ℕ)
     → attested_bytes_in left ≡ attested_bytes_in right
 attested-same left right same =
     let metadata : metadata_bytes left ≡ metadata_bytes right =
-    bytes_from-same left right 0x240 42 (λ i within. same (0x240 + i) (unwritten i within)) in
+    bytes_from-same left right 0x240 42 (λ i within. same (0x240 + i) (no_write i within)) in
     let rest = rest-alike left right (λ p off off_exec. same p off) in
     λ i. record { metadata = metadata i; rest = rest i }
   where
-    unwritten : (i : ℕ) → i < 42 → is_written_by_rom (0x240 + i) ≡ false
-    unwritten i within = grind (arith, nat_tests)
+    no_write : (i : ℕ) → i < 42 → is_written_by_rom (0x240 + i) ≡ false
+    no_write i within = grind (arith, nat_tests)

@@ -18,12 +18,12 @@ use Rattle.device_trace.specs.Trace.{logs_after, trace}
 use Rattle.trace_facts.proofs.Choices.{none_there}
 use Rattle.mac_coverage.specs.AttestedBytes.{AttestedBytes}
 use Rattle.mac_coverage.specs.Call.{begins_call}
-use Rattle.mac_coverage.specs.Coverage.{MacCoversCall, attested_before}
+use Rattle.mac_coverage.specs.Coverage.{MacCoversCall, contents_before}
 use Rattle.mac_coverage.proofs.CallItems.{exit_returns, only_first_enters}
 use Rattle.mac_coverage.proofs.Calls.{CallGoes, CallSoFar, call-goes_on, call-returns, return-is_last}
 use Rattle.mac_coverage.proofs.Covers.{covers_refused, covers_so_far}
 use Rattle.mac_coverage.proofs.Device.{Device, start_of}
-use Rattle.mac_coverage.proofs.PlaySteps.{CallGoesOn, IsTurnOfCall, PlayStands, earlier_records, after_step-alike, after_step-bytes, after_step-same, attested-is, entry-kind, entry-pc, entry-step, entry_at, first_step, heard, last-in_rom, later_step}
+use Rattle.mac_coverage.proofs.PlaySteps.{CallGoesOn, IsTurnOfCall, PlayStands, earlier_records, after_step-alike, after_step-bytes, after_step-same, attested-is, entry-kind, entry-pc, entry-step, entry_at, first_step, log_at, last-in_rom, later_step}
 use Rattle.mac_coverage.proofs.Steps.{IsCallStep, IsOfCall, OnCall, progress-call_step, rom_step-of_call}
 
 -- the MAC covers the call, and if it goes on, it is one so far
@@ -39,7 +39,7 @@ word_in device play events =
 step-next : (device : Device) (play : List (List Event)) (events : List Event)
     (regs words : List ℕ) (next : Progress)
     → IsTurnOfCall device play events regs words
-    → IsCallStep (start_of device) (heard device play events) regs words
+    → IsCallStep (start_of device) (log_at device play events) regs words
     (entry_at device play events)
     → (if is_return (call_item words) then after_return regs (word_in device play events)
     else InCall regs (words ++ word_in device play events ∷ []))
@@ -49,7 +49,7 @@ step-next : (device : Device) (play : List (List Event)) (events : List Event)
 unfolding logs_after
 step-next device play events regs words next turn step is stands =
     subst (OnCall (λ regs words. CallGoesOn device (events ∷ play) words))
-    (sym (progress-call_step (start_of device) (heard device play events) regs words
+    (sym (progress-call_step (start_of device) (log_at device play events) regs words
     (entry_at device play events) step turn.kind turn.progress
     ∙ is))
     stands
@@ -57,7 +57,7 @@ step-next device play events regs words next turn step is stands =
 goes_on-next : (device : Device) (play : List (List Event)) (events : List Event)
     (regs words : List ℕ)
     → IsTurnOfCall device play events regs words
-    → IsCallStep (start_of device) (heard device play events) regs words
+    → IsCallStep (start_of device) (log_at device play events) regs words
     (entry_at device play events)
     → is_return (call_item words) ≡ false
     → CallGoesOn device (events ∷ play) (words ++ word_in device play events ∷ [])
@@ -72,7 +72,7 @@ goes_on-next device play events regs words turn step goes_on call =
 returns-next : (device : Device) (play : List (List Event)) (events : List Event)
     (regs words : List ℕ)
     → IsTurnOfCall device play events regs words
-    → IsCallStep (start_of device) (heard device play events) regs words
+    → IsCallStep (start_of device) (log_at device play events) regs words
     (entry_at device play events)
     → is_return (call_item words) ≡ true
     → PlayStands device (events ∷ play)
@@ -84,34 +84,34 @@ returns-next device play events regs words turn step returns =
 refused-next : (device : Device) (play : List (List Event)) (events : List Event)
     → is_some (entry_at device play events).reset ≡ true → PlayStands device (events ∷ play)
 unfolding logs_after with_record
-refused-next device play events refused =
-    held (entry_at device play events).reset refused
+refused-next device play events refuses =
+    holds (entry_at device play events).reset refuses
   where
-    held : (rule : Option Rule) → is_some rule ≡ true
+    holds : (rule : Option Rule) → is_some rule ≡ true
         → OnCall (λ regs words. CallGoesOn device (events ∷ play) words)
         (progress_after rule (entry_at device play events).kind
-        (step_progress (heard device play events) (entry_at device play events).kind)
+        (step_progress (log_at device play events) (entry_at device play events).kind)
         (entry_at device play events).cpu (entry_at device play events).value)
-    held None refused = absurd (cc)
-    held (Some rule) refused = tt
+    holds None refuses = absurd (cc)
+    holds (Some rule) refuses = tt
 
 -- a step that was not refused
 unrefused_outcome : (device : Device) (play : List (List Event)) (events : List Event)
-    (regs words : List ℕ) (attested : AttestedBytes)
+    (regs words : List ℕ) (contents : AttestedBytes)
     → IsTurnOfCall device play events regs words
-    → IsCallStep (start_of device) (heard device play events) regs words
+    → IsCallStep (start_of device) (log_at device play events) regs words
     (entry_at device play events)
-    → CallSoFar device play (earlier_records device play events) words attested
-    → (1 ≤ length words → attested_before (start_of device) play 0 ≡ attested)
-    → attested_before (start_of device) (events ∷ play) 0 ≡ attested
+    → CallSoFar device play (earlier_records device play events) words contents
+    → (1 ≤ length words → contents_before (start_of device) play 0 ≡ contents)
+    → contents_before (start_of device) (events ∷ play) 0 ≡ contents
     → Outcome device (events ∷ play)
 unfolding trace with_events
-unrefused_outcome device play events regs words attested turn step so_far stands after =
+unrefused_outcome device play events regs words contents turn step so_far stands after =
     let entry : BusRecord = entry_at device play events in
-    let goes : CallGoes device play events (heard device play events) regs words entry attested =
+    let goes : CallGoes device play events (log_at device play events) regs words entry contents =
     record {
       step = step;
-      is = attested-is device (events ∷ play) attested after;
+      is = attested-is device (events ∷ play) contents after;
       stands = stands;
       after = after;
       bytes_before = λ p. refl;
@@ -119,41 +119,41 @@ unrefused_outcome device play events regs words attested turn step so_far stands
     } in
     let call : List BusRecord = earlier_records device play events in
     let exit : finishes_call entry ≡ true → is_return (call_item words) ≡ true =
-    λ finished.
+    λ finishes.
     let parts = and_parts (is_rom entry.kind && (entry.pc == ROM_EXIT)) (is_none entry.reset)
-    finished in
+    finishes in
     let place = and_parts (is_rom entry.kind) (entry.pc == ROM_EXIT) parts.0 in
     exit_returns (call_item words)
     (ap (λ (pc : ℕ). pc == ROM_EXIT) (sym (entry-pc device play events regs words turn)) ∙ place.1)
     in
     elim (cases_Bool (is_return (call_item words))) [
       | inl returns ↦
-          let more : CallSoFar device (events ∷ play) (entry ∷ call) words attested =
-          call-returns device play events (heard device play events) regs words entry call attested
+          let more : CallSoFar device (events ∷ play) (entry ∷ call) words contents =
+          call-returns device play events (log_at device play events) regs words entry call contents
           goes so_far returns in
           record {
             covers =
-                covers_so_far device (events ∷ play) words attested more
-                (λ finished. return-is_last device play words call attested so_far returns);
+                covers_so_far device (events ∷ play) words contents more
+                (λ finishes. return-is_last device play words call contents so_far returns);
             next = returns-next device play events regs words turn step returns;
           }
       | inr goes_on ↦
           let word : ℕ = word_passed entry.cpu entry.value in
-          let more : CallSoFar device (events ∷ play) (entry ∷ call) (words ++ word ∷ []) attested =
-          call-goes_on device play events (heard device play events) regs words entry call attested
+          let more : CallSoFar device (events ∷ play) (entry ∷ call) (words ++ word ∷ []) contents =
+          call-goes_on device play events (log_at device play events) regs words entry call contents
           goes so_far goes_on in
           let size : length (words ++ word ∷ []) ≡ length words + 1 = length_push words word in
           record {
             covers =
-                covers_so_far device (events ∷ play) (words ++ word ∷ []) attested more
-                (λ finished.
-                let returns = exit finished in
+                covers_so_far device (events ∷ play) (words ++ word ∷ []) contents more
+                (λ finishes.
+                let returns = exit finishes in
                 let wrong : true ≡ false = sym returns ∙ goes_on in
                 absurd (cc));
             next =
                 goes_on-next device play events regs words turn step goes_on
                 (record {
-                  attested = attested;
+                  contents = contents;
                   so_far = more;
                   stands = after;
                   begun = omega (arith, size);
@@ -168,27 +168,27 @@ first_outcome : (device : Device) (play : List (List Event)) (events : List Even
     → Outcome device (events ∷ play)
 first_outcome device play events regs turn =
     let entry : BusRecord = entry_at device play events in
-    let before : AttestedBytes = attested_before (start_of device) play 0 in
+    let before : AttestedBytes = contents_before (start_of device) play 0 in
     let begins : begins_call entry ≡ true =
     and_from (is_rom entry.kind) (entry.pc == ROM_ENTRY)
     (ap is_rom (entry-kind device play events ∙ turn.kind))
     (ap (λ (pc : ℕ). pc == ROM_ENTRY) (entry-pc device play events regs [] turn)) in
     elim (cases_Bool (is_some entry.reset)) [
-      | inl refused ↦
+      | inl refuses ↦
           record {
             covers =
-                covers_refused device play events [] before refused
+                covers_refused device play events [] before refuses
                 (first_step device play events before begins refl);
-            next = refused-next device play events refused;
+            next = refused-next device play events refuses;
           }
-      | inr kept ↦
-          let none = none_there entry.reset kept in
+      | inr no_reset ↦
+          let none = none_there entry.reset no_reset in
           let step = entry-step device play events regs [] turn none in
-          let after : AttestedBytes = attested_before (start_of device) (events ∷ play) 0 in
+          let after : AttestedBytes = contents_before (start_of device) (events ∷ play) 0 in
           unrefused_outcome device play events regs [] after turn step
           (first_step device play events after begins
           (after_step-alike device play events step.rom))
-          (λ begun. absurd (omega (arith, begun))) refl
+          (λ later. absurd (omega (arith, later))) refl
     ]
 
 later_outcome : (device : Device) (play : List (List Event)) (events : List Event)
@@ -202,29 +202,29 @@ later_outcome device play events regs words turn call =
     ap (λ (pc : ℕ). pc == ROM_ENTRY) (entry-pc device play events regs words turn)
     ∙ only_first_enters (region_words (bounds_read words)) (length words) call.begun in
     let so_far =
-    later_step device play events words call.attested
+    later_step device play events words call.contents
     (and_right (is_rom entry.kind) (entry.pc == ROM_ENTRY) apart) call.so_far in
     elim (cases_Bool (is_some entry.reset)) [
-      | inl refused ↦
+      | inl refuses ↦
           record {
-            covers = covers_refused device play events words call.attested refused so_far;
-            next = refused-next device play events refused;
+            covers = covers_refused device play events words call.contents refuses so_far;
+            next = refused-next device play events refuses;
           }
-      | inr kept ↦
-          let none = none_there entry.reset kept in
+      | inr no_reset ↦
+          let none = none_there entry.reset no_reset in
           let step = entry-step device play events regs words turn none in
-          unrefused_outcome device play events regs words call.attested turn step so_far
-          (λ begun. call.stands)
+          unrefused_outcome device play events regs words call.contents turn step so_far
+          (λ later. call.stands)
           (after_step-same device play events step.rom call.last ∙ call.stands)
     ]
 
 -- a step of the ROM
 pub rom_outcome : (device : Device) (play : List (List Event)) (events : List Event)
-    → step_kind (heard device play events) ≡ Rom → PlayStands device play
+    → step_kind (log_at device play events) ≡ Rom → PlayStands device play
     → Outcome device (events ∷ play)
 unfolding with_events
 rom_outcome device play events kind stands =
-    let logs : Logs = heard device play events in
+    let logs : Logs = log_at device play events in
     let call : IsOfCall logs.progress (step_progress logs (step_kind logs)) =
     rom_step-of_call logs.progress (vector_of logs) kind in
     elim call.from [

@@ -16,36 +16,36 @@ use Rattle.device_trace.specs.Trace.{byte_after, logs_after, trace}
 use Rattle.trace_facts.proofs.ExecFlag.{logs_after-valid, with_events-valid}
 use Rattle.mac_coverage.specs.AttestedBytes.{AttestedBytes, without_exec_word}
 use Rattle.mac_coverage.specs.Call.{begins_call, last_call}
-use Rattle.mac_coverage.specs.Coverage.{attested_before}
+use Rattle.mac_coverage.specs.Coverage.{contents_before}
 use Rattle.mac_coverage.proofs.AttestedIs.{attested_bytes_in-is}
 use Rattle.mac_coverage.proofs.Calls.{CallSoFar, call-begins}
 use Rattle.mac_coverage.proofs.Device.{Device, start_of, start_of-bytes}
 use Rattle.mac_coverage.proofs.ExecKept.{IsRomStep}
 use Rattle.mac_coverage.proofs.MemoryBytes.{byte_after-byte}
 use Rattle.mac_coverage.proofs.MemoryKept.{attested-but_exec, attested-same}
-use Rattle.mac_coverage.proofs.Planned.{IsAttested}
+use Rattle.mac_coverage.proofs.WordPlan.{IsAttested}
 use Rattle.mac_coverage.proofs.Steps.{IsCallStep, IsInRom, OnCall, bytes-after, bytes-alike, bytes-same, record_of-call, record_of-kind, record_of-pc}
 
 -- after a play that is in a call
 pub record CallGoesOn (device : Device) (play : List (List Event)) (words : List ℕ) : Type 0 where
-  pub attested : AttestedBytes
-  pub so_far : CallSoFar device play (last_call (trace (start_of device) play)) words attested
-  pub stands : attested_before (start_of device) play 0 ≡ attested
+  pub contents : AttestedBytes
+  pub so_far : CallSoFar device play (last_call (trace (start_of device) play)) words contents
+  pub stands : contents_before (start_of device) play 0 ≡ contents
   pub begun : 1 ≤ length words
-  pub last : IsInRom (last_pc (logs_after (start_of device) play).seen)
+  pub last : IsInRom (last_pc (logs_after (start_of device) play).records)
 
 abbrev pub PlayStands : Device → List (List Event) → Type 0
 PlayStands device play =
     OnCall (λ regs words. CallGoesOn device play words) (logs_after (start_of device) play).progress
 
 -- the logs after the events of a step
-abbrev pub heard : Device → List (List Event) → List Event → Logs
-heard device play events = with_events (logs_after (start_of device) play) events
+abbrev pub log_at : Device → List (List Event) → List Event → Logs
+log_at device play events = with_events (logs_after (start_of device) play) events
 
 -- what is attested in the memory after a play is of bytes
-pub attested-is : (device : Device) (play : List (List Event)) (attested : AttestedBytes)
-    → attested_before (start_of device) play 0 ≡ attested → IsAttested attested
-attested-is device play attested stands =
+pub attested-is : (device : Device) (play : List (List Event)) (contents : AttestedBytes)
+    → contents_before (start_of device) play 0 ≡ contents → IsAttested contents
+attested-is device play contents stands =
     subst IsAttested stands
     (attested_bytes_in-is (byte_after (start_of device) play)
     (λ place. byte_after-byte (start_of device) play place (start_of-bytes device)))
@@ -56,17 +56,17 @@ entry_at device play events =
     next_record (start_of device) (logs_after (start_of device) play) events
 
 pub entry-kind : (device : Device) (play : List (List Event)) (events : List Event)
-    → (entry_at device play events).kind ≡ step_kind (heard device play events)
+    → (entry_at device play events).kind ≡ step_kind (log_at device play events)
 unfolding next_record
 entry-kind device play events =
-    record_of-kind (start_of device) (heard device play events) (asks_reset events)
+    record_of-kind (start_of device) (log_at device play events) (asks_reset events)
 
 -- the next step is one of a call in which these words passed
 pub record IsTurnOfCall (device : Device) (play : List (List Event)) (events : List Event)
     (regs words : List ℕ) : Type 0 where
-  pub kind : step_kind (heard device play events) ≡ Rom
+  pub kind : step_kind (log_at device play events) ≡ Rom
   pub progress :
-      step_progress (heard device play events) (step_kind (heard device play events))
+      step_progress (log_at device play events) (step_kind (log_at device play events))
       ≡ InCall regs words
 
 pub entry-pc : (device : Device) (play : List (List Event)) (events : List Event)
@@ -75,18 +75,18 @@ pub entry-pc : (device : Device) (play : List (List Event)) (events : List Event
     → (entry_at device play events).pc ≡ item_pc (call_item words)
 unfolding next_record
 entry-pc device play events regs words turn =
-    record_of-pc (start_of device) (heard device play events) (asks_reset events)
+    record_of-pc (start_of device) (log_at device play events) (asks_reset events)
     ∙ ap next_pc_of turn.progress
 
 pub entry-step : (device : Device) (play : List (List Event)) (events : List Event)
     (regs words : List ℕ)
     → IsTurnOfCall device play events regs words
     → (entry_at device play events).reset ≡ None
-    → IsCallStep (start_of device) (heard device play events) regs words
+    → IsCallStep (start_of device) (log_at device play events) regs words
     (entry_at device play events)
 unfolding next_record
 entry-step device play events regs words turn none =
-    record_of-call (start_of device) (heard device play events) (asks_reset events) regs words none
+    record_of-call (start_of device) (log_at device play events) (asks_reset events) regs words none
     turn.kind turn.progress
 
 -- the records of its call before it
@@ -96,23 +96,23 @@ earlier_records device play events =
     else last_call (trace (start_of device) play)
 
 pub first_step : (device : Device) (play : List (List Event)) (events : List Event)
-    (attested : AttestedBytes)
+    (contents : AttestedBytes)
     → begins_call (entry_at device play events) ≡ true
-    → without_exec_word (attested_before (start_of device) play 0) ≡ without_exec_word attested
-    → CallSoFar device play (earlier_records device play events) [] attested
-first_step device play events attested begins alike =
-    subst (λ (call : List BusRecord). CallSoFar device play call [] attested)
+    → without_exec_word (contents_before (start_of device) play 0) ≡ without_exec_word contents
+    → CallSoFar device play (earlier_records device play events) [] contents
+first_step device play events contents begins alike =
+    subst (λ (call : List BusRecord). CallSoFar device play call [] contents)
     (sym (cond-true (begins_call (entry_at device play events)) []
     (last_call (trace (start_of device) play)) begins))
-    (call-begins device play attested alike)
+    (call-begins device play contents alike)
 
 pub later_step : (device : Device) (play : List (List Event)) (events : List Event)
-    (words : List ℕ) (attested : AttestedBytes)
+    (words : List ℕ) (contents : AttestedBytes)
     → begins_call (entry_at device play events) ≡ false
-    → CallSoFar device play (last_call (trace (start_of device) play)) words attested
-    → CallSoFar device play (earlier_records device play events) words attested
-later_step device play events words attested goes_on so_far =
-    subst (λ (call : List BusRecord). CallSoFar device play call words attested)
+    → CallSoFar device play (last_call (trace (start_of device) play)) words contents
+    → CallSoFar device play (earlier_records device play events) words contents
+later_step device play events words contents goes_on so_far =
+    subst (λ (call : List BusRecord). CallSoFar device play call words contents)
     (sym (cond-false (begins_call (entry_at device play events)) []
     (last_call (trace (start_of device) play)) goes_on))
     so_far
@@ -122,37 +122,37 @@ pub after_step-bytes : (device : Device) (play : List (List Event)) (events : Li
     → IsRomStep (entry_at device play events)
     → (p : ℕ) → is_exec_word p ≡ false
     → byte_after (start_of device) (events ∷ play) p
-    ≡ byte_at (start_of device).power (exec_of (heard device play events))
-    (with_access (entry_at device play events).cpu (heard device play events).memory) p
+    ≡ byte_at (start_of device).power (exec_of (log_at device play events))
+    (with_access (entry_at device play events).cpu (log_at device play events).memory) p
 unfolding logs_after
 after_step-bytes device play events step =
-    bytes-after (start_of device) (heard device play events) (entry_at device play events) step
+    bytes-after (start_of device) (log_at device play events) (entry_at device play events) step
 
 pub after_step-alike : (device : Device) (play : List (List Event)) (events : List Event)
     → IsRomStep (entry_at device play events)
-    → without_exec_word (attested_before (start_of device) play 0)
-    ≡ without_exec_word (attested_before (start_of device) (events ∷ play) 0)
+    → without_exec_word (contents_before (start_of device) play 0)
+    ≡ without_exec_word (contents_before (start_of device) (events ∷ play) 0)
 unfolding logs_after with_events
 after_step-alike device play events step =
     sym (attested-but_exec (byte_after (start_of device) (events ∷ play))
     (byte_after (start_of device) play)
-    (bytes-alike (start_of device) (heard device play events) (entry_at device play events) step))
+    (bytes-alike (start_of device) (log_at device play events) (entry_at device play events) step))
 
 pub after_step-same : (device : Device) (play : List (List Event)) (events : List Event)
     → IsRomStep (entry_at device play events)
-    → IsInRom (last_pc (logs_after (start_of device) play).seen)
-    → attested_before (start_of device) (events ∷ play) 0
-    ≡ attested_before (start_of device) play 0
+    → IsInRom (last_pc (logs_after (start_of device) play).records)
+    → contents_before (start_of device) (events ∷ play) 0
+    ≡ contents_before (start_of device) play 0
 unfolding logs_after with_events
 after_step-same device play events step last =
     attested-same (byte_after (start_of device) (events ∷ play)) (byte_after (start_of device) play)
-    (bytes-same (start_of device) (heard device play events) (entry_at device play events) step
+    (bytes-same (start_of device) (log_at device play events) (entry_at device play events) step
     (with_events-valid (start_of device) (logs_after (start_of device) play) events
     (logs_after-valid (start_of device) play)) last)
 
 pub last-in_rom : (device : Device) (play : List (List Event)) (events : List Event)
     → IsRomStep (entry_at device play events)
-    → IsInRom (last_pc (logs_after (start_of device) (events ∷ play)).seen)
+    → IsInRom (last_pc (logs_after (start_of device) (events ∷ play)).records)
 unfolding logs_after with_record
 last-in_rom device play events step =
     record { pc = (entry_at device play events).pc; is = refl; code = step.code }

@@ -20,20 +20,20 @@ use Rattle.device_trace.specs.Trace.{byte_after, logs_after, trace}
 use Rattle.trace_facts.proofs.Choices.{some_where}
 use Rattle.mac_coverage.specs.AttestedBytes.{tag_of}
 use Rattle.mac_coverage.specs.Call.{ends_finished, ends_in_call, ends_refused, last_call}
-use Rattle.mac_coverage.specs.Coverage.{Gives32Bytes, IsDeviceKey, IsOfBytes, MacCoversCall, MacCoversReport, attested_before}
+use Rattle.mac_coverage.specs.Coverage.{Gives32Bytes, IsDeviceKey, IsOfBytes, MacCoversCall, MacCoversReport, contents_before}
 use Rattle.mac_coverage.proofs.Device.{Device, start_of}
 use Rattle.mac_coverage.proofs.Outcomes.{rom_outcome}
-use Rattle.mac_coverage.proofs.PlaySteps.{CallGoesOn, PlayStands, entry-kind, entry_at, heard}
+use Rattle.mac_coverage.proofs.PlaySteps.{CallGoesOn, PlayStands, entry-kind, entry_at, log_at}
 use Rattle.mac_coverage.proofs.Steps.{OnCall, other_step-no_call}
 use Rattle.mac_coverage.proofs.Words.{are_bytes}
 
 -- another step
 other_next : (device : Device) (play : List (List Event)) (events : List Event)
-    → is_rom (step_kind (heard device play events)) ≡ false
+    → is_rom (step_kind (log_at device play events)) ≡ false
     → PlayStands device (events ∷ play)
 unfolding logs_after with_record
 other_next device play events other =
-    let logs : Logs = heard device play events in
+    let logs : Logs = log_at device play events in
     let entry : BusRecord = entry_at device play events in
     subst
     (λ (kind : Kind). OnCall (λ regs words. CallGoesOn device (events ∷ play) words)
@@ -53,9 +53,9 @@ play_stands : (device : Device) (play : List (List Event)) → PlayStands device
 unfolding logs_after
 play_stands device [] = tt
 play_stands device (events ∷ play) =
-    elim (cases_Bool (is_rom (step_kind (heard device play events)))) [
+    elim (cases_Bool (is_rom (step_kind (log_at device play events)))) [
       | inl rom ↦
-          (rom_outcome device play events (rom_kind (step_kind (heard device play events)) rom)
+          (rom_outcome device play events (rom_kind (step_kind (log_at device play events)) rom)
           (play_stands device play)).next
       | inr other ↦ other_next device play events other
     ]
@@ -66,7 +66,7 @@ device_covers : (device : Device) (play : List (List Event))
 unfolding trace
 device_covers device [] in_call = absurd (cc)
 device_covers device (events ∷ play) in_call =
-    let rom : step_kind (heard device play events) ≡ Rom =
+    let rom : step_kind (log_at device play events) ≡ Rom =
     sym (entry-kind device play events) ∙ rom_kind (entry_at device play events).kind in_call in
     (rom_outcome device play events rom (play_stands device play)).covers
 
@@ -112,27 +112,27 @@ last_report-finishes start (events ∷ play) report is =
       in_call = (and_parts (is_rom entry.kind) (entry.pc == ROM_EXIT) parts.0).0;
       refused = some_or_none entry.reset parts.1;
       finished = both.0;
-      mac = ap (λ (made : ReportFields). made.mac) (sym both.1);
+      mac = ap (λ (reports : ReportFields). reports.mac) (sym both.1);
     }
 
 pub reported_mac-is_tag : (digest : List ℕ → List ℕ) (key : List ℕ) (image : ℕ → ℕ)
     (play : List (List Event)) (report : ReportFields)
     → IsDeviceKey key → IsOfBytes image → Gives32Bytes digest
     → last_report (with_key digest key image) play ≡ Some report
-    → report.mac ≡ tag_of digest key (attested_before (with_key digest key image) play 0)
+    → report.mac ≡ tag_of digest key (contents_before (with_key digest key image) play 0)
 reported_mac-is_tag digest key image play report device_key bytes gives is =
     let start : Start = with_key digest key image in
-    let made : Reports start play report = last_report-finishes start play report is in
+    let reports : Reports start play report = last_report-finishes start play report is in
     let covers : MacCoversCall digest key start play =
-    mac_covers_call digest key image play device_key bytes made.in_call in
-    let stands : attested_before start play 0 ≡ covers.attested =
+    mac_covers_call digest key image play device_key bytes reports.in_call in
+    let stands : contents_before start play 0 ≡ covers.contents =
     covers.throughout 0 (record {
-      begun = call_begun (trace start play) made.in_call;
-      unrefused = λ refused.
-          (let wrong : true ≡ false = sym refused ∙ made.refused in absurd (cc));
+      begun = call_begun (trace start play) reports.in_call;
+      unrefused = λ refuses.
+          (let wrong : true ≡ false = sym refuses ∙ reports.refused in absurd (cc));
     }) in
-    made.mac
-    ∙ (covers.stored made.finished gives
+    reports.mac
+    ∙ (covers.stored reports.finished gives
     ∙ ap (tag_of digest key) (sym stands))
   where
     call_begun : (history : List BusRecord) → ends_in_call history ≡ true
@@ -147,7 +147,7 @@ pub report-covered : (digest : List ℕ → List ℕ) (key : List ℕ) (image : 
     → MacCoversReport digest key (with_key digest key image) report play
 report-covered digest key image play report device_key bytes is =
     let start : Start = with_key digest key image in
-    let made : Reports start play report = last_report-finishes start play report is in (
-      mac_covers_call digest key image play device_key bytes made.in_call,
+    let reports : Reports start play report = last_report-finishes start play report is in (
+      mac_covers_call digest key image play device_key bytes reports.in_call,
       λ gives. reported_mac-is_tag digest key image play report device_key bytes gives is,
     )

@@ -14,7 +14,7 @@ use Rattle.part_definitions.specs.Attestation.{call_item, word_passed}
 use Rattle.part_definitions.specs.CpuState.{Boundary, Executing, Entering}
 use Rattle.part_definitions.specs.Flag.{exec, last_pc}
 use Rattle.part_definitions.specs.Memory.{MemoryWrite, byte_at, is_exec_word, with_access}
-use Rattle.part_definitions.specs.Monitors.{in_rom, is_written_by_rom, leaves_stack_and_mac}
+use Rattle.part_definitions.specs.MonitorRule.{in_rom, is_written_by_rom, leaves_stack_and_mac}
 use Rattle.device_trace.specs.FirstRule.{first_rule}
 use Rattle.device_trace.specs.Logs.{Logs, exec_of, logged_bounds, logged_byte, memory_after, progress_after, step_progress, with_record}
 use Rattle.device_trace.specs.Progress.{Progress, Held, Runs, InCall, access_of, call_access, call_after, kind_of, last_registers, next_pc_of, next_progress, progress_from_boundary, progress_within}
@@ -24,7 +24,7 @@ use Rattle.device_trace.specs.Step.{dma_value_read, record_from, record_of}
 use Rattle.trace_facts.proofs.ExecFlag.{LogsAreValid}
 use Rattle.trace_facts.proofs.NeverBroken.{item_pc-in_rom}
 use Rattle.trace_facts.proofs.Choices.{other_false, none_there}
-use Rattle.trace_facts.proofs.Unbroken.{BreaksNoRule, first_rule-none}
+use Rattle.trace_facts.proofs.BreaksNoRule.{BreaksNoRule, first_rule-none}
 use Rattle.mac_coverage.proofs.ExecKept.{IsRomStep, exec-rom_step}
 use Rattle.mac_coverage.proofs.MemoryKept.{AreAlike, byte_at-kept, byte_at-off_exec}
 
@@ -47,7 +47,7 @@ rom_step-of_call (Runs (Boundary regs)) vector rom =
       from = inr refl;
     }
 rom_step-of_call (Runs (Executing regs values)) vector rom = absurd (cc)
-rom_step-of_call (Runs (Entering regs chosen values)) vector rom = absurd (cc)
+rom_step-of_call (Runs (Entering regs choice values)) vector rom = absurd (cc)
 rom_step-of_call (InCall regs words) vector rom =
     record { regs = regs; words = words; is = refl; from = inl refl }
 
@@ -80,7 +80,7 @@ other_step-no_call Holds (Runs (Boundary regs)) vector None access value other =
     boundary_step-no_call Holds regs (kind_of (Runs (Boundary regs)) vector) vector access value
     other
 other_step-no_call Holds (Runs (Executing regs values)) vector None access value other = tt
-other_step-no_call Holds (Runs (Entering regs chosen values)) vector None access value other = tt
+other_step-no_call Holds (Runs (Entering regs choice values)) vector None access value other = tt
 other_step-no_call Holds (InCall regs words) vector None access value other = absurd (cc)
 
 -- the record of a step of a call that was not refused
@@ -94,7 +94,7 @@ pub record IsCallStep (start : Start) (logs : Logs) (regs words : List ℕ)
 
 call_record : (start : Start) (logs : Logs) (reset : Bool) (regs words : List ℕ)
     (rule : Option Rule)
-    → first_rule (last_pc logs.seen) (signals_of start logs reset) ≡ rule
+    → first_rule (last_pc logs.records) (signals_of start logs reset) ≡ rule
     → rule ≡ None
     → step_kind logs ≡ Rom
     → step_progress logs (step_kind logs) ≡ InCall regs words
@@ -106,8 +106,8 @@ unfolding signals_at
 call_record start logs reset regs words (Some rule) first none kind is = absurd (cc)
 call_record start logs reset regs words None first none kind is =
     let now : Signals = signals_of start logs reset in
-    let unbroken : BreaksNoRule (last_pc logs.seen) now =
-    first_rule-none (last_pc logs.seen) now first in
+    let breaks_none : BreaksNoRule (last_pc logs.records) now =
+    first_rule-none (last_pc logs.records) now first in
     let code : in_rom now.pc ≡ true =
     ap (λ (p : Progress). in_rom (next_pc_of p)) is ∙ item_pc-in_rom (call_item words) in
     let access : now.cpu ≡ Some (call_access start (length logs.released_words) regs words) =
@@ -119,10 +119,10 @@ call_record start logs reset regs words None first none kind is =
         none = refl;
         no_dma =
             none_there now.dma
-            (other_false (is_some now.dma) (in_rom now.pc) unbroken.key.k6 code);
+            (other_false (is_some now.dma) (in_rom now.pc) breaks_none.key.k6 code);
         within =
             other_false (some_writes now.cpu && leaves_stack_and_mac now.cpu) (in_rom now.pc)
-            unbroken.key.k3 code;
+            breaks_none.key.k3 code;
       };
       cpu = access;
       value = ap (value_read start logs) access;
@@ -136,7 +136,7 @@ pub record_of-call : (start : Start) (logs : Logs) (reset : Bool) (regs words : 
 unfolding record_of
 record_of-call start logs reset regs words none kind is =
     call_record start logs reset regs words
-    (first_rule (last_pc logs.seen) (signals_of start logs reset)) refl none kind is
+    (first_rule (last_pc logs.records) (signals_of start logs reset)) refl none kind is
 
 -- kind and `pc` of every record
 pub record_of-kind : (start : Start) (logs : Logs) (reset : Bool)
@@ -163,7 +163,7 @@ pub bytes-after : (start : Start) (logs : Logs) (entry : BusRecord) → IsRomSte
 unfolding with_record
 bytes-after start logs entry step p off_exec =
     let exec_after : Bool =
-    exec (record { entry = entry; bounds = logged_bounds start logs } ∷ logs.seen) in
+    exec (record { entry = entry; bounds = logged_bounds start logs } ∷ logs.records) in
     byte_at-off_exec start.power (exec_of logs) exec_after
     (memory_after entry.reset entry.cpu entry.dma logs.memory) p off_exec
     ∙ ap (λ (writes : List MemoryWrite). byte_at start.power (exec_of logs) writes p)
@@ -182,19 +182,19 @@ pub record IsInRom (last : Option ℕ) : Type 0 where
   pub code : in_rom pc ≡ true
 
 pub bytes-same : (start : Start) (logs : Logs) (entry : BusRecord) → IsRomStep entry
-    → LogsAreValid start logs → IsInRom (last_pc logs.seen)
+    → LogsAreValid start logs → IsInRom (last_pc logs.records)
     → (p : ℕ) → is_written_by_rom p ≡ false
     → logged_byte start (with_record start logs entry) p ≡ logged_byte start logs p
 unfolding with_record
 bytes-same start logs entry step valid last p off =
     let now : SeenRecord = record { entry = entry; bounds = logged_bounds start logs } in
-    let same : exec (now ∷ logs.seen) ≡ exec logs.seen =
-    exec-rom_step last.pc now logs.seen last.is step last.code valid in
+    let same : exec (now ∷ logs.records) ≡ exec logs.records =
+    exec-rom_step last.pc now logs.records last.is step last.code valid in
     ap (λ (flag : Bool). byte_at start.power flag
     (memory_after entry.reset entry.cpu entry.dma logs.memory) p) same
-    ∙ (ap (λ (writes : List MemoryWrite). byte_at start.power (exec logs.seen) writes p)
+    ∙ (ap (λ (writes : List MemoryWrite). byte_at start.power (exec logs.records) writes p)
     (memory-rom_step entry.reset entry.cpu entry.dma logs.memory step.none step.no_dma)
-    ∙ byte_at-kept start.power (exec logs.seen) entry.cpu logs.memory p step.within off)
+    ∙ byte_at-kept start.power (exec logs.records) entry.cpu logs.memory p step.within off)
 
 -- the progress after a step of a call
 progress-in_call : (rule : Option Rule) (kind : Kind) (progress : Progress)

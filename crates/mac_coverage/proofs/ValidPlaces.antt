@@ -10,7 +10,7 @@ use Rattle.bus_signals.specs.Bounds.{words_region}
 use Rattle.bus_signals.specs.Map.{lies_in, touches, mac_region, metadata_region, stack_region}
 use Rattle.bus_signals.proofs.ValidRange.{IsValidRange}
 use Rattle.part_definitions.specs.Memory.{is_exec_word}
-use Rattle.part_definitions.specs.Monitors.{in_rom, is_written_by_rom}
+use Rattle.part_definitions.specs.MonitorRule.{in_rom, is_written_by_rom}
 
 -- of a place in a valid region
 pub record IsFreePlace (place : ℕ) : Type 0 where
@@ -75,9 +75,9 @@ pub words_region-free : (first last place : ℕ) → IsValidRange first last
 words_region-free first last place range within =
     let parts = and_parts (nat_le first place) (nat_le place ((last + 1) % 2 ^ 16)) within in
     let above : first ≤ place = leb-true first place parts.0 in
-    let wrapped : place ≤ (last + 1) % 2 ^ 16 = leb-true place ((last + 1) % 2 ^ 16) parts.1 in
+    let below : place ≤ (last + 1) % 2 ^ 16 = leb-true place ((last + 1) % 2 ^ 16) parts.1 in
     let same : (last + 1) % 2 ^ 16 ≡ last + 1 = omega (arith, range.fits) in
-    range-free first last place range above (omega (arith, wrapped, same))
+    range-free first last place range above (omega (arith, below, same))
 
 clash : {test : Bool} → test ≡ true → test ≡ false → ⊥
 clash holds fails = let wrong : true ≡ false = sym holds ∙ fails in cc
@@ -91,9 +91,9 @@ rom_outside first last pc range rom =
 
 written_outside : (first last place : ℕ) → IsValidRange first last → is_written_by_rom place ≡ true
     → lies_in (words_region first last) place ≡ false
-written_outside first last place range written =
+written_outside first last place range writes =
     false_from_ne_true (lies_in (words_region first last) place)
-    (λ within. clash written (words_region-free first last place range within).unwritten)
+    (λ within. clash writes (words_region-free first last place range within).unwritten)
 
 none_elsewhere : (test other : ℕ → Bool) (places : List ℕ)
     → ((place : ℕ) → test place ≡ true → other place ≡ false)
@@ -109,13 +109,13 @@ pub writes_outside : (first last : ℕ) (access : Access) → IsValidRange first
     → touches access (words_region first last) ≡ false
 writes_outside first last access range within =
     none_elsewhere is_written_by_rom (lies_in (words_region first last)) (bytes_of access)
-    (λ place written. written_outside first last place range written) within
+    (λ place writes. written_outside first last place range writes) within
 
 -- the metadata neither
 metadata_unwritten : (place : ℕ) → is_written_by_rom place ≡ true
     → lies_in metadata_region place ≡ false
-metadata_unwritten place written =
-    elim (or_cases (lies_in stack_region place) (lies_in mac_region place) written) [
+metadata_unwritten place writes =
+    elim (or_cases (lies_in stack_region place) (lies_in mac_region place) writes) [
       | inl stack ↦
           let parts = and_parts (nat_le 0x4000 place) (nat_le place 0x43FF) stack in
           outside 0x240 0x269 place

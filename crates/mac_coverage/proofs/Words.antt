@@ -45,8 +45,8 @@ bytes_from-same left right place (suc count) same =
     let rest : bytes_from left (place + 1) count ≡ bytes_from right (place + 1) count =
     bytes_from-same left right (place + 1) count
     (λ i within.
-    let moved : place + 1 + i ≡ place + suc i = omega arith in
-    ap left moved ∙ (same (suc i) (omega (arith, within)) ∙ ap right (sym moved))) in
+    let moves : place + 1 + i ≡ place + suc i = omega arith in
+    ap left moves ∙ (same (suc i) (omega (arith, within)) ∙ ap right (sym moves))) in
     λ j. first j ∷ rest j
 
 pub take-bytes_from : (bytes : ℕ → ℕ) (place few count : ℕ) → few ≤ count
@@ -64,9 +64,9 @@ pub word-bytes_from : (bytes : ℕ → ℕ) (place count i : ℕ) → 2 * i + 1 
 word-bytes_from bytes place count i within =
     let low : slice_index (bytes_from bytes place count) (2 * i) ≡ bytes (place + 2 * i) =
     byte-bytes_from bytes place count (2 * i) (omega (arith, within)) in
-    let moved : place + (2 * i + 1) ≡ place + 2 * i + 1 = omega arith in
+    let moves : place + (2 * i + 1) ≡ place + 2 * i + 1 = omega arith in
     let high : slice_index (bytes_from bytes place count) (2 * i + 1) ≡ bytes (place + 2 * i + 1) =
-    byte-bytes_from bytes place count (2 * i + 1) within ∙ ap bytes moved in
+    byte-bytes_from bytes place count (2 * i + 1) within ∙ ap bytes moves in
     λ j. low j + 256 * high j
 
 -- words that were read of bytes give the bytes
@@ -80,24 +80,24 @@ pub bytes_of_words-read : (words bytes : List ℕ)
     → length bytes ≡ 2 * length words → AreBytes bytes
     → ((i : ℕ) → i < length words → slice_index words i ≡ word_of_bytes bytes i)
     → bytes_of_words words ≡ bytes
-bytes_of_words-read [] [] even small read = refl
-bytes_of_words-read [] (low ∷ bytes) even small read = absurd (omega (arith, even))
-bytes_of_words-read (word ∷ words) [] even small read = absurd (omega (arith, even))
-bytes_of_words-read (word ∷ words) (low ∷ []) even small read = absurd (omega (arith, even))
-bytes_of_words-read (word ∷ words) (low ∷ high ∷ bytes) even small read =
-    let first : word ≡ low + 256 * high = read 0 (omega arith) in
+bytes_of_words-read [] [] even small answer = refl
+bytes_of_words-read [] (low ∷ bytes) even small answer = absurd (omega (arith, even))
+bytes_of_words-read (word ∷ words) [] even small answer = absurd (omega (arith, even))
+bytes_of_words-read (word ∷ words) (low ∷ []) even small answer = absurd (omega (arith, even))
+bytes_of_words-read (word ∷ words) (low ∷ high ∷ bytes) even small answer =
+    let first : word ≡ low + 256 * high = answer 0 (omega arith) in
     let is_low : word % 256 ≡ low =
     ap (λ (w : ℕ). w % 256) first ∙ low_byte low high (small 0) in
     let is_high : word / 256 ≡ high =
     ap (λ (w : ℕ). w / 256) first ∙ high_byte low high (small 0) in
     let rest : bytes_of_words words ≡ bytes =
     bytes_of_words-read words bytes (omega (arith, even)) (λ i. small (suc (suc i)))
-    (λ i within. read (suc i) (omega (arith, within)) ∙ moved low high bytes i) in
+    (λ i within. answer (suc i) (omega (arith, within)) ∙ moves low high bytes i) in
     λ j. is_low j ∷ is_high j ∷ rest j
   where
-    moved : (low high : ℕ) (bytes : List ℕ) (i : ℕ)
+    moves : (low high : ℕ) (bytes : List ℕ) (i : ℕ)
         → word_of_bytes (low ∷ high ∷ bytes) (suc i) ≡ word_of_bytes bytes i
-    moved low high bytes i =
+    moves low high bytes i =
         let at_low : 2 * suc i ≡ suc (suc (2 * i)) = omega arith in
         let at_high : 2 * suc i + 1 ≡ suc (suc (2 * i + 1)) = omega arith in
         let low_same : slice_index (low ∷ high ∷ bytes) (2 * suc i) ≡ slice_index bytes (2 * i) =

@@ -16,14 +16,14 @@ attested_bytes_in bytes = record { metadata = metadata_bytes bytes; rest = rest_
 
 -- without the EXEC word, the last of the metadata
 abbrev pub without_exec_word : AttestedBytes → AttestedBytes
-without_exec_word attested =
-    record attested { metadata = take (EXEC_WORD - metadata_region.first) attested.metadata }
+without_exec_word contents =
+    record contents { metadata = take (EXEC_WORD - metadata_region.first) contents.metadata }
 
 -- the tag of these bytes under a key
 abbrev pub tag_of : (List ℕ → List ℕ) → List ℕ → AttestedBytes → List ℕ
-tag_of digest key attested = attestation_tag digest key attested.metadata attested.rest
+tag_of digest key contents = attestation_tag digest key contents.metadata contents.rest
 
 -- as the 16 words of the MAC
 abbrev pub mac_words : (List ℕ → List ℕ) → List ℕ → AttestedBytes → List ℕ
-mac_words digest key attested =
-    map (word_of_bytes (tag_of digest key attested)) (range_with_len 0 16)
+mac_words digest key contents =
+    map (word_of_bytes (tag_of digest key contents)) (range_with_len 0 16)

@@ -22,8 +22,8 @@ pub record Gives32Bytes (digest : List ℕ → List ℕ) : Type 0 where
   pub bytes : (message : List ℕ) → All (λ byte. byte < 256) (digest message)
 
 -- what stands in memory before the last steps of a play, so many
-abbrev pub attested_before : Start → List (List Event) → ℕ → AttestedBytes
-attested_before start play steps = attested_bytes_in (byte_after start (drop steps play))
+abbrev pub contents_before : Start → List (List Event) → ℕ → AttestedBytes
+contents_before start play steps = attested_bytes_in (byte_after start (drop steps play))
 
 -- how many steps the last call of a play has made
 abbrev pub call_length : Start → List (List Event) → ℕ
@@ -38,22 +38,22 @@ pub record IsInCall (start : Start) (play : List (List Event)) (steps : ℕ) : T
 -- what the MAC of the last call of a play covers
 pub record MacCoversCall (digest : List ℕ → List ℕ) (key : List ℕ) (start : Start)
     (play : List (List Event)) : Type 0 where
-  pub attested : AttestedBytes
+  pub contents : AttestedBytes
   -- it stands in memory throughout the call
   pub throughout : (steps : ℕ) → IsInCall start play steps
-      → attested_before start play steps ≡ attested
+      → contents_before start play steps ≡ contents
   -- and before the call, but for the EXEC word
   pub before :
-      without_exec_word (attested_before start play (call_length start play))
-      ≡ without_exec_word attested
+      without_exec_word (contents_before start play (call_length start play))
+      ≡ without_exec_word contents
   -- the words that the call wrote to the MAC, and those that it has not written, are its tag
-  pub unwritten : List ℕ
+  pub later : List ℕ
   pub words :
-      mac_written (last_call (trace start play)) ++ unwritten ≡ mac_words digest key attested
-  pub whole : IsTrue (ends_finished (trace start play)) → unwritten ≡ []
+      mac_written (last_call (trace start play)) ++ later ≡ mac_words digest key contents
+  pub whole : IsTrue (ends_finished (trace start play)) → later ≡ []
   -- and then the tag stands in memory, where the digest gives 32 bytes
   pub stored : IsTrue (ends_finished (trace start play)) → Gives32Bytes digest
-      → mac_bytes (byte_after start play) ≡ tag_of digest key attested
+      → mac_bytes (byte_after start play) ≡ tag_of digest key contents
 
 -- the MAC in a report, which the last step of a play makes, covers its call, and is the tag of what
 -- stands in memory, where the digest gives 32 bytes

@@ -5,7 +5,7 @@ use Rattle.device_trace.specs.Example.{upwards, quiet_steps}
 use Rattle.device_trace.specs.Start.{Start, with_key}
 use Rattle.device_trace.specs.Trace.{trace, byte_after}
 use Rattle.mac_coverage.specs.Call.{last_call, mac_written}
-use Rattle.mac_coverage.specs.Coverage.{attested_before}
+use Rattle.mac_coverage.specs.Coverage.{contents_before}
 
 -- a digest that can be computed here: always the bytes 01 to 20
 abbrev pub constant_digest : List ℕ → List ℕ
@@ -33,7 +33,7 @@ words_written image steps = mac_written (last_call (trace (device_of image) (qui
 
 -- the bytes of ER and OR that stand in memory after so many steps with no event
 abbrev pub rest_standing : (ℕ → ℕ) → ℕ → List ℕ
-rest_standing image steps = (attested_before (device_of image) (quiet_steps steps []) 0).rest
+rest_standing image steps = (contents_before (device_of image) (quiet_steps steps []) 0).rest
 
 -- the EXEC word then
 abbrev pub exec_standing : (ℕ → ℕ) → ℕ → ℕ

@@ -1,7 +1,7 @@
 ghost use Rattle.std.specs.Prelude.{◌≡◌, ℕ, IsTrue, List, Some};
 ghost use Rattle.bus_signals.specs.Report.{ReportFields};
 ghost use Rattle.bus_signals.specs.declared.event.Event.{Event};
-ghost use Rattle.device_trace.specs.Reports.{EachReport};
+ghost use Rattle.device_trace.specs.Report.{EachReport};
 ghost use Rattle.device_trace.specs.Start.{with_key};
 ghost use Rattle.device_trace.specs.Text.{last_report};
 ghost use Rattle.device_trace.specs.Trace.{byte_after, trace};

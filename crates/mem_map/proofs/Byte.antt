@@ -37,8 +37,8 @@ pub set-exec_byte :
     → get_or xs place 0 ≡ byte_at start exec writes place
     → byte ≡ byte_at start on writes 0x0268
     → get_or (set xs 0x0268 byte) place 0 ≡ byte_at start on writes place
-set-exec_byte start exec on writes xs byte place within before shown =
+set-exec_byte start exec on writes xs byte place within before shows =
     elim (eqb_tells place 0x0268) [
-      | inl same ↦ rw same.1 (get_or-set_same xs 0x0268 byte 0 within ∙ shown)
+      | inl same ↦ rw same.1 (get_or-set_same xs 0x0268 byte 0 within ∙ shows)
       | inr other ↦ get_or-set_other xs 0x0268 place byte 0 other.1 ∙ before ∙ rw other.0 refl
     ]

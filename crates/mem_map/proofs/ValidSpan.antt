@@ -10,7 +10,7 @@ span-ram :
     → first ≤ last
     → last + 1 ≤ 0x21FF
     → is_span first (last + 1) ≡ true
-span-ram first last low ordered high = grind (arith, nat_tests)
+span-ram first last low in_order high = grind (arith, nat_tests)
 
 span-program :
     (first last : ℕ)
@@ -18,7 +18,7 @@ span-program :
     → first ≤ last
     → last + 1 ≤ 0xFFDF
     → is_span first (last + 1) ≡ true
-span-program first last low ordered high = grind (arith, nat_tests)
+span-program first last low in_order high = grind (arith, nat_tests)
 
 pub span-valid : (first last : ℕ) → IsValidRange first last → is_span first (last + 1) ≡ true
 span-valid first last range =

@@ -61,19 +61,19 @@ pub byte_at-refused :
     (start : PowerOn) (exec : Bool) (writes : List MemoryWrite) (write : MemoryWrite) (place : ℕ)
     → takes_write write.place ≡ false
     → byte_at start exec (write ∷ writes) place ≡ byte_at start exec writes place
-byte_at-refused start exec writes write place refused =
+byte_at-refused start exec writes write place refuses =
     let first : ℕ = first_byte start place in
-    let fixed : ℕ = fixed_byte start exec place in
+    let fallback : ℕ = fixed_byte start exec place in
     elim (eqb_tells write.place place) [
       | inl same ↦
-          let here : takes_write place ≡ false = ap takes_write (sym same.1) ∙ refused in
-          ap (λ taken. if taken then last_written (write ∷ writes) place first else fixed) here
-          ∙ sym (ap (λ taken. if taken then last_written writes place first else fixed) here)
+          let here : takes_write place ≡ false = ap takes_write (sym same.1) ∙ refuses in
+          ap (λ takes. if takes then last_written (write ∷ writes) place first else fallback) here
+          ∙ sym (ap (λ takes. if takes then last_written writes place first else fallback) here)
       | inr other ↦
           ap (λ same.
           if takes_write place
           then (if same then write.byte else last_written writes place first)
-          else fixed)
+          else fallback)
           other.0
     ]
 
@@ -86,9 +86,9 @@ pub byte_at-taken :
     → get_or xs place 0 ≡ byte_at start exec writes place
     → get_or (set xs here byte) place 0
     ≡ byte_at start exec (record { place = here; byte = byte } ∷ writes) place
-byte_at-taken start exec writes xs here byte place taken within before =
+byte_at-taken start exec writes xs here byte place takes within before =
     let first : ℕ = first_byte start place in
-    let fixed : ℕ = fixed_byte start exec place in
+    let fallback : ℕ = fixed_byte start exec place in
     elim (eqb_tells here place) [
       | inl same ↦
           rw (← same.1)
@@ -96,19 +96,19 @@ byte_at-taken start exec writes xs here byte place taken within before =
           ∙ sym (ap (λ same.
           if same then byte else last_written writes here (first_byte start here))
           (eq-eqb here here refl))
-          ∙ sym (ap (λ taken.
-          if taken
+          ∙ sym (ap (λ takes.
+          if takes
           then last_written (record { place = here; byte = byte } ∷ writes) here
           (first_byte start here)
           else fixed_byte start exec here)
-          taken))
+          takes))
       | inr other ↦
           get_or-set_other xs here place byte 0 (λ same. other.1 (sym same))
           ∙ before
           ∙ sym (ap (λ same.
           if takes_write place
           then (if same then byte else last_written writes place first)
-          else fixed)
+          else fallback)
           other.0)
     ]
 
@@ -125,13 +125,13 @@ pub word_taken :
     (record { place = half * 2 + 1; byte = high }
     ∷ record { place = half * 2; byte = low }
     ∷ writes) place
-word_taken start exec writes xs half low high taken whole within before place inside =
+word_taken start exec writes xs half low high takes whole within before place inside =
     let size : length (set xs (half * 2) low) ≡ 65536 = length-set xs (half * 2) low ∙ whole in
     byte_at-taken start exec (record { place = half * 2; byte = low } ∷ writes)
     (set xs (half * 2) low) (half * 2 + 1) high place
-    (takes_write-word half ∙ taken) (omega (arith, size, within))
+    (takes_write-word half ∙ takes) (omega (arith, size, within))
     (byte_at-taken start exec writes xs (half * 2) low place
-    taken (omega (arith, whole, within)) (before place inside))
+    takes (omega (arith, whole, within)) (before place inside))
 
 -- and after a word was refused
 pub word_refused :
@@ -142,7 +142,7 @@ pub word_refused :
     ∷ record { place = half * 2; byte = low }
     ∷ writes) place
     ≡ byte_at start exec writes place
-word_refused start exec writes half low high place refused =
+word_refused start exec writes half low high place refuses =
     byte_at-refused start exec (record { place = half * 2; byte = low } ∷ writes)
-    (record { place = half * 2 + 1; byte = high }) place (takes_write-word half ∙ refused)
-    ∙ byte_at-refused start exec writes (record { place = half * 2; byte = low }) place refused
+    (record { place = half * 2 + 1; byte = high }) place (takes_write-word half ∙ refuses)
+    ∙ byte_at-refused start exec writes (record { place = half * 2; byte = low }) place refuses

@@ -8,9 +8,9 @@ abbrev pub byte_in : Image → ℕ → Option ℕ
 byte_in image place = slice_index_or image.bytes.items place None
 
 -- powered on with a key and an image
-abbrev pub powered_with : List ℕ → (ℕ → Option ℕ) → PowerOn
-powered_with key image =
+abbrev pub power_on_with : List ℕ → (ℕ → Option ℕ) → PowerOn
+power_on_with key image =
     record { key = λ i. slice_index key i; image = λ place. unwrap_or (image place) 0 }
 
-abbrev pub powered_on : List ℕ → Image → PowerOn
-powered_on key image = powered_with key (byte_in image)
+abbrev pub power_on_of : List ℕ → Image → PowerOn
+power_on_of key image = power_on_with key (byte_in image)

@@ -1,5 +1,5 @@
 pub mod Image
 pub mod ImagePlace
 pub mod Memory
-pub mod PlacedBytes
+pub mod ByteAmong
 pub mod Span

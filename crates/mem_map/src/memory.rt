@@ -1,8 +1,8 @@
-ghost use Rattle.std.specs.Prelude.{◌≡◌, ◌<◌, ◌≤◌, ◌^◌, ◌+◌, ◌-◌, ◌*◌, ◌/◌, ◌&&◌, ◌||◌, ◌∷◌, [], ℕ, Bool, true, false, List, IfOk, IfSome, IsSome, IsTrue, ◌↔◌, nat_le, vec_len};
+ghost use Rattle.std.specs.Prelude.{◌≡◌, ◌+◌, ◌-◌, ◌*◌, ◌/◌, ◌&&◌, ◌∷◌, [], Bool, false, List, IfOk, IfSome, IsSome, IsTrue, ◌↔◌, vec_len};
 ghost use Rattle.word_arith.specs.declared.size.Size.{Size};
-ghost use Rattle.part_definitions.specs.Memory.{PowerOn, MemoryWrite, byte_at, number_at, with_number, bytes_from, is_ram, is_program};
+ghost use Rattle.part_definitions.specs.Memory.{PowerOn, MemoryWrite, byte_at, number_at, with_number, bytes_from};
 ghost use Rattle.part_definitions.specs.Metadata.{bounds_in};
-ghost use Rattle.mem_map.specs.Image.{powered_on};
+ghost use Rattle.mem_map.specs.Image.{power_on_of};
 ghost use Rattle.mem_map.specs.Span.{is_span};
 
 use crate::image::Image;
@@ -16,7 +16,7 @@ use word_arith::Size;
 
 // The byte at a place before the first write.
 fn power_on_byte(key: &[u8; 64], image: &Image, place: u16) -> u8
-    ensures { result ≡ byte_at (powered_on key.now image.now) false [] place }
+    ensures { result ≡ byte_at (power_on_of key.now image.now) false [] place }
 {
     if is_image_place(place) && takes_write(place) {
         image.get(place).unwrap_or(0)
@@ -42,7 +42,7 @@ impl Memory {
     /// The memory at power-on.
     pub fn new(alloc: Global, key: &[u8; 64], image: &Image) -> Result<Memory, AllocError>
         ensures { IfOk result (λ memory.
-            MemoryStandsFor memory (powered_on key.now image.now) false []) }
+            MemoryStandsFor memory (power_on_of key.now image.now) false []) }
     {
         let mut bytes = Vec::with_capacity(alloc, PLACES)?;
         for place in 0..PLACES {

@@ -26,7 +26,7 @@ fn monitor_after(last: Option<u16>) -> AtomMonitor {
 }
 
 // The rule that a step breaks after a record with this `pc`.
-fn broken(
+fn rule_of(
     rt: &impl Abort,
     last: Option<u16>,
     kind: Kind,
@@ -63,7 +63,7 @@ fn entry_and_exit(rt: HostRuntime) {
         (None, Kind::Boot, 0x0000, None),
     ];
     for (last, kind, pc, rule) in rows {
-        let answer = broken(&rt, last, kind, pc, Some(Read(0x0300, Word)), false);
+        let answer = rule_of(&rt, last, kind, pc, Some(Read(0x0300, Word)), false);
         assert_eq!(rt; answer, rule, "{kind:?} at {pc:x} after {last:?}");
     }
 }
@@ -80,7 +80,7 @@ fn interrupts(rt: HostRuntime) {
         (Some(0xA002), 0xC000, Some(A1)),
     ];
     for (last, pc, rule) in rows {
-        let answer = broken(&rt, last, Kind::Rom, pc, None, true);
+        let answer = rule_of(&rt, last, Kind::Rom, pc, None, true);
         assert_eq!(rt; answer, rule, "at {pc:x} after {last:?}");
     }
 }
@@ -102,7 +102,7 @@ fn return_read(rt: HostRuntime) {
         (0xC000, 0xBFFE, Read(0x6A00, Word), Some(A2)),
     ];
     for (last, pc, access, rule) in rows {
-        let answer = broken(&rt, Some(last), Kind::Rom, pc, Some(access), false);
+        let answer = rule_of(&rt, Some(last), Kind::Rom, pc, Some(access), false);
         assert_eq!(rt; answer, rule, "{access:?} at {pc:x}");
     }
 }

@@ -115,7 +115,7 @@ fn stays_or_falls_inside(rt: HostRuntime) {
         irq: true,
         ..fetch(0xC022)
     };
-    let refused = BusRecord {
+    let refusal = BusRecord {
         reset: Some(Rule::X0),
         ..fetch(0xC022)
     };
@@ -138,7 +138,7 @@ fn stays_or_falls_inside(rt: HostRuntime) {
         (inside(Read(0x0240, Word)), true),
         (with_dma(Read(0x0400, Word)), false),
         (irq, false),
-        (refused, false),
+        (refusal, false),
         (fetch(0xC000), false),
     ];
     for (entry, is_set) in rows {

@@ -7,7 +7,7 @@ use std::process::Abort;
 use word_arith::Size::{Byte, Word};
 
 // The rule that a step with this `pc` and these accesses breaks.
-fn broken(rt: &impl Abort, pc: u16, cpu: Option<Access>, dma: Option<Access>) -> Option<Rule> {
+fn rule_of(rt: &impl Abort, pc: u16, cpu: Option<Access>, dma: Option<Access>) -> Option<Rule> {
     assert!(rt; is_formed(cpu));
     assert!(rt; is_formed(dma));
     KeyMonitor::new().check(&proposal(Kind::Cpu, pc, cpu, dma, false))
@@ -68,7 +68,7 @@ fn processor_at_the_edges(rt: HostRuntime) {
     ];
     for (pc, access, rule) in rows {
         assert_eq!(rt;
-            broken(&rt, pc, Some(access), None),
+            rule_of(&rt, pc, Some(access), None),
             rule,
             "{access:?} at {pc:x}"
         );
@@ -95,7 +95,7 @@ fn dma_at_the_edges(rt: HostRuntime) {
     ];
     for (pc, access, rule) in rows {
         assert_eq!(rt;
-            broken(&rt, pc, None, Some(access)),
+            rule_of(&rt, pc, None, Some(access)),
             rule,
             "{access:?} at {pc:x}"
         );
@@ -113,7 +113,7 @@ fn first_of_several(rt: HostRuntime) {
     ];
     for (pc, cpu, dma, rule) in rows {
         assert_eq!(rt;
-            broken(&rt, pc, Some(cpu), Some(dma)),
+            rule_of(&rt, pc, Some(cpu), Some(dma)),
             rule,
             "{cpu:?}, {dma:?} at {pc:x}"
         );

@@ -4,7 +4,7 @@ ghost use Rattle.bus_signals.specs.Access.{IsFormed};
 use bus_signals::{Access, Kind, Signals};
 use word_arith::Size;
 
-// What a step proposes, as fakes in place of the processor, the ROM and the DMA make it up.
+/// What a step proposes, as fakes in place of the processor, the ROM and the DMA make it up.
 pub fn proposal(kind: Kind, pc: u16, cpu: Option<Access>, dma: Option<Access>, irq: bool) -> Signals
     ensures cpu { result.cpu ≡ cpu }
     ensures dma { result.dma ≡ dma }
@@ -21,7 +21,7 @@ pub fn proposal(kind: Kind, pc: u16, cpu: Option<Access>, dma: Option<Access>, i
     }
 }
 
-// Whether an access is one that a bus master may ask for.
+/// Whether an access is one that a bus master may ask for.
 pub fn is_formed(access: Option<Access>) -> bool
     ensures { result ≡ true → IfSome access IsFormed }
 {

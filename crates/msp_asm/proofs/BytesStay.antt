@@ -8,7 +8,7 @@ use Rattle.asm_bytes.specs.Value.{Scope}
 use Rattle.asm_bytes.specs.Statement.{size_of, bytes_of}
 use Rattle.asm_bytes.proofs.StatementSize.{bytes_have_their_size}
 use Rattle.msp_asm.specs.FirstPass.{at_line, first_fault, first_pass_fault, is_among, is_placed, scope_after}
-use Rattle.mem_map.specs.PlacedBytes.{byte_among}
+use Rattle.mem_map.specs.ByteAmong.{byte_among}
 use Rattle.msp_asm.specs.SecondPass.{given_byte, byte_placed, scope_among}
 use Rattle.msp_asm.proofs.LinesSoFar.{neither, no_fault_at}
 use Rattle.msp_asm.proofs.FreePlaces.{count_after, scope_text, are_free, apart}
@@ -34,19 +34,19 @@ byte_among-apart first (byte ∷ bytes) place other =
           (byte_among-apart (first + 1) bytes place (apart_more first (length bytes) place other))
     ]
 
-given_byte-apart : (read : Result (List ℕ) FaultKind) (first count place : ℕ)
-    → IfOk read (λ bytes. length bytes ≡ count)
+given_byte-apart : (answer : Result (List ℕ) FaultKind) (first count place : ℕ)
+    → IfOk answer (λ bytes. length bytes ≡ count)
     → is_among first count place ≡ false
-    → given_byte first read place ≡ None
+    → given_byte first answer place ≡ None
 given_byte-apart (Ok bytes) first count place is other =
     byte_among-apart first bytes place (ap (λ n. is_among first n place) is ∙ other)
 given_byte-apart (Err kind) first count place is other = refl
 
 -- how many bytes a statement has, is known before all names are
-pub sized : (text : List ℕ) (all earlier : List Statement) (s : Statement)
+pub has_size : (text : List ℕ) (all earlier : List Statement) (s : Statement)
     → IfOk (bytes_of (scope_among text all earlier) s.body)
     (λ bytes. length bytes ≡ count_after text earlier s)
-sized text all earlier s =
+has_size text all earlier s =
     subst (λ (t : List ℕ). IfOk (bytes_of (scope_among text all earlier) s.body)
     (λ bytes. length bytes ≡ size_of t s.body)) (sym (scope_text text earlier))
     (bytes_have_their_size (scope_among text all earlier) s.body)
@@ -58,14 +58,14 @@ pub stays : (text : List ℕ) (all later earlier : List Statement) (place : ℕ)
     → (is_placed text (later ++ earlier) place ≡ true)
     × (byte_placed text all (later ++ earlier) place ≡ byte_placed text all earlier place)
 unfolding is_placed byte_placed
-stays text all [] earlier place none taken = (taken, refl)
-stays text all (s ∷ later) earlier place none taken =
+stays text all [] earlier place none is_taken = (is_taken, refl)
+stays text all (s ∷ later) earlier place none is_taken =
     let before : List Statement = later ++ earlier in
     let scope : Scope = scope_after text before in
     let count : ℕ = count_after text before s in
     let so_far = stays text all later earlier place
     (neither (first_fault (first_pass_fault text) before)
-    (at_line s.line (first_pass_fault text before s)) none).0 taken in
+    (at_line s.line (first_pass_fault text before s)) none).0 is_taken in
     let free = are_free text before s (no_fault_at (first_pass_fault text) [] before s none) in
     let other : is_among scope.here count place ≡ false =
     apart (is_placed text before) scope.here count place (is_among scope.here count place)
@@ -73,6 +73,6 @@ stays text all (s ∷ later) earlier place none taken =
       ap (λ among. among || is_placed text before place) other ∙ so_far.0,
       ap (λ byte. option_or byte (byte_placed text all before place))
           (given_byte-apart (bytes_of (scope_among text all before) s.body) scope.here count place
-          (sized text all before s) other)
+          (has_size text all before s) other)
           ∙ so_far.1,
     )

@@ -5,23 +5,23 @@ use Rattle.asm_text.specs.declared.statement.Statement.{Statement}
 use Rattle.asm_bytes.specs.Value.{Scope}
 use Rattle.msp_asm.specs.declared.first_pass.FirstPass.{FirstPass}
 use Rattle.msp_asm.specs.FirstPass.{scope_after, is_placed, next_scope, places_byte}
-use Rattle.msp_asm.specs.FirstPassState.{taken_in}
+use Rattle.msp_asm.specs.FirstPassState.{occupies}
 use Rattle.msp_asm.specs.FirstPassStands.{scope_of, FirstPassStandsFor}
 
 stands_next : (text : List ℕ) (earlier : List Statement) (statement : Statement)
     (old new : FirstPass)
     → FirstPassStandsFor old text earlier
     → scope_of new ≡ next_scope (scope_of old) statement
-    → ((place : ℕ) → taken_in new.taken place
-    ≡ (places_byte (scope_of old) statement.body place || taken_in old.taken place))
+    → ((place : ℕ) → occupies new.occupancy place
+    ≡ (places_byte (scope_of old) statement.body place || occupies old.occupancy place))
     → FirstPassStandsFor new text (statement ∷ earlier)
 unfolding scope_after is_placed
-stands_next text earlier statement old new at next taken =
+stands_next text earlier statement old new at next takes =
     record {
       scope = next ∙ ap (λ (scope : Scope). next_scope scope statement) at.scope;
       taken = λ i. λ place.
-          (taken place
-          ∙ ap (λ (scope : Scope). places_byte scope statement.body place || taken_in old.taken
+          (takes place
+          ∙ ap (λ (scope : Scope). places_byte scope statement.body place || occupies old.occupancy
           place) at.scope
           ∙ ap (λ (f : ℕ → Bool). places_byte (scope_after text earlier) statement.body place
           || f place) at.taken) i;
@@ -31,9 +31,9 @@ pub stands_more : (text : List ℕ) (earlier : List Statement) (statement : Stat
     (old new : FirstPass) (result : Result Unit WordFault)
     → FirstPassStandsFor old text earlier
     → OnOk result (scope_of new ≡ next_scope (scope_of old) statement)
-    → OnOk result ((place : ℕ) → taken_in new.taken place
-    ≡ (places_byte (scope_of old) statement.body place || taken_in old.taken place))
+    → OnOk result ((place : ℕ) → occupies new.occupancy place
+    ≡ (places_byte (scope_of old) statement.body place || occupies old.occupancy place))
     → OnOk result (FirstPassStandsFor new text (statement ∷ earlier))
-stands_more text earlier statement old new (Ok u) at next taken =
-    stands_next text earlier statement old new at next taken
-stands_more text earlier statement old new (Err fault) at next taken = tt
+stands_more text earlier statement old new (Ok u) at next takes =
+    stands_next text earlier statement old new at next takes
+stands_more text earlier statement old new (Err fault) at next takes = tt

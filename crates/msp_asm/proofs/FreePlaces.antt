@@ -18,9 +18,9 @@ pub record AreFree (is_taken : ℕ → Bool) (first count : ℕ) : Type 0 where
   pub placed : list_all is_image_place (places_from first count) ≡ true
   pub free : list_any is_taken (places_from first count) ≡ false
 
-free_places : (placed overlaps : Bool)
-    → (if not placed then Some Place else if overlaps then Some Overlap else None) ≡ None
-    → (placed ≡ true) × (overlaps ≡ false)
+free_places : (in_image overlaps : Bool)
+    → (if not in_image then Some Place else if overlaps then Some Overlap else None) ≡ None
+    → (in_image ≡ true) × (overlaps ≡ false)
 free_places true false none = (refl, refl)
 free_places true true none = absurd cc
 free_places false overlaps none = absurd cc
@@ -107,8 +107,8 @@ pub apart : (is_taken : ℕ → Bool) (first count place : ℕ) (among : Bool)
     → is_taken place ≡ true
     → is_among first count place ≡ among
     → among ≡ false
-apart is_taken first count place false free taken is = refl
-apart is_taken first count place true free taken is =
+apart is_taken first count place false free takes is = refl
+apart is_taken first count place true free takes is =
     let not_taken : is_taken place ≡ false =
     none_among is_taken first count place free (among_from first count place is)
     (among_below first count place is) in

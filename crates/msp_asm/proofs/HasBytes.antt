@@ -22,13 +22,13 @@ use Rattle.asm_bytes.specs.Statement.{bytes_of, word_bytes, named_instruction, I
 use Rattle.mem_map.specs.declared.image.Image.{Image}
 use Rattle.mem_map.specs.Image.{byte_in}
 use Rattle.msp_asm.specs.FirstPass.{first_fault, first_pass_fault, is_placed, scope_after}
-use Rattle.mem_map.specs.PlacedBytes.{byte_among}
+use Rattle.mem_map.specs.ByteAmong.{byte_among}
 use Rattle.msp_asm.specs.SecondPass.{given_byte, byte_placed, byte_of_image, fault_of, image_of, scope_among, second_pass_fault}
 use Rattle.msp_asm.specs.Source.{source_image}
 use Rattle.msp_asm.specs.HasBytes.{HasBytes, HasBytesOf, HasInstruction, HasInstructionOf, OfEachStatement}
 use Rattle.msp_asm.proofs.LinesSoFar.{neither, no_fault_at}
 use Rattle.msp_asm.proofs.FreePlaces.{count_after, are_free, all_among, among_between}
-use Rattle.msp_asm.proofs.BytesStay.{sized, stays}
+use Rattle.msp_asm.proofs.BytesStay.{has_size, stays}
 
 byte_among-next : (first byte : ℕ) (bytes : List ℕ) (place : ℕ) → first + 1 ≤ place
     → byte_among first (byte ∷ bytes) place ≡ byte_among (first + 1) bytes place
@@ -51,65 +51,65 @@ has_bytes : (image other : ℕ → Option ℕ) (first : ℕ) (bytes : List ℕ)
     → ((place : ℕ) → first ≤ place → place < first + length bytes
     → image place ≡ option_or (byte_among first bytes place) (other place))
     → HasBytes image first bytes
-has_bytes image other first [] placed = tt
-has_bytes image other first (byte ∷ bytes) placed = (
-  placed first (omega arith) (omega arith)
-      ∙ ap (λ found. option_or found (other first)) (byte_among-first first byte bytes),
+has_bytes image other first [] gives = tt
+has_bytes image other first (byte ∷ bytes) gives = (
+  gives first (omega arith) (omega arith)
+      ∙ ap (λ value. option_or value (other first)) (byte_among-first first byte bytes),
   has_bytes image other (first + 1) bytes (λ place from below.
-      placed place (omega arith) (omega arith)
-      ∙ ap (λ found. option_or found (other place)) (byte_among-next first byte bytes place from)),
+      gives place (omega arith) (omega arith)
+      ∙ ap (λ value. option_or value (other place)) (byte_among-next first byte bytes place from)),
 )
 
 -- the bytes of a statement among others
 stand_among : (text : List ℕ) (all later earlier : List Statement) (s : Statement)
-    (image : ℕ → Option ℕ) (read : Result (List ℕ) FaultKind)
-    → bytes_of (scope_among text all earlier) s.body ≡ read
-    → result_err read ≡ None
+    (image : ℕ → Option ℕ) (answer : Result (List ℕ) FaultKind)
+    → bytes_of (scope_among text all earlier) s.body ≡ answer
+    → result_err answer ≡ None
     → first_fault (first_pass_fault text) (later ++ s ∷ earlier) ≡ None
     → ((place : ℕ) → is_image_place place ≡ true
     → image place ≡ byte_placed text all (later ++ s ∷ earlier) place)
-    → IsOkAnd read (HasBytes image (scope_after text earlier).here)
+    → IsOkAnd answer (HasBytes image (scope_after text earlier).here)
 unfolding is_placed byte_placed
-stand_among text all later earlier s image (Err kind) is sound none placed = absurd cc
-stand_among text all later earlier s image (Ok bytes) is sound none placed =
+stand_among text all later earlier s image (Err kind) is sound none gives = absurd cc
+stand_among text all later earlier s image (Ok bytes) is sound none gives =
     let here : ℕ = (scope_after text earlier).here in
     let count : ℕ = count_after text earlier s in
     let size : length bytes ≡ count =
-    subst (λ (read : Result (List ℕ) FaultKind). IfOk read (λ found. length found ≡ count)) is
-    (sized text all earlier s) in
+    subst (λ (answer : Result (List ℕ) FaultKind). IfOk answer (λ value. length value ≡ count)) is
+    (has_size text all earlier s) in
     let free = are_free text earlier s (no_fault_at (first_pass_fault text) later earlier s none) in
     has_bytes image (byte_placed text all earlier) here bytes (λ place from below.
     let within : place < here + count = omega (arith, below, size) in
-    let taken : is_placed text (s ∷ earlier) place ≡ true =
+    let is_taken : is_placed text (s ∷ earlier) place ≡ true =
     ap (λ among. among || is_placed text earlier place) (among_between here count place from within)
     in
-    placed place (all_among is_image_place here count place free.placed from within)
-    ∙ (stays text all later (s ∷ earlier) place none taken).1
-    ∙ ap (λ found. option_or (given_byte here found place) (byte_placed text all earlier place)) is)
+    gives place (all_among is_image_place here count place free.placed from within)
+    ∙ (stays text all later (s ∷ earlier) place none is_taken).1
+    ∙ ap (λ value. option_or (given_byte here value place) (byte_placed text all earlier place)) is)
 
 -- an image that was made, and nothing was at fault
-made : (fault : Option FaultAt) (bytes image : ℕ → Option ℕ) → value_or_fault fault bytes ≡ Ok image
+both : (fault : Option FaultAt) (bytes image : ℕ → Option ℕ) → value_or_fault fault bytes ≡ Ok image
     → (fault ≡ None) × (bytes ≡ image)
-made None bytes image is = (refl, cc)
-made (Some fault) bytes image is = absurd cc
+both None bytes image is = (refl, cc)
+both (Some fault) bytes image is = absurd cc
 
 -- statements with the newest first
 cut : (before after : List Statement) (s : Statement)
     → reverse (before ++ s ∷ after) ≡ reverse after ++ s ∷ reverse before
 cut before after s =
     reverse-append before (s ∷ after)
-    ∙ ap (λ front. front ++ reverse before) (reverse-append (s ∷ []) after)
+    ∙ ap (λ prefix. prefix ++ reverse before) (reverse-append (s ∷ []) after)
     ∙ append_assoc (reverse after) (s ∷ []) (reverse before)
 
 pub statements_stand : (text : List ℕ) (image : ℕ → Option ℕ) → source_image text ≡ Ok image
     → OfEachStatement (HasBytesOf image) text
-statements_stand text image is before after s read =
+statements_stand text image is before after s answer =
     let statements : List Statement = before ++ s ∷ after in
     let all : List Statement = reverse statements in
     let earlier : List Statement = reverse before in
     let later : List Statement = reverse after in
-    let whole = made (fault_of text statements) (byte_of_image text statements) image
-    (ap (λ found. found >>= image_of text) (sym read) ∙ is) in
+    let whole = both (fault_of text statements) (byte_of_image text statements) image
+    (ap (λ value. value >>= image_of text) (sym answer) ∙ is) in
     let sound = neither (first_fault (first_pass_fault text) all)
     (first_fault (second_pass_fault text all) all) whole.0 in
     stand_among text all later earlier s image (bytes_of (scope_among text all earlier) s.body) refl
@@ -122,10 +122,10 @@ statements_stand text image is before after s read =
     ∙ ap (λ lines. byte_placed text all lines place) (cut before after s))
 
 -- an instruction whose bytes stand, and whose words are read as it
-named_stands : (image : ℕ → Option ℕ) (place : ℕ) (named : Result Instr FaultKind)
-    → ((it : Instr) → named ≡ Ok it → AreReadAs (words_of it) it)
-    → IsOkAnd (named >>= (λ it. Ok (flat_map word_bytes (words_of it)))) (HasBytes image place)
-    → IsOkAnd named (HasInstruction image place)
+named_stands : (image : ℕ → Option ℕ) (place : ℕ) (result : Result Instr FaultKind)
+    → ((it : Instr) → result ≡ Ok it → AreReadAs (words_of it) it)
+    → IsOkAnd (result >>= (λ it. Ok (flat_map word_bytes (words_of it)))) (HasBytes image place)
+    → IsOkAnd result (HasInstruction image place)
 named_stands image place (Ok it) are_read stands =
     record { bytes = stands; read = are_read it refl }
 named_stands image place (Err kind) are_read stands = stands
@@ -149,10 +149,10 @@ pub instructions_stand : ((scope : Scope) (body : Body) (it : Instr) → IsNamed
     → (text : List ℕ) (image : ℕ → Option ℕ)
     → source_image text ≡ Ok image
     → OfEachStatement (HasInstructionOf image) text
-instructions_stand are_read text image is before after s read =
+instructions_stand are_read text image is before after s answer =
     let scope : Scope = scope_among text (reverse (before ++ s ∷ after)) (reverse before) in
     instruction_stands image scope s.body (are_read scope s.body)
-    (statements_stand text image is before after s read)
+    (statements_stand text image is before after s answer)
 
 -- what holds of each statement in the image of a source, holds in the one that was made
 pub of_image : (Holds : (ℕ → Option ℕ) → Scope → Body → Type 0) (text : List ℕ)

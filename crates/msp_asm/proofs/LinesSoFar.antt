@@ -35,10 +35,10 @@ all_after statements i =
 fault_later : (fault : Faults) (later earlier : List Statement) (at : FaultAt)
     → first_fault fault earlier ≡ Some at
     → first_fault fault (later ++ earlier) ≡ Some at
-fault_later fault [] earlier at found = found
-fault_later fault (s ∷ later) earlier at found =
+fault_later fault [] earlier at answer = answer
+fault_later fault (s ∷ later) earlier at answer =
     ap (λ first. option_or first (at_line s.line (fault (later ++ earlier) s)))
-    (fault_later fault later earlier at found)
+    (fault_later fault later earlier at answer)
 
 -- no fault up to one more
 pub sound_more : (fault : Faults) (statements : List Statement) (i : ℕ) (d s : Statement)
@@ -55,22 +55,22 @@ sound_more fault statements i d s u below is sound none =
 
 -- the first fault of all
 pub fault_of_all : (fault : Faults) (statements : List Statement) (i : ℕ)
-    (d s : Statement) (found : WordFault)
+    (d s : Statement) (answer : WordFault)
     → i < length statements
     → s ≡ get_or statements i d
     → first_fault fault (reverse (take i statements)) ≡ None
-    → AnswersFault (Err found) (fault (reverse (take i statements)) s)
-    → IsFault (fault_in_line s.line found) (first_fault fault (reverse statements))
-fault_of_all fault statements i d s (Kind kind) below is sound found =
+    → AnswersFault (Err answer) (fault (reverse (take i statements)) s)
+    → IsFault (fault_in_line s.line answer) (first_fault fault (reverse statements))
+fault_of_all fault statements i d s (Kind kind) below is sound answer =
     let here : first_fault fault (reverse (take (i + 1) statements))
     ≡ Some (record { line = s.line; kind = kind }) =
     ap (first_fault fault) (earlier_more statements i d s below is)
     ∙ ap (λ first. option_or first (at_line s.line (fault (reverse (take i statements)) s))) sound
-    ∙ ap (at_line s.line) found in
+    ∙ ap (at_line s.line) answer in
     ap (first_fault fault) (all_after statements (i + 1))
     ∙ fault_later fault (reverse (drop (i + 1) statements)) (reverse (take (i + 1) statements))
     (record { line = s.line; kind = kind }) here
-fault_of_all fault statements i d s (Memory error) below is sound found = tt
+fault_of_all fault statements i d s (Memory error) below is sound answer = tt
 
 -- places that are kept in order
 pub places_more : (heres : ℕ → ℕ) (old new : List ℕ) (place i : ℕ)
@@ -79,16 +79,16 @@ pub places_more : (heres : ℕ → ℕ) (old new : List ℕ) (place i : ℕ)
     → place ≡ heres i
     → ((j : ℕ) → j < i → slice_index old j ≡ heres j)
     → (j : ℕ) → j < i + 1 → slice_index new j ≡ heres j
-places_more heres old new place i count added is so_far j below =
+places_more heres old new place i count adds is so_far j below =
     elim (cases_lt j i) [
       | inl less ↦
-          ap (λ places. slice_index places j) added
+          ap (λ places. slice_index places j) adds
           ∙ get_or_append_left old (place ∷ []) 0 j (omega (arith, less, count))
           ∙ so_far j less
       | inr more ↦
           let same : j ≡ length old + 0 = omega (arith, more, below, count) in
           let last : j ≡ i = omega (arith, more, below) in
-          ap (λ places. slice_index places j) added
+          ap (λ places. slice_index places j) adds
           ∙ ap (slice_index (old ++ place ∷ [])) same
           ∙ get_or-append-add old (place ∷ []) 0 0
           ∙ is ∙ ap heres (sym last)
@@ -98,7 +98,7 @@ places_more heres old new place i count added is so_far j below =
 pub neither : {A : Type 0} (first second : Option A) → option_or first second ≡ None
     → (first ≡ None) × (second ≡ None)
 neither None second is = (refl, is)
-neither (Some found) second is = absurd cc
+neither (Some answer) second is = absurd cc
 
 no_kind : (line : ℕ) (kind : Option FaultKind) → at_line line kind ≡ None → kind ≡ None
 no_kind line None is = refl

@@ -4,7 +4,7 @@ use Rattle.std.specs.Option.{option_or}
 use Rattle.std.proofs.Math.Bool.{and-false}
 use Rattle.std.proofs.lemmas.Bool.Decides.{eqb_tells}
 use Rattle.part_definitions.specs.Memory.{is_image_place}
-use Rattle.mem_map.specs.PlacedBytes.{byte_among}
+use Rattle.mem_map.specs.ByteAmong.{byte_among}
 use Rattle.mem_map.proofs.PlacedBytes.{byte_among-more}
 
 place_test : (first place : ℕ) → IsTrue (is_image_place place)
@@ -12,8 +12,8 @@ place_test : (first place : ℕ) → IsTrue (is_image_place place)
 place_test first place is =
     elim (eqb_tells place first) [
       | inl same ↦
-          let placed : is_image_place first ≡ true = ap is_image_place (sym same.1) ∙ is in
-          rw placed refl
+          let in_image : is_image_place first ≡ true = ap is_image_place (sym same.1) ∙ is in
+          rw in_image refl
       | inr other ↦ rw other.0 (and-false (is_image_place first))
     ]
 

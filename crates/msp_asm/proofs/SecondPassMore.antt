@@ -22,9 +22,9 @@ same_scope : (text : List ℕ) (names other : List ℕ → Option ℤ) (here the
     → here ≡ there
     → ◌≡◌ {A = Scope} (record { text = text; names = names; here = here })
     (record { text = text; names = other; here = there })
-same_scope text names other here there named placed =
-    ap (λ (f : List ℕ → Option ℤ). record { text = text; names = f; here = here }) named
-    ∙ ap (λ (n : ℕ). record { text = text; names = other; here = n }) placed
+same_scope text names other here there same_names places =
+    ap (λ (f : List ℕ → Option ℤ). record { text = text; names = f; here = here }) same_names
+    ∙ ap (λ (n : ℕ). record { text = text; names = other; here = n }) places
 
 -- what a statement is read in, by the layout
 pub layout-scope : (layout : Layout) (text : List ℕ) (statements : List Statement) (i : ℕ)
@@ -58,42 +58,42 @@ placed_more text all earlier s scope old new place is before after =
     (bytes_of (scope_among text all earlier) s.body) place)) before
 
 -- an image has no byte where it may hold none
-none_elsewhere : (image : ℕ → Option ℕ) (place : ℕ) (found : Option ℕ) → IsImage image
-    → image place ≡ found
+none_elsewhere : (image : ℕ → Option ℕ) (place : ℕ) (answer : Option ℕ) → IsImage image
+    → image place ≡ answer
     → is_image_place place ≡ false
-    → found ≡ None
+    → answer ≡ None
 none_elsewhere image place None are is elsewhere = refl
 none_elsewhere image place (Some byte) are is elsewhere =
-    let placed : is_image_place place ≡ true = (are place byte is).0 in absurd cc
+    let places : is_image_place place ≡ true = (are place byte is).0 in absurd cc
 
-by_place : (image : ℕ → Option ℕ) (placed : ℕ → Option ℕ) (place : ℕ) (is : Bool) → IsImage image
+by_place : (image : ℕ → Option ℕ) (places : ℕ → Option ℕ) (place : ℕ) (is : Bool) → IsImage image
     → is_image_place place ≡ is
-    → (IsTrue (is_image_place place) → image place ≡ placed place)
-    → cond (is_image_place place) (placed place) None ≡ image place
-by_place image placed place true are is same =
-    ap (λ b. cond b (placed place) None) is ∙ sym (same is)
-by_place image placed place false are is same =
-    ap (λ b. cond b (placed place) None) is ∙ sym (none_elsewhere image place (image place) are refl
+    → (IsTrue (is_image_place place) → image place ≡ places place)
+    → cond (is_image_place place) (places place) None ≡ image place
+by_place image places place true are is same =
+    ap (λ b. cond b (places place) None) is ∙ sym (same is)
+by_place image places place false are is same =
+    ap (λ b. cond b (places place) None) is ∙ sym (none_elsewhere image place (image place) are refl
     is)
 
 -- the image after both passes, or the fault of the second
-pub assembled : (text : List ℕ) (statements : List Statement) (result : Result Image TextFault)
+pub reads_image : (text : List ℕ) (statements : List Statement) (result : Result Image TextFault)
     → first_fault (first_pass_fault text) (reverse statements) ≡ None
     → AnswersAt result
     (first_fault (second_pass_fault text (reverse statements)) (reverse statements))
     → IfOk result (λ image. (place : ℕ) → IsTrue (is_image_place place)
     → byte_in image place ≡ byte_placed text (reverse statements) (reverse statements) place)
     → Reads (value_as byte_in result) (image_of text statements)
-assembled text statements (Ok image) first second bytes =
+reads_image text statements (Ok image) first second bytes =
     let all = reverse statements in
     ap (λ fault. value_or_fault (option_or fault (first_fault (second_pass_fault text all) all))
     (byte_of_image text statements)) first
     ∙ ap (λ fault. value_or_fault fault (byte_of_image text statements)) second
     ∙ ap Ok (λ i. λ place. by_place (byte_in image) (byte_placed text all all) place
     (is_image_place place) image.placed refl (bytes place) i)
-assembled text statements (Err (At fault)) first second bytes =
+reads_image text statements (Err (At fault)) first second bytes =
     let all = reverse statements in
-    ap (λ found. value_or_fault (option_or found (first_fault (second_pass_fault text all) all))
+    ap (λ answer. value_or_fault (option_or answer (first_fault (second_pass_fault text all) all))
     (byte_of_image text statements)) first
-    ∙ ap (λ found. value_or_fault found (byte_of_image text statements)) second
-assembled text statements (Err (Memory error)) first second bytes = tt
+    ∙ ap (λ answer. value_or_fault answer (byte_of_image text statements)) second
+reads_image text statements (Err (Memory error)) first second bytes = tt

@@ -5,7 +5,7 @@ use Rattle.asm_bytes.specs.Value.{Scope}
 use Rattle.asm_bytes.specs.Names.{value_in}
 use Rattle.msp_asm.specs.declared.first_pass.FirstPass.{FirstPass}
 use Rattle.msp_asm.specs.FirstPass.{scope_after, is_placed}
-use Rattle.msp_asm.specs.FirstPassState.{taken_in}
+use Rattle.msp_asm.specs.FirstPassState.{occupies}
 
 -- what the next statement is read in
 abbrev pub scope_of : FirstPass → Scope
@@ -16,4 +16,4 @@ scope_of pass =
 pub record FirstPassStandsFor (pass : FirstPass) (text : List ℕ)
     (earlier : List Statement) : Type 0 where
   pub scope : scope_of pass ≡ scope_after text earlier
-  pub taken : taken_in pass.taken ≡ is_placed text earlier
+  pub taken : occupies pass.occupancy ≡ is_placed text earlier

@@ -7,8 +7,8 @@ use Rattle.mem_map.specs.declared.image.Image.{Image}
 use Rattle.mem_map.specs.Image.{byte_in}
 
 -- an image has a byte there
-abbrev pub taken_in : Image → ℕ → Bool
-taken_in image place = is_some (byte_in image place)
+abbrev pub occupies : Image → ℕ → Bool
+occupies image place = is_some (byte_in image place)
 
 -- no fault, or the fault; out of memory says nothing
 abbrev pub AnswersFault : Result Unit WordFault → Option FaultKind → Type 0

@@ -2,7 +2,7 @@ ghost use Rattle.std.specs.Prelude.{◌≡◌, ◌≤◌, ◌≤ℤ◌, ◌+◌,
 ghost use Rattle.std.specs.Result.{result_err};
 ghost use Rattle.asm_bytes.specs.Names.{value_in};
 ghost use Rattle.asm_bytes.specs.Statement.{size_of};
-ghost use Rattle.msp_asm.specs.FirstPass.{constant_name, are_same, with_name, place_after, is_org, place_of};
+ghost use Rattle.msp_asm.specs.FirstPass.{constant_name, are_same, with_name, is_org, place_of};
 ghost use Rattle.msp_asm.specs.FirstPassState.{AnswersFault};
 
 use crate::space::take_places;
@@ -71,7 +71,7 @@ pub struct FirstPass<'a> {
     // 65,536 after the last place.
     place: u32,
     // An image with a byte at each place that is taken.
-    taken: Image,
+    occupancy: Image,
     ghost in_memory: { place ≤ 65536 },
 }
 
@@ -83,7 +83,7 @@ impl<'a> FirstPass<'a> {
     ghost use Rattle.asm_bytes.specs.Scope.{scope_in};
     ghost use Rattle.asm_bytes.specs.Statement.{size_of};
     ghost use Rattle.msp_asm.specs.FirstPass.{is_given, gives_again, constant_name, constant_value, constant_fault, places_byte, place_fault, next_scope, statement_fault, first_pass_fault};
-    ghost use Rattle.msp_asm.specs.FirstPassState.{taken_in, AnswersFault};
+    ghost use Rattle.msp_asm.specs.FirstPassState.{occupies, AnswersFault};
     ghost use Rattle.msp_asm.specs.FirstPassStands.{scope_of, FirstPassStandsFor};
 
     /// Before the first statement: at C000, without names.
@@ -95,7 +95,7 @@ impl<'a> FirstPass<'a> {
             text,
             names: Names::new(alloc),
             place: PROGRAM_START,
-            taken: Image::new(alloc)?,
+            occupancy: Image::new(alloc)?,
         })
     }
 
@@ -167,19 +167,20 @@ impl<'a> FirstPass<'a> {
     // Takes the places of a statement's bytes, and answers the place behind them.
     fn take_places(&mut self, body: &Body) -> Result<u32, FaultKind>
         ensures fault { result_err result
-            ≡ place_fault (taken_in self.old.taken) (scope_of self.old) body.now }
+            ≡ place_fault (occupies self.old.occupancy) (scope_of self.old) body.now }
         ensures next { IfOk result (λ next.
             next ≡ (scope_of self.old).here + size_of (scope_of self.old).text body.now) }
         ensures most { IfOk result (λ next. next ≤ 65536) }
         ensures scope { scope_of self.new ≡ scope_of self.old }
         ensures taken { OnOk result ((place : ℕ)
-            → taken_in self.new.taken place
-            ≡ (places_byte (scope_of self.old) body.now place || taken_in self.old.taken place)) }
+            → occupies self.new.occupancy place
+            ≡ (places_byte (scope_of self.old) body.now place
+            || occupies self.old.occupancy place)) }
     {
         if is_of_words(body) && self.place % 2 != 0 {
             return Err(FaultKind::Place);
         }
-        take_places(&mut self.taken, self.place, size_of(self.text, body))
+        take_places(&mut self.occupancy, self.place, size_of(self.text, body))
     }
 
     // Gives the names of a statement their values, and goes to the place behind it.
@@ -197,7 +198,7 @@ impl<'a> FirstPass<'a> {
             + size_of (scope_of self.old).text statement.now.body }
         ensures scope { OnOk result
             (scope_of self.new ≡ next_scope (scope_of self.old) statement.now) }
-        ensures taken { OnOk result (taken_in self.new.taken ≡ taken_in self.old.taken) }
+        ensures taken { OnOk result (occupies self.new.occupancy ≡ occupies self.old.occupancy) }
     {
         insert(
             self.text,
@@ -216,13 +217,13 @@ impl<'a> FirstPass<'a> {
     // Takes a further statement, or answers its first fault.
     fn add(&mut self, statement: &Statement) -> Result<(), WordFault>
         ensures fault { AnswersFault result
-            (statement_fault (taken_in self.old.taken) (scope_of self.old) statement.now) }
+            (statement_fault (occupies self.old.occupancy) (scope_of self.old) statement.now) }
         ensures scope { OnOk result
             (scope_of self.new ≡ next_scope (scope_of self.old) statement.now) }
         ensures taken { OnOk result ((place : ℕ)
-            → taken_in self.new.taken place
+            → occupies self.new.occupancy place
             ≡ (places_byte (scope_of self.old) statement.now.body place
-            || taken_in self.old.taken place)) }
+            || occupies self.old.occupancy place)) }
     {
         if self.gives_again(statement) {
             return Err(WordFault::Kind(FaultKind::Twice));

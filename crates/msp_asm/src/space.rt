@@ -1,27 +1,27 @@
-ghost use Rattle.std.specs.Prelude.{◌≡◌, ◌≤◌, ◌+◌, ◌||◌, ◌==◌, ◌<◌, ℕ, Bool, true, false, IfOk, OnOk, IfErr};
+ghost use Rattle.std.specs.Prelude.{◌≡◌, ◌≤◌, ◌+◌, ◌||◌, ◌==◌, ◌<◌, ℕ, true, false, IfOk, OnOk, IfErr};
 ghost use Rattle.std.specs.Result.{result_err};
 ghost use Rattle.part_definitions.specs.Memory.{is_image_place};
 ghost use Rattle.msp_asm.specs.FirstPass.{places_from, is_among, space_fault};
-ghost use Rattle.msp_asm.specs.FirstPassState.{taken_in};
+ghost use Rattle.msp_asm.specs.FirstPassState.{occupies};
 
 use mem_map::Image;
 use text_scan::FaultKind;
 
 // Takes a place, where an image may hold a byte, and answers whether it was taken before.
-fn take_place(taken: &mut Image, place: u32) -> Result<bool, FaultKind>
-    ensures before { IfOk result (λ was_taken. was_taken ≡ taken_in taken.old place) }
+fn take_place(occupancy: &mut Image, place: u32) -> Result<bool, FaultKind>
+    ensures before { IfOk result (λ was_taken. was_taken ≡ occupies occupancy.old place) }
     ensures placed { OnOk result (is_image_place place ≡ true) }
     ensures most { OnOk result (place < 65536) }
     ensures taken { OnOk result ((other : ℕ)
-        → taken_in taken.new other ≡ ((other == place) || taken_in taken.old other)) }
+        → occupies occupancy.new other ≡ ((other == place) || occupies occupancy.old other)) }
     ensures refused { IfErr result (λ kind.
         (kind ≡ FaultKind.Place) × (is_image_place place ≡ false)) }
 {
     let Ok(place) = u16::try_from(place) else {
         return Err(FaultKind::Place);
     };
-    let was_taken = taken.get(place).is_some();
-    if !taken.set(place, 0) {
+    let was_taken = occupancy.get(place).is_some();
+    if !occupancy.set(place, 0) {
         return Err(FaultKind::Place);
     }
     Ok(was_taken)
@@ -29,19 +29,20 @@ fn take_place(taken: &mut Image, place: u32) -> Result<bool, FaultKind>
 
 /// Takes so many places from one upwards, and answers the place behind them. `Place` where an image
 /// holds no byte at one of them, else `Overlap` where one was taken before.
-pub fn take_places(taken: &mut Image, first: u32, count: usize) -> Result<u32, FaultKind>
+pub fn take_places(occupancy: &mut Image, first: u32, count: usize) -> Result<u32, FaultKind>
     requires { first ≤ 65536 }
     ensures fault { result_err result
-        ≡ space_fault (taken_in taken.old) (places_from first count) }
+        ≡ space_fault (occupies occupancy.old) (places_from first count) }
     ensures next { IfOk result (λ next. next ≡ first + count) }
     ensures most { IfOk result (λ next. next ≤ 65536) }
     ensures taken { OnOk result ((place : ℕ)
-        → taken_in taken.new place ≡ (is_among first count place || taken_in taken.old place)) }
+        → occupies occupancy.new place
+        ≡ (is_among first count place || occupies occupancy.old place)) }
 {
     let mut next = first;
     let mut overlaps = false;
-    for _done in 0..count {
-        overlaps |= take_place(taken, next)?;
+    for _step in 0..count {
+        overlaps |= take_place(occupancy, next)?;
         next += 1;
     }
     if overlaps {

@@ -52,7 +52,7 @@ jump_spelled word least fits = (
 two_read : (op : Op2) (size : Size) (source : SourceForm) (dest : DestForm) (word : ℕ)
     → IsTrue (has_form source) → word ≡ word_of (Two op size source dest)
     → two_head word ≡ Two op size source dest
-two_read op size source dest word formed is =
+two_read op size source dest word is_formed is =
     let op_fits = op2_number-lt op in
     let size_fits = size_number-lt size in
     let mode_fits = source_mode-lt source in
@@ -74,13 +74,13 @@ two_read op size source dest word formed is =
       last_is,
       op2_of-op2_number op,
       size_of-size_number size,
-      source_of-fields source formed,
+      source_of-fields source is_formed,
       dest_of-fields dest,
     ) refl
 
 one_read : (op : One) (size : Size) (source : SourceForm) (word : ℕ) → IsTrue (has_form source)
     → word ≡ word_of (OneOperand op size source) → one_head word ≡ OneOperand op size source
-one_read op size source word formed is =
+one_read op size source word is_formed is =
     let op_fits = one_number-lt op in
     let size_fits = size_number-lt size in
     let mode_fits = source_mode-lt source in
@@ -96,7 +96,7 @@ one_read op size source word formed is =
       register_is,
       one_of-one_number op,
       size_of-size_number size,
-      source_of-fields source formed,
+      source_of-fields source is_formed,
     ) refl
 
 jump_read : (condition : Cond) (offset : ℤ) (word : ℕ) → IsTrue (has_range offset)
@@ -151,19 +151,19 @@ if_legal-legal head legal = rw legal refl
 one_spelled : (word : ℕ) (head : Head) → 0x1000 ≤ word → word < 0x1300
     → if_legal (one_head word) ≡ Some head → Spells word head
 one_spelled word head least fits is =
-    let found = some_if (is_legal (one_head word)) (one_head word) head is in
-    subst (λ (h : Head). Spells word h) (found.1) (found.0, one_is word least fits)
+    let answer = some_if (is_legal (one_head word)) (one_head word) head is in
+    subst (λ (h : Head). Spells word h) (answer.1) (answer.0, one_is word least fits)
 
 -- a word that gives no head gives no other
 unread : (word : ℕ) (head : Head) → head_of word ≡ None → head_of word ≡ Some head → ⊥
 unread word head none some = cc
 
 -- a word that gives one head gives no other
-read_as : (word : ℕ) (found head : Head) → head_of word ≡ Some found → head_of word ≡ Some head
-    → Spells word found → Spells word head
-read_as word found head first second spelled =
-    let same : found ≡ head = cc in
-    subst (λ (h : Head). Spells word h) same spelled
+read_as : (word : ℕ) (answer head : Head) → head_of word ≡ Some answer → head_of word ≡ Some head
+    → Spells word answer → Spells word head
+read_as word answer head first second spells =
+    let same : answer ≡ head = cc in
+    subst (λ (h : Head). Spells word h) same spells
 
 reti_spelled : (word : ℕ) (head : Head) → word ≡ 0x1300 → head_of word ≡ Some head
     → Spells word head
@@ -184,34 +184,34 @@ head_sound word head fits is =
 
 pub head_complete : (word : ℕ) (head : Head) → word < 2 ^ 16 → Spells word head
     → head_of word ≡ Some head
-head_complete word (Two op size source dest) fits spelled =
+head_complete word (Two op size source dest) fits spells =
     let least : 4 ≤ op2_number op = op2_number-le op in
-    rw (head_of-two word (omega (arith, spelled.1)))
-    (ap Some (two_read op size source dest word (spelled.0) (spelled.1)))
-head_complete word (OneOperand op size source) fits spelled =
+    rw (head_of-two word (omega (arith, spells.1)))
+    (ap Some (two_read op size source dest word (spells.0) (spells.1)))
+head_complete word (OneOperand op size source) fits spells =
     let op_fits = one_number-lt op in
     let size_fits = size_number-lt size in
     let mode_fits = source_mode-lt source in
     let register_fits = source_register-lt source in
-    let is : word ≡ word_of (OneOperand op size source) = spelled.1 in
-    let formed : IsTrue (has_form source) = grind (arith, spelled.0) in
+    let is : word ≡ word_of (OneOperand op size source) = spells.1 in
+    let is_formed : IsTrue (has_form source) = grind (arith, spells.0) in
     head_of-one word (omega (arith, is)) (omega (arith, is))
-    ∙ ap if_legal (one_read op size source word formed is)
-    ∙ if_legal-legal (OneOperand op size source) (spelled.0)
-head_complete word Reti fits spelled = ap head_of (spelled.1) ∙ head_of-reti
-head_complete word (Jump condition offset) fits spelled =
+    ∙ ap if_legal (one_read op size source word is_formed is)
+    ∙ if_legal-legal (OneOperand op size source) (spells.0)
+head_complete word Reti fits spells = ap head_of (spells.1) ∙ head_of-reti
+head_complete word (Jump condition offset) fits spells =
     let condition_fits = cond_number-lt condition in
-    let offset_fits = offset_number-lt offset (spelled.0) in
-    let is : word ≡ word_of (Jump condition offset) = spelled.1 in
+    let offset_fits = offset_number-lt offset (spells.0) in
+    let is : word ≡ word_of (Jump condition offset) = spells.1 in
     rw (head_of-jump word (omega (arith, is)) (omega (arith, is)))
-    (ap Some (jump_read condition offset word (spelled.0) is))
+    (ap Some (jump_read condition offset word (spells.0) is))
 
 pub heads_are_spelled : HeadsAreSpelled
 heads_are_spelled word head fits = (head_sound word head fits, head_complete word head fits)
 
 -- the law for a head that is known to be the one of the word
-pub spelled_where_found : (word : ℕ) (found : Option Head) → word < 2 ^ 16 → found ≡ head_of word
-    → (head : Head) → (found ≡ Some head) ↔ Spells word head
-spelled_where_found word found fits is head =
+pub spells_where_found : (word : ℕ) (answer : Option Head) → word < 2 ^ 16 → answer ≡ head_of word
+    → (head : Head) → (answer ≡ Some head) ↔ Spells word head
+spells_where_found word answer fits is head =
     subst (λ (h : Option Head). (h ≡ Some head) ↔ Spells word head) (sym is)
     (heads_are_spelled word head fits)

@@ -33,29 +33,29 @@ abbrev IsFixed : ℕ → ℕ → Type 0
 IsFixed mode register =
     ((register ≡ 0) × (mode ≡ 3)) ⊎ ((register ≡ 2) × (2 ≤ mode)) ⊎ (register ≡ 3)
 
-fixed : (mode register : ℕ) → mode < 4 → takes_write (source_of mode register) ≡ false
+is_fixed : (mode register : ℕ) → mode < 4 → takes_write (source_of mode register) ≡ false
     → IsFixed mode register
-fixed mode register fits takes_none = grind (arith, nat_tests)
+is_fixed mode register fits takes_none = grind (arith, nat_tests)
 
 takes_none : (mode register : ℕ) → mode < 4 → IsFixed mode register
     → takes_write (source_of mode register) ≡ false
 takes_none mode register fits operand = grind (arith, nat_tests)
 
 -- which of the tests fails
-first_false : (formed sized taken writing : Bool)
-    → formed ≡ true
-    → (formed && sized && (taken || not writing)) ≡ false
-    → (sized ≡ false) ⊎ ((taken ≡ false) × (writing ≡ true))
-first_false formed sized taken writing is fails = grind (arith, nat_tests)
+first_false : (form size takes write : Bool)
+    → form ≡ true
+    → (form && size && (takes || not write)) ≡ false
+    → (size ≡ false) ⊎ ((takes ≡ false) × (write ≡ true))
+first_false form size takes write is fails = grind (arith, nat_tests)
 
-unsized : (formed sized rest : Bool) → sized ≡ false → (formed && sized && rest) ≡ false
-unsized formed sized rest is = grind (arith, nat_tests)
+sizeless : (form size rest : Bool) → size ≡ false → (form && size && rest) ≡ false
+sizeless form size rest is = grind (arith, nat_tests)
 
-unwritable : (formed sized taken writing : Bool)
-    → taken ≡ false
-    → writing ≡ true
-    → (formed && sized && (taken || not writing)) ≡ false
-unwritable formed sized taken writing is writes = grind (arith, nat_tests)
+unwritable : (form size takes write : Bool)
+    → takes ≡ false
+    → write ≡ true
+    → (form && size && (takes || not write)) ≡ false
+unwritable form size takes write is writes = grind (arith, nat_tests)
 
 none_if : (test : Bool) (candidate : Head) → IsNone (if test then Some candidate else None)
     → test ≡ false
@@ -78,28 +78,28 @@ illegal_fields :
     → is_legal (One (one_of op) (size_of bit) (source_of mode register)) ≡ false
     → AreIllegal op bit mode register
 illegal_fields op bit mode register op_fits bit_fits mode_fits register_fits fails =
-    let sized : Bool = has_size (one_of op) (size_of bit) in
-    let taken : Bool = takes_write (source_of mode register) in
-    let writing : Bool = writes_operand (one_of op) in
-    let formed = has_form-source_of mode register register_fits in
-    elim (first_false (has_form (source_of mode register)) sized taken writing formed fails) [
+    let size : Bool = has_size (one_of op) (size_of bit) in
+    let takes : Bool = takes_write (source_of mode register) in
+    let write : Bool = writes_operand (one_of op) in
+    let form = has_form-source_of mode register register_fits in
+    elim (first_false (has_form (source_of mode register)) size takes write form fails) [
       | inl lacks ↦ inl (byte_only op bit op_fits bit_fits lacks)
-      | inr kept ↦ inr (writes op (kept.1), fixed mode register mode_fits (kept.0))
+      | inr operand ↦ inr (writes op (operand.1), is_fixed mode register mode_fits (operand.0))
     ]
 
 fields_illegal :
     (op bit mode register : ℕ) → mode < 4 → AreIllegal op bit mode register
     → is_legal (One (one_of op) (size_of bit) (source_of mode register)) ≡ false
 fields_illegal op bit mode register mode_fits illegal =
-    let formed : Bool = has_form (source_of mode register) in
-    let sized : Bool = has_size (one_of op) (size_of bit) in
-    let taken : Bool = takes_write (source_of mode register) in
-    let writing : Bool = writes_operand (one_of op) in
+    let form : Bool = has_form (source_of mode register) in
+    let size : Bool = has_size (one_of op) (size_of bit) in
+    let takes : Bool = takes_write (source_of mode register) in
+    let write : Bool = writes_operand (one_of op) in
     elim illegal [
-      | inl byte ↦ unsized formed sized (taken || not writing) (no_size op bit (byte.0) (byte.1))
+      | inl byte ↦ sizeless form size (takes || not write) (no_size op bit (byte.0) (byte.1))
       | inr operand ↦
-          let none : taken ≡ false = takes_none mode register mode_fits (operand.1) in
-          unwritable formed sized taken writing none (writes_below op (operand.0))
+          let none : takes ≡ false = takes_none mode register mode_fits (operand.1) in
+          unwritable form size takes write none (writes_below op (operand.0))
     ]
 
 -- what is illegal below 1300 has such fields
@@ -164,8 +164,8 @@ illegal_words_spell_nothing word fits =
     (λ illegal. outside_gap word (omega arith) (inr (omega arith)) illegal))
 
 -- the law for a head that is known to be the one of the word
-pub illegal_where_none : (word : ℕ) (found : Option Head) → word < 2 ^ 16 → found ≡ head_of word
-    → IsNone found ↔ IsIllegalWord word
-illegal_where_none word found fits is =
+pub illegal_where_none : (word : ℕ) (answer : Option Head) → word < 2 ^ 16 → answer ≡ head_of word
+    → IsNone answer ↔ IsIllegalWord word
+illegal_where_none word answer fits is =
     subst (λ (h : Option Head). IsNone h ↔ IsIllegalWord word) (sym is)
     (illegal_words_spell_nothing word fits)

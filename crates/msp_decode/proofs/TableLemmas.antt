@@ -72,12 +72,12 @@ source_register-lt s = grind (arith, reg_number-lt)
 -- a source that has a form is read back from its fields
 pub source_of-fields : (s : SourceForm) → IsTrue (has_form s)
     → source_of (source_mode s) (source_register s) ≡ s
-source_of-fields (Register r) formed = grind (arith, nat_tests, reg_of-reg_number)
-source_of-fields (Indexed r) formed = grind (arith, nat_tests, reg_of-reg_number)
-source_of-fields (Indirect r) formed = grind (arith, nat_tests, reg_of-reg_number)
-source_of-fields (IndirectInc r) formed = grind (arith, nat_tests, reg_of-reg_number)
-source_of-fields Immediate formed = refl
-source_of-fields (Constant g) formed = grind arith
+source_of-fields (Register r) is_formed = grind (arith, nat_tests, reg_of-reg_number)
+source_of-fields (Indexed r) is_formed = grind (arith, nat_tests, reg_of-reg_number)
+source_of-fields (Indirect r) is_formed = grind (arith, nat_tests, reg_of-reg_number)
+source_of-fields (IndirectInc r) is_formed = grind (arith, nat_tests, reg_of-reg_number)
+source_of-fields Immediate is_formed = refl
+source_of-fields (Constant g) is_formed = grind arith
 
 pub source_mode-source_of : (mode n : ℕ) → mode < 4 → source_mode (source_of mode n) ≡ mode
 source_mode-source_of mode n mode_fits = grind (arith, nat_tests)

@@ -68,11 +68,11 @@ words_are_read instr none =
     }
 
 pub words_are_written : WordsAreWritten
-words_are_written word first second head spelled = (
-  ap first_fault (head_part-completion head first second) ∙ faultless_where_legal head (spelled.0),
+words_are_written word first second head spells = (
+  ap first_fault (head_part-completion head first second) ∙ faultless_where_legal head (spells.0),
   (rw (
     head_part-completion head first second,
     extension_words-completion head first second,
-    spelled.1,
+    spells.1,
   ) refl),
 )

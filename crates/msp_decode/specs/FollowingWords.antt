@@ -10,14 +10,14 @@ following_words (One first) = first ∷ []
 following_words (Two first second) = first ∷ second ∷ []
 
 -- the extension words of a list of at most two
-abbrev pub following_of : List ℕ → FollowingWords
-following_of [] = Nothing
-following_of (first ∷ []) = One first
-following_of (first ∷ second ∷ rest) = Two first second
+abbrev pub following_words_in : List ℕ → FollowingWords
+following_words_in [] = Nothing
+following_words_in (first ∷ []) = One first
+following_words_in (first ∷ second ∷ rest) = Two first second
 
 -- the list gives them back
-pub following_of-following_words : (following : FollowingWords)
-    → following_of (following_words following) ≡ following
-following_of-following_words Nothing = refl
-following_of-following_words (One first) = refl
-following_of-following_words (Two first second) = refl
+pub following_words_in-following_words : (words : FollowingWords)
+    → following_words_in (following_words words) ≡ words
+following_words_in-following_words Nothing = refl
+following_words_in-following_words (One first) = refl
+following_words_in-following_words (Two first second) = refl

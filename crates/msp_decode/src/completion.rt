@@ -1,4 +1,4 @@
-ghost use Rattle.std.specs.Prelude.{◌≡◌, ◌≤◌, ◌+◌, ℕ, [], ◌∷◌, take};
+ghost use Rattle.std.specs.Prelude.{◌≡◌, ◌≤◌, ◌+◌, [], ◌∷◌, take};
 ghost use Rattle.msp_decode.specs.Completion.{head_part, extension_words, source_extensions, dest_extensions, extension_count, source_completion, dest_completion, completion};
 
 use crate::dest::Dest;

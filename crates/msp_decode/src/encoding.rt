@@ -1,4 +1,4 @@
-ghost use Rattle.std.specs.Prelude.{◌≡◌, ◌↔◌, ◌<◌, ◌^◌, IsTrue, IsNone, IfOk, option_to_list};
+ghost use Rattle.std.specs.Prelude.{◌≡◌, ◌↔◌, IsTrue, IsNone, IfOk, option_to_list};
 ghost use Rattle.msp_decode.specs.declared.encode_fault.EncodeFault.{EncodeFault};
 ghost use Rattle.msp_decode.specs.declared.head.Head.TheVariants.{One as OneHead};
 ghost use Rattle.msp_decode.specs.Spelling.{is_legal, word_of};
@@ -73,7 +73,7 @@ fn dest_word(dest: Dest) -> Option<u16>
     }
 }
 
-fn following(instr: &Instr) -> FollowingWords
+fn following_words_of(instr: &Instr) -> FollowingWords
     ensures { following_words result ≡ extension_words instr.now }
 {
     match *instr {
@@ -149,6 +149,6 @@ pub fn encode(instr: &Instr) -> Result<Words, EncodeFault>
     let head = head_part(instr);
     match first_fault(&head) {
         Some(fault) => Err(fault),
-        None => Ok(Words::new(first_word(&head), following(instr))),
+        None => Ok(Words::new(first_word(&head), following_words_of(instr))),
     }
 }

@@ -8,31 +8,31 @@ use std::marker::Model;
 #[derive(Clone, Copy, Debug, PartialEq, Eq)]
 pub struct Words {
     first: u16,
-    following: FollowingWords,
+    rest: FollowingWords,
 }
 
 impl Model for Words {
     ghost use Rattle.std.specs.Prelude.{◌≡◌, ◌∷◌, ℕ, List, slice_index, drop};
     ghost use Rattle.std.proofs.Common.{ap};
-    ghost use Rattle.msp_decode.specs.FollowingWords.{following_words, following_of, following_of-following_words};
+    ghost use Rattle.msp_decode.specs.FollowingWords.{following_words, following_words_in, following_words_in-following_words};
 
     ghost Value = { List ℕ };
 
-    ghost view = { λ words. words.first ∷ following_words words.following };
+    ghost view = { λ words. words.first ∷ following_words words.rest };
 
     ghost inverse = { λ words.
-        record { first = slice_index words 0; following = following_of (drop 1 words) } };
+        record { first = slice_index words 0; rest = following_words_in (drop 1 words) } };
 
     ghost inverse_ok = { λ words _.
-        ap (λ f. record { first = words.first; following = f })
-        (following_of-following_words words.following) };
+        ap (λ f. record { first = words.first; rest = f })
+        (following_words_in-following_words words.rest) };
 }
 
 impl Words {
-    pub(crate) fn new(first: u16, following: FollowingWords) -> Words
-        ensures { result ≡ first ∷ following_words following }
+    pub(crate) fn new(first: u16, rest: FollowingWords) -> Words
+        ensures { result ≡ first ∷ following_words rest }
     {
-        Words { first, following }
+        Words { first, rest }
     }
 
     /// The number of words.
@@ -41,7 +41,7 @@ impl Words {
         ensures least { 1 ≤ result }
         ensures most { result ≤ 3 }
     {
-        match self.following {
+        match self.rest {
             FollowingWords::Nothing => 1,
             FollowingWords::One(_) => 2,
             FollowingWords::Two(..) => 3,
@@ -52,7 +52,7 @@ impl Words {
     pub fn get(&self, i: usize) -> Option<u16>
         ensures { result ≡ slice_get self.now i }
     {
-        match (i, self.following) {
+        match (i, self.rest) {
             (0, _) => Some(self.first),
             (1, FollowingWords::One(second) | FollowingWords::Two(second, _)) => Some(second),
             (2, FollowingWords::Two(_, third)) => Some(third),

@@ -18,9 +18,9 @@ use Rattle.msp_decode.specs.declared.one.One.{One}
 use Rattle.msp_decode.specs.declared.one.One.TheVariants.{Rrc, Swpb, Rra, Sxt, Push, Call}
 use Rattle.msp_decode.specs.declared.instr.Instr.{Instr}
 use Rattle.msp_decode.specs.declared.instr.Instr.TheVariants.{Two, One as OneOperand, Reti, Jump}
-use Rattle.part_definitions.specs.Words.{plus}
+use Rattle.part_definitions.specs.AddressSum.{plus}
 use Rattle.part_definitions.specs.Instruction.{jump_target}
-use Rattle.printed_lines.specs.Lines.{byte_digits, word_digits}
+use Rattle.printed_lines.specs.Line.{byte_digits, word_digits}
 use Rattle.msp_disasm.specs.declared.item.Item.{Item}
 use Rattle.msp_disasm.specs.declared.item.Item.TheVariants.{Byte, Word, Instruction}
 

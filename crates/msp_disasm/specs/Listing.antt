@@ -1,6 +1,6 @@
 -- The lines of a listing.
 use Rattle.std.specs.Prelude.{◌≡◌, ◌≤◌, ◌+◌, ◌++◌, ℕ, zero, suc, List, [], ◌∷◌, take, codes, Option, Some, None, nat_le, if◌then◌else◌}
-use Rattle.printed_lines.specs.Lines.{word_digits}
+use Rattle.printed_lines.specs.Line.{word_digits}
 use Rattle.msp_disasm.specs.declared.item.Item.{Item}
 use Rattle.msp_disasm.specs.declared.listing.Listing.{Listing}
 use Rattle.msp_disasm.specs.Item.{item_at, item_size}

@@ -1,5 +1,5 @@
 ghost use Rattle.std.specs.Prelude.{◌≡◌, ◌≤◌, ◌+◌, ◌++◌, length};
-ghost use Rattle.part_definitions.specs.Words.{plus};
+ghost use Rattle.part_definitions.specs.AddressSum.{plus};
 ghost use Rattle.part_definitions.specs.Instruction.{jump_target};
 ghost use Rattle.msp_disasm.specs.ItemText.{word_text, op2_name, one_name, jump_name, size_suffix, reg_name, indexed_text, constant_text, source_text, dest_text, instr_text, item_text};
 

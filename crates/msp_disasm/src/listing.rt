@@ -1,4 +1,4 @@
-ghost use Rattle.std.specs.Prelude.{◌≡◌, ◌≤◌, IsNone, IfSome, ◌↔◌, ℕ, Option, Some, None};
+ghost use Rattle.std.specs.Prelude.{Option, Some};
 ghost use Rattle.mem_map.specs.Image.{byte_in};
 ghost use Rattle.msp_disasm.specs.Item.{item_at};
 ghost use Rattle.msp_disasm.specs.Listing.{IsLineAt};

@@ -82,13 +82,13 @@ goes_on before after state value (Asks access) stands (regs, boundary, entry, co
           state_course-with_value state value values
           ∙ (stands.same_course (value ∷ values) ∙ course values);
     }
-goes_on before after state value (Ends left) stands (regs, working, phase) =
+goes_on before after state value (Ends left) stands (regs, work, phase) =
     record {
       same_regs = regs;
       same_boundary = rw phase refl;
       same_entry = rw phase refl;
-      settled = λ at_boundary. working ∙ sym regs;
-      same_course = λ values. rw (phase, working) refl;
+      settled = λ at_boundary. work ∙ sym regs;
+      same_course = λ values. rw (phase, work) refl;
     }
 
 cpu_next-with_value : (cpu : Cpu) (state : CpuState) (value : ℕ)

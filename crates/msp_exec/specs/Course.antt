@@ -5,8 +5,8 @@ use Rattle.msp_decode.specs.declared.head.Head.{Head}
 use Rattle.part_definitions.specs.declared.cpu_access.CpuAccess.{CpuAccess}
 use Rattle.part_definitions.specs.declared.cpu_access.CpuAccess.TheVariants.{WriteResult}
 use Rattle.part_definitions.specs.declared.working_state.WorkingState.{WorkingState}
-use Rattle.part_definitions.specs.Accesses.{write_at}
-use Rattle.part_definitions.specs.Operands.{size_of}
+use Rattle.part_definitions.specs.BusAccess.{write_at}
+use Rattle.part_definitions.specs.Operand.{size_of}
 use Rattle.part_definitions.specs.Instruction.{bus_access}
 use Rattle.part_definitions.specs.NextAccess.{Next, Asks, Ends, walk, is_illegal, next_access, entry_access}
 use Rattle.part_definitions.specs.CpuState.{CpuState, Boundary, Executing, Entering, registers_of, is_at_boundary, is_entering}
@@ -34,19 +34,19 @@ takes_value phase value = true
 
 -- the access of an instruction whose result, once it is written, is this number
 abbrev pub latched_access : Head → CpuAccess → WorkingState → ℕ → Access
-latched_access head WriteResult working number = write_at (size_of head) working.place number
-latched_access head access working number = bus_access head access working
+latched_access head WriteResult work number = write_at (size_of head) work.place number
+latched_access head access work number = bus_access head access work
 
 -- the result is written, and leaves these registers
 abbrev pub write_course : Head → WorkingState → ℕ → List ℕ → Next
-write_course head working number [] = Asks (latched_access head WriteResult working number)
-write_course head working number (value ∷ values) = Ends working.regs
+write_course head work number [] = Asks (latched_access head WriteResult work number)
+write_course head work number (value ∷ values) = Ends work.regs
 
 -- the rest of an instruction; the registers are as it leaves them once its result is written
 abbrev pub instruction_course : Head → CpuAccess → WorkingState → ℕ → List ℕ → Next
-instruction_course head WriteResult working number values = write_course head working number values
-instruction_course head access working number values =
-    walk head (access ∷ accesses_after head access) working values
+instruction_course head WriteResult work number values = write_course head work number values
+instruction_course head access work number values =
+    walk head (access ∷ accesses_after head access) work values
 
 -- the rest of an interrupt entry; the values of its writes tell nothing
 abbrev pub entry_course : List ℕ → EntryAccess → ℕ → List ℕ → Next
@@ -56,11 +56,11 @@ entry_course regs ReadVector vector values = entry_access regs vector (0 ∷ 0 �
 
 -- what comes next from a processor on, after further values
 abbrev pub phase_course : Cpu → Phase → List ℕ → Next
-phase_course cpu AtBoundary values = next_access cpu.working.regs values
+phase_course cpu AtBoundary values = next_access cpu.work.regs values
 phase_course cpu (InInstruction access) values =
-    instruction_course cpu.head access cpu.working cpu.number values
+    instruction_course cpu.head access cpu.work cpu.number values
 phase_course cpu (InEntry access vector) values =
-    entry_course cpu.working.regs access vector values
+    entry_course cpu.work.regs access vector values
 
 abbrev pub cpu_course : Cpu → List ℕ → Next
 cpu_course cpu values = phase_course cpu cpu.phase values
@@ -76,7 +76,7 @@ pub record CpuStandsFor (cpu : Cpu) (state : CpuState) : Type 0 where
   pub same_regs : cpu.regs ≡ registers_of state
   pub same_boundary : is_boundary cpu.phase ≡ is_at_boundary state
   pub same_entry : is_entry cpu.phase ≡ is_entering state
-  pub settled : is_boundary cpu.phase ≡ true → cpu.working.regs ≡ cpu.regs
+  pub settled : is_boundary cpu.phase ≡ true → cpu.work.regs ≡ cpu.regs
   pub same_course : (values : List ℕ) → state_course state values ≡ cpu_course cpu values
 
 -- the processor goes on with this course and these registers, or is complete
@@ -85,7 +85,7 @@ GoesOnAs cpu regs entry course (Asks access) =
     (cpu.regs ≡ regs) × (is_boundary cpu.phase ≡ false) × (is_entry cpu.phase ≡ entry)
     × ((values : List ℕ) → course values ≡ cpu_course cpu values)
 GoesOnAs cpu regs entry course (Ends after) =
-    (cpu.regs ≡ after) × (cpu.working.regs ≡ after) × (cpu.phase ≡ AtBoundary)
+    (cpu.regs ≡ after) × (cpu.work.regs ≡ after) × (cpu.phase ≡ AtBoundary)
 
 -- the processor follows this course, which began with these registers
 abbrev pub Follows : Cpu → List ℕ → Bool → (List ℕ → Next) → Type 0
@@ -94,4 +94,4 @@ Follows cpu regs entry course = GoesOnAs cpu regs entry course (course [])
 -- from its registers on the processor begins the instruction of this word
 abbrev pub Begins : Cpu → Cpu → ℕ → Type 0
 Begins old new word =
-    Follows new old.regs false (λ values. next_access old.working.regs (word ∷ values))
+    Follows new old.regs false (λ values. next_access old.work.regs (word ∷ values))

@@ -6,7 +6,7 @@ use Rattle.msp_decode.specs.declared.head.Head.{Head}
 use Rattle.msp_decode.specs.declared.head.Head.TheVariants.{Two, One, Reti, Jump}
 use Rattle.part_definitions.specs.declared.cpu_access.CpuAccess.{CpuAccess}
 use Rattle.part_definitions.specs.declared.cpu_access.CpuAccess.TheVariants.{FetchImmediate, FetchSourceIndex, ReadSource, ReadIncrementing, FetchDestinationIndex, ReadDestination, WriteResult, PushSource, PushPc, PopSr, PopPc}
-use Rattle.part_definitions.specs.CpuAccesses.{result_accesses, destination_accesses, operand_accesses}
+use Rattle.part_definitions.specs.CpuAccess.{result_accesses, destination_accesses, operand_accesses}
 
 -- once the source is known
 abbrev pub after_source : Head → List CpuAccess

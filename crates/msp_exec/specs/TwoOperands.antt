@@ -6,16 +6,16 @@ use Rattle.word_arith.specs.declared.op2.Op2.{Op2}
 use Rattle.word_arith.specs.Op2.{alu_result}
 use Rattle.msp_decode.specs.declared.dest_form.DestForm.{DestForm}
 use Rattle.part_definitions.specs.declared.working_state.WorkingState.{WorkingState}
-use Rattle.part_definitions.specs.CpuRegisters.{flags_in}
-use Rattle.part_definitions.specs.Operands.{destination_in}
+use Rattle.part_definitions.specs.CpuRegister.{flags_in}
+use Rattle.part_definitions.specs.Operand.{destination_in}
 use Rattle.part_definitions.specs.Instruction.{after_two}
 
 -- result and flags once both operands are known
 abbrev pub result_of_two : Op2 → Size → DestForm → WorkingState → ℕ × Flags
-result_of_two op size form working =
-    alu_result op size working.source (destination_in size form working) (flags_in working.regs)
+result_of_two op size form work =
+    alu_result op size work.source (destination_in size form work) (flags_in work.regs)
 
 -- the registers that it leaves
 abbrev pub registers_after_two : Op2 → Size → DestForm → WorkingState → List ℕ
-registers_after_two op size form working =
-    after_two op form (result_of_two op size form working) working.regs
+registers_after_two op size form work =
+    after_two op form (result_of_two op size form work) work.regs

@@ -1,6 +1,6 @@
 ghost use Rattle.std.specs.Prelude.{◌≡◌};
 ghost use Rattle.bus_signals.specs.Access.{IsFormed};
-ghost use Rattle.part_definitions.specs.Accesses.{fetch_at, read_at, write_at};
+ghost use Rattle.part_definitions.specs.BusAccess.{fetch_at, read_at, write_at};
 ghost use Rattle.msp_exec.specs.Course.{latched_access};
 
 use crate::instruction::size_of;
@@ -42,20 +42,20 @@ pub fn write_at(size: Size, place: u16, number: u16) -> Access
 
 /// What an instruction asks of the bus; `number` is its result, once it is written.
 #[inline(always)]
-pub fn bus_access(head: &Head, access: CpuAccess, working: &WorkingState, number: u16) -> Access
-    ensures value { result ≡ latched_access head.now access working.now number }
+pub fn bus_access(head: &Head, access: CpuAccess, work: &WorkingState, number: u16) -> Access
+    ensures value { result ≡ latched_access head.now access work.now number }
     ensures formed { IsFormed result }
 {
     match access {
         CpuAccess::FetchImmediate
         | CpuAccess::FetchSourceIndex(_)
-        | CpuAccess::FetchDestinationIndex(_) => fetch_at(pc_in(&working.regs)),
+        | CpuAccess::FetchDestinationIndex(_) => fetch_at(pc_in(&work.regs)),
         CpuAccess::ReadSource | CpuAccess::ReadIncrementing(_) | CpuAccess::ReadDestination => {
-            read_at(size_of(head), working.place)
+            read_at(size_of(head), work.place)
         }
-        CpuAccess::WriteResult => write_at(size_of(head), working.place, number),
-        CpuAccess::PushSource => write_at(size_of(head), lowered_sp(&working.regs), working.source),
-        CpuAccess::PushPc => write_at(Size::Word, lowered_sp(&working.regs), pc_in(&working.regs)),
-        CpuAccess::PopSr | CpuAccess::PopPc => read_at(Size::Word, sp_in(&working.regs)),
+        CpuAccess::WriteResult => write_at(size_of(head), work.place, number),
+        CpuAccess::PushSource => write_at(size_of(head), lowered_sp(&work.regs), work.source),
+        CpuAccess::PushPc => write_at(Size::Word, lowered_sp(&work.regs), pc_in(&work.regs)),
+        CpuAccess::PopSr | CpuAccess::PopPc => read_at(Size::Word, sp_in(&work.regs)),
     }
 }

@@ -1,8 +1,8 @@
 ghost use Rattle.std.specs.Prelude.{◌≡◌, ◌∷◌, [], true, false, not, List, ℕ, Some, IsTrue};
 ghost use Rattle.bus_signals.specs.Access.{IsFormed};
-ghost use Rattle.part_definitions.specs.CpuRegisters.{sp_of, with_pc, with_sp, allows_interrupts, is_asleep};
-ghost use Rattle.part_definitions.specs.CpuAccesses.{accesses_of};
-ghost use Rattle.part_definitions.specs.Operands.{working_at_start};
+ghost use Rattle.part_definitions.specs.CpuRegister.{sp_of, with_pc, with_sp, allows_interrupts, is_asleep};
+ghost use Rattle.part_definitions.specs.CpuAccess.{accesses_of};
+ghost use Rattle.part_definitions.specs.Operand.{state_at_start};
 ghost use Rattle.part_definitions.specs.NextAccess.{Asks, is_illegal, next_access, walk};
 ghost use Rattle.part_definitions.specs.CpuState.{CpuState, Boundary, clear_cpu, registers_of, cpu_pc, is_at_boundary, is_entering, cpu_access, cpu_after, cpu_takes, entry_begun};
 ghost use Rattle.part_definitions.specs.Part.{Answers};
@@ -27,7 +27,7 @@ pub struct Cpu {
     // The current instruction.
     head: Head,
     // What is known of it, and the registers as they are by now.
-    working: WorkingState,
+    work: WorkingState,
     // Its result, once that is written.
     number: u16,
     phase: Phase,
@@ -41,7 +41,7 @@ impl Cpu {
         Cpu {
             regs: [0; 16],
             head: Head::Reti,
-            working: WorkingState {
+            work: WorkingState {
                 regs: [0; 16],
                 source: 0,
                 place: 0,
@@ -115,8 +115,8 @@ impl Cpu {
             → CpuStandsFor self.old (Boundary regs)
             → CpuStandsFor self.new (Boundary (with_sp (with_pc regs pc) sp)) }
     {
-        set_pc(&mut self.working.regs, pc);
-        set_sp(&mut self.working.regs, sp);
+        set_pc(&mut self.work.regs, pc);
+        set_sp(&mut self.work.regs, sp);
         self.complete();
     }
 
@@ -132,10 +132,10 @@ impl Cpu {
 
     #[tactic(auto, unfolding(part_definitions::specs::NextAccess::entry_access))]
     fn entry_access(&self, access: EntryAccess, vector: u16) -> Access
-        ensures value { entry_course self.now.working.regs access vector [] ≡ Asks result }
+        ensures value { entry_course self.now.work.regs access vector [] ≡ Asks result }
         ensures formed { IsFormed result }
     {
-        let regs = &self.working.regs;
+        let regs = &self.work.regs;
         match access {
             EntryAccess::PushPc => write_at(Size::Word, lowered_sp(regs), pc_in(regs)),
             EntryAccess::PushSr => write_at(Size::Word, sp_in(regs).wrapping_sub(4), sr_in(regs)),
@@ -150,10 +150,8 @@ impl Cpu {
         ensures formed { IsFormed result }
     {
         match self.phase {
-            Phase::Boundary => fetch_at(pc_in(&self.working.regs)),
-            Phase::Executing(access) => {
-                bus_access(&self.head, access, &self.working, self.number)
-            }
+            Phase::Boundary => fetch_at(pc_in(&self.work.regs)),
+            Phase::Executing(access) => { bus_access(&self.head, access, &self.work, self.number) }
             Phase::Entering(access, vector) => self.entry_access(access, vector),
         }
     }
@@ -184,11 +182,11 @@ impl Cpu {
 
     #[inline(always)]
     fn complete(&mut self)
-        ensures regs { self.new.regs ≡ self.old.working.regs }
-        ensures working { self.new.working ≡ self.old.working }
+        ensures regs { self.new.regs ≡ self.old.work.regs }
+        ensures working { self.new.work ≡ self.old.work }
         ensures phase { self.new.phase ≡ AtBoundary }
     {
-        self.regs = self.working.regs;
+        self.regs = self.work.regs;
         self.phase = Phase::Boundary;
     }
 
@@ -197,10 +195,10 @@ impl Cpu {
     #[inline(always)]
     fn advance(&mut self, next: Option<CpuAccess>)
         ensures { Follows self.new self.old.regs false
-            (walk self.old.head (accesses_from self.old.head next) self.old.working) }
+            (walk self.old.head (accesses_from self.old.head next) self.old.work) }
     {
         if matches!(next, None | Some(CpuAccess::WriteResult)) {
-            self.number = end_apart(&mut self.working, &self.head);
+            self.number = end_apart(&mut self.work, &self.head);
         }
         match next {
             None => self.complete(),
@@ -213,11 +211,11 @@ impl Cpu {
     fn begin_head(&mut self, head: &Head)
         ensures { Follows self.new self.old.regs false
             (walk head.now (accesses_of head.now)
-            (working_at_start head.now self.old.working.regs)) }
+            (state_at_start head.now self.old.work.regs)) }
     {
-        match start(&mut self.working, head) {
+        match start(&mut self.work, head) {
             None => {
-                let _ = end(&mut self.working, head);
+                let _ = end(&mut self.work, head);
                 self.complete();
             }
             Some(access) => {
@@ -282,13 +280,13 @@ impl Cpu {
     #[inline(always)]
     fn execute(&mut self, access: CpuAccess, value: u16)
         ensures { Follows self.new self.old.regs false
-            (λ values. instruction_course self.old.head access self.old.working self.old.number
+            (λ values. instruction_course self.old.head access self.old.work self.old.number
             (value ∷ values)) }
     {
         match access {
             CpuAccess::WriteResult => self.complete(),
             _ => {
-                let next = learn(&mut self.working, &self.head, access, value);
+                let next = learn(&mut self.work, &self.head, access, value);
                 self.advance(next);
             }
         }
@@ -299,13 +297,13 @@ impl Cpu {
     #[tactic(auto, unfolding(part_definitions::specs::NextAccess::entry_access))]
     fn enter(&mut self, access: EntryAccess, vector: u16, value: u16)
         ensures { Follows self.new self.old.regs true
-            (λ values. entry_course self.old.working.regs access vector (value ∷ values)) }
+            (λ values. entry_course self.old.work.regs access vector (value ∷ values)) }
     {
         match access {
             EntryAccess::PushPc => self.phase = Phase::Entering(EntryAccess::PushSr, vector),
             EntryAccess::PushSr => self.phase = Phase::Entering(EntryAccess::ReadVector, vector),
             EntryAccess::ReadVector => {
-                enter_handler(&mut self.working.regs, value);
+                enter_handler(&mut self.work.regs, value);
                 self.complete();
             }
         }

@@ -2,8 +2,8 @@ ghost use Rattle.std.specs.Prelude.{◌≡◌, ℕ, true};
 ghost use Rattle.word_arith.specs.Op2.{alu_result};
 ghost use Rattle.word_arith.specs.declared.flags.Flags.{Flags};
 ghost use Rattle.word_arith.specs.declared.size.Size.{Size};
-ghost use Rattle.part_definitions.specs.CpuAccesses.{result_accesses, accesses_of};
-ghost use Rattle.part_definitions.specs.Operands.{size_of, working_at_start};
+ghost use Rattle.part_definitions.specs.CpuAccess.{accesses_of};
+ghost use Rattle.part_definitions.specs.Operand.{size_of, state_at_start};
 ghost use Rattle.part_definitions.specs.Instruction.{result_of, after_value, registers_after};
 ghost use Rattle.msp_exec.specs.Order.{after_source, after_index, after_read, accesses_after, accesses_from};
 ghost use Rattle.msp_exec.specs.TwoOperands.{result_of_two, registers_after_two};
@@ -71,31 +71,31 @@ fn access_after_read(head: &Head) -> Option<CpuAccess>
 
 /// The opcode was fetched; the answer is the first access after it.
 #[inline(always)]
-pub fn start(working: &mut WorkingState, head: &Head) -> Option<CpuAccess>
-    ensures working { working.new ≡ working_at_start head.now working.old.regs }
+pub fn start(work: &mut WorkingState, head: &Head) -> Option<CpuAccess>
+    ensures working { work.new ≡ state_at_start head.now work.old.regs }
     ensures next { accesses_from head.now result ≡ accesses_of head.now }
 {
-    pass_word(&mut working.regs);
-    working.source = 0;
-    working.place = 0;
-    working.destination = 0;
+    pass_word(&mut work.regs);
+    work.source = 0;
+    work.place = 0;
+    work.destination = 0;
     match *head {
         Head::Two(_, size, source, _) | Head::One(_, size, source) => match source {
             SourceForm::Register(register) => {
-                working.source = operand_in(size, &working.regs, register);
+                work.source = operand_in(size, &work.regs, register);
                 access_after_source(head)
             }
             SourceForm::Constant(constant) => {
-                working.source = size.low_part(constant_word(constant));
+                work.source = size.low_part(constant_word(constant));
                 access_after_source(head)
             }
             SourceForm::Indexed(register) => Some(CpuAccess::FetchSourceIndex(register)),
             SourceForm::Indirect(register) => {
-                working.place = word_in(&working.regs, register);
+                work.place = word_in(&work.regs, register);
                 Some(CpuAccess::ReadSource)
             }
             SourceForm::IndirectInc(register) => {
-                working.place = word_in(&working.regs, register);
+                work.place = word_in(&work.regs, register);
                 Some(CpuAccess::ReadIncrementing(register))
             }
             SourceForm::Immediate => Some(CpuAccess::FetchImmediate),
@@ -107,57 +107,57 @@ pub fn start(working: &mut WorkingState, head: &Head) -> Option<CpuAccess>
 
 // The source is known; the answer is the next access.
 #[inline(always)]
-fn learn_source(working: &mut WorkingState, head: &Head, source: u16) -> Option<CpuAccess>
-    ensures working { working.new ≡ record working.old { source = source } }
+fn learn_source(work: &mut WorkingState, head: &Head, source: u16) -> Option<CpuAccess>
+    ensures working { work.new ≡ record work.old { source = source } }
     ensures next { accesses_from head.now result ≡ after_source head.now }
 {
-    working.source = source;
+    work.source = source;
     access_after_source(head)
 }
 
 /// An access was made and gave this value, 0 for a write; the answer is the access after it.
 #[inline(always)]
 pub fn learn(
-    working: &mut WorkingState,
+    work: &mut WorkingState,
     head: &Head,
     access: CpuAccess,
     value: u16,
 ) -> Option<CpuAccess>
-    ensures working { working.new ≡ after_value head.now access value working.old }
+    ensures working { work.new ≡ after_value head.now access value work.old }
     ensures next { accesses_from head.now result ≡ accesses_after head.now access }
 {
     match access {
         CpuAccess::FetchImmediate => {
-            pass_word(&mut working.regs);
-            learn_source(working, head, size_of(head).low_part(value))
+            pass_word(&mut work.regs);
+            learn_source(work, head, size_of(head).low_part(value))
         }
         CpuAccess::FetchSourceIndex(register) => {
-            add_index(working, register, value);
+            add_index(work, register, value);
             Some(CpuAccess::ReadSource)
         }
-        CpuAccess::ReadSource => learn_source(working, head, value),
+        CpuAccess::ReadSource => learn_source(work, head, value),
         CpuAccess::ReadIncrementing(register) => {
-            add_increment(&mut working.regs, size_of(head), register);
-            learn_source(working, head, value)
+            add_increment(&mut work.regs, size_of(head), register);
+            learn_source(work, head, value)
         }
         CpuAccess::FetchDestinationIndex(register) => {
-            add_index(working, register, value);
+            add_index(work, register, value);
             access_after_index(head)
         }
         CpuAccess::ReadDestination => {
-            working.destination = value;
+            work.destination = value;
             access_after_read(head)
         }
         CpuAccess::PushSource | CpuAccess::PushPc => {
-            push(&mut working.regs);
+            push(&mut work.regs);
             None
         }
         CpuAccess::PopSr => {
-            pop_sr(&mut working.regs, value);
+            pop_sr(&mut work.regs, value);
             Some(CpuAccess::PopPc)
         }
         CpuAccess::PopPc => {
-            pop_pc(&mut working.regs, value);
+            pop_pc(&mut work.regs, value);
             None
         }
         CpuAccess::WriteResult => None,
@@ -175,69 +175,64 @@ fn keeps_flags(op: Op2) -> bool
 
 // Both operands are known. The answer is the result.
 #[inline(always)]
-fn end_two(working: &mut WorkingState, op: Op2, size: Size, form: DestForm) -> u16
-    ensures number { result ≡ (result_of_two op size form working.old).0 }
-    ensures after { working.new
-        ≡ record working.old { regs = registers_after_two op size form working.old } }
+fn end_two(work: &mut WorkingState, op: Op2, size: Size, form: DestForm) -> u16
+    ensures number { result ≡ (result_of_two op size form work.old).0 }
+    ensures after { work.new
+        ≡ record work.old { regs = registers_after_two op size form work.old } }
 {
-    let destination = destination_in(size, form, working);
-    let flags = flags_in(&working.regs);
-    let (number, flags) = alu(op, size, working.source, destination, flags);
+    let destination = destination_in(size, form, work);
+    let flags = flags_in(&work.regs);
+    let (number, flags) = alu(op, size, work.source, destination, flags);
     if keeps_flags(op) {
-        keep_flags(&mut working.regs);
+        keep_flags(&mut work.regs);
     } else {
-        set_flags(&mut working.regs, flags);
+        set_flags(&mut work.regs, flags);
     }
-    leave_number(&mut working.regs, op, form, number);
+    leave_number(&mut work.regs, op, form, number);
     number
 }
 
 // Likewise. The compiler makes one for each operation, which is shorter than one for all.
 #[inline(never)]
-fn end_each_of_two(working: &mut WorkingState, op: Op2, size: Size, form: DestForm) -> u16
-    ensures number { result ≡ (result_of_two op size form working.old).0 }
-    ensures after { working.new
-        ≡ record working.old { regs = registers_after_two op size form working.old } }
+fn end_each_of_two(work: &mut WorkingState, op: Op2, size: Size, form: DestForm) -> u16
+    ensures number { result ≡ (result_of_two op size form work.old).0 }
+    ensures after { work.new
+        ≡ record work.old { regs = registers_after_two op size form work.old } }
 {
     match op {
-        Op2::Mov => end_two(working, Op2::Mov, size, form),
-        Op2::Add => end_two(working, Op2::Add, size, form),
-        Op2::Addc => end_two(working, Op2::Addc, size, form),
-        Op2::Subc => end_two(working, Op2::Subc, size, form),
-        Op2::Sub => end_two(working, Op2::Sub, size, form),
-        Op2::Cmp => end_two(working, Op2::Cmp, size, form),
-        Op2::Dadd => end_two(working, Op2::Dadd, size, form),
-        Op2::Bit => end_two(working, Op2::Bit, size, form),
-        Op2::Bic => end_two(working, Op2::Bic, size, form),
-        Op2::Bis => end_two(working, Op2::Bis, size, form),
-        Op2::Xor => end_two(working, Op2::Xor, size, form),
-        Op2::And => end_two(working, Op2::And, size, form),
+        Op2::Mov => end_two(work, Op2::Mov, size, form),
+        Op2::Add => end_two(work, Op2::Add, size, form),
+        Op2::Addc => end_two(work, Op2::Addc, size, form),
+        Op2::Subc => end_two(work, Op2::Subc, size, form),
+        Op2::Sub => end_two(work, Op2::Sub, size, form),
+        Op2::Cmp => end_two(work, Op2::Cmp, size, form),
+        Op2::Dadd => end_two(work, Op2::Dadd, size, form),
+        Op2::Bit => end_two(work, Op2::Bit, size, form),
+        Op2::Bic => end_two(work, Op2::Bic, size, form),
+        Op2::Bis => end_two(work, Op2::Bis, size, form),
+        Op2::Xor => end_two(work, Op2::Xor, size, form),
+        Op2::And => end_two(work, Op2::And, size, form),
     }
 }
 
 /// All operands are known: leaves the registers as they are after the instruction. The answer is
 /// the result, 0 of RETI and of jumps.
 #[inline(always)]
-pub fn end(working: &mut WorkingState, head: &Head) -> u16
-    ensures number { result ≡ (result_of head.now working.old).0 }
-    ensures after { working.new
-        ≡ record working.old { regs = registers_after head.now working.old } }
+pub fn end(work: &mut WorkingState, head: &Head) -> u16
+    ensures number { result ≡ (result_of head.now work.old).0 }
+    ensures after { work.new
+        ≡ record work.old { regs = registers_after head.now work.old } }
 {
     match *head {
-        Head::Two(op, size, _, form) => end_each_of_two(working, op, size, form),
+        Head::Two(op, size, _, form) => end_each_of_two(work, op, size, form),
         Head::One(op, size, form) => {
-            let (number, flags) = operand_outcome(
-                op,
-                size,
-                working.source,
-                flags_in(&working.regs),
-            );
-            leave_one(&mut working.regs, op, form, number, flags);
+            let (number, flags) = operand_outcome(op, size, work.source, flags_in(&work.regs));
+            leave_one(&mut work.regs, op, form, number, flags);
             number
         }
         Head::Reti => 0,
         Head::Jump(condition, offset) => {
-            jump(&mut working.regs, condition, offset);
+            jump(&mut work.regs, condition, offset);
             0
         }
     }
@@ -245,10 +240,10 @@ pub fn end(working: &mut WorkingState, head: &Head) -> u16
 
 /// Likewise, for the callers that share its code.
 #[inline(never)]
-pub fn end_apart(working: &mut WorkingState, head: &Head) -> u16
-    ensures number { result ≡ (result_of head.now working.old).0 }
-    ensures after { working.new
-        ≡ record working.old { regs = registers_after head.now working.old } }
+pub fn end_apart(work: &mut WorkingState, head: &Head) -> u16
+    ensures number { result ≡ (result_of head.now work.old).0 }
+    ensures after { work.new
+        ≡ record work.old { regs = registers_after head.now work.old } }
 {
-    end(working, head)
+    end(work, head)
 }

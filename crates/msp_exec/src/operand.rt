@@ -1,5 +1,5 @@
 ghost use Rattle.std.specs.Prelude.{◌≡◌};
-ghost use Rattle.part_definitions.specs.Operands.{constant_word, index_base, with_index, increment, after_increment, destination_in};
+ghost use Rattle.part_definitions.specs.Operand.{constant_word, index_base, with_index, increment, after_increment, destination_in};
 
 use crate::register::{operand_in, pass_word, set_register, word_in};
 use msp_decode::{DestForm, Gen, Reg};
@@ -31,11 +31,11 @@ fn index_base(regs: &[u16; 16], register: Reg) -> u16
 }
 
 /// An index was fetched: with its register it gives the place.
-pub fn add_index(working: &mut WorkingState, register: Reg, index: u16)
-    ensures { working.new ≡ with_index register index working.old }
+pub fn add_index(work: &mut WorkingState, register: Reg, index: u16)
+    ensures { work.new ≡ with_index register index work.old }
 {
-    working.place = index_base(&working.regs, register).wrapping_add(index);
-    pass_word(&mut working.regs);
+    work.place = index_base(&work.regs, register).wrapping_add(index);
+    pass_word(&mut work.regs);
 }
 
 fn increment(size: Size, register: Reg) -> u16
@@ -55,11 +55,11 @@ pub fn add_increment(regs: &mut [u16; 16], size: Size, register: Reg)
 }
 
 /// The destination.
-pub fn destination_in(size: Size, form: DestForm, working: &WorkingState) -> u16
-    ensures { result ≡ destination_in size form working.now }
+pub fn destination_in(size: Size, form: DestForm, work: &WorkingState) -> u16
+    ensures { result ≡ destination_in size form work.now }
 {
     match form {
-        DestForm::Register(register) => operand_in(size, &working.regs, register),
-        DestForm::Indexed(_) => working.destination,
+        DestForm::Register(register) => operand_in(size, &work.regs, register),
+        DestForm::Indexed(_) => work.destination,
     }
 }

@@ -1,5 +1,5 @@
 ghost use Rattle.std.specs.Prelude.{◌≡◌};
-ghost use Rattle.part_definitions.specs.CpuRegisters.{pc_of, sp_of, sr_of, word_in, operand_in, kept_in, with_register, with_pc, with_sp, with_sr, after_word, after_push, after_pop, flags_in, status_with, with_flags, handler_status};
+ghost use Rattle.part_definitions.specs.CpuRegister.{pc_of, sp_of, sr_of, word_in, operand_in, word_for, with_register, with_pc, with_sp, with_sr, after_word, after_push, after_pop, flags_in, status_with, with_flags};
 ghost use Rattle.part_definitions.specs.Instruction.{push_place};
 ghost use Rattle.part_definitions.specs.NextAccess.{handler_registers};
 
@@ -45,8 +45,8 @@ pub fn operand_in(size: Size, regs: &[u16; 16], register: Reg) -> u16
 }
 
 // What a register keeps of a word.
-fn kept_in(register: Reg, word: u16) -> u16
-    ensures { result ≡ kept_in register word }
+fn word_for(register: Reg, word: u16) -> u16
+    ensures { result ≡ word_for register word }
 {
     match register {
         Reg::R0 | Reg::R1 => word / 2 * 2,
@@ -59,7 +59,7 @@ fn kept_in(register: Reg, word: u16) -> u16
 pub fn set_register(regs: &mut [u16; 16], register: Reg, word: u16)
     ensures { regs.new ≡ with_register regs.old register word }
 {
-    regs[register.number() as usize] = kept_in(register, word);
+    regs[register.number() as usize] = word_for(register, word);
 }
 
 pub fn set_pc(regs: &mut [u16; 16], pc: u16)

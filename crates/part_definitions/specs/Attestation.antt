@@ -6,7 +6,7 @@ use Rattle.bus_signals.specs.declared.access.Access.{Access}
 use Rattle.bus_signals.specs.declared.access.Access.TheVariants.{Write}
 use Rattle.bus_signals.specs.declared.bounds.Bounds.{Bounds}
 use Rattle.bus_signals.specs.Map.{lies_in, key_region, metadata_region, mac_region, DERIVED_KEY, INNER_DIGEST, ROM_ENTRY, ROM_BODY, ROM_EXIT}
-use Rattle.part_definitions.specs.Accesses.{read_at, write_at}
+use Rattle.part_definitions.specs.BusAccess.{read_at, write_at}
 use Rattle.bus_signals.specs.Bounds.{are_valid}
 use Rattle.part_definitions.specs.Hmac.{hmac, inner_digest}
 
@@ -66,14 +66,14 @@ BEFORE_RETURN = 101
 -- a call's accesses in order, where it reads so many words of ER and OR: the one after so many
 -- words that passed
 abbrev pub item_after : ℕ → ℕ → CallItem
-item_after region passed =
-    if nat_lt passed BEFORE_METADATA then KeyRead passed
-    else if nat_lt passed BEFORE_DERIVED_KEY then MetadataRead (passed - BEFORE_METADATA)
-    else if nat_lt passed BEFORE_REGION then DerivedKeyWrite (passed - BEFORE_DERIVED_KEY)
-    else if nat_lt passed (BEFORE_REGION + region) then RegionRead (passed - BEFORE_REGION)
-    else if nat_lt passed (BEFORE_MAC + region) then
-    InnerDigestWrite (passed - (BEFORE_REGION + region))
-    else if nat_lt passed (BEFORE_RETURN + region) then MacWrite (passed - (BEFORE_MAC + region))
+item_after region count =
+    if nat_lt count BEFORE_METADATA then KeyRead count
+    else if nat_lt count BEFORE_DERIVED_KEY then MetadataRead (count - BEFORE_METADATA)
+    else if nat_lt count BEFORE_REGION then DerivedKeyWrite (count - BEFORE_DERIVED_KEY)
+    else if nat_lt count (BEFORE_REGION + region) then RegionRead (count - BEFORE_REGION)
+    else if nat_lt count (BEFORE_MAC + region) then
+    InnerDigestWrite (count - (BEFORE_REGION + region))
+    else if nat_lt count (BEFORE_RETURN + region) then MacWrite (count - (BEFORE_MAC + region))
     else ReturnRead
 
 abbrev pub call_item : List ℕ → CallItem
@@ -134,12 +134,12 @@ attestation_tag digest key metadata rest =
     hmac digest (derived_key digest key metadata) (metadata ++ rest)
 
 -- what a call makes of the words that passed in it
-abbrev pub derived_in : (List ℕ → List ℕ) → List ℕ → List ℕ
-derived_in digest words = derived_key digest (key_read words) (metadata_read words)
+abbrev pub call_key : (List ℕ → List ℕ) → List ℕ → List ℕ
+call_key digest words = derived_key digest (key_read words) (metadata_read words)
 
 abbrev pub inner_in : (List ℕ → List ℕ) → List ℕ → List ℕ
 inner_in digest words =
-    inner_digest digest (derived_in digest words) (metadata_read words ++ region_read words)
+    inner_digest digest (call_key digest words) (metadata_read words ++ region_read words)
 
 abbrev pub tag_in : (List ℕ → List ℕ) → List ℕ → List ℕ
 tag_in digest words =
@@ -147,7 +147,7 @@ tag_in digest words =
 
 -- the word that a call writes there, 0 where it reads
 abbrev pub written_word : (List ℕ → List ℕ) → List ℕ → CallItem → ℕ
-written_word digest words (DerivedKeyWrite i) = word_of_bytes (derived_in digest words) i
+written_word digest words (DerivedKeyWrite i) = word_of_bytes (call_key digest words) i
 written_word digest words (InnerDigestWrite i) = word_of_bytes (inner_in digest words) i
 written_word digest words (MacWrite i) = word_of_bytes (tag_in digest words) i
 written_word digest words item = 0

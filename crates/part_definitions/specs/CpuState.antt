@@ -1,7 +1,7 @@
 -- Where the processor stands between two steps, what it asks for, and where a value takes it.
 use Rattle.std.specs.Prelude.{◌++◌, ℕ, Bool, true, false, not, List, [], ◌∷◌, Option, Some, None}
 use Rattle.bus_signals.specs.declared.access.Access.{Access}
-use Rattle.part_definitions.specs.CpuRegisters.{clear_registers, pc_of}
+use Rattle.part_definitions.specs.CpuRegister.{clear_registers, pc_of}
 use Rattle.part_definitions.specs.NextAccess.{Next, Asks, Ends, is_illegal, next_access, entry_access}
 
 pub data CpuState : Type 0 where

@@ -38,8 +38,8 @@ fn two_operands_from_clear_flags(rt: HostRuntime) {
         (And, Byte, 0x000F, 0x00F0, 0x0000, flags(0, 1, 0, 0)),
     ];
     for (op, size, src, dst, outcome, after) in rows {
-        let found = alu(op, size, src, dst, flags(0, 0, 0, 0));
-        assert_eq!(rt; found, (outcome, after), "{op:?} {src} {dst}");
+        let answer = alu(op, size, src, dst, flags(0, 0, 0, 0));
+        assert_eq!(rt; answer, (outcome, after), "{op:?} {src} {dst}");
     }
 }
 
@@ -64,28 +64,28 @@ fn two_operands_from_set_flags(rt: HostRuntime) {
         (And, Word, 0x0001, 0x0002, 0x0000, flags(0, 1, 0, 0)),
     ];
     for (op, size, src, dst, outcome, after) in rows {
-        let found = alu(op, size, src, dst, flags(1, 1, 1, 1));
-        assert_eq!(rt; found, (outcome, after), "{op:?} {src} {dst}");
+        let answer = alu(op, size, src, dst, flags(1, 1, 1, 1));
+        assert_eq!(rt; answer, (outcome, after), "{op:?} {src} {dst}");
     }
 }
 
 #[test]
 fn one_operand(rt: HostRuntime) {
     let clear = flags(0, 0, 0, 0);
-    let set = flags(1, 1, 1, 1);
+    let all = flags(1, 1, 1, 1);
     // operand, flags before, result, flags after
     let rows: [(Op1, Size, u16, Flags, u16, Flags); 11] = [
         (Rrc, Word, 0x0001, clear, 0x0000, flags(1, 1, 0, 0)),
-        (Rrc, Word, 0x0002, set, 0x8001, flags(0, 0, 1, 0)),
-        (Rrc, Byte, 0x0001, set, 0x0080, flags(1, 0, 1, 0)),
+        (Rrc, Word, 0x0002, all, 0x8001, flags(0, 0, 1, 0)),
+        (Rrc, Byte, 0x0001, all, 0x0080, flags(1, 0, 1, 0)),
         (Rra, Word, 0x8001, clear, 0xC000, flags(1, 0, 1, 0)),
         (Rra, Byte, 0x0081, clear, 0x00C0, flags(1, 0, 1, 0)),
-        (Rra, Word, 0x0002, set, 0x0001, flags(0, 0, 0, 0)),
+        (Rra, Word, 0x0002, all, 0x0001, flags(0, 0, 0, 0)),
         (Swpb, Word, 0x1234, clear, 0x3412, clear),
-        (Swpb, Word, 0x00FF, set, 0xFF00, set),
+        (Swpb, Word, 0x00FF, all, 0xFF00, all),
         (Sxt, Word, 0x1280, clear, 0xFF80, flags(1, 0, 1, 0)),
         (Sxt, Word, 0xFF00, clear, 0x0000, flags(0, 1, 0, 0)),
-        (Sxt, Word, 0x007F, set, 0x007F, flags(1, 0, 0, 0)),
+        (Sxt, Word, 0x007F, all, 0x007F, flags(1, 0, 0, 0)),
     ];
     for (op, size, dst, before, outcome, after) in rows {
         assert_eq!(rt;

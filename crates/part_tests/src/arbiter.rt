@@ -133,8 +133,8 @@ fn the_second_sees_what_the_first_writes(rt: HostRuntime) -> Result<(), Fail> {
         let mut memory = Memory::new(rt.alloc(), &key, &image)?;
         memory.write(0x300, Size::Word, 0x5678);
         memory.write(0x302, Size::Word, 0x9ABC);
-        let read = exchange(&mut memory, &fake(*first), &fake(*second));
-        assert_eq!(rt; (read.first, read.second), *values, "row {number}");
+        let reads = exchange(&mut memory, &fake(*first), &fake(*second));
+        assert_eq!(rt; (reads.first, reads.second), *values, "row {number}");
         let after = (
             memory.read(0x300, Size::Word),
             memory.read(0x302, Size::Word),

@@ -18,15 +18,12 @@ const VECTORS: [([&[u8]; 2], &str); 2] = [
 
 #[test]
 fn digest_vectors(rt: HostRuntime) -> Result<(), Fail> {
-    for (pieces, expected) in VECTORS {
+    for (pieces, hash) in VECTORS {
         let mut digest = Sha256Digest::begin();
         for piece in pieces {
             digest.update(piece);
         }
-        assert_eq!(rt;
-            hex::encode(rt.alloc(), digest.finish())?.as_str(),
-            expected
-        );
+        assert_eq!(rt; hex::encode(rt.alloc(), digest.finish())?.as_str(), hash);
     }
     Ok(())
 }

@@ -21,9 +21,9 @@ enum Act {
     Start(u16, u16, u16, bool),
     Write(u16, Size, u16),
     Control(u16),
-    /// What DSRC, DDST and DLEN read.
+    // What DSRC, DDST and DLEN read.
     Registers(u16, u16, u16),
-    /// A step in which its access, if there is one, gives a value.
+    // A step in which its access, if there is one, gives a value.
     Step(u16, Option<Access>),
     Clear,
 }

@@ -17,14 +17,14 @@ fn one(op: One, size: Size, source: Source) -> Instr {
 // A row is read as its instruction, which is written as the row.
 fn row_agrees(words: &[u16], instr: Instr) -> bool {
     let word_at = |i: usize| words.get(i).copied().unwrap_or(0);
-    let read = decode(word_at(0)).is_some_and(|head| {
+    let decodes = decode(word_at(0)).is_some_and(|head| {
         usize::from(extensions(&head)) + 1 == words.len()
             && complete(&head, word_at(1), word_at(2)) == instr
     });
-    let written = encode(&instr).is_ok_and(|found| {
-        found.len() == words.len() && (0..4).all(|i| found.get(i) == words.get(i).copied())
+    let encodes = encode(&instr).is_ok_and(|answer| {
+        answer.len() == words.len() && (0..4).all(|i| answer.get(i) == words.get(i).copied())
     });
-    read && written
+    decodes && encodes
 }
 
 #[test]
@@ -237,7 +237,7 @@ fn faults_in_their_order(rt: HostRuntime) {
     ];
     for (instr, fault) in rows {
         assert!(rt;
-            encode(&instr).is_err_and(|found| found == fault),
+            encode(&instr).is_err_and(|answer| answer == fault),
             "{instr:?}"
         );
     }

@@ -46,9 +46,9 @@ const VECTORS: [(&[u8], &[u8], &str); 7] = [
 
 #[test]
 fn hmac_vectors(rt: HostRuntime) -> Result<(), Fail> {
-    for (key, message, expected) in VECTORS {
+    for (key, message, tag) in VECTORS {
         let code = hex::encode(rt.alloc(), hmac::<Sha256Digest>(key, message))?;
-        assert!(rt; code.as_str().starts_with(expected), "{code}");
+        assert!(rt; code.as_str().starts_with(tag), "{code}");
     }
     Ok(())
 }

@@ -20,7 +20,7 @@ fn image_of_six(alloc: Global) -> Result<Image, AllocError> {
 #[test]
 fn an_image_takes_bytes_of_ram_program_and_vectors(rt: HostRuntime) -> Result<(), Fail> {
     let mut image = Image::new(rt.alloc())?;
-    for (place, taken) in [
+    for (place, is_place) in [
         (0x01FF, false),
         (0x0200, true),
         (0x21FF, true),
@@ -29,8 +29,8 @@ fn an_image_takes_bytes_of_ram_program_and_vectors(rt: HostRuntime) -> Result<()
         (0xC000, true),
         (0xFFFF, true),
     ] {
-        assert_eq!(rt; image.set(place, 7), taken, "at {place}");
-        assert_eq!(rt; image.get(place).is_some(), taken, "at {place}");
+        assert_eq!(rt; image.set(place, 7), is_place, "at {place}");
+        assert_eq!(rt; image.get(place).is_some(), is_place, "at {place}");
     }
     Ok(())
 }

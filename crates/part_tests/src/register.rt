@@ -31,13 +31,13 @@ fn parts_of_a_word(rt: HostRuntime) {
         assert_eq!(rt; register_place(place), 0x0164, "{place}");
     }
     // the low byte of a register is covered by words and by its own byte
-    for (place, size, covered) in [
+    for (place, size, answer) in [
         (0x0164, Word, true),
         (0x0165, Word, true),
         (0x0164, Byte, true),
         (0x0165, Byte, false),
         (0x0166, Word, false),
     ] {
-        assert_eq!(rt; covers_byte(place, size, 0x0164), covered, "{place}");
+        assert_eq!(rt; covers_byte(place, size, 0x0164), answer, "{place}");
     }
 }

@@ -28,7 +28,7 @@ fn has_answer(port: &mut Serial, act: Act) -> bool {
         Read(place, size, number) => {
             port.peek(place, size) == number && port.read(place, size) == number
         }
-        Write(place, size, number, sent) => port.write(place, size, number) == sent,
+        Write(place, size, number, is_sent) => port.write(place, size, number) == is_sent,
         Request(asks) => port.request() == asks,
         Clear => {
             port.clear();

@@ -51,9 +51,9 @@ impl<'a> Playback<'a> {
     {
         let first = count_before(self.steps, step);
         let after = count_through(self.steps, step);
-        let found = &self.events[first..after];
+        let events = &self.events[first..after];
         *self = Playback::new(&self.steps[after..], &self.events[after..]);
-        found
+        events
     }
 }
 

@@ -10,10 +10,10 @@ use Rattle.bus_signals.specs.Bounds.{are_valid, executable_region}
 use Rattle.bus_signals.specs.Kind.{is_cpu}
 use Rattle.bus_signals.specs.Map.{lies_in, ROM_ENTRY}
 use Rattle.part_definitions.specs.Attestation.{call_item, item_pc}
-use Rattle.part_definitions.specs.CpuRegisters.{pc_of, is_asleep}
+use Rattle.part_definitions.specs.CpuRegister.{pc_of, is_asleep}
 use Rattle.part_definitions.specs.CpuState.{Boundary, Executing, Entering}
 use Rattle.part_definitions.specs.Flag.{fetches_at, ran_inside}
-use Rattle.part_definitions.specs.Monitors.{in_rom}
+use Rattle.part_definitions.specs.MonitorRule.{in_rom}
 use Rattle.part_definitions.specs.NextAccess.{next_access}
 use Rattle.device_trace.specs.Progress.{Progress, Held, Runs, InCall, next_pc_of, boundary_kind, kind_of, progress_from_boundary, progress_within, tells_irq, access_of, next_progress}
 use Rattle.device_trace.specs.Start.{Start}
@@ -107,7 +107,7 @@ region_entered start releases bounds
     (Runs (Executing regs values)) vector last valid fresh within place outside quiet =
     last_inside bounds (pc_of regs) last fresh within outside
 region_entered start releases bounds
-    (Runs (Entering regs chosen values)) vector last valid fresh within place outside quiet =
+    (Runs (Entering regs choice values)) vector last valid fresh within place outside quiet =
     last_inside bounds (pc_of regs) last fresh within outside
 region_entered start releases bounds
     (InCall regs words) vector last valid fresh within place outside quiet =

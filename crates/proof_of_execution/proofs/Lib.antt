@@ -1,4 +1,4 @@
-pub mod Kept
+pub mod Keeps
 pub mod Regions
 pub mod Runs
 pub mod Entries

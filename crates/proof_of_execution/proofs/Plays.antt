@@ -13,7 +13,7 @@ use Rattle.bus_signals.specs.Map.{lies_in, metadata_region, ROM_EXIT}
 use Rattle.bus_signals.specs.Report.{ReportFields}
 use Rattle.bus_signals.specs.SeenRecord.{SeenRecord}
 use Rattle.part_definitions.specs.Flag.{accesses_in, writes_to, is_opcode_fetch, starts_run, runs_inside, ran_inside, last_pc}
-use Rattle.part_definitions.specs.Monitors.{in_rom}
+use Rattle.part_definitions.specs.MonitorRule.{in_rom}
 use Rattle.device_trace.specs.FirstRule.{first_rule}
 use Rattle.device_trace.specs.Logs.{Logs, exec_of, logged_bounds, vector_of, step_progress, progress_after, with_events, with_record}
 use Rattle.device_trace.specs.Progress.{Progress, last_registers}
@@ -28,7 +28,7 @@ use Rattle.trace_facts.proofs.Choices.{other_false, none_there, some_where}
 use Rattle.trace_facts.proofs.BoundsStay.{logged_bounds-stay}
 use Rattle.trace_facts.proofs.Fresh.{LogsAreFresh, logs_after-fresh}
 use Rattle.proof_of_execution.proofs.Entries.{Sleeps, region_entered, sleep_lasts}
-use Rattle.proof_of_execution.proofs.Kept.{Kept, clears-kept, entered_at_start}
+use Rattle.proof_of_execution.proofs.Keeps.{Keeps, clears-kept, enters_at_start}
 use Rattle.proof_of_execution.proofs.Regions.{inside-open}
 use Rattle.proof_of_execution.proofs.Runs.{Inside, Outside, run_starts, run_goes_on, run_ends, stays_outside}
 
@@ -53,41 +53,41 @@ record Arrives (now : SeenRecord) (last : Option ℕ) (before after : Progress) 
 
 starts_inside :
     (last : Option ℕ) (now : SeenRecord) (history : List BusRecord) (progress : Progress)
-    → Kept last now → starts_run now ≡ true
+    → Keeps last now → starts_run now ≡ true
     → RunState now.bounds (now.entry ∷ history) progress (Some now.entry.pc)
-starts_inside last now history progress kept starts =
+starts_inside last now history progress keeps starts =
     let valid = and_parts (is_opcode_fetch now.entry && (now.entry.pc == now.bounds.er_min))
     (are_valid now.bounds) starts in
-    record { valid = valid.1; run = inl (run_starts last now history kept starts) }
+    record { valid = valid.1; run = inl (run_starts last now history keeps starts) }
 
 -- one record more
 from_inside : (last : Option ℕ) (now : SeenRecord) (history : List BusRecord) (progress : Progress)
-    → Kept last now → are_valid now.bounds ≡ true → Inside now.bounds history last
+    → Keeps last now → are_valid now.bounds ≡ true → Inside now.bounds history last
     → RunState now.bounds (now.entry ∷ history) progress (Some now.entry.pc)
-from_inside last now history progress kept valid run =
+from_inside last now history progress keeps valid run =
     elim (cases_Bool (runs_inside now)) [
       | inl inside ↦
-          record { valid = valid; run = inl (run_goes_on last now history kept inside run) }
+          record { valid = valid; run = inl (run_goes_on last now history keeps inside run) }
       | inr outside ↦
           record {
             valid = valid;
-            run = inr (inl (run_ends last now history kept valid outside run));
+            run = inr (inl (run_ends last now history keeps valid outside run));
           }
     ]
 
 from_outside :
     (last : Option ℕ) (now : SeenRecord) (history : List BusRecord) (before after : Progress)
-    → Kept last now → Arrives now last before after → are_valid now.bounds ≡ true
+    → Keeps last now → Arrives now last before after → are_valid now.bounds ≡ true
     → Outside now.bounds history last
     → RunState now.bounds (now.entry ∷ history) after (Some now.entry.pc)
-from_outside last now history before after kept arrives valid run =
+from_outside last now history before after keeps arrives valid run =
     elim (cases_Bool (runs_inside now)) [
       | inl inside ↦
-          let place = entered_at_start last now kept inside run.outside in
-          let quiet = other_false now.entry.irq (runs_inside now) kept.e4 inside in
+          let place = enters_at_start last now keeps inside run.outside in
+          let quiet = other_false now.entry.irq (runs_inside now) keeps.e4 inside in
           elim (arrives.enters valid inside run.outside place quiet) [
             | inl opcode ↦
-                starts_inside last now history after kept
+                starts_inside last now history after keeps
                 (and_from (is_opcode_fetch now.entry && (now.entry.pc == now.bounds.er_min))
                 (are_valid now.bounds)
                 (and_from (is_opcode_fetch now.entry)
@@ -98,24 +98,24 @@ from_outside last now history before after kept arrives valid run =
           record {
             valid = valid;
             run =
-                inr (inl (stays_outside last now history kept outside run));
+                inr (inl (stays_outside last now history keeps outside run));
           }
     ]
 
 state_after :
     (last : Option ℕ) (now : SeenRecord) (history : List BusRecord) (before after : Progress)
-    → Kept last now → Arrives now last before after
+    → Keeps last now → Arrives now last before after
     → RunState now.bounds history before last
     → RunState now.bounds (now.entry ∷ history) after (Some now.entry.pc)
-state_after last now history before after kept arrives state =
+state_after last now history before after keeps arrives state =
     elim state.run [
-      | inl inside ↦ from_inside last now history after kept state.valid inside
+      | inl inside ↦ from_inside last now history after keeps state.valid inside
       | inr rest ↦
           elim rest [
             | inl outside ↦
-                from_outside last now history before after kept arrives state.valid outside
+                from_outside last now history before after keeps arrives state.valid outside
             | inr sleeps ↦
-                let on = arrives.sleeps state.valid sleeps.0 kept.e4 in
+                let on = arrives.sleeps state.valid sleeps.0 keeps.e4 in
                 record { valid = state.valid; run = inr (inr (on.1, on.0)) }
           ]
     ]
@@ -130,7 +130,7 @@ record_at start logs reset rule =
 arrives_at : (start : Start) (logs : Logs) (reset : Bool) (rule : Option Rule) (bounds : Bounds)
     → rule ≡ None → LogsAreFresh logs
     → Arrives (record { entry = record_at start logs reset rule; bounds = bounds })
-    (last_pc logs.seen) logs.progress
+    (last_pc logs.records) logs.progress
     (progress_after (record_at start logs reset rule).reset (record_at start logs reset rule).kind
     (step_progress logs (record_at start logs reset rule).kind)
     (record_at start logs reset rule).cpu
@@ -142,7 +142,7 @@ arrives_at start logs reset None bounds none fresh =
       enters = λ valid inside outside place quiet.
           elim
           (region_entered start (length logs.released_words) bounds logs.progress (vector_of logs)
-          (last_pc logs.seen)
+          (last_pc logs.records)
           valid fresh inside place outside quiet) [
             | inl opcode ↦ inl opcode
             | inr sleeps ↦
@@ -160,20 +160,20 @@ arrives_at start logs reset None bounds none fresh =
 record_arrives : (start : Start) (logs : Logs) (reset : Bool) (bounds : Bounds)
     → (record_of start logs reset).reset ≡ None → LogsAreFresh logs
     → Arrives (record { entry = record_of start logs reset; bounds = bounds })
-    (last_pc logs.seen) logs.progress
+    (last_pc logs.records) logs.progress
     (progress_after (record_of start logs reset).reset (record_of start logs reset).kind
     (step_progress logs (record_of start logs reset).kind) (record_of start logs reset).cpu
     (record_of start logs reset).value)
 unfolding record_of
 record_arrives start logs reset bounds none fresh =
     arrives_at start logs reset
-    (first_rule (last_pc logs.seen) (signals_of start logs reset)) bounds none fresh
+    (first_rule (last_pc logs.records) (signals_of start logs reset)) bounds none fresh
 
 -- of the logs of a play
 abbrev LogsState : Start → Logs → List BusRecord → Type 0
 LogsState start logs history =
     exec_of logs ≡ true
-    → RunState (logged_bounds start logs) history logs.progress (last_pc logs.seen)
+    → RunState (logged_bounds start logs) history logs.progress (last_pc logs.records)
 
 record_state : (start : Start) (logs : Logs) (reset : Bool) (history : List BusRecord)
     → LogsAreFresh logs → LogsState start logs history
@@ -183,10 +183,10 @@ unfolding with_record
 record_state start logs reset history fresh before set =
     let entry : BusRecord = record_of start logs reset in
     let now : SeenRecord = record { entry = entry; bounds = logged_bounds start logs } in
-    let more = exec-more now logs.seen set in
-    let kept : Kept (last_pc logs.seen) now = clears-kept (last_pc logs.seen) now more.0 in
+    let more = exec-more now logs.records set in
+    let keeps : Keeps (last_pc logs.records) now = clears-kept (last_pc logs.records) now more.0 in
     let clean = or_parts (list_any (writes_to metadata_region) (accesses_in entry))
-    (is_some entry.reset) kept.e9 in
+    (is_some entry.reset) keeps.e9 in
     let none : entry.reset ≡ None = none_there entry.reset clean.1 in
     let after : Progress =
     progress_after entry.reset entry.kind (step_progress logs entry.kind) entry.cpu entry.value in
@@ -194,9 +194,9 @@ record_state start logs reset history fresh before set =
     logged_bounds-stay start logs entry none clean.0 in
     let state : RunState (logged_bounds start logs) (entry ∷ history) after (Some entry.pc) =
     elim more.1 [
-      | inl starts ↦ starts_inside (last_pc logs.seen) now history after kept starts
+      | inl starts ↦ starts_inside (last_pc logs.records) now history after keeps starts
       | inr was_set ↦
-          state_after (last_pc logs.seen) now history logs.progress after kept
+          state_after (last_pc logs.records) now history logs.progress after keeps
           (record_arrives start logs reset (logged_bounds start logs) none fresh) (before was_set)
     ] in
     subst (λ (bounds : Bounds). RunState bounds (entry ∷ history) after (Some entry.pc))
@@ -257,8 +257,8 @@ report-whole_run start (events ∷ play) report is set =
     let logs : Logs = logs_after start play in
     let entry : BusRecord = next_record start logs events in
     let after : Logs = with_record start (with_events logs events) entry in
-    let made : ReportFields = report_of start after (length play) in
-    let both = some_where (finishes_call entry) made report is in
+    let fields : ReportFields = report_of start after (length play) in
+    let both = some_where (finishes_call entry) fields report is in
     let call = and_parts (is_rom entry.kind && (entry.pc == ROM_EXIT)) _ both.0 in
     let place = and_parts (is_rom entry.kind) (entry.pc == ROM_EXIT) call.0 in
     let set_after : exec_of after ≡ true = ap (λ (r : ReportFields). r.exec) both.1 ∙ set in

@@ -7,7 +7,7 @@ use Rattle.bus_signals.specs.declared.bounds.Bounds.{Bounds}
 use Rattle.bus_signals.specs.Bounds.{are_valid, executable_region}
 use Rattle.bus_signals.specs.Map.{lies_in}
 use Rattle.bus_signals.proofs.ValidRange.{are_valid-ranges}
-use Rattle.part_definitions.specs.Monitors.{in_rom}
+use Rattle.part_definitions.specs.MonitorRule.{in_rom}
 
 -- an address of RAM or of the program is neither 0 nor in the ROM
 open_pc : (pc : ℕ) → ((0x200 ≤ pc) × (pc ≤ 0x21FF)) ⊎ (0xC000 ≤ pc) → (in_rom pc ≡ false) × (0 < pc)

@@ -10,7 +10,7 @@ use Rattle.bus_signals.specs.Map.{lies_in}
 use Rattle.bus_signals.specs.SeenRecord.{SeenRecord}
 use Rattle.part_definitions.specs.Flag.{is_opcode_fetch, starts_run, ran_inside, ran_at, runs_inside}
 use Rattle.device_trace.specs.WholeRun.{is_inside, runs_undisturbed, keeps_code, keeps_output, begins_run, has_left, WholeRun}
-use Rattle.proof_of_execution.proofs.Kept.{Kept, undisturbed-kept, code-kept, output-kept, left_at_end}
+use Rattle.proof_of_execution.proofs.Keeps.{Keeps, undisturbed-kept, code-kept, output-kept, leaves_at_end}
 use Rattle.proof_of_execution.proofs.Regions.{min-inside}
 
 -- a run that has begun and goes on, with its newest record
@@ -32,9 +32,9 @@ pub record Outside (bounds : Bounds) (history : List BusRecord) (last : Option �
 
 -- the run begins
 pub run_starts : (last : Option ℕ) (now : SeenRecord) (history : List BusRecord)
-    → Kept last now → starts_run now ≡ true
+    → Keeps last now → starts_run now ≡ true
     → Inside now.bounds (now.entry ∷ history) (Some now.entry.pc)
-run_starts last now history kept starts =
+run_starts last now history keeps starts =
     let valid = and_parts (is_opcode_fetch now.entry && (now.entry.pc == now.bounds.er_min))
     (are_valid now.bounds) starts in
     let place = and_parts (is_opcode_fetch now.entry) (now.entry.pc == now.bounds.er_min) valid.0 in
@@ -49,17 +49,17 @@ run_starts last now history kept starts =
       begins = valid.0;
       undisturbed =
           and_from (runs_undisturbed now.bounds now.entry) true
-          (undisturbed-kept last now kept inside) refl;
-      code = and_from (keeps_code now.bounds now.entry) true (code-kept last now kept) refl;
+          (undisturbed-kept last now keeps inside) refl;
+      code = and_from (keeps_code now.bounds now.entry) true (code-kept last now keeps) refl;
       is_last = refl;
       inside = inside;
     }
 
 -- it goes on
 pub run_goes_on : (last : Option ℕ) (now : SeenRecord) (history : List BusRecord)
-    → Kept last now → runs_inside now ≡ true → Inside now.bounds history last
+    → Keeps last now → runs_inside now ≡ true → Inside now.bounds history last
     → Inside now.bounds (now.entry ∷ history) (Some now.entry.pc)
-run_goes_on last now history kept inside run =
+run_goes_on last now history keeps inside run =
     record {
       newest = now.entry;
       older = run.newest ∷ run.older;
@@ -68,23 +68,23 @@ run_goes_on last now history kept inside run =
       begins = run.begins;
       undisturbed =
           and_from (runs_undisturbed now.bounds now.entry) _
-          (undisturbed-kept last now kept inside) run.undisturbed;
-      code = and_from (keeps_code now.bounds now.entry) _ (code-kept last now kept) run.code;
+          (undisturbed-kept last now keeps inside) run.undisturbed;
+      code = and_from (keeps_code now.bounds now.entry) _ (code-kept last now keeps) run.code;
       is_last = refl;
       inside = inside;
     }
 
 -- it is left
 pub run_ends : (last : Option ℕ) (now : SeenRecord) (history : List BusRecord)
-    → Kept last now → are_valid now.bounds ≡ true → runs_inside now ≡ false
+    → Keeps last now → are_valid now.bounds ≡ true → runs_inside now ≡ false
     → Inside now.bounds history last
     → Outside now.bounds (now.entry ∷ history) (Some now.entry.pc)
-run_ends last now history kept valid outside run =
+run_ends last now history keeps valid outside run =
     let was_inside : ran_inside last (executable_region now.bounds) ≡ true =
     ap (λ (pc : Option ℕ). ran_inside pc (executable_region now.bounds)) run.is_last ∙ run.inside in
     let at_end : (run.newest.pc == now.bounds.er_max) ≡ true =
     ap (λ (pc : Option ℕ). ran_at pc now.bounds.er_max) (sym run.is_last)
-    ∙ left_at_end last now kept was_inside outside in
+    ∙ leaves_at_end last now keeps was_inside outside in
     let whole : WholeRun now.bounds (now.entry ∷ history) =
     record {
       valid = valid;
@@ -96,22 +96,22 @@ run_ends last now history kept valid outside run =
       ends = at_end;
       undisturbed = run.undisturbed;
       left = and_from (not (is_inside now.bounds now.entry)) true (not_from_false _ outside) refl;
-      code = and_from (keeps_code now.bounds now.entry) _ (code-kept last now kept) run.code;
+      code = and_from (keeps_code now.bounds now.entry) _ (code-kept last now keeps) run.code;
       output = and_from (keeps_output now.bounds now.entry) true
-          (output-kept last now kept outside) refl;
+          (output-kept last now keeps outside) refl;
     } in
     record { whole = whole; outside = outside }
 
 all_left : (bounds : Bounds) (after : List BusRecord)
     → has_left bounds after ≡ true → list_all (λ one. not (is_inside bounds one)) after ≡ true
-all_left bounds [] left = refl
-all_left bounds (entry ∷ after) left = left
+all_left bounds [] rest = refl
+all_left bounds (entry ∷ after) rest = rest
 
 -- more records outside
 pub stays_outside : (last : Option ℕ) (now : SeenRecord) (history : List BusRecord)
-    → Kept last now → runs_inside now ≡ false → Outside now.bounds history last
+    → Keeps last now → runs_inside now ≡ false → Outside now.bounds history last
     → Outside now.bounds (now.entry ∷ history) (Some now.entry.pc)
-stays_outside last now history kept outside run =
+stays_outside last now history keeps outside run =
     let whole : WholeRun now.bounds (now.entry ∷ history) =
     record {
       valid = run.whole.valid;
@@ -125,8 +125,8 @@ stays_outside last now history kept outside run =
       left =
           and_from (not (is_inside now.bounds now.entry)) _ (not_from_false _ outside)
           (all_left now.bounds run.whole.after run.whole.left);
-      code = and_from (keeps_code now.bounds now.entry) _ (code-kept last now kept) run.whole.code;
+      code = and_from (keeps_code now.bounds now.entry) _ (code-kept last now keeps) run.whole.code;
       output = and_from (keeps_output now.bounds now.entry) _
-          (output-kept last now kept outside) run.whole.output;
+          (output-kept last now keeps outside) run.whole.output;
     } in
     record { whole = whole; outside = outside }

@@ -3,7 +3,7 @@ use Rattle.std.specs.Prelude.{◌≡◌, ◌<◌, ◌^◌, ℕ, List, [], ◌∷
 use Rattle.hex.specs.Hex.{IsBytes}
 use Rattle.bus_signals.specs.declared.bounds.Bounds.{Bounds}
 use Rattle.bus_signals.specs.Report.{ReportFields}
-use Rattle.printed_lines.specs.Lines.{report_line}
+use Rattle.printed_lines.specs.Line.{report_line}
 use Rattle.report_text.specs.ReportFile.{output_fits, reports_of}
 
 -- 32 bytes

@@ -81,8 +81,8 @@ report_of words = do
   )
 
 -- `tx S HH`
-unfoldable pub sent_of : List (List ℕ) → Result (Unit × List (List ℕ)) FaultKind
-sent_of words = do
+unfoldable pub tx_line_of : List (List ℕ) → Result (Unit × List (List ℕ)) FaultKind
+tx_line_of words = do
   step ← count_of words
   byte ← block_of 1 step.1
   Ok (tt, byte.1)
@@ -142,18 +142,18 @@ end_line_of words = do
   Ok (tt, exec.1)
 
 -- the lines that are passed over in their form
-abbrev pub passed_of : List ℕ → List (List ℕ) → Result (Unit × List (List ℕ)) FaultKind
-passed_of keyword words =
-    if bytes_eq keyword (codes "tx") then sent_of words
+abbrev pub other_line_of : List ℕ → List (List ℕ) → Result (Unit × List (List ℕ)) FaultKind
+other_line_of keyword words =
+    if bytes_eq keyword (codes "tx") then tx_line_of words
     else if bytes_eq keyword (codes "reset") then reset_of words
     else if bytes_eq keyword (codes "verdict") then verdict_of words
     else if bytes_eq keyword (codes "end") then end_line_of words
     else Err Word
 
-abbrev pub passed_or_collision_of :
+abbrev pub other_or_collision_of :
     List ℕ → List (List ℕ) → Result (Unit × List (List ℕ)) FaultKind
-passed_or_collision_of keyword words =
-    if bytes_eq keyword (codes "collision") then collision_of words else passed_of keyword words
+other_or_collision_of keyword words =
+    if bytes_eq keyword (codes "collision") then collision_of words else other_line_of keyword words
 
 unfoldable pub some_report_of :
     List (List ℕ) → Result (Option ReportFields × List (List ℕ)) FaultKind
@@ -164,8 +164,8 @@ some_report_of words = do
 unfoldable pub no_report_of :
     List ℕ → List (List ℕ) → Result (Option ReportFields × List (List ℕ)) FaultKind
 no_report_of keyword words = do
-  passed ← passed_or_collision_of keyword words
-  Ok (None, passed.1)
+  later ← other_or_collision_of keyword words
+  Ok (None, later.1)
 
 abbrev pub kind_of : List ℕ → List (List ℕ) → Result (Option ReportFields × List (List ℕ)) FaultKind
 kind_of keyword words =

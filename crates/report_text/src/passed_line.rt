@@ -1,6 +1,6 @@
 ghost use Rattle.std.specs.Prelude.{◌≡◌};
 ghost use Rattle.text_scan.specs.Reader.{ReadsOn, ReadsWordOn};
-ghost use Rattle.report_text.specs.ReportLine.{sent_of, is_rule_name, is_verdict_name, reset_of, verdict_of, bytes_of, collision_of, end_line_of, passed_of, passed_or_collision_of};
+ghost use Rattle.report_text.specs.ReportLine.{tx_line_of, is_rule_name, is_verdict_name, reset_of, verdict_of, bytes_of, collision_of, end_line_of, other_line_of, other_or_collision_of};
 
 use crate::report_entry::{read_count, read_exec};
 use std::alloc::Global;
@@ -8,7 +8,7 @@ use text_scan::{Bytes, FaultKind, WordFault, Words};
 
 /// Passes a line that is no report, in its form.
 pub fn pass_line(alloc: Global, keyword: &[u8], words: &mut Words<'_>) -> Result<(), WordFault>
-    ensures { ReadsWordOn result words.new (passed_or_collision_of keyword.now words.old) }
+    ensures { ReadsWordOn result words.new (other_or_collision_of keyword.now words.old) }
 {
     if keyword == b"collision".as_slice() {
         return pass_collision(alloc, words);
@@ -17,7 +17,7 @@ pub fn pass_line(alloc: Global, keyword: &[u8], words: &mut Words<'_>) -> Result
 }
 
 fn pass_short_line(keyword: &[u8], words: &mut Words<'_>) -> Result<(), FaultKind>
-    ensures { ReadsOn result words.new (passed_of keyword.now words.old) }
+    ensures { ReadsOn result words.new (other_line_of keyword.now words.old) }
 {
     if keyword == b"tx".as_slice() {
         return pass_sent(words);
@@ -34,9 +34,9 @@ fn pass_short_line(keyword: &[u8], words: &mut Words<'_>) -> Result<(), FaultKin
     Err(FaultKind::Word)
 }
 
-#[tactic(auto, unfolding(crate::specs::ReportLine::sent_of))]
+#[tactic(auto, unfolding(crate::specs::ReportLine::tx_line_of))]
 fn pass_sent(words: &mut Words<'_>) -> Result<(), FaultKind>
-    ensures { ReadsOn result words.new (sent_of words.old) }
+    ensures { ReadsOn result words.new (tx_line_of words.old) }
 {
     read_count(words)?;
     words.block::<1>()?;

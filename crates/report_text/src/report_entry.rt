@@ -1,4 +1,3 @@
-ghost use Rattle.std.specs.Prelude.{◌≡◌};
 ghost use Rattle.text_scan.specs.Reader.{ReadsOn, ReadsWord, ReadsWordOn};
 ghost use Rattle.text_scan.specs.Word.{words_of};
 ghost use Rattle.report_text.specs.ReportLine.{count_of, exec_of, digest_of, bounds_of, output_in, output_of, report_of, some_report_of, no_report_of, kind_of, line_of};

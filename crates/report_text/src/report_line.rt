@@ -1,8 +1,8 @@
-ghost use Rattle.std.specs.Prelude.{◌≡◌, ◌≤◌, ◌+◌, ◌++◌, List, ℕ, length, codes, option_map};
+ghost use Rattle.std.specs.Prelude.{◌≡◌, ◌≤◌, ◌+◌, ◌++◌, length, option_map};
 ghost use Rattle.hex.specs.Hex.{encode_lower};
 ghost use Rattle.outside_edge.specs.Sink.{Puts, CountsFaults};
 ghost use Rattle.bus_signals.specs.Report.{fields_of};
-ghost use Rattle.printed_lines.specs.Lines.{output_word, bounds_words, report_head, report_tail, report_line};
+ghost use Rattle.printed_lines.specs.Line.{output_word, bounds_words, report_head, report_tail, report_line};
 
 use crate::printed_line::flag_digit;
 use bus_signals::{Bounds, ReportView};

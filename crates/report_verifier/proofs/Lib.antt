@@ -1,8 +1,8 @@
-pub mod Regrouped
+pub mod SixPieces
 pub mod SameBytes
 pub mod CodeBytes
 pub mod Pairs
-pub mod Accepted
+pub mod Acceptance
 pub mod PolicyBounds
 pub mod Regions
 pub mod Pushes

@@ -48,16 +48,16 @@ unfolding with_line
 with_line-valid draft line valid = by_entry (line_of (words_of line))
   where
     by_entry : (entry : Result PolicyLine FaultKind)
-        → IfOk (entry >>= (λ said. with_entry draft said)) HasValidBounds
-    by_entry (Ok said) = with_entry-valid draft said valid
+        → IfOk (entry >>= (λ entry. with_entry draft entry)) HasValidBounds
+    by_entry (Ok entry) = with_entry-valid draft entry valid
     by_entry (Err kind) = tt
 
-one_more-valid : (draft : Draft) (line : ℕ × List ℕ) (lines : List (ℕ × List ℕ)) (passed : Bool)
+one_more-valid : (draft : Draft) (line : ℕ × List ℕ) (lines : List (ℕ × List ℕ)) (skips : Bool)
     (next : Result Draft FaultKind) → HasValidBounds draft
     → IfOk next HasValidBounds
     → ((after : Draft) → HasValidBounds after
     → IfOk (state_after with_line after lines) HasValidBounds)
-    → IfOk (if passed then state_after with_line draft lines
+    → IfOk (if skips then state_after with_line draft lines
     else (in_line line.0 next >>= (λ after. state_after with_line after lines)))
     HasValidBounds
 one_more-valid draft line lines true next valid valid_next later = later draft valid

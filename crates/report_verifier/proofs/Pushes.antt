@@ -4,17 +4,17 @@ use Rattle.part_definitions.specs.Memory.{bytes_from}
 use Rattle.part_definitions.specs.Region.{bytes_between}
 use Rattle.report_verifier.proofs.CodeBytes.{append-byte}
 use Rattle.part_definitions.proofs.BytesFrom.{length-bytes_from, bytes_between-span}
-use Rattle.report_verifier.proofs.Regrouped.{append-six}
+use Rattle.report_verifier.proofs.SixPieces.{append-six}
 
 -- one more piece behind the first ones, whose number of bytes is known
-pushed :
+pushes :
     (most : ℕ) (old new before piece : List ℕ) (count : ℕ)
     → old ≡ before
     → length before ≡ count
     → count + length piece ≤ most
     → (length old + length piece ≤ most → new ≡ old ++ piece)
     → (new ≡ before ++ piece) × (length (before ++ piece) ≡ count + length piece)
-pushed most old new before piece count is size fits push = (
+pushes most old new before piece count is size fits push = (
   push (omega (arith, ap length is, size, fits)) ∙ ap (λ (l : List ℕ). l ++ piece) is,
   length-append before piece ∙ ap (λ (n : ℕ). n + length piece) size,
 )
@@ -31,15 +31,15 @@ pub six-pushed :
     → (length l₅ + length f ≤ most → l₆ ≡ l₅ ++ f)
     → l₆ ≡ a ++ (b ++ (c ++ (d ++ (e ++ f))))
 six-pushed most l₀ l₁ l₂ l₃ l₄ l₅ l₆ a b c d e f empty fits p₁ p₂ p₃ p₄ p₅ p₆ =
-    let one = pushed most l₀ l₁ [] a 0 empty refl (omega (arith, fits)) p₁ in
-    let two = pushed most l₁ l₂ ([] ++ a) b (0 + length a) one.0 one.1 (omega (arith, fits)) p₂ in
-    let three = pushed most l₂ l₃ (([] ++ a) ++ b) c (0 + length a + length b) two.0 two.1
+    let one = pushes most l₀ l₁ [] a 0 empty refl (omega (arith, fits)) p₁ in
+    let two = pushes most l₁ l₂ ([] ++ a) b (0 + length a) one.0 one.1 (omega (arith, fits)) p₂ in
+    let three = pushes most l₂ l₃ (([] ++ a) ++ b) c (0 + length a + length b) two.0 two.1
     (omega (arith, fits)) p₃ in
-    let four = pushed most l₃ l₄ ((([] ++ a) ++ b) ++ c) d (0 + length a + length b + length c)
+    let four = pushes most l₃ l₄ ((([] ++ a) ++ b) ++ c) d (0 + length a + length b + length c)
     three.0 three.1 (omega (arith, fits)) p₄ in
-    let five = pushed most l₄ l₅ (((([] ++ a) ++ b) ++ c) ++ d) e
+    let five = pushes most l₄ l₅ (((([] ++ a) ++ b) ++ c) ++ d) e
     (0 + length a + length b + length c + length d) four.0 four.1 (omega (arith, fits)) p₅ in
-    let six = pushed most l₅ l₆ ((((([] ++ a) ++ b) ++ c) ++ d) ++ e) f
+    let six = pushes most l₅ l₆ ((((([] ++ a) ++ b) ++ c) ++ d) ++ e) f
     (0 + length a + length b + length c + length d + length e) five.0 five.1 (omega (arith, fits))
     p₆ in
     six.0 ∙ append-six [] a b c d e f
@@ -52,8 +52,8 @@ pub two-pushed :
     → (length l₂ + length c ≤ most → l₃ ≡ l₂ ++ c)
     → l₃ ≡ a ++ (b ++ c)
 two-pushed most l₁ l₂ l₃ a b c is fits p₂ p₃ =
-    let two = pushed most l₁ l₂ a b (length a) is refl (omega (arith, fits)) p₂ in
-    let three = pushed most l₂ l₃ (a ++ b) c (length a + length b) two.0 two.1 (omega (arith, fits))
+    let two = pushes most l₁ l₂ a b (length a) is refl (omega (arith, fits)) p₂ in
+    let three = pushes most l₂ l₃ (a ++ b) c (length a + length b) two.0 two.1 (omega (arith, fits))
     p₃ in
     three.0 ∙ append_assoc a b c
 

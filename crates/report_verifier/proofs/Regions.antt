@@ -12,9 +12,9 @@ ram-size :
     → (last + 1 < 0x200) ⊎ (0x21F < first)
     → (last + 1 < 0x240) ⊎ (0x269 < first)
     → last + 2 - first ≤ 8086
-ram-size first last ordered ram (inl mac) metadata = absurd (omega (arith, ram.0, mac, ordered))
-ram-size first last ordered ram (inr mac) (inl metadata) = omega (arith, mac, metadata)
-ram-size first last ordered ram (inr mac) (inr metadata) = omega (arith, metadata, ram.1)
+ram-size first last in_order ram (inl mac) metadata = absurd (omega (arith, ram.0, mac, in_order))
+ram-size first last in_order ram (inr mac) (inl metadata) = omega (arith, mac, metadata)
+ram-size first last in_order ram (inr mac) (inr metadata) = omega (arith, metadata, ram.1)
 
 -- in RAM, of so many bytes, or in the program
 abbrev IsSized : ℕ → ℕ → Type 0

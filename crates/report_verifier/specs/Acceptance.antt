@@ -7,7 +7,7 @@ use Rattle.part_definitions.specs.Metadata.{bounds_in}
 use Rattle.part_definitions.specs.Region.{challenge_bytes, metadata_bytes, rest_bytes, bytes_between, output_bytes}
 use Rattle.report_verifier.specs.declared.decision.Decision.TheVariants.{Accept}
 use Rattle.report_verifier.specs.declared.expect.Expect.{Expect}
-use Rattle.report_verifier.specs.Expected.{expected_metadata, image_code}
+use Rattle.report_verifier.specs.Expectation.{expected_metadata, image_code}
 use Rattle.report_verifier.specs.Verdict.{verdict}
 
 -- a report of a device: it tells what stands in memory, and its MAC is the tag of that under the

@@ -4,7 +4,7 @@ use Rattle.bus_signals.specs.declared.bounds.Bounds.{Bounds}
 use Rattle.part_definitions.specs.Attestation.{derived_key}
 use Rattle.part_definitions.specs.Region.{metadata_bytes, rest_bytes}
 use Rattle.report_verifier.specs.declared.expect.Expect.{Expect}
-use Rattle.report_verifier.specs.Expected.{expected_metadata, expected_rest, output_of}
+use Rattle.report_verifier.specs.Expectation.{expected_metadata, expected_rest, output_of}
 
 -- the key of the challenge that is expected
 abbrev pub expected_key : (List ℕ → List ℕ) → List ℕ → Expect → List ℕ

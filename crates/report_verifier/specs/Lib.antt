@@ -1,5 +1,5 @@
 pub mod Acceptance
-pub mod Expected
+pub mod Expectation
 pub mod Verdict
 pub mod Collision
 pub mod Comparison

@@ -13,5 +13,5 @@ abbrev pub expectation : PolicyFields → Option (List ℕ) → Option Expect
 expectation policy None = None
 expectation policy (Some chal) = Some (record { chal = chal; bounds = policy.bounds })
 
-abbrev pub expected_at : PolicyFields → ℕ → Option Expect
-expected_at policy i = expectation policy (slice_get policy.challenges i)
+abbrev pub expect_at : PolicyFields → ℕ → Option Expect
+expect_at policy i = expectation policy (slice_get policy.challenges i)

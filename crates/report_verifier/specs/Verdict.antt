@@ -6,7 +6,7 @@ use Rattle.bus_signals.specs.Report.{ReportFields}
 use Rattle.report_verifier.specs.declared.decision.Decision.{Decision}
 use Rattle.report_verifier.specs.declared.decision.Decision.TheVariants.{Accept, NoChallenge, ChalDiffers, BoundsDiffer, ExecZero, MacDiffers}
 use Rattle.report_verifier.specs.declared.expect.Expect.{Expect}
-use Rattle.report_verifier.specs.Expected.{expected_mac}
+use Rattle.report_verifier.specs.Expectation.{expected_mac}
 
 abbrev pub same_bounds : Bounds → Bounds → Bool
 same_bounds left right =

@@ -3,7 +3,7 @@ ghost use Rattle.bus_signals.specs.Bounds.{are_valid};
 ghost use Rattle.mem_map.specs.Image.{byte_in};
 ghost use Rattle.part_definitions.specs.Hmac.{hmac};
 ghost use Rattle.hmac_core.specs.Hmac.{HmacStandsFor};
-ghost use Rattle.report_verifier.specs.Expected.{expected_metadata, image_byte, image_code, output_of, expected_mac};
+ghost use Rattle.report_verifier.specs.Expectation.{expected_metadata, image_code, output_of, expected_mac};
 
 use crate::expect::Expect;
 use bus_signals::Bounds;
@@ -11,30 +11,30 @@ use hmac_core::{Digest32, Hmac, hmac};
 use mem_map::Image;
 
 // The HMAC takes the metadata that a report shall be made of.
-fn take_metadata<D: Digest32>(running: &mut Hmac<D>, expect: &Expect)
+fn take_metadata<D: Digest32>(mac: &mut Hmac<D>, expect: &Expect)
     ensures { (key message : List ℕ)
-        → HmacStandsFor D.has_taken D.digest_of running.old key message
-        → HmacStandsFor D.has_taken D.digest_of running.new key
+        → HmacStandsFor D.has_taken D.digest_of mac.old key message
+        → HmacStandsFor D.has_taken D.digest_of mac.new key
         (message ++ expected_metadata expect.now) }
 {
-    running.update(&expect.chal);
-    running.update_word(expect.bounds.er_min);
-    running.update_word(expect.bounds.er_max);
-    running.update_word(expect.bounds.or_min);
-    running.update_word(expect.bounds.or_max);
-    running.update_word(1);
+    mac.update(&expect.chal);
+    mac.update_word(expect.bounds.er_min);
+    mac.update_word(expect.bounds.er_max);
+    mac.update_word(expect.bounds.or_min);
+    mac.update_word(expect.bounds.or_max);
+    mac.update_word(1);
 }
 
 // The HMAC takes the image's code.
-fn take_code<D: Digest32>(running: &mut Hmac<D>, image: &Image, bounds: &Bounds)
+fn take_code<D: Digest32>(mac: &mut Hmac<D>, image: &Image, bounds: &Bounds)
     requires { IsTrue (are_valid bounds.now) }
     ensures { (key message : List ℕ)
-        → HmacStandsFor D.has_taken D.digest_of running.old key message
-        → HmacStandsFor D.has_taken D.digest_of running.new key
+        → HmacStandsFor D.has_taken D.digest_of mac.old key message
+        → HmacStandsFor D.has_taken D.digest_of mac.new key
         (message ++ image_code (byte_in image.now) bounds.now) }
 {
     for place in bounds.er_min..bounds.er_max + 2 {
-        running.update(&[image.get(place).unwrap_or(0)]);
+        mac.update(&[image.get(place).unwrap_or(0)]);
     }
 }
 
@@ -50,21 +50,21 @@ pub fn output_bytes<'a>(output: Option<&'a [u8]>) -> &'a [u8]
 
 // The code under a derived key of what a report with this output shall be made of.
 fn derived_mac<D: Digest32>(
-    derived: &[u8; 32],
+    derived_key: &[u8; 32],
     image: &Image,
     expect: &Expect,
     output: &[u8],
 ) -> [u8; 32]
     requires { IsTrue (are_valid expect.now.bounds) }
-    ensures { result ≡ hmac D.digest_of derived.now
+    ensures { result ≡ hmac D.digest_of derived_key.now
         (expected_metadata expect.now
         ++ (image_code (byte_in image.now) expect.now.bounds ++ output.now)) }
 {
-    let mut running = Hmac::<D>::new(derived);
-    take_metadata(&mut running, expect);
-    take_code(&mut running, image, &expect.bounds);
-    running.update(output);
-    let (inner, outer) = running.inner();
+    let mut mac = Hmac::<D>::new(derived_key);
+    take_metadata(&mut mac, expect);
+    take_code(&mut mac, image, &expect.bounds);
+    mac.update(output);
+    let (inner, outer) = mac.inner();
     outer.finish(&inner)
 }
 
@@ -80,6 +80,6 @@ pub fn expected_mac<D: Digest32>(
         ≡ expected_mac D.digest_of key.now (byte_in image.now) expect.now
         (option_map (λ bytes. bytes.now) output.entry) }
 {
-    let derived = hmac::<D>(key, &expect.chal);
-    derived_mac::<D>(&derived, image, expect, output_bytes(output))
+    let derived_key = hmac::<D>(key, &expect.chal);
+    derived_mac::<D>(&derived_key, image, expect, output_bytes(output))
 }

@@ -1,6 +1,6 @@
-ghost use Rattle.std.specs.Prelude.{◌≡◌, ◌++◌, ◌∷◌, [], List, ℕ, OnOk, IfSome, IsTrue};
+ghost use Rattle.std.specs.Prelude.{◌≡◌, ◌++◌, ◌∷◌, [], OnOk, IfSome, IsTrue};
 ghost use Rattle.bus_signals.specs.Bounds.{are_valid};
-ghost use Rattle.report_verifier.specs.Policy.{PolicyFields, expected_at};
+ghost use Rattle.report_verifier.specs.Policy.{PolicyFields, expect_at};
 
 use crate::expect::Expect;
 use bus_signals::Bounds;
@@ -14,7 +14,7 @@ pub struct Policy {
     challenges: Vec<[u8; 32]>,
 }
 
-/// SeenRecord as its bounds and its challenges in the order of the file.
+/// Seen as its bounds and its challenges in the order of the file.
 impl Model for Policy {
     ghost Value = { PolicyFields };
 
@@ -49,7 +49,7 @@ impl Policy {
 
     /// What report `i` shall name, from 0; `None` exactly past the last challenge.
     pub fn expect(&self, i: usize) -> Option<Expect>
-        ensures expectation { result ≡ expected_at self.now i }
+        ensures expectation { result ≡ expect_at self.now i }
         ensures valid { IfSome result (λ expect. IsTrue (are_valid expect.bounds)) }
     {
         let chal = *self.challenges.get(i)?;

@@ -1,5 +1,3 @@
-ghost use Rattle.std.specs.Prelude.{◌≡◌, length};
-ghost use Rattle.std.specs.Str.Lines.{lines};
 ghost use Rattle.text_scan.specs.Reader.{Reads};
 ghost use Rattle.report_verifier.specs.PolicyGrammar.{policy_of, whole_policy};
 

@@ -1,6 +1,6 @@
-ghost use Rattle.std.specs.Prelude.{◌≡◌, [], ◌∷◌, List, IfOk};
+ghost use Rattle.std.specs.Prelude.{◌≡◌, [], IfOk};
 ghost use Rattle.part_definitions.specs.Part.{Takes, Answers};
-ghost use Rattle.part_definitions.specs.Serial.{SerialEvent, Arrival, Load, Store, DeviceReset, waiting_bytes, oldest_byte, QUEUE_LENGTH, has_room, serial_read, serial_word, serial_status, serial_requests, byte_sent};
+ghost use Rattle.part_definitions.specs.Serial.{Arrival, Load, Store, DeviceReset, waiting_bytes, oldest_byte, has_room, serial_read, serial_word, serial_status, serial_requests, byte_sent};
 
 use crate::sent_byte::byte_sent;
 use circular_buffer::HeapCircularBuffer;

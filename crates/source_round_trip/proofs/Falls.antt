@@ -10,7 +10,7 @@ use Rattle.asm_text.specs.declared.token.Token.{Token}
 use Rattle.asm_text.specs.declared.token.Token.TheVariants.{Here, Colon, Comma, Hash, Ampersand, At, Plus, Minus, Open, Close}
 use Rattle.asm_text.specs.Word.{is_word_character, ends_word}
 use Rattle.asm_text.specs.Token.{word_piece, piece_of, token_before, tokens_of}
-use Rattle.asm_text.proofs.Gathered.{behind, behind-none}
+use Rattle.asm_text.proofs.Behind.{behind, behind-none}
 use Rattle.asm_text.proofs.TokenSteps.{left-blank, left-token}
 
 -- no word goes on there
@@ -30,13 +30,13 @@ pub record FallsInto (text : List ℕ) (tokens : ℕ → List Token) : Type 0 wh
       → tokens_of place (text ++ rest)
       ≡ behind (tokens place) (tokens_of (place + length text) rest)
 
-behind-behind : (a b : List Token) (read : Result (List Token) FaultKind)
-    → behind a (behind b read) ≡ behind (a ++ b) read
+behind-behind : (a b : List Token) (outcome : Result (List Token) FaultKind)
+    → behind a (behind b outcome) ≡ behind (a ++ b) outcome
 behind-behind a b (Ok later) = ap (λ all. Ok all) (sym (append_assoc a b later))
 behind-behind a b (Err kind) = refl
 
-before-behind : (token : Token) (read : Result (List Token) FaultKind)
-    → token_before token read ≡ behind (token ∷ []) read
+before-behind : (token : Token) (outcome : Result (List Token) FaultKind)
+    → token_before token outcome ≡ behind (token ∷ []) outcome
 before-behind token (Ok later) = refl
 before-behind token (Err kind) = refl
 
@@ -56,7 +56,7 @@ both-behind : (one two : List Token) (a b : List ℕ) (place : ℕ) (rest : List
     → behind one (behind two (tokens_of (place + length a + length b) rest))
     ≡ behind (one ++ two) (tokens_of (place + length (a ++ b)) rest)
 both-behind one two a b place rest =
-    ap (λ read. behind one (behind two read)) (behind-places a b place rest)
+    ap (λ outcome. behind one (behind two outcome)) (behind-places a b place rest)
     ∙ behind-behind one two (tokens_of (place + length (a ++ b)) rest)
 
 pub falls-then : {a b : List ℕ} {first next : ℕ → List Token} → FallsAlways a first
@@ -86,7 +86,7 @@ pub falls-as : {text : List ℕ} {tokens other : ℕ → List Token} → FallsIn
 falls-as {text = text} falls same = record {
   cut = λ place rest apart.
       falls.cut place rest apart
-      ∙ ap (λ found. behind found (tokens_of (place + length text) rest)) (same place);
+      ∙ ap (λ answer. behind answer (tokens_of (place + length text) rest)) (same place);
 }
 
 -- nothing falls into nothing
@@ -104,14 +104,14 @@ pub token-front : (place count : ℕ) (text rest : List ℕ) (token : Token) →
 token-front place count text rest token some long is =
     let here : place ≡ place + 0 = omega arith in
     let there : place + (0 + count) ≡ place + length text = omega (arith, long) in
-    let passed : 0 + count ≡ length text = omega (arith, long) in
+    let passes : 0 + count ≡ length text = omega (arith, long) in
     let below : 0 < length (text ++ rest) = omega (arith, some, long, length-append text rest) in
     ap (λ (p : ℕ). tokens_of p (text ++ rest)) here
     ∙ left-token place 0 count (text ++ rest) token below some
     (ap (λ (p : ℕ). piece_of p (text ++ rest)) (sym here) ∙ is)
     ∙ ap (token_before token)
     (ap (λ (p : ℕ). tokens_of p (drop (0 + count) (text ++ rest))) there
-    ∙ ap (λ (n : ℕ). tokens_of (place + length text) (drop n (text ++ rest))) passed
+    ∙ ap (λ (n : ℕ). tokens_of (place + length text) (drop n (text ++ rest))) passes
     ∙ ap (tokens_of (place + length text)) (drop-append_seam text rest))
     ∙ before-behind token (tokens_of (place + length text) rest)
 

@@ -17,5 +17,5 @@ pub mod PlacedInstruction
 pub mod PlacedDirective
 pub mod PlacedBody
 pub mod WrittenLine
-pub mod Printed
+pub mod PrintedText
 pub mod WrittenSource

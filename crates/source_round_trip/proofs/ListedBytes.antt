@@ -22,10 +22,10 @@ item_bytes (items.Instruction instr) = flat_map word_bytes (words_of instr)
 low-high : (image : ℕ → Option ℕ) (place word : ℕ) (low high : Option ℕ) → IsImage image
     → image place ≡ low → image (place + 1) ≡ high → word_of_bytes low high ≡ Some word
     → (image place ≡ Some (word % 256)) × (image (place + 1) ≡ Some (word / 256))
-low-high image place word None high is first next found = absurd (cc found)
-low-high image place word (Some low) None is first next found = absurd (cc found)
-low-high image place word (Some low) (Some high) is first next found =
-    let same : low + 256 * high ≡ word = cc found in
+low-high image place word None high is first next answer = absurd (cc answer)
+low-high image place word (Some low) None is first next answer = absurd (cc answer)
+low-high image place word (Some low) (Some high) is first next answer =
+    let same : low + 256 * high ≡ word = cc answer in
     let small = (is place low first).1 in
     let one : low ≡ word % 256 = omega (arith, same, small) in
     let two : high ≡ word / 256 = omega (arith, same, small) in
@@ -51,23 +51,23 @@ pub record HasBytes (image : ℕ → Option ℕ) (place : ℕ) (item : Item) : T
 
 byte-bytes : (image : ℕ → Option ℕ) (place byte : ℕ) → image place ≡ Some byte
     → AreAt image place (byte ∷ [])
-byte-bytes image place byte found zero below =
-    let here : place ≡ place + 0 = omega arith in ap image (sym here) ∙ found
-byte-bytes image place byte found (suc k) below = absurd (omega arith)
+byte-bytes image place byte answer zero below =
+    let here : place ≡ place + 0 = omega arith in ap image (sym here) ∙ answer
+byte-bytes image place byte answer (suc k) below = absurd (omega arith)
 
 pub item-bytes : HeadsAreSpelled → WordsAreWritten → (image : ℕ → Option ℕ) (place : ℕ)
     (item : Item) → IsImage image → item_at image place ≡ Some item → HasBytes image place item
 unfolding WordsAt
-item-bytes law written image place item is standing =
+item-bytes law writes image place item is stands =
     item-holds law (HasBytes image place) image place (record {
-      byte = λ byte found. record { count = refl; at = byte-bytes image place byte found };
-      word = λ word found.
-          record { count = refl; at = words-at image place (word ∷ []) is (found, tt) };
-      instr = λ word first second head listed. record {
+      byte = λ byte answer. record { count = refl; at = byte-bytes image place byte answer };
+      word = λ word answer.
+          record { count = refl; at = words-at image place (word ∷ []) is (answer, tt) };
+      instr = λ word first second head is_listed. record {
         count = length-word_bytes (words_of (completion head first second));
         at = subst (λ (words : List ℕ). AreAt image place (flat_map word_bytes words))
-            (sym (written word first second head (listed.legal, listed.spelled)).1)
+            (sym (writes word first second head (is_listed.legal, is_listed.spelled)).1)
             (words-at image place (word ∷ take (extension_count head) (first ∷ second ∷ [])) is
-            listed.words);
+            is_listed.words);
       };
-    }) is item standing
+    }) is item stands

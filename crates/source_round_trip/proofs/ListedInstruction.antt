@@ -16,7 +16,7 @@ use Rattle.msp_decode.specs.declared.instr.Instr.{Instr}
 use Rattle.msp_decode.specs.declared.instr.Instr.TheVariants.{Two, One}
 use Rattle.msp_decode.specs.Completion.{source_form, words_of}
 use Rattle.msp_decode.specs.Spelling.{has_form, has_size, takes_write, writes_operand}
-use Rattle.part_definitions.specs.Words.{plus}
+use Rattle.part_definitions.specs.AddressSum.{plus}
 use Rattle.text_scan.specs.declared.fault_kind.FaultKind.{FaultKind}
 use Rattle.text_scan.specs.Reader.{◌>>=◌}
 use Rattle.asm_text.specs.declared.body.Body.TheVariants as bodies
@@ -105,8 +105,8 @@ one-shape op = refl
 
 -- the bytes of an instruction
 abbrev pub bytes_read : Result Instr FaultKind → Result (List ℕ) FaultKind
-bytes_read read = do
-  instr ← read
+bytes_read answer = do
+  instr ← answer
   Ok (flat_map word_bytes (words_of instr))
 
 -- two operands
@@ -119,9 +119,9 @@ two-steps : (scope : Scope) (op : Op2) (size : Size) (operands : Operands) (v w 
     → dest_of (plus scope.here (2 + 2 * source_words sources.First size operands)) operands.second w
     ≡ Ok to
     → instruction_of scope (shapes.Two op sources.First dests.Second) size operands
-    ≡ (from >>= (λ read. Ok (Two op size read to)))
-two-steps scope op size operands v w from to first second read written =
-    rw (first, second, read, written) refl
+    ≡ (from >>= (λ answer. Ok (Two op size answer to)))
+two-steps scope op size operands v w from to first second answer write =
+    rw (first, second, answer, write) refl
 
 two-bytes : (scope : Scope) (op : Op2) (size : Size) (source : Source) (dest : Dest)
     → FitsSource source → FitsDest dest → has_form (source_form source) ≡ true
@@ -168,13 +168,13 @@ one-steps : (scope : Scope) (op : OneOp) (size : Size) (operands : Operands) (v 
     (from : Result Source FaultKind) → value scope (expr_in operands.first) ≡ Some v
     → source_of size (plus scope.here 2) operands.first v ≡ from
     → instruction_of scope (shapes.One op) size operands ≡ (from >>= one_of op size)
-one-steps scope op size operands v from first read = rw (first, read) refl
+one-steps scope op size operands v from first answer = rw (first, answer) refl
 
 one-taken : (op : OneOp) (size : Size) (source : Source)
     → has_size op size ≡ true
     → (takes_write (source_form source) || not (writes_operand op)) ≡ true
     → one_of op size source ≡ Ok (One op size source)
-one-taken op size source is written = rw (is, written) refl
+one-taken op size source is write = rw (is, write) refl
 
 -- an immediate is of an operation that does not write it, and so is a constant
 immediate-taken : (op : OneOp) (size : Size) (constant : Option Gen) (word : Result ℕ FaultKind)
@@ -182,56 +182,56 @@ immediate-taken : (op : OneOp) (size : Size) (constant : Option Gen) (word : Res
     → not (writes_operand op) ≡ true
     → (immediate size constant number >>= one_of op size)
     ≡ (immediate size constant number >>= (λ from. Ok (One op size from)))
-immediate-taken op size (Some constant) word number is has unwritten = rw (has, unwritten) refl
-immediate-taken op size None (Ok word) number is has unwritten = rw (is, has, unwritten) refl
-immediate-taken op size None (Err kind) number is has unwritten = rw is refl
+immediate-taken op size (Some constant) word number is has no_write = rw (has, no_write) refl
+immediate-taken op size None (Ok word) number is has no_write = rw (is, has, no_write) refl
+immediate-taken op size None (Err kind) number is has no_write = rw is refl
 
 taken-again : (op : OneOp) (size : Size) (source : Source) → has_size op size ≡ true
     → (takes_write (source_form source) || not (writes_operand op)) ≡ true
     → (source_again size source >>= one_of op size)
     ≡ (source_again size source >>= (λ from. Ok (One op size from)))
-taken-again op size (source.Immediate word) has written =
+taken-again op size (source.Immediate word) has write =
     immediate-taken op size (constant_of size (pos word)) (immediate_word size (pos word))
-    (pos word) refl has written
-taken-again op size (source.Reg register) has written =
-    one-taken op size (source.Reg register) has written
-taken-again op size (source.Indexed register index) has written =
-    one-taken op size (source.Indexed register index) has written
-taken-again op size (source.Indirect register) has written =
-    one-taken op size (source.Indirect register) has written
-taken-again op size (source.IndirectInc register) has written =
-    one-taken op size (source.IndirectInc register) has written
-taken-again op size (source.Constant constant) has written =
-    one-taken op size (source.Constant constant) has written
+    (pos word) refl has write
+taken-again op size (source.Reg register) has write =
+    one-taken op size (source.Reg register) has write
+taken-again op size (source.Indexed register index) has write =
+    one-taken op size (source.Indexed register index) has write
+taken-again op size (source.Indirect register) has write =
+    one-taken op size (source.Indirect register) has write
+taken-again op size (source.IndirectInc register) has write =
+    one-taken op size (source.IndirectInc register) has write
+taken-again op size (source.Constant constant) has write =
+    one-taken op size (source.Constant constant) has write
 
 -- the form of the operand
 one-fits : (op : OneOp) (source : Source) → has_form (source_form source) ≡ true
     → (takes_write (source_form source) || not (writes_operand op)) ≡ true
     → fits (form_of (one_mnemonic op)) (Some (source_operand source)) None ≡ true
-one-fits one.Push source form written = source-form source form
-one-fits one.Call source form written = source-form source form
-one-fits op source form written =
-    elim (or_cases (takes_write (source_form source)) (not (writes_operand op)) written) [
+one-fits one.Push source form write = source-form source form
+one-fits one.Call source form write = source-form source form
+one-fits op source form write =
+    elim (or_cases (takes_write (source_form source)) (not (writes_operand op)) write) [
       | inl takes ↦ source-modified source form takes
-      | inr unwritten ↦ absurd (false≢true unwritten)
+      | inr no_write ↦ absurd (false≢true no_write)
     ]
 
 pub one-again : (place : ℕ) (op : OneOp) (size : Size) (source : Source) → FitsSource source
     → has_form (source_form source) ≡ true → has_size op size ≡ true
     → (takes_write (source_form source) || not (writes_operand op)) ≡ true
     → IsReadAs place (items.Instruction (One op size source))
-one-again place op size source fits form has written = record {
+one-again place op size source fits form has write = record {
   body = bodies.Instr (one_mnemonic op) size (Some (source_operand source)) None;
   read = λ number start.
       statement-read number start (source_operand source ∷ []) (one-operation op size has) refl
       (source-falls source fits) (no_colon-first (source-read source))
       (one-read (source-read source))
-      (rw (one-fits op source form written) refl);
+      (rw (one-fits op source form write) refl);
   bytes = λ text names.
       let scope : Scope = record { text = text; names = names; here = place } in
       let from = source-again scope size (plus place 2) source fits form in
       rw (one-shape op) (ap bytes_read
       (one-steps scope op size (record { first = Some (source_operand source); second = None })
       from.value (source_again size source) from.valued from.read
-      ∙ taken-again op size source has written));
+      ∙ taken-again op size source has write));
 }

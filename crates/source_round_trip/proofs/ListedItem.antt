@@ -5,7 +5,7 @@ use Rattle.std.proofs.lemmas.Bool.{le-leb}
 use Rattle.std.proofs.Math.IntN.{+ℤ_idr}
 use Rattle.word_arith.specs.declared.size.Size.TheVariants as sizes
 use Rattle.msp_decode.specs.declared.instr.Instr.TheVariants.{Reti}
-use Rattle.printed_lines.specs.Lines.{byte_digits}
+use Rattle.printed_lines.specs.Line.{byte_digits}
 use Rattle.text_scan.specs.declared.fault_kind.FaultKind.{FaultKind}
 use Rattle.text_scan.specs.Reader.{◌>>=◌}
 use Rattle.asm_text.specs.declared.body.Body.{Body}
@@ -20,7 +20,7 @@ use Rattle.source_round_trip.specs.Listing.{IsReadAs}
 use Rattle.source_round_trip.proofs.ListedOperand.{number_expr, word-falls}
 use Rattle.source_round_trip.proofs.Numerals.{number-falls, byte_text-number}
 use Rattle.source_round_trip.proofs.Operands.{one-read}
-use Rattle.source_round_trip.proofs.Words.{IsOperation, without_label, operation-falls, unlabelled, operation-read, line-read, statement-read}
+use Rattle.source_round_trip.proofs.Words.{IsOperation, without_label, operation-falls, no_label, operation-read, line-read, statement-read}
 use Rattle.source_round_trip.proofs.ListedJump.{number-operand}
 
 reti-operation : IsOperation (codes "reti") (operations.Instr RetiMnemonic sizes.Word)
@@ -34,8 +34,8 @@ reti-again place =
       body = body;
       read = λ number start.
           line-read number start (None, body) (operation-falls reti-operation)
-          (unlabelled (word_token start (codes "reti")) [] refl
-          ∙ ap (λ (found : Result Body FaultKind). found >>= without_label)
+          (no_label (word_token start (codes "reti")) [] refl
+          ∙ ap (λ (answer : Result Body FaultKind). answer >>= without_label)
           (operation-read start [] [] reti-operation refl refl refl));
       bytes = λ text names. refl;
     }

@@ -8,7 +8,7 @@ use Rattle.msp_decode.specs.declared.cond.Cond.{Cond}
 use Rattle.msp_decode.specs.declared.cond.Cond.TheVariants as conditions
 use Rattle.msp_decode.specs.declared.instr.Instr.TheVariants.{Jump}
 use Rattle.msp_decode.specs.Spelling.{has_range}
-use Rattle.part_definitions.specs.Words.{plus}
+use Rattle.part_definitions.specs.AddressSum.{plus}
 use Rattle.part_definitions.specs.Instruction.{jump_target}
 use Rattle.text_scan.specs.declared.fault_kind.FaultKind.TheVariants.{Range}
 use Rattle.text_scan.specs.Reader.{◌>>=◌}

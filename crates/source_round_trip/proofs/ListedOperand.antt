@@ -185,15 +185,15 @@ source-form (source.Constant constant) form = refl
 
 pub source-modified : (source : Source) → has_form (source_form source) ≡ true
     → takes_write (source_form source) ≡ true → is_modified (source_operand source) ≡ true
-source-modified (source.Reg register) form written = form
-source-modified (source.Indexed R2 index) form written = refl
-source-modified (source.Indexed R3 index) form written = absurd (false≢true form)
-source-modified (source.Indexed register index) form written = refl
-source-modified (source.Indirect register) form written = form
-source-modified (source.IndirectInc register) form written =
+source-modified (source.Reg register) form takes = form
+source-modified (source.Indexed R2 index) form takes = refl
+source-modified (source.Indexed R3 index) form takes = absurd (false≢true form)
+source-modified (source.Indexed register index) form takes = refl
+source-modified (source.Indirect register) form takes = form
+source-modified (source.IndirectInc register) form takes =
     source-form (source.IndirectInc register) form
-source-modified (source.Immediate word) form written = absurd (false≢true written)
-source-modified (source.Constant constant) form written = absurd (false≢true written)
+source-modified (source.Immediate word) form takes = absurd (false≢true takes)
+source-modified (source.Constant constant) form takes = absurd (false≢true takes)
 
 pub dest-form : (dest : Dest) → is_destination (dest_operand dest) ≡ true
 dest-form (dest.Reg register) = refl

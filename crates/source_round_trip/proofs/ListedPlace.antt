@@ -82,7 +82,7 @@ completion-again image place word first second (One op size source) is =
     let form = and_parts (has_form source) (has_size op size) parts.0 in
     one-again place op size (source_completion source first) (source-fits source first is.one)
     (ap has_form (source-same source first) ∙ form.0) form.1
-    (ap (λ (found : SourceForm). takes_write found || not (writes_operand op))
+    (ap (λ (answer : SourceForm). takes_write answer || not (writes_operand op))
     (source-same source first) ∙ parts.1)
 completion-again image place word first second Reti is = reti-again place
 completion-again image place word first second (Jump condition offset) is =
@@ -100,9 +100,9 @@ bytes-word (Some low) (Some high) one two word is =
 
 image-word : (image : ℕ → Option ℕ) (place word : ℕ) → IsImage image
     → word_in image place ≡ Some word → word < 65536
-image-word image place word is standing =
-    bytes-word (image place) (image (place + 1)) (λ byte found. (is place byte found).1)
-    (λ byte found. (is (place + 1) byte found).1) word standing
+image-word image place word is stands =
+    bytes-word (image place) (image (place + 1)) (λ byte answer. (is place byte answer).1)
+    (λ byte answer. (is (place + 1) byte answer).1) word stands
 
 -- what holds of each item, by what stands there
 pub record HoldsOfEach (image : ℕ → Option ℕ) (place : ℕ) (P : Item → Type 0) : Type 0 where
@@ -119,106 +119,106 @@ with_words-holds : (P : Item → Type 0) (image : ℕ → Option ℕ) (place wor
     → word_in image (place + 2) ≡ first → word_in image (place + 4) ≡ second
     → P (with_words head count first second (items.Word word))
 unfolding WordsAt
-with_words-holds P image place word head zero first second each is even below legal spelled
-    standing count one two = each.instr word 0 0 head record {
+with_words-holds P image place word head zero first second each is even below legal spells
+    stands count one two = each.instr word 0 0 head record {
       even = even;
       below = below;
       legal = legal;
-      spelled = spelled;
+      spelled = spells;
       one = omega arith;
       two = omega arith;
       words = (
-        standing,
+        stands,
         subst (λ (n : ℕ). WordsAt image (place + 2) (take n (0 ∷ 0 ∷ []))) count
             tt,
       );
     }
-with_words-holds P image place word head (suc zero) None second each is even below legal spelled
-    standing count one two = each.word word standing
-with_words-holds P image place word head (suc zero) (Some a) second each is even below legal spelled
-    standing count one two = each.instr word a 0 head record {
+with_words-holds P image place word head (suc zero) None second each is even below legal spells
+    stands count one two = each.word word stands
+with_words-holds P image place word head (suc zero) (Some a) second each is even below legal spells
+    stands count one two = each.instr word a 0 head record {
       even = even;
       below = below;
       legal = legal;
-      spelled = spelled;
+      spelled = spells;
       one = image-word image (place + 2) a is one;
       two = omega arith;
       words = (
-        standing,
+        stands,
         subst (λ (n : ℕ). WordsAt image (place + 2) (take n (a ∷ 0 ∷ []))) count
             (one, tt),
       );
     }
 with_words-holds P image place word head (suc (suc zero)) None second each is even below legal
-    spelled standing count one two = each.word word standing
+    spells stands count one two = each.word word stands
 with_words-holds P image place word head (suc (suc zero)) (Some a) None each is even below legal
-    spelled standing count one two = each.word word standing
+    spells stands count one two = each.word word stands
 with_words-holds P image place word head (suc (suc zero)) (Some a) (Some b) each is even below legal
-    spelled standing count one two =
+    spells stands count one two =
     let there : place + 4 ≡ place + 2 + 2 = omega arith in each.instr word a b head record {
       even = even;
       below = below;
       legal = legal;
-      spelled = spelled;
+      spelled = spells;
       one = image-word image (place + 2) a is one;
       two = image-word image (place + 4) b is two;
       words = (
-        standing,
+        stands,
         subst (λ (n : ℕ). WordsAt image (place + 2) (take n (a ∷ b ∷ []))) count
             (one, (ap (word_in image) (sym there) ∙ two, tt)),
       );
     }
 with_words-holds P image place word head (suc (suc (suc count))) first second each is even below
-    legal spelled standing counted one two = each.word word standing
+    legal spells stands counts one two = each.word word stands
 
 module _ (law : HeadsAreSpelled) (P : Item → Type 0) (image : ℕ → Option ℕ) (place : ℕ)
     (each : HoldsOfEach image place P) (is : IsImage image) where
-  head-holds : (word : ℕ) (found : Option Head) → place % 2 ≡ 0 → place < 0xFFE0
-      → word_in image place ≡ Some word → head_of word ≡ found
-      → P (instruction_item image place word found)
-  head-holds word None even below standing read = each.word word standing
-  head-holds word (Some head) even below standing read =
-      let fits = image-word image place word is standing in
-      let spelled = (law word head (omega arith)).0 read in
+  head-holds : (word : ℕ) (answer : Option Head) → place % 2 ≡ 0 → place < 0xFFE0
+      → word_in image place ≡ Some word → head_of word ≡ answer
+      → P (instruction_item image place word answer)
+  head-holds word None even below stands outcome = each.word word stands
+  head-holds word (Some head) even below stands outcome =
+      let fits = image-word image place word is stands in
+      let spells = (law word head (omega arith)).0 outcome in
       with_words-holds P image place word head (extension_count head) (word_in image (place + 2))
-      (word_in image (place + 4)) each is even below spelled.0 spelled.1 standing refl refl refl
+      (word_in image (place + 4)) each is even below spells.0 spells.1 stands refl refl refl
 
   word_item-holds : (word : ℕ) (is_vector : Bool) → nat_le FIRST_VECTOR place ≡ is_vector
       → place % 2 ≡ 0 → word_in image place ≡ Some word
       → P (if is_vector then items.Word word
       else instruction_item image place word (head_of word))
-  word_item-holds word true vector even standing = each.word word standing
-  word_item-holds word false vector even standing =
-      head-holds word (head_of word) even (leb-false FIRST_VECTOR place vector) standing refl
+  word_item-holds word true vector even stands = each.word word stands
+  word_item-holds word false vector even stands =
+      head-holds word (head_of word) even (leb-false FIRST_VECTOR place vector) stands refl
 
-  even_item-holds : (byte : ℕ) (found : Option ℕ) → place % 2 ≡ 0 → image place ≡ Some byte
-      → word_in image place ≡ found → P (even_item image place byte found)
-  even_item-holds byte None even read standing = each.byte byte read
-  even_item-holds byte (Some word) even read standing =
-      word_item-holds word (nat_le FIRST_VECTOR place) refl even standing
+  even_item-holds : (byte : ℕ) (answer : Option ℕ) → place % 2 ≡ 0 → image place ≡ Some byte
+      → word_in image place ≡ answer → P (even_item image place byte answer)
+  even_item-holds byte None even outcome stands = each.byte byte outcome
+  even_item-holds byte (Some word) even outcome stands =
+      word_item-holds word (nat_le FIRST_VECTOR place) refl even stands
 
   byte_item-holds : (byte : ℕ) (is_even : Bool) → (place % 2 == 0) ≡ is_even
       → image place ≡ Some byte
       → P (if is_even then even_item image place byte (word_in image place) else items.Byte byte)
-  byte_item-holds byte false even read = each.byte byte read
-  byte_item-holds byte true even read =
-      even_item-holds byte (word_in image place) (eqb-true (place % 2) 0 even) read refl
+  byte_item-holds byte false even outcome = each.byte byte outcome
+  byte_item-holds byte true even outcome =
+      even_item-holds byte (word_in image place) (eqb-true (place % 2) 0 even) outcome refl
 
-  found-holds : (item : Item) (found : Option ℕ) → image place ≡ found
-      → item_from image place found ≡ Some item → P item
-  found-holds item None read standing = absurd (cc standing)
-  found-holds item (Some byte) read standing =
-      let same : byte_item image place byte ≡ item = cc standing in
-      subst P same (byte_item-holds byte (place % 2 == 0) refl read)
+  found-holds : (item : Item) (answer : Option ℕ) → image place ≡ answer
+      → item_from image place answer ≡ Some item → P item
+  found-holds item None outcome stands = absurd (cc stands)
+  found-holds item (Some byte) outcome stands =
+      let same : byte_item image place byte ≡ item = cc stands in
+      subst P same (byte_item-holds byte (place % 2 == 0) refl outcome)
 
   pub item-holds : (item : Item) → item_at image place ≡ Some item → P item
-  item-holds item standing = found-holds item (image place) refl standing
+  item-holds item stands = found-holds item (image place) refl stands
 
 pub item-again : HeadsAreSpelled → (image : ℕ → Option ℕ) (place : ℕ) (item : Item)
     → IsImage image → item_at image place ≡ Some item → IsReadAs place item
-item-again law image place item is standing =
+item-again law image place item is stands =
     item-holds law (IsReadAs place) image place (record {
-      byte = λ byte found. byte-again place byte (is place byte found).1;
-      word = λ word found. word-again place word (image-word image place word is found);
+      byte = λ byte answer. byte-again place byte (is place byte answer).1;
+      word = λ word answer. word-again place word (image-word image place word is answer);
       instr = completion-again image place;
-    }) is item standing
+    }) is item stands

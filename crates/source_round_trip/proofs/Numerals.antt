@@ -14,7 +14,7 @@ use Rattle.std.proofs.lemmas.List.Folds.{list_all-append}
 use Rattle.std.proofs.lemmas.Slice.Eq.{bytes_eq-Decides}
 use Rattle.std.proofs.lemmas.Str.Parse.{digit_from_value}
 use Rattle.hex.specs.Hex.{lower_digits, encode_with}
-use Rattle.printed_lines.specs.Lines.{byte_digits}
+use Rattle.printed_lines.specs.Line.{byte_digits}
 use Rattle.asm_text.specs.declared.token.Token.TheVariants.{Number}
 use Rattle.asm_text.specs.Word.{is_word_character, is_name_character, small_number, numeral, number_of}
 use Rattle.asm_text.specs.Token.{number_piece, word_piece}
@@ -52,7 +52,7 @@ small_letter-word c is =
 hex_digit-word : (c : ℕ) → is_ascii_hexdigit c ≡ true → is_word_character c ≡ true
 hex_digit-word c is =
     elim (or_cases (is_ascii_digit c || is_in_range 65 70 c) (is_in_range 97 102 c) is) [
-      | inl front ↦ elim (or_cases (is_ascii_digit c) (is_in_range 65 70 c) front) [
+      | inl prefix ↦ elim (or_cases (is_ascii_digit c) (is_in_range 65 70 c) prefix) [
         | inl digit ↦ digit-word c digit
         | inr letter ↦ letter-word c letter
       ]
@@ -73,21 +73,21 @@ pub record IsNumber (word : List ℕ) : Type 0 where
   pub some : 0 < length word
   pub digit : is_ascii_digit (slice_index word 0) ≡ true
 
-digits-some : (base : ℕ) (test : ℕ → Bool) (digits : List ℕ) (n : ℕ) (read : Bool)
-    → nat_lt 0 (length digits) && list_all test digits ≡ read
-    → cond read (small_number (digits_value base digits)) None ≡ Some n
+digits-some : (base : ℕ) (test : ℕ → Bool) (digits : List ℕ) (n : ℕ) (outcome : Bool)
+    → nat_lt 0 (length digits) && list_all test digits ≡ outcome
+    → cond outcome (small_number (digits_value base digits)) None ≡ Some n
     → (nat_lt 0 (length digits) ≡ true) × (list_all test digits ≡ true)
-digits-some base test digits n false is found = absurd (cc found)
-digits-some base test digits n true is found =
+digits-some base test digits n false is answer = absurd (cc answer)
+digits-some base test digits n true is answer =
     and_parts (nat_lt 0 (length digits)) (list_all test digits) is
 
 hexadecimal : (word : List ℕ) (n : ℕ) → take 2 word ≡ codes "0x"
     → numeral 16 is_ascii_hexdigit (drop 2 word) ≡ Some n → IsNumber word
-hexadecimal word n front found =
+hexadecimal word n prefix answer =
     let parts = digits-some 16 is_ascii_hexdigit (drop 2 word) n
-    (nat_lt 0 (length (drop 2 word)) && list_all is_ascii_hexdigit (drop 2 word)) refl found in
+    (nat_lt 0 (length (drop 2 word)) && list_all is_ascii_hexdigit (drop 2 word)) refl answer in
     let whole : codes "0x" ++ drop 2 word ≡ word =
-    ap (λ (first : List ℕ). first ++ drop 2 word) (sym front) ∙ take-append-drop 2 word in
+    ap (λ (first : List ℕ). first ++ drop 2 word) (sym prefix) ∙ take-append-drop 2 word in
     subst (λ (w : List ℕ). IsNumber w) whole record {
       all = all-word is_ascii_hexdigit hex_digit-word (drop 2 word) parts.1;
       some = omega arith;
@@ -95,10 +95,10 @@ hexadecimal word n front found =
     }
 
 decimals : (word : List ℕ) (n : ℕ) → numeral 10 is_ascii_digit word ≡ Some n → IsNumber word
-decimals [] n found = absurd (cc found)
-decimals (c ∷ word) n found =
+decimals [] n answer = absurd (cc answer)
+decimals (c ∷ word) n answer =
     let parts = digits-some 10 is_ascii_digit (c ∷ word) n
-    (nat_lt 0 (length (c ∷ word)) && list_all is_ascii_digit (c ∷ word)) refl found in record {
+    (nat_lt 0 (length (c ∷ word)) && list_all is_ascii_digit (c ∷ word)) refl answer in record {
       all = all-word is_ascii_digit digit-word (c ∷ word) parts.1;
       some = omega arith;
       digit = (and_parts (is_ascii_digit c) (list_all is_ascii_digit word) parts.1).0;
@@ -107,20 +107,20 @@ decimals (c ∷ word) n found =
 by_front : (word : List ℕ) (n : ℕ) (is_hex : Bool) → bytes_eq (take 2 word) (codes "0x") ≡ is_hex
     → cond is_hex (numeral 16 is_ascii_hexdigit (drop 2 word)) (numeral 10 is_ascii_digit word)
     ≡ Some n → IsNumber word
-by_front word n true is found =
-    hexadecimal word n ((bytes_eq-Decides (take 2 word) (codes "0x")).0 is) found
-by_front word n false is found = decimals word n found
+by_front word n true is answer =
+    hexadecimal word n ((bytes_eq-Decides (take 2 word) (codes "0x")).0 is) answer
+by_front word n false is answer = decimals word n answer
 
 pub number-is : (word : List ℕ) (n : ℕ) → number_of word ≡ Some n → IsNumber word
-number-is word n found = by_front word n (bytes_eq (take 2 word) (codes "0x")) refl found
+number-is word n answer = by_front word n (bytes_eq (take 2 word) (codes "0x")) refl answer
 
 pub number-falls : (word : List ℕ) (n : ℕ) → number_of word ≡ Some n
     → FallsInto word (λ place. Number n ∷ [])
 unfolding word_piece
-number-falls word n found =
-    let is = number-is word n found in
+number-falls word n answer =
+    let is = number-is word n answer in
     word-falls word (λ place. Number n) is.all is.some
-    (λ place. rw is.digit (ap (λ (read : Option ℕ). number_piece read (length word)) found))
+    (λ place. rw is.digit (ap (λ (outcome : Option ℕ). number_piece outcome (length word)) answer))
 
 -- the numerals of a listing
 record IsHexDigit (c d : ℕ) : Type 0 where
@@ -220,10 +220,10 @@ no_prefix digits true all is =
     ≡ true =
     sym (list_all-append is_ascii_digit (take 2 digits) (drop 2 digits))
     ∙ ap (list_all is_ascii_digit) (take-append-drop 2 digits) ∙ all in
-    let front = (and_parts (list_all is_ascii_digit (take 2 digits))
+    let prefix = (and_parts (list_all is_ascii_digit (take 2 digits))
     (list_all is_ascii_digit (drop 2 digits)) both).0 in
     absurd (false≢true (ap (list_all is_ascii_digit)
-    (sym ((bytes_eq-Decides (take 2 digits) (codes "0x")).0 is)) ∙ front))
+    (sym ((bytes_eq-Decides (take 2 digits) (codes "0x")).0 is)) ∙ prefix))
 
 read-decimal : (word : List ℕ) (n : ℕ) → IsNumeral 10 word → digits_value 10 word ≡ n → n < 65536
     → number_of word ≡ Some n

@@ -40,7 +40,7 @@ split-joint first [] alone all = slice_split_none is_comma first (none-comma fir
 split-joint first (next ∷ rest) alone all =
     let parts = and_parts (has_no_comma next) (list_all has_no_comma rest) all in
     slice_split_at is_comma first Comma (joint_tokens next rest) (none-comma first alone) refl
-    ∙ ap (λ (found : List (List Token)). first ∷ found) (split-joint next rest parts.0 parts.1)
+    ∙ ap (λ (answer : List (List Token)). first ∷ answer) (split-joint next rest parts.0 parts.1)
 
 parts-some : (tokens : List Token) → 0 < length tokens
     → parts_of tokens ≡ slice_split is_comma tokens
@@ -58,7 +58,7 @@ all-ok : {Value Fault : Type 0} (values : List Value)
     → all_of {Value = Value} {Fault = Fault} (map Ok values) ≡ Ok values
 all-ok [] = refl
 all-ok {Value} {Fault} (value ∷ values) =
-    ap (λ (read : Result (List Value) Fault). read >>= (λ all. Ok (value ∷ all))) (all-ok values)
+    ap (λ (list : Result (List Value) Fault). list >>= (λ all. Ok (value ∷ all))) (all-ok values)
 
 -- operands are read part by part
 pub joint-read : (first : List Token) (rest : List (List Token)) (operands : List Operand)

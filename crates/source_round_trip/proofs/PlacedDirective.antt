@@ -25,7 +25,7 @@ use Rattle.source_round_trip.proofs.Falls.{FallsInto, token-front, falls-then, f
 use Rattle.source_round_trip.proofs.PlacedName.{Stands, stands-front, stands-back, stands-name, says-operands}
 use Rattle.source_round_trip.proofs.PlacedExpr.{placed_expr}
 use Rattle.source_round_trip.proofs.PlacedOperand.{placed_operands}
-use Rattle.source_round_trip.proofs.Words.{IsOperation, operation-falls, first-operation, unlabelled}
+use Rattle.source_round_trip.proofs.Words.{IsOperation, operation-falls, first-operation, no_label}
 use Rattle.source_round_trip.proofs.PlacedStatement.{IsBodyText, are_operands, operation-body, IsPlaced}
 
 -- nothing
@@ -133,17 +133,17 @@ exprs-text : (numerals : Numerals) → AreNumerals numerals → (exprs : List Sa
     (make : List (List SignedTerm) → Body) → IsOperation word operation
     → is_ascii_directive (Some operation) ≡ false
     → ((all : List Operand)
-    → body_of (Some operation) all ≡ (exprs_of all >>= (λ found. Ok (make found))))
+    → body_of (Some operation) all ≡ (exprs_of all >>= (λ answer. Ok (make answer))))
     → IsBodyText (word ++ operands_text numerals (map Symbolic exprs))
     (λ place. make (placed_exprs numerals (place + length word + 1) exprs))
-exprs-text numerals are exprs is {word = word} make named other read =
+exprs-text numerals are exprs is {word = word} make is_named other read =
     let parts = and_parts (nat_lt 0 (length exprs)) (list_all is_writable_expr exprs) is in
     operation-body numerals are (map Symbolic exprs)
-    (λ place. make (placed_exprs numerals (place + length word + 1) exprs)) named other
+    (λ place. make (placed_exprs numerals (place + length word + 1) exprs)) is_named other
     (symbolic-are exprs parts.1)
     (λ place. read (placed_operands numerals (place + length word + 1) (map Symbolic exprs))
-    ∙ ap (λ (found : Result (List (List SignedTerm)) FaultKind).
-    found >>= (λ all. Ok (make all)))
+    ∙ ap (λ (answer : Result (List (List SignedTerm)) FaultKind).
+    answer >>= (λ all. Ok (make all)))
     (exprs-read numerals (place + length word + 1) exprs parts.0))
 
 exprs-says : (source : List ℕ) (numerals : Numerals) (place : ℕ) (exprs : List SaidExpr)
@@ -159,7 +159,7 @@ words-text numerals are exprs is = record {
   body_at = λ place. bodies.Word (placed_exprs numerals (place + 5 + 1) exprs);
   text = exprs-text numerals are exprs is (λ all. bodies.Word all) word-directive refl
       (λ all. refl);
-  says = λ source place stands. ap (λ (found : List SaidExpr). Word found)
+  says = λ source place stands. ap (λ (answer : List SaidExpr). Word answer)
       (exprs-says source numerals place exprs (codes ".word") stands);
 }
 
@@ -169,7 +169,7 @@ bytes-text numerals are exprs is = record {
   body_at = λ place. bodies.Byte (placed_exprs numerals (place + 5 + 1) exprs);
   text = exprs-text numerals are exprs is (λ all. bodies.Byte all) byte-directive refl
       (λ all. refl);
-  says = λ source place stands. ap (λ (found : List SaidExpr). Byte found)
+  says = λ source place stands. ap (λ (answer : List SaidExpr). Byte answer)
       (exprs-says source numerals place exprs (codes ".byte") stands);
 }
 
@@ -208,7 +208,7 @@ quoted-falls text all = record {
       token-front place (length text + 2) (34 ∷ text ++ 34 ∷ []) rest
       (tokens.Text (span_at (place + 1) (length text))) (omega arith)
       (omega (arith, length-append text (34 ∷ [])))
-      (ap (λ (left : List ℕ). piece_of place (34 ∷ left)) (append_assoc text (34 ∷ []) rest)
+      (ap (λ (later : List ℕ). piece_of place (34 ∷ later)) (append_assoc text (34 ∷ []) rest)
       ∙ quoted-piece place text rest all);
 }
 
@@ -238,15 +238,15 @@ ascii-text numerals text all = record {
         (falls-then blank-falls (quoted-falls text all));
     read = λ place. ascii-read place text;
     plain = λ place.
-        unlabelled (word_token place (codes ".ascii")) (quoted_token place text ∷ []) refl;
+        no_label (word_token place (codes ".ascii")) (quoted_token place text ∷ []) refl;
   };
   says = λ source place stands.
-      let quoted : List ℕ = 34 ∷ text ++ 34 ∷ [] in
-      let blank : Stands source (place + 6) (codes " " ++ quoted) =
-      stands-back (codes ".ascii") (codes " " ++ quoted) stands in
+      let literal : List ℕ = 34 ∷ text ++ 34 ∷ [] in
+      let blank : Stands source (place + 6) (codes " " ++ literal) =
+      stands-back (codes ".ascii") (codes " " ++ literal) stands in
       let quote : Stands source (place + 6 + 1) ((34 ∷ []) ++ (text ++ 34 ∷ [])) =
-      stands-back (codes " ") quoted blank in
-      ap (λ (found : List ℕ). Ascii found)
+      stands-back (codes " ") literal blank in
+      ap (λ (answer : List ℕ). Ascii answer)
       (stands-name text (stands-front text (34 ∷ [])
       (stands-back (34 ∷ []) (text ++ 34 ∷ []) quote)));
 }
@@ -287,7 +287,7 @@ equ-text numerals are name expr is =
       text = operation-body numerals are all (placed_equ numerals name expr) equ-operation refl
           (rw (parts.0, parts.1) refl) (λ place. refl);
       says = λ source place stands.
-          ap (λ (found : List SaidOperand). Equ (first_name found) (second_expr found))
+          ap (λ (answer : List SaidOperand). Equ (first_name answer) (second_expr answer))
           (says-operands source numerals (place + 4) all
           (stands-back (codes ".equ") (operands_text numerals all) stands));
     }

@@ -80,7 +80,7 @@ all-characters (c ∷ word) all =
     and_from (is_word_character c) (list_all is_word_character word)
     (or_left (is_name_character c) (c == 46) parts.0) (all-characters word parts.1)
 
-no-register : (found : Option ℕ) → is_none found ≡ true → found ≡ None
+no-register : (answer : Option ℕ) → is_none answer ≡ true → answer ≡ None
 no-register None is = refl
 no-register (Some register) is = absurd (false≢true is)
 
@@ -89,7 +89,7 @@ name-token : (place : ℕ) (name : List ℕ) → is_name name ≡ true
     → word_token place name
     ≡ tokens.Name (span_at place (length name)) (operation_of (lower_case name))
 name-token place name is other =
-    ap (λ (found : Option ℕ). named_token found
+    ap (λ (answer : Option ℕ). named_token answer
     (name_token name (operation_of (lower_case name)) (span_at place (length name)))) other
     ∙ ap (λ (test : Bool). if test
     then tokens.Name (span_at place (length name)) (operation_of (lower_case name))
@@ -98,9 +98,9 @@ name-token place name is other =
 name-piece : (place : ℕ) (name : List ℕ) → is_ascii_digit (slice_index name 0) ≡ false
     → word_piece place name ≡ pieces.Token (word_token place name) (length name)
 unfolding word_piece
-name-piece place name front =
+name-piece place name begins =
     ap (λ (test : Bool). if test then number_piece (number_of name) (length name)
-    else pieces.Token (word_token place name) (length name)) front
+    else pieces.Token (word_token place name) (length name)) begins
 
 -- the parts of what makes a name
 record IsFreeName (name : List ℕ) : Type 0 where
@@ -108,22 +108,22 @@ record IsFreeName (name : List ℕ) : Type 0 where
   other : register_of (lower_case name) ≡ None
   some : 0 < length name
   all : list_all is_name_character name ≡ true
-  front : is_ascii_digit (slice_index name 0) ≡ false
+  begins : is_ascii_digit (slice_index name 0) ≡ false
 
 free-name : (name : List ℕ) → is_free_name name ≡ true → IsFreeName name
 free-name name is =
     let both = and_parts (is_name name) (is_none (register_of (lower_case name))) is in
-    let front = and_parts (nat_lt 0 (length name) && nat_le (length name) 64
+    let prefix = and_parts (nat_lt 0 (length name) && nat_le (length name) 64
     && list_all is_name_character name) (not (is_ascii_digit (slice_index name 0))) both.0 in
-    let sized = and_parts (nat_lt 0 (length name) && nat_le (length name) 64)
-    (list_all is_name_character name) front.0 in
+    let middle = and_parts (nat_lt 0 (length name) && nat_le (length name) 64)
+    (list_all is_name_character name) prefix.0 in
     record {
       is = both.0;
       other = no-register (register_of (lower_case name)) both.1;
       some = ltb-true 0 (length name)
-          (and_parts (nat_lt 0 (length name)) (nat_le (length name) 64) sized.0).0;
-      all = sized.1;
-      front = not-false (is_ascii_digit (slice_index name 0)) front.1;
+          (and_parts (nat_lt 0 (length name)) (nat_le (length name) 64) middle.0).0;
+      all = middle.1;
+      begins = not-false (is_ascii_digit (slice_index name 0)) prefix.1;
     }
 
 pub name-characters : (name : List ℕ) → is_free_name name ≡ true
@@ -138,7 +138,7 @@ name-falls name is =
     word-falls name
     (λ place. tokens.Name (span_at place (length name)) (operation_of (lower_case name)))
     (all-characters name free.all) free.some
-    (λ place. name-piece place name free.front
+    (λ place. name-piece place name free.begins
     ∙ ap (λ (token : Token). pieces.Token token (length name))
     (name-token place name free.is free.other))
 

@@ -129,13 +129,13 @@ pub instruction-parts : (mnemonic : Mnemonic) (size : Size) (first second : Opti
     → is_writable_body (Instr mnemonic size first second) ≡ true
     → IsWritableInstruction mnemonic size first second
 instruction-parts mnemonic size first second is =
-    let sized : Bool = has_size mnemonic size in
-    let fitting : Bool =
+    let is_sized : Bool = has_size mnemonic size in
+    let does_fit : Bool =
     fits (form_of mnemonic) (option_map form_in first) (option_map form_in second) in
-    let last = and_parts (sized && fitting && is_given first) (is_given second) is in
-    let middle = and_parts (sized && fitting) (is_given first) last.0 in
-    let front = and_parts sized fitting middle.0 in
-    record { sized = front.0; fitting = front.1; one = middle.1; two = last.1 }
+    let last = and_parts (is_sized && does_fit && is_given first) (is_given second) is in
+    let middle = and_parts (is_sized && does_fit) (is_given first) last.0 in
+    let prefix = and_parts is_sized does_fit middle.0 in
+    record { sized = prefix.0; fitting = prefix.1; one = middle.1; two = last.1 }
 
 pub instruction-text : (numerals : Numerals) → AreNumerals numerals → (mnemonic : Mnemonic)
     (size : Size) (first second : Option SaidOperand)

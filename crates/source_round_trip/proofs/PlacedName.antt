@@ -43,7 +43,7 @@ says-term : (source : List ℕ) (numerals : Numerals) (place : ℕ) (term : Said
     → said_term source (placed_term place term) ≡ term
 says-term source numerals place (Number number) stands = refl
 says-term source numerals place (Name name) stands =
-    ap (λ (found : List ℕ). Name found) (stands-name name stands)
+    ap (λ (answer : List ℕ). Name answer) (stands-name name stands)
 says-term source numerals place Here stands = refl
 
 says-more : (source : List ℕ) (numerals : Numerals) (place : ℕ) (terms : SaidExpr)
@@ -112,11 +112,11 @@ says-all source numerals place first [] stands =
     (stands-front (operand_text numerals first) [] stands)) refl
 says-all source numerals place first (next ∷ rest) stands =
     let word : List ℕ = operand_text numerals first in
-    let left : List ℕ = operand_text numerals next ++ more_operands_text numerals rest in
+    let remainder : List ℕ = operand_text numerals next ++ more_operands_text numerals rest in
     rw (
-      says-operand source numerals place first (stands-front word (codes "," ++ left) stands),
+      says-operand source numerals place first (stands-front word (codes "," ++ remainder) stands),
       says-all source numerals (place + length word + 1) next rest
-          (stands-back (codes ",") left (stands-back word (codes "," ++ left) stands)),
+          (stands-back (codes ",") remainder (stands-back word (codes "," ++ remainder) stands)),
     ) refl
 
 pub says-operands : (source : List ℕ) (numerals : Numerals) (place : ℕ)

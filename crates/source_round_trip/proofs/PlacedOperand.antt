@@ -134,11 +134,11 @@ place-form (tokens.At ∷ all) rest are some = absurd (false≢true are)
 place-form (tokens.Register register ∷ all) rest are some = absurd (false≢true are)
 place-form (token ∷ all) rest are some = refl
 
-symbolic-form : (all front last : List Token) → are_expr_tokens last ≡ true
-    → place_operand all front last ≡ with_expr (λ expr. operands.Symbolic expr) all
-symbolic-form all front [] are = refl
-symbolic-form all front (tokens.Open ∷ last) are = absurd (false≢true are)
-symbolic-form all front (token ∷ last) are = refl
+symbolic-form : (all prefix last : List Token) → are_expr_tokens last ≡ true
+    → place_operand all prefix last ≡ with_expr (λ expr. operands.Symbolic expr) all
+symbolic-form all prefix [] are = refl
+symbolic-form all prefix (tokens.Open ∷ last) are = absurd (false≢true are)
+symbolic-form all prefix (token ∷ last) are = refl
 
 drop-are : (count : ℕ) (all : List Token) → are_expr_tokens all ≡ true
     → are_expr_tokens (drop count all) ≡ true
@@ -149,19 +149,19 @@ drop-are count all are =
 
 symbolic-read : (all : List Token) (expr : List SignedTerm) → are_expr_tokens all ≡ true
     → 0 < length all → expr_of all ≡ Ok expr → operand_of all ≡ Ok (operands.Symbolic expr)
-symbolic-read all expr are some read =
+symbolic-read all expr are some outcome =
     ap operand_of (sym (append-nil all)) ∙ place-form all [] are some
     ∙ ap place_of (append-nil all)
     ∙ symbolic-form all (take (length all - 3) all) (drop (length all - 3) all)
     (drop-are (length all - 3) all are)
-    ∙ ap (λ (found : Result (List SignedTerm) FaultKind).
-    found >>= (λ read. Ok (operands.Symbolic read))) read
+    ∙ ap (λ (answer : Result (List SignedTerm) FaultKind).
+    answer >>= (λ outcome. Ok (operands.Symbolic outcome))) outcome
 
 indexed-read : (all : List Token) (expr : List SignedTerm) (register : ℕ)
     → are_expr_tokens all ≡ true → 0 < length all → expr_of all ≡ Ok expr
     → operand_of (all ++ tokens.Open ∷ tokens.Register register ∷ tokens.Close ∷ [])
     ≡ Ok (operands.Indexed expr register)
-indexed-read all expr register are some read =
+indexed-read all expr register are some outcome =
     let last : List Token = tokens.Open ∷ tokens.Register register ∷ tokens.Close ∷ [] in
     let whole : List Token = all ++ last in
     let count : length whole - 3 ≡ length all = omega (arith, length-append all last) in
@@ -169,10 +169,10 @@ indexed-read all expr register are some read =
     ∙ ap (λ (n : ℕ). place_operand whole (take n whole) (drop n whole)) count
     ∙ ap (λ (back : List Token). place_operand whole (take (length all) whole) back)
     (drop-append_seam all last)
-    ∙ ap (λ (front : List Token). with_expr (λ found. operands.Indexed found register) front)
+    ∙ ap (λ (prefix : List Token). with_expr (λ answer. operands.Indexed answer register) prefix)
     (take-append_seam all last)
-    ∙ ap (λ (found : Result (List SignedTerm) FaultKind).
-    found >>= (λ read. Ok (operands.Indexed read register))) read
+    ∙ ap (λ (answer : Result (List SignedTerm) FaultKind).
+    answer >>= (λ outcome. Ok (operands.Indexed outcome register))) outcome
 
 -- operands are read back
 pub operand-read : (numerals : Numerals) (place : ℕ) (operand : SaidOperand)

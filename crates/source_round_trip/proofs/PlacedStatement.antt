@@ -19,7 +19,7 @@ use Rattle.source_round_trip.proofs.Falls.{FallsInto, falls-then, falls-apart, f
 use Rattle.source_round_trip.proofs.Operands.{no_colon-first, has_no_comma, joint_tokens, joint-read}
 use Rattle.source_round_trip.proofs.PlacedName.{Stands}
 use Rattle.source_round_trip.proofs.PlacedOperand.{operand_tokens, placed_operands, operand-falls, operand-read}
-use Rattle.source_round_trip.proofs.Words.{IsOperation, begins_with_colon, without_label, operation-falls, unlabelled, operation-read}
+use Rattle.source_round_trip.proofs.Words.{IsOperation, begins_with_colon, without_label, operation-falls, no_label, operation-read}
 
 -- the tokens of operands one behind the other
 abbrev parts_at : Numerals → ℕ → List SaidOperand → List (List Token)
@@ -73,12 +73,12 @@ operands-read : (numerals : Numerals) (place : ℕ) (first : SaidOperand) (rest 
     → operands_of (all_tokens numerals place first rest)
     ≡ Ok (placed_operands numerals place (first ∷ rest))
 operands-read numerals place first rest is all =
-    let read = operand-read numerals place first is in
+    let answer = operand-read numerals place first is in
     let next : ℕ = place + length (operand_text numerals first) + 1 in
     joint-read (operand_tokens numerals place first) (parts_at numerals next rest)
-    (placed_operands numerals place (first ∷ rest)) read.some read.alone
+    (placed_operands numerals place (first ∷ rest)) answer.some answer.alone
     (parts-alone numerals next rest all)
-    (rw (read.read, parts-read numerals next rest all) refl)
+    (rw (answer.read, parts-read numerals next rest all) refl)
 
 operands-front : (numerals : Numerals) (place : ℕ) (first : SaidOperand)
     (rest : List SaidOperand) → is_writable_operand first ≡ true
@@ -107,15 +107,15 @@ pub operation-body : (numerals : Numerals) → AreNumerals numerals → {word : 
     → ((place : ℕ) → body_of (Some operation)
     (placed_operands numerals (place + length word + 1) all) ≡ Ok (body place))
     → IsBodyText (word ++ operands_text numerals all) body
-operation-body numerals are {word = word} [] body is other all read =
+operation-body numerals are {word = word} [] body is other all answer =
     record {
       tokens_at = λ place. word_token place word ∷ [];
       falls = subst (λ (text : List ℕ). FallsInto text (λ place. word_token place word ∷ []))
           (sym (append-nil word)) (operation-falls is);
-      read = λ place. operation-read place [] [] is other refl (read place);
-      plain = λ place. unlabelled (word_token place word) [] refl;
+      read = λ place. operation-read place [] [] is other refl (answer place);
+      plain = λ place. no_label (word_token place word) [] refl;
     }
-operation-body numerals are {word = word} (first ∷ rest) body is other all read =
+operation-body numerals are {word = word} (first ∷ rest) body is other all answer =
     let parts = and_parts (is_writable_operand first) (are_operands rest) all in record {
       tokens_at = λ place. word_token place word
           ∷ all_tokens numerals (place + length word + 1) first rest;
@@ -125,8 +125,8 @@ operation-body numerals are {word = word} (first ∷ rest) body is other all rea
           (all_tokens numerals (place + length word + 1) first rest)
           (placed_operands numerals (place + length word + 1) (first ∷ rest)) is other
           (operands-read numerals (place + length word + 1) first rest parts.0 parts.1)
-          (read place);
-      plain = λ place. unlabelled (word_token place word)
+          (answer place);
+      plain = λ place. no_label (word_token place word)
           (all_tokens numerals (place + length word + 1) first rest)
           (operands-front numerals (place + length word + 1) first rest parts.0);
     }

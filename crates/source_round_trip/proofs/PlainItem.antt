@@ -65,8 +65,8 @@ plain-bytes place (items.Instruction instr) is = rw (plain-instr place instr is)
 same-bytes : HeadsAreSpelled → WordsAreWritten → (image : ℕ → Option ℕ) (place : ℕ)
     (item : Item) → IsImage image → item_at image place ≡ Some item → is_plain place item ≡ true
     → AreSameBytes image place item
-same-bytes law written image place item is standing plain =
-    let has = item-bytes law written image place item is standing in record {
+same-bytes law writes image place item is stands plain =
+    let has = item-bytes law writes image place item is stands in record {
       bytes = item_bytes item;
       again = plain-bytes place item plain;
       count = has.count;
@@ -81,23 +81,23 @@ IsSized make count =
     (source : Source) → length (words_of (make source)) ≡ 1 + length (source_words source) + count
 
 abbrev made_bytes : (Source → Instr) → Result Source FaultKind → Result (List ℕ) FaultKind
-made_bytes make read = do
-  from ← read
+made_bytes make outcome = do
+  from ← outcome
   Ok (flat_map word_bytes (words_of (make from)))
 
 constant-shorter : (make : Source → Instr) (bytes : List ℕ) (word count : ℕ) (constant : Gen)
     → IsSized make count
     → made_bytes make (Ok (source.Constant constant)) ≡ Ok bytes
     → length bytes ≡ 2 * length (words_of (make (source.Immediate word))) → ⊥
-constant-shorter make bytes word count constant sized again long =
+constant-shorter make bytes word count constant is_sized again long =
     let same : flat_map word_bytes (words_of (make (source.Constant constant))) ≡ bytes =
     cc again in
     omega (
       arith,
       ap length same,
       length-word_bytes (words_of (make (source.Constant constant))),
-      sized (source.Constant constant),
-      sized (source.Immediate word),
+      is_sized (source.Constant constant),
+      is_sized (source.Immediate word),
       long,
     )
 
@@ -107,10 +107,10 @@ word-fits : (make : Source → Instr) (size : Size) (word : ℕ) (bytes : List �
 word-fits make size word bytes true is again = refl
 word-fits make sizes.Byte word bytes false is again =
     absurd (cc (ap (λ (test : Bool). made_bytes make ((if test then Ok word else Err Range)
-    >>= (λ found. Ok (source.Immediate found)))) (sym is) ∙ again))
+    >>= (λ answer. Ok (source.Immediate answer)))) (sym is) ∙ again))
 word-fits make sizes.Word word bytes false is again =
     absurd (cc (ap (λ (test : Bool). made_bytes make ((if test then Ok word else Err Range)
-    >>= (λ found. Ok (source.Immediate found)))) (sym is) ∙ again))
+    >>= (λ answer. Ok (source.Immediate answer)))) (sym is) ∙ again))
 
 immediate-plain : (make : Source → Instr) (size : Size) (word count : ℕ) (bytes : List ℕ)
     (constant : Option Gen)
@@ -118,23 +118,23 @@ immediate-plain : (make : Source → Instr) (size : Size) (word count : ℕ) (by
     → made_bytes make (immediate size constant (pos word)) ≡ Ok bytes
     → length bytes ≡ 2 * length (words_of (make (source.Immediate word)))
     → (is_none constant && nat_le word (all_ones size)) ≡ true
-immediate-plain make size word count bytes None sized again long =
+immediate-plain make size word count bytes None is_sized again long =
     word-fits make size word bytes (nat_le word (all_ones size)) refl again
-immediate-plain make size word count bytes (Some constant) sized again long =
-    absurd (constant-shorter make bytes word count constant sized again long)
+immediate-plain make size word count bytes (Some constant) is_sized again long =
+    absurd (constant-shorter make bytes word count constant is_sized again long)
 
 source-plain : (make : Source → Instr) (size : Size) (source : Source) (count : ℕ)
     (bytes : List ℕ)
     → IsSized make count
     → made_bytes make (source_again size source) ≡ Ok bytes
     → length bytes ≡ 2 * length (words_of (make source)) → is_plain_source size source ≡ true
-source-plain make size (source.Immediate word) count bytes sized again long =
-    immediate-plain make size word count bytes (constant_of size (pos word)) sized again long
-source-plain make size (source.Reg register) count bytes sized again long = refl
-source-plain make size (source.Indexed register index) count bytes sized again long = refl
-source-plain make size (source.Indirect register) count bytes sized again long = refl
-source-plain make size (source.IndirectInc register) count bytes sized again long = refl
-source-plain make size (source.Constant constant) count bytes sized again long = refl
+source-plain make size (source.Immediate word) count bytes is_sized again long =
+    immediate-plain make size word count bytes (constant_of size (pos word)) is_sized again long
+source-plain make size (source.Reg register) count bytes is_sized again long = refl
+source-plain make size (source.Indexed register index) count bytes is_sized again long = refl
+source-plain make size (source.Indirect register) count bytes is_sized again long = refl
+source-plain make size (source.IndirectInc register) count bytes is_sized again long = refl
+source-plain make size (source.Constant constant) count bytes is_sized again long = refl
 
 jump-plain : (place : ℕ) (condition : Cond) (offset : ℤ) (bytes : List ℕ) (within : Bool)
     → stays_within place offset ≡ within
@@ -143,7 +143,7 @@ jump-plain : (place : ℕ) (condition : Cond) (offset : ℤ) (bytes : List ℕ) 
 jump-plain place condition offset bytes true is again = refl
 jump-plain place condition offset bytes false is again =
     absurd (cc (ap (λ (test : Bool). (if test then Ok (instrs.Jump condition offset) else Err Range)
-    >>= (λ found. Ok (flat_map word_bytes (words_of found)))) (sym is) ∙ again))
+    >>= (λ answer. Ok (flat_map word_bytes (words_of answer)))) (sym is) ∙ again))
 
 two-sized : (op : Op2) (size : Size) (dest : Dest) (source : Source)
     → length (words_of (instrs.Two op size source dest))
@@ -155,17 +155,17 @@ one-sized : (op : OneOp) (size : Size) (source : Source)
     → length (words_of (instrs.One op size source)) ≡ 1 + length (source_words source) + 0
 one-sized op size source = omega arith
 
-two-made : (op : Op2) (size : Size) (dest : Dest) (read : Result Source FaultKind)
-    → made_bytes (λ from. instrs.Two op size from dest) read
-    ≡ ((read >>= (λ from. Ok (instrs.Two op size from dest)))
-    >>= (λ found. Ok (flat_map word_bytes (words_of found))))
+two-made : (op : Op2) (size : Size) (dest : Dest) (outcome : Result Source FaultKind)
+    → made_bytes (λ from. instrs.Two op size from dest) outcome
+    ≡ ((outcome >>= (λ from. Ok (instrs.Two op size from dest)))
+    >>= (λ answer. Ok (flat_map word_bytes (words_of answer))))
 two-made op size dest (Ok from) = refl
 two-made op size dest (Err kind) = refl
 
-one-made : (op : OneOp) (size : Size) (read : Result Source FaultKind)
-    → made_bytes (λ from. instrs.One op size from) read
-    ≡ ((read >>= (λ from. Ok (instrs.One op size from)))
-    >>= (λ found. Ok (flat_map word_bytes (words_of found))))
+one-made : (op : OneOp) (size : Size) (outcome : Result Source FaultKind)
+    → made_bytes (λ from. instrs.One op size from) outcome
+    ≡ ((outcome >>= (λ from. Ok (instrs.One op size from)))
+    >>= (λ answer. Ok (flat_map word_bytes (words_of answer))))
 one-made op size (Ok from) = refl
 one-made op size (Err kind) = refl
 
@@ -187,7 +187,7 @@ again-plain image place (items.Instruction (instrs.Jump condition offset)) same 
 pub same_bytes-plain : HeadsAreSpelled → WordsAreWritten → (image : ℕ → Option ℕ) (place : ℕ)
     (item : Item) → IsImage image → item_at image place ≡ Some item
     → AreSameBytes image place item ↔ IsTrue (is_plain place item)
-same_bytes-plain law written image place item is standing = (
+same_bytes-plain law writes image place item is stands = (
   again-plain image place item,
-  same-bytes law written image place item is standing,
+  same-bytes law writes image place item is stands,
 )

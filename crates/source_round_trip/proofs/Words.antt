@@ -65,12 +65,12 @@ begins_with_colon tokens = false
 abbrev pub without_label : Body → Result (Option Span × Body) FaultKind
 without_label body = Ok (None, body)
 
-pub unlabelled : (token : Token) (rest : List Token) → begins_with_colon rest ≡ false
+pub no_label : (token : Token) (rest : List Token) → begins_with_colon rest ≡ false
     → labelled_body (token ∷ rest) ≡ (statement_body (token ∷ rest) >>= without_label)
-unlabelled (Name span operation) [] other = refl
-unlabelled (Name span operation) (Colon ∷ rest) other = absurd (false≢true (sym other))
-unlabelled (Name span operation) (token ∷ rest) other = refl
-unlabelled token rest other = refl
+no_label (Name span operation) [] other = refl
+no_label (Name span operation) (Colon ∷ rest) other = absurd (false≢true (sym other))
+no_label (Name span operation) (token ∷ rest) other = refl
+no_label token rest other = refl
 
 -- a statement with its operands
 pub operation-read : (place : ℕ) {word : List ℕ} {operation : Operation} (rest : List Token)
@@ -79,8 +79,8 @@ pub operation-read : (place : ℕ) {word : List ℕ} {operation : Operation} (re
     → body_of (Some operation) operands ≡ Ok body
     → statement_body (word_token place word ∷ rest) ≡ Ok body
 unfolding operation_body
-operation-read place {operation = operation} rest operands is other read said_line =
-    rw (first-operation place is, other, read) said_line
+operation-read place {operation = operation} rest operands is other outcome said_line =
+    rw (first-operation place is, other, outcome) said_line
 
 whole-read : {text : List ℕ} {tokens : ℕ → List Token} → FallsInto text tokens → (start : ℕ)
     → tokens_of start text ≡ Ok (tokens start)
@@ -96,10 +96,10 @@ pub line-read : {text : List ℕ} {tokens : ℕ → List Token} (number start : 
     → line_statement number start text ≡ Ok (statement_in_line number said_line)
 unfolding line_statement
 line-read {text = text} {tokens = tokens} number start said_line falls is =
-    ap (λ (found : Result (List Token) FaultKind). found >>= (λ all. labelled_body all
+    ap (λ (answer : Result (List Token) FaultKind). answer >>= (λ all. labelled_body all
     >>= (λ both. Ok (statement_in_line number both)))) (whole-read falls start)
-    ∙ ap (λ (found : Result (Option Span × Body) FaultKind).
-    found >>= (λ both. Ok (statement_in_line number both))) is
+    ∙ ap (λ (answer : Result (Option Span × Body) FaultKind).
+    answer >>= (λ both. Ok (statement_in_line number both))) is
 
 -- a line without a label
 pub statement-read : {word text : List ℕ} {operation : Operation} {tokens : List Token}
@@ -110,10 +110,10 @@ pub statement-read : {word text : List ℕ} {operation : Operation} {tokens : Li
     → line_statement number start (word ++ codes " " ++ text)
     ≡ Ok (statement_in_line number (None, body))
 statement-read {word = word} {text = text} {tokens = tokens} number start operands {body = body}
-    is other falls front read said_line =
+    is other falls prefix outcome said_line =
     ap (line_statement number start) (append_assoc word (codes " ") text)
     ∙ line-read number start (None, body)
     (falls-apart (operation-falls is) refl (falls-then blank-falls falls))
-    (unlabelled (word_token start word) tokens front
-    ∙ ap (λ (found : Result Body FaultKind). found >>= without_label)
-    (operation-read start tokens operands is other read said_line))
+    (no_label (word_token start word) tokens prefix
+    ∙ ap (λ (answer : Result Body FaultKind). answer >>= without_label)
+    (operation-read start tokens operands is other outcome said_line))

@@ -44,8 +44,8 @@ placed-back numerals number before after None body free is =
       statement = statement_in_line number (None, is.body_at start);
       read = line-read number start (None, is.body_at start) is.text.falls
           (is.text.plain start
-          ∙ ap (λ (found : Result Body FaultKind). found >>= without_label) (is.text.read start));
-      says = ap (λ (found : SaidBody). record { label = None; body = found })
+          ∙ ap (λ (answer : Result Body FaultKind). answer >>= without_label) (is.text.read start));
+      says = ap (λ (answer : SaidBody). record { label = None; body = answer })
           (is.says (before ++ text ++ after) start (stands-there before text after));
     }
 placed-back numerals number before after (Some name) body free is =
@@ -69,7 +69,7 @@ placed-back numerals number before after (Some name) body free is =
           (labelled-text name text)
           (falls-apart (name-falls name free) refl
           (falls-then colon-falls (falls-then blank-falls is.text.falls))))
-          (ap (λ (found : Result Body FaultKind). found >>= (λ body. Ok (Some span, body)))
+          (ap (λ (answer : Result Body FaultKind). answer >>= (λ body. Ok (Some span, body)))
           (is.text.read first));
       says = rw (
         stands-name name (stands-front name (codes ":" ++ (codes " " ++ text)) stands),

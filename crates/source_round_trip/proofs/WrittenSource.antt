@@ -15,10 +15,10 @@ use Rattle.asm_text.specs.declared.statement.Statement.{Statement}
 use Rattle.asm_text.specs.Operand.{all_of}
 use Rattle.asm_text.specs.Source.{places_behind_ends, line_starts, PlacedLine, placed_lines, statement_of, source_of}
 use Rattle.source_round_trip.specs.ReadBack.{AreNumerals, source_text, IsSourceReadBack}
-use Rattle.source_round_trip.specs.SaidLine.{SaidLine, said_by}
+use Rattle.source_round_trip.specs.SaidLine.{SaidLine, said_line_of}
 use Rattle.source_round_trip.specs.SaidText.{Numerals, said_text}
 use Rattle.source_round_trip.specs.Writable.{is_writable}
-use Rattle.source_round_trip.proofs.Printed.{is_printed, are_printed, line-printed}
+use Rattle.source_round_trip.proofs.PrintedText.{is_printed, are_printed, line-printed}
 use Rattle.source_round_trip.proofs.WrittenLine.{read-back}
 
 -- a printed line and its end
@@ -61,8 +61,8 @@ next-lines : (place number : ℕ) (line rest : List ℕ) → are_printed line �
     → lines_from place number (line ++ 10 ∷ rest)
     ≡ (place, (number, line)) ∷ lines_from (place + length line + 1) (number + 1) rest
 next-lines place number line rest all =
-    ap (λ (found : List (List ℕ)). zip (line_starts place (line ++ 10 ∷ rest))
-    (numbered_lines number found)) (first-line line rest all)
+    ap (λ (answer : List (List ℕ)). zip (line_starts place (line ++ 10 ∷ rest))
+    (numbered_lines number answer)) (first-line line rest all)
     ∙ ap (λ (places : List ℕ). zip (place ∷ places)
     ((number, line) ∷ numbered_lines (number + 1) (lines rest))) (line-places place line rest all)
 
@@ -70,7 +70,7 @@ next-lines place number line rest all =
 record IsReadFrom (source : List ℕ) (lines : List PlacedLine) (all : List SaidLine) : Type 0 where
   statements : List Statement
   read : all_of {Fault = FaultAt} (map statement_of lines) ≡ Ok statements
-  says : map (said_by source) statements ≡ all
+  says : map (said_line_of source) statements ≡ all
 
 -- a statement and the later ones
 both-read : {read : Result Statement FaultAt} {later : Result (List Statement) FaultAt}
@@ -98,34 +98,34 @@ read-from numerals are [] writable before number =
 read-from numerals are (said_line ∷ rest) writable before number =
     let parts = and_parts (is_writable said_line) (list_all is_writable rest) writable in
     let line : List ℕ = said_text numerals said_line in
-    let left : List ℕ = source_text numerals rest in
+    let tail : List ℕ = source_text numerals rest in
     let source : List ℕ = before ++ source_text numerals (said_line ∷ rest) in
-    let front : List ℕ = before ++ line ++ codes "\n" in
-    let first = read-back numerals number before (codes "\n" ++ left) said_line are parts.0 in
-    let whole : before ++ line ++ (codes "\n" ++ left) ≡ source =
-    append_assoc before line (codes "\n" ++ left)
+    let prefix : List ℕ = before ++ line ++ codes "\n" in
+    let first = read-back numerals number before (codes "\n" ++ tail) said_line are parts.0 in
+    let whole : before ++ line ++ (codes "\n" ++ tail) ≡ source =
+    append_assoc before line (codes "\n" ++ tail)
     ∙ ap (λ (text : List ℕ). before ++ text) (sym (text-cut numerals said_line rest)) in
-    let count : length front ≡ length before + length line + 1 =
+    let count : length prefix ≡ length before + length line + 1 =
     omega (arith, length-append (before ++ line) (codes "\n"), length-append before line) in
-    let behind : front ++ left ≡ source =
-    append_assoc (before ++ line) (codes "\n") left ∙ whole in
-    let later : IsReadFrom source (lines_from (length before + length line + 1) (number + 1) left)
+    let behind : prefix ++ tail ≡ source =
+    append_assoc (before ++ line) (codes "\n") tail ∙ whole in
+    let later : IsReadFrom source (lines_from (length before + length line + 1) (number + 1) tail)
     rest =
     subst (λ (text : List ℕ). IsReadFrom text
-    (lines_from (length before + length line + 1) (number + 1) left) rest) behind
-    (subst (λ (place : ℕ). IsReadFrom (front ++ left) (lines_from place (number + 1) left) rest)
-    count (read-from numerals are rest parts.1 front (number + 1))) in
+    (lines_from (length before + length line + 1) (number + 1) tail) rest) behind
+    (subst (λ (place : ℕ). IsReadFrom (prefix ++ tail) (lines_from place (number + 1) tail) rest)
+    count (read-from numerals are rest parts.1 prefix (number + 1))) in
     let cut : lines_from (length before) number (source_text numerals (said_line ∷ rest))
     ≡ (length before, (number, line))
-    ∷ lines_from (length before + length line + 1) (number + 1) left =
+    ∷ lines_from (length before + length line + 1) (number + 1) tail =
     ap (λ (text : List ℕ). lines_from (length before) number text)
     (text-cut numerals said_line rest)
-    ∙ next-lines (length before) number line left (line-printed numerals are said_line parts.0) in
-    let says : said_by source first.statement ≡ said_line =
-    ap (λ (text : List ℕ). said_by text first.statement) (sym whole) ∙ first.says in
+    ∙ next-lines (length before) number line tail (line-printed numerals are said_line parts.0) in
+    let says : said_line_of source first.statement ≡ said_line =
+    ap (λ (text : List ℕ). said_line_of text first.statement) (sym whole) ∙ first.says in
     record {
       statements = first.statement ∷ later.statements;
-      read = ap (λ (found : List PlacedLine). all_of (map statement_of found)) cut
+      read = ap (λ (answer : List PlacedLine). all_of (map statement_of answer)) cut
           ∙ both-read first.statement later.statements (ap (in_line number) first.read) later.read;
       says = rw (says, later.says) refl;
     }
@@ -155,11 +155,11 @@ pub source-read_back : (numerals : Numerals) (all : List SaidLine) → AreNumera
 unfolding source_of
 source-read_back numerals all are writable =
     let text : List ℕ = source_text numerals all in
-    let found = read-from numerals are all writable [] 1 in
+    let answer = read-from numerals are all writable [] 1 in
     let utf8 = (utf8_of-whole text).1
     (IsUtf8-from_ascii text (source-ascii numerals are all writable)) in record {
-      statements = found.statements;
+      statements = answer.statements;
       read = ap (λ (sound : Result Unit FaultAt).
-          sound >>= (λ _. all_of (map statement_of (placed_lines text)))) utf8 ∙ found.read;
-      says = found.says;
+          sound >>= (λ _. all_of (map statement_of (placed_lines text)))) utf8 ∙ answer.read;
+      says = answer.says;
     }

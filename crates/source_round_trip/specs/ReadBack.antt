@@ -3,7 +3,7 @@ use Rattle.std.specs.Prelude.{◌≡◌, ◌<◌, ◌++◌, ℕ, List, [], ◌�
 use Rattle.asm_text.specs.declared.statement.Statement.{Statement}
 use Rattle.asm_text.specs.Source.{line_statement, source_of}
 use Rattle.asm_text.specs.Word.{number_of}
-use Rattle.source_round_trip.specs.SaidLine.{SaidLine, said_by}
+use Rattle.source_round_trip.specs.SaidLine.{SaidLine, said_line_of}
 use Rattle.source_round_trip.specs.SaidText.{Numerals, said_text}
 
 -- each number is written as a numeral of it: decimal, or hexadecimal, with zeros in front or not
@@ -16,7 +16,7 @@ pub record IsReadBack (numerals : Numerals) (number : ℕ) (before after : List 
     : Type 0 where
   pub statement : Statement
   pub read : line_statement number (length before) (said_text numerals line) ≡ Ok statement
-  pub says : said_by (before ++ said_text numerals line ++ after) statement ≡ line
+  pub says : said_line_of (before ++ said_text numerals line ++ after) statement ≡ line
 
 -- the text of statements, each in a line that ends with LF
 abbrev pub source_text : Numerals → List SaidLine → List ℕ
@@ -28,4 +28,4 @@ source_text numerals (line ∷ rest) =
 pub record IsSourceReadBack (numerals : Numerals) (all : List SaidLine) : Type 0 where
   pub statements : List Statement
   pub read : source_of (source_text numerals all) ≡ Ok statements
-  pub says : map (said_by (source_text numerals all)) statements ≡ all
+  pub says : map (said_line_of (source_text numerals all)) statements ≡ all

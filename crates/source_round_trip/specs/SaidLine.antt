@@ -76,8 +76,8 @@ said_body source (bodies.Byte exprs) = Byte (map (said_expr source) exprs)
 said_body source (bodies.Ascii span) = Ascii (characters source span)
 said_body source (bodies.Equ name expr) = Equ (characters source name) (said_expr source expr)
 
-abbrev pub said_by : List ℕ → Statement → SaidLine
-said_by source statement =
+abbrev pub said_line_of : List ℕ → Statement → SaidLine
+said_line_of source statement =
     record {
       label = option_map (characters source) statement.label;
       body = said_body source statement.body;

@@ -4,7 +4,7 @@ use Rattle.word_arith.specs.declared.size.Size.TheVariants.{Word}
 use Rattle.std.specs.Prelude.{◌+◌, ◌*◌}
 use Rattle.bus_signals.specs.declared.access.Access.{Access}
 use Rattle.bus_signals.specs.Map.{key_region, metadata_region, mac_region, DERIVED_KEY, INNER_DIGEST}
-use Rattle.part_definitions.specs.Accesses.{read_at, write_at}
+use Rattle.part_definitions.specs.BusAccess.{read_at, write_at}
 use Rattle.part_definitions.specs.Attestation.{CallItem, KeyRead, MetadataRead, DerivedKeyWrite, RegionRead, InnerDigestWrite, MacWrite, call_item, item_access, item_pc, bounds_read, region_words, region_place, written_word, word_of_bytes, is_return}
 use Rattle.swatt_rom.specs.RomCall.{call_access}
 use Rattle.swatt_rom.specs.Phase.{PhaseStandsFor}

@@ -3,12 +3,12 @@ use Rattle.std.proofs.Common.{◌≡◌, ◌<◌, ◌≤◌, ◌+◌, ◌++◌, 
 use Rattle.bus_signals.specs.declared.bounds.Bounds.{Bounds}
 use Rattle.hmac_core.specs.Hmac.{HmacStandsFor}
 use Rattle.hmac_core.specs.declared.running_hmac.Hmac.{Hmac}
-use Rattle.part_definitions.specs.Attestation.{bounds_read, region_words, bytes_of_words, key_read, metadata_read, region_read, derived_key, derived_in, inner_in, tag_in}
+use Rattle.part_definitions.specs.Attestation.{bounds_read, region_words, bytes_of_words, key_read, metadata_read, region_read, derived_key, call_key, inner_in, tag_in}
 use Rattle.swatt_rom.specs.DigestWords.{WritesDigest}
 use Rattle.swatt_rom.specs.Phase.{HashesRegion, StandsAtDerivedKey, StandsAtRegion, StandsAtInnerDigest, before_inner_digest, before_mac, before_return}
 use Rattle.swatt_rom.specs.declared.digest_words.DigestWords.{DigestWords}
 use Rattle.swatt_rom.specs.declared.region_words.RegionWords.{RegionWords}
-use Rattle.swatt_rom.proofs.WordsPassed.{region_in, bounds_read-append, region_in-append, metadata_read-append, derived_in-append, region_read-before, region_read-more, inner_in-append, tag_in-append, key_read-whole, metadata_read-whole}
+use Rattle.swatt_rom.proofs.WordsPassed.{region_in, bounds_read-append, region_in-append, metadata_read-append, call_key-append, region_read-before, region_read-more, inner_in-append, tag_in-append, key_read-whole, metadata_read-whole}
 
 -- a word of a digest is written
 WritesDigest-more :
@@ -20,11 +20,11 @@ WritesDigest-more :
     → after ≡ before
     → WritesDigest writes digest before words
     → WritesDigest rest later after (words ++ word ∷ [])
-WritesDigest-more writes rest digest later before after words word bytes next other moved stands =
+WritesDigest-more writes rest digest later before after words word bytes next other moves stands =
     record {
       same_bytes = bytes ∙ stands.same_bytes ∙ sym other;
       same_length =
-          omega (arith, length-append words (word ∷ []), stands.same_length, next, moved);
+          omega (arith, length-append words (word ∷ []), stands.same_length, next, moves);
     }
 
 -- there are words of the region left
@@ -34,7 +34,7 @@ pub region-left :
     → length words ≡ 69 + region.next
     → length words < 69 + region_in words
 region-left region words same count =
-    let left : region.next < region_in words =
+    let remainder : region.next < region_in words =
     subst (λ bounds. region.next < region_words bounds) same region.some_left in
     omega arith
 
@@ -69,10 +69,10 @@ module _ {D : Type 0} (has_taken : D → List ℕ → Type 0) (digest : List ℕ
       → HashesRegion has_taken digest hash words
       → HashesRegion has_taken digest hash (words ++ more)
   HashesRegion-append hash words more enough same stands =
-      HmacStandsFor-same hash (derived_in digest words) (derived_in digest (words ++ more))
+      HmacStandsFor-same hash (call_key digest words) (call_key digest (words ++ more))
       (metadata_read words ++ region_read words)
       (metadata_read (words ++ more) ++ region_read (words ++ more))
-      (derived_in-append digest words more enough)
+      (call_key-append digest words more enough)
       (ap (λ bytes. bytes ++ region_read (words ++ more)) (metadata_read-append words more enough)
       ∙ ap (λ bytes. metadata_read words ++ bytes) same)
       stands
@@ -82,17 +82,17 @@ module _ {D : Type 0} (has_taken : D → List ℕ → Type 0) (digest : List ℕ
       (hash : Hmac D) (words : List ℕ) (word : ℕ)
       → 69 ≤ length words
       → length words < 69 + region_in words
-      → HmacStandsFor has_taken digest hash (derived_in digest words)
+      → HmacStandsFor has_taken digest hash (call_key digest words)
       ((metadata_read words ++ region_read words) ++ bytes_of_words (word ∷ []))
       → HashesRegion has_taken digest hash (words ++ word ∷ [])
-  HashesRegion-more hash words word begins left stands =
+  HashesRegion-more hash words word begins remainder stands =
       let metadata = metadata_read-append words (word ∷ []) (omega arith) in
-      HmacStandsFor-same hash (derived_in digest words) (derived_in digest (words ++ word ∷ []))
+      HmacStandsFor-same hash (call_key digest words) (call_key digest (words ++ word ∷ []))
       ((metadata_read words ++ region_read words) ++ bytes_of_words (word ∷ []))
       (metadata_read (words ++ word ∷ []) ++ region_read (words ++ word ∷ []))
-      (derived_in-append digest words (word ∷ []) (omega arith))
+      (call_key-append digest words (word ∷ []) (omega arith))
       (ap (λ bytes. bytes ++ region_read (words ++ word ∷ [])) metadata
-      ∙ ap (λ bytes. metadata_read words ++ bytes) (region_read-more words word begins left)
+      ∙ ap (λ bytes. metadata_read words ++ bytes) (region_read-more words word begins remainder)
       ∙ sym (append_assoc (metadata_read words) (region_read words) (bytes_of_words (word ∷ []))))
       stands
 
@@ -111,29 +111,29 @@ module _ {D : Type 0} (has_taken : D → List ℕ → Type 0) (digest : List ℕ
 
   -- key and metadata were read, and the derived key comes
   pub derived_key-first :
-      (hash : Hmac D) (writes : DigestWords) (bounds : Bounds) (key metadata derived : List ℕ)
+      (hash : Hmac D) (writes : DigestWords) (bounds : Bounds) (key metadata hmac_key : List ℕ)
       → length key ≡ 32
       → length metadata ≡ 21
-      → writes.bytes ≡ derived
+      → writes.bytes ≡ hmac_key
       → writes.next ≡ 0
-      → derived ≡ derived_key digest (bytes_of_words key) (bytes_of_words metadata)
+      → hmac_key ≡ derived_key digest (bytes_of_words key) (bytes_of_words metadata)
       → bounds ≡ bounds_read (key ++ metadata)
-      → HmacStandsFor has_taken digest hash derived (bytes_of_words metadata)
+      → HmacStandsFor has_taken digest hash hmac_key (bytes_of_words metadata)
       → StandsAtDerivedKey has_taken digest writes bounds hash (key ++ metadata)
-  derived_key-first hash writes bounds key metadata derived size rest bytes next code same hashes =
+  derived_key-first hash writes bounds key metadata hmac_key size rest bytes next code same hashes =
       let words : List ℕ = key ++ metadata in
       let key_same : key_read words ≡ bytes_of_words key = key_read-whole key metadata size in
       let metadata_same : metadata_read words ≡ bytes_of_words metadata =
       metadata_read-whole key metadata size rest in
       let count : length words ≡ 53 = omega (arith, length-append key metadata) in
-      let is_derived_in : derived ≡ derived_in digest words =
+      let is_derived_in : hmac_key ≡ call_key digest words =
       code
       ∙ sym (ap (λ bytes. derived_key digest bytes (metadata_read words)) key_same
       ∙ ap (derived_key digest (bytes_of_words key)) metadata_same) in
       record {
         at_word = record { same_bytes = bytes ∙ is_derived_in; same_length = omega arith };
         same_bounds = same;
-        hashes = HmacStandsFor-same hash derived (derived_in digest words)
+        hashes = HmacStandsFor-same hash hmac_key (call_key digest words)
             (bytes_of_words metadata) (metadata_read words ++ region_read words)
             (sym is_derived_in)
             (ap (λ bytes. metadata_read words ++ bytes) (region_read-before words (omega arith))
@@ -149,12 +149,12 @@ module _ {D : Type 0} (has_taken : D → List ℕ → Type 0) (digest : List ℕ
       → StandsAtDerivedKey has_taken digest rest bounds hash (words ++ word ∷ [])
   derived_key-more hash writes rest bounds words word bytes next stands =
       let count : length words ≡ 53 + writes.next = stands.at_word.same_length in
-      let left : writes.next < 16 = writes.some_left in
+      let remainder : writes.next < 16 = writes.some_left in
       record {
         at_word =
-            WritesDigest-more writes rest (derived_in digest words)
-            (derived_in digest (words ++ word ∷ [])) 53 53 words word bytes next
-            (derived_in-append digest words (word ∷ []) (omega arith)) (omega arith) stands.at_word;
+            WritesDigest-more writes rest (call_key digest words)
+            (call_key digest (words ++ word ∷ [])) 53 53 words word bytes next
+            (call_key-append digest words (word ∷ []) (omega arith)) (omega arith) stands.at_word;
         same_bounds = stands.same_bounds ∙ sym (bounds_read-append words (word ∷ []) (omega arith));
         hashes = HashesRegion-before hash words word (omega arith) (omega arith) stands.hashes;
       }

@@ -21,7 +21,7 @@ pub bytes_of_words-more :
 bytes_of_words-more words i bytes low high within same is_low is_high fits =
     let is_whole : high ≡ get_or words i 0 / 256 = omega arith in
     append_assoc bytes (low ∷ []) (high ∷ [])
-    ∙ ap (λ front. front ++ low ∷ high ∷ []) same
+    ∙ ap (λ prefix. prefix ++ low ∷ high ∷ []) same
     ∙ ap (λ byte. bytes_of_words (take i words) ++ byte ∷ high ∷ []) is_low
     ∙ ap (λ byte. bytes_of_words (take i words) ++ get_or words i 0 % 256 ∷ byte ∷ []) is_whole
     ∙ sym (bytes_of_words-append (take i words) (get_or words i 0 ∷ []))

@@ -3,7 +3,7 @@ use Rattle.std.proofs.Common.{◌≡◌, ◌<◌, ◌≤◌, ◌+◌, ◌++◌, 
 use Rattle.std.proofs.Math.ListN.{get_or-append}
 use Rattle.std.proofs.Math.Seq.{take-append_seam, drop-append_seam}
 use Rattle.std.proofs.lemmas.List.{take-append-le, drop-append-le, take_all, drop_all, length-drop}
-use Rattle.part_definitions.specs.Attestation.{bounds_read, region_words, bytes_of_words, key_read, metadata_read, region_read, derived_key, derived_in, inner_in, tag_in}
+use Rattle.part_definitions.specs.Attestation.{bounds_read, region_words, bytes_of_words, key_read, metadata_read, region_read, derived_key, call_key, inner_in, tag_in}
 use Rattle.swatt_rom.proofs.WordBytes.{bytes_of_words-append}
 
 -- how many words of the region a call with these words reads
@@ -32,11 +32,11 @@ metadata_read-append xs ys enough =
     ap (λ words. bytes_of_words (take 21 words)) (drop-append-le 32 xs ys (omega arith))
     ∙ ap bytes_of_words (take-append-le 21 (drop 32 xs) ys (omega (arith, length-drop 32 xs)))
 
-pub derived_in-append :
+pub call_key-append :
     (digest : List ℕ → List ℕ) (xs ys : List ℕ)
     → 53 ≤ length xs
-    → derived_in digest (xs ++ ys) ≡ derived_in digest xs
-derived_in-append digest xs ys enough =
+    → call_key digest (xs ++ ys) ≡ call_key digest xs
+call_key-append digest xs ys enough =
     ap (λ key. derived_key digest key (metadata_read (xs ++ ys)))
     (key_read-append xs ys (omega arith))
     ∙ ap (derived_key digest (key_read xs)) (metadata_read-append xs ys enough)
@@ -53,7 +53,7 @@ pub region_read-more :
     → 69 ≤ length xs
     → length xs < 69 + region_in xs
     → region_read (xs ++ word ∷ []) ≡ region_read xs ++ bytes_of_words (word ∷ [])
-region_read-more xs word begins left =
+region_read-more xs word begins later =
     let same = region_in-append xs (word ∷ []) (omega arith) in
     let size = length-append (drop 69 xs) (word ∷ []) in
     ap (λ words. bytes_of_words (take (region_in (xs ++ word ∷ [])) words))
@@ -83,7 +83,7 @@ pub inner_in-append :
     → inner_in digest (xs ++ ys) ≡ inner_in digest xs
 inner_in-append digest xs ys over =
     cc (
-      derived_in-append digest xs ys (omega arith),
+      call_key-append digest xs ys (omega arith),
       metadata_read-append xs ys (omega arith),
       region_read-append xs ys over,
     )

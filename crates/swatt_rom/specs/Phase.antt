@@ -4,7 +4,7 @@ use Rattle.std.specs.Prelude.{◌≡◌, ◌++◌, ◌+◌, ℕ, List, length, O
 use Rattle.bus_signals.specs.declared.bounds.Bounds.{Bounds}
 use Rattle.hmac_core.specs.Hmac.{HmacStandsFor}
 use Rattle.hmac_core.specs.declared.running_hmac.Hmac.{Hmac}
-use Rattle.part_definitions.specs.Attestation.{BEFORE_DERIVED_KEY, BEFORE_REGION, BEFORE_MAC, BEFORE_RETURN, bounds_read, region_words, metadata_read, region_read, derived_in, inner_in, tag_in}
+use Rattle.part_definitions.specs.Attestation.{BEFORE_DERIVED_KEY, BEFORE_REGION, BEFORE_MAC, BEFORE_RETURN, bounds_read, region_words, metadata_read, region_read, call_key, inner_in, tag_in}
 use Rattle.swatt_rom.specs.DigestWords.{WritesDigest}
 use Rattle.swatt_rom.specs.declared.digest_words.DigestWords.{DigestWords}
 use Rattle.swatt_rom.specs.declared.region_words.RegionWords.{RegionWords}
@@ -30,12 +30,12 @@ module _ {D : Type 0} (has_taken : D → List ℕ → Type 0) (digest : List ℕ
   -- the hash has taken metadata and region as far as they were read, under the derived key
   abbrev pub HashesRegion : Hmac D → List ℕ → Type 0
   HashesRegion hash words =
-      HmacStandsFor has_taken digest hash (derived_in digest words)
+      HmacStandsFor has_taken digest hash (call_key digest words)
       (metadata_read words ++ region_read words)
 
   pub record StandsAtDerivedKey
       (key : DigestWords) (bounds : Bounds) (hash : Hmac D) (words : List ℕ) : Type 0 where
-    pub at_word : WritesDigest key (derived_in digest words) BEFORE_DERIVED_KEY words
+    pub at_word : WritesDigest key (call_key digest words) BEFORE_DERIVED_KEY words
     pub same_bounds : bounds ≡ bounds_read words
     pub hashes : HashesRegion hash words
 

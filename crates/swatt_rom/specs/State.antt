@@ -1,6 +1,6 @@
 -- Which calls a state stands for. `has_taken` tells the bytes that a running digest has taken.
 use Rattle.std.specs.Prelude.{◌≡◌, ℕ, List}
-use Rattle.part_definitions.specs.Words.{even, plus}
+use Rattle.part_definitions.specs.AddressSum.{even, plus}
 use Rattle.swatt_rom.specs.RomCall.{RomCall, NoCall, InCall, AfterCall}
 use Rattle.swatt_rom.specs.Phase.{PhaseStandsFor, IsBeforeReturn}
 use Rattle.swatt_rom.specs.declared.state.State.{State}

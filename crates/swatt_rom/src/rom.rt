@@ -1,4 +1,4 @@
-ghost use Rattle.std.specs.Prelude.{◌≡◌, [], ℕ, IfSome};
+ghost use Rattle.std.specs.Prelude.{◌≡◌, [], IfSome};
 ghost use Rattle.bus_signals.specs.Access.{IsFormed};
 ghost use Rattle.part_definitions.specs.Part.{Answers};
 ghost use Rattle.swatt_rom.specs.RomCall.{RomCall, NoCall, InCall, rom_access, rom_pc, registers_after, after_value};

@@ -1,4 +1,4 @@
-ghost use Rattle.std.specs.Prelude.{◌≡◌, ◌∷◌, ◌+◌, ◌-◌, ◌<◌, ◌≤◌, ◌^◌, ◌≢◌, ℕ, List, length, slice_index};
+ghost use Rattle.std.specs.Prelude.{◌≡◌, ◌∷◌, ◌+◌, ◌<◌, ◌≤◌, ◌^◌, ◌≢◌, ℕ, List, length, slice_index};
 ghost use Rattle.std.specs.Iterator.{YieldsFirstBy, item_count};
 ghost use Rattle.std.specs.Str.Lines.{lines, strip_carriage_return};
 ghost use Rattle.text_scan.specs.Line.{numbered_lines, lines_of};
@@ -13,7 +13,7 @@ pub struct Lines<'a> {
     last: u64,
 }
 
-// SeenRecord as the lines that are left, with their numbers.
+// Seen as the lines that are left, with their numbers.
 impl<'a> Model for Lines<'a> {
     ghost Value = { List (ℕ × List ℕ) };
 
@@ -36,9 +36,9 @@ impl<'a> Lines<'a> {
 impl<'a> Iterator for Lines<'a> {
     type Item = (u64, &'a [u8]);
 
-    ghost next_gives = { YieldsFirstBy (λ item. (item.0, item.1.now)) (λ left. left) };
+    ghost next_gives = { YieldsFirstBy (λ item. (item.0, item.1.now)) (λ rest. rest) };
 
-    ghost remaining = { item_count (λ left. left) };
+    ghost remaining = { item_count (λ rest. rest) };
 
     fn next(&mut self) -> Option<(u64, &'a [u8])> {
         if self.rest.is_empty() {

@@ -12,7 +12,7 @@ pub struct Words<'a> {
     rest: &'a [u8],
 }
 
-// SeenRecord as the words that are left.
+// Seen as the words that are left.
 impl<'a> Model for Words<'a> {
     ghost Value = { List (List ℕ) };
 
@@ -74,9 +74,9 @@ pub fn is_passed_over(line: &[u8]) -> bool
 impl<'a> Iterator for Words<'a> {
     type Item = &'a [u8];
 
-    ghost next_gives = { YieldsFirstRef (λ left. left) };
+    ghost next_gives = { YieldsFirstRef (λ rest. rest) };
 
-    ghost remaining = { item_count (λ left. left) };
+    ghost remaining = { item_count (λ rest. rest) };
 
     fn next(&mut self) -> Option<&'a [u8]> {
         let line = after_blanks(self.rest);

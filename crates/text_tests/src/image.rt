@@ -181,8 +181,8 @@ fn a_memory_is_written_as_1536_records_and_the_end(rt: HostRuntime) -> Result<()
     let mut sink = MemSink::new(Vec::new(alloc), 100_000, 100_000, Vec::new(alloc))?;
     write_memory(&memory, &mut sink)?;
     assert_eq!(rt; sink.held().len(), 1536 * 44 + 12);
-    let beginning = b":10020000000000000000000000000000000000AB43\n:1002100001020003";
-    assert!(rt; sink.held().starts_with(beginning.as_slice()));
+    let first = b":10020000000000000000000000000000000000AB43\n:1002100001020003";
+    assert!(rt; sink.held().starts_with(first.as_slice()));
     assert!(rt;
         sink.held().ends_with(
             b":10FFF0000000000000000000000000000000000001\n:00000001FF\n".as_slice()

@@ -76,7 +76,7 @@ fn long_words_and_empty_halves_have_their_bytes(rt: HostRuntime) -> Result<(), F
     }
     assert!(rt; Words::new(digits.as_slice()).next() == Some(digits.as_slice()));
     match Bytes::from_hex(alloc, digits.as_slice()) {
-        Ok(read) => assert!(rt; read.as_slice() == bytes.as_slice()),
+        Ok(value) => assert!(rt; value.as_slice() == bytes.as_slice()),
         Err(_) => panic!(rt; "the word has bytes"),
     }
     Ok(())
@@ -85,11 +85,11 @@ fn long_words_and_empty_halves_have_their_bytes(rt: HostRuntime) -> Result<(), F
 #[test]
 fn lines_end_at_lf_or_crlf(rt: HostRuntime) {
     let lines: [(u64, &[u8]); 5] = [(1, b"a"), (2, b"b"), (3, b""), (4, b"c\rd"), (5, b"e\r")];
-    let mut read = Lines::new(b"a\r\nb\n\nc\rd\ne\r");
+    let mut reader = Lines::new(b"a\r\nb\n\nc\rd\ne\r");
     for line in lines {
-        assert!(rt; read.next() == Some(line));
+        assert!(rt; reader.next() == Some(line));
     }
-    assert!(rt; read.next().is_none());
+    assert!(rt; reader.next().is_none());
 }
 
 #[test]
@@ -122,8 +122,8 @@ fn a_key_is_one_line(rt: HostRuntime) -> Result<(), Fail> {
         let text = Bytes::join(rt.alloc(), &KEY, end.as_bytes())?;
         let fault = read_key(text.as_slice()).err();
         assert_eq!(rt; fault, kind.map(|kind| FaultAt { line: 1, kind }));
-        let missing = read_key(&text.as_slice()[2..]).err();
-        assert!(rt; missing.is_some_and(|fault| fault.kind == FaultKind::Missing));
+        let short = read_key(&text.as_slice()[2..]).err();
+        assert!(rt; short.is_some_and(|fault| fault.kind == FaultKind::Missing));
     }
     Ok(())
 }

@@ -15,27 +15,27 @@ use Rattle.trace_facts.proofs.ItemNumbers.{IsItemAt, item_after-at}
 
 -- the item after so many words that passed, and its number
 abbrev pub ItemFits : ℕ → ℕ → CallItem → Type 0
-ItemFits region passed (KeyRead i) = (i < 32) × (passed < 32)
-ItemFits region passed (MetadataRead i) = (i < 21) × (32 ≤ passed)
-ItemFits region passed (DerivedKeyWrite i) = (i < 16) × (32 ≤ passed)
-ItemFits region passed (RegionRead i) = (i < region) × (32 ≤ passed)
-ItemFits region passed (InnerDigestWrite i) = (i < 16) × (32 ≤ passed)
-ItemFits region passed (MacWrite i) = (i < 16) × (32 ≤ passed)
-ItemFits region passed ReturnRead = 32 ≤ passed
+ItemFits region count (KeyRead i) = (i < 32) × (count < 32)
+ItemFits region count (MetadataRead i) = (i < 21) × (32 ≤ count)
+ItemFits region count (DerivedKeyWrite i) = (i < 16) × (32 ≤ count)
+ItemFits region count (RegionRead i) = (i < region) × (32 ≤ count)
+ItemFits region count (InnerDigestWrite i) = (i < 16) × (32 ≤ count)
+ItemFits region count (MacWrite i) = (i < 16) × (32 ≤ count)
+ItemFits region count ReturnRead = 32 ≤ count
 
-item-fits : (region passed : ℕ) (item : CallItem)
-    → IsItemAt region passed item → ItemFits region passed item
-item-fits region passed (KeyRead i) at = (at.1, omega (arith, at.0, at.1))
-item-fits region passed (MetadataRead i) at = (at.1, omega (arith, at.0))
-item-fits region passed (DerivedKeyWrite i) at = (at.1, omega (arith, at.0))
-item-fits region passed (RegionRead i) at = (at.1, omega (arith, at.0))
-item-fits region passed (InnerDigestWrite i) at = (at.1, omega (arith, at.0))
-item-fits region passed (MacWrite i) at = (at.1, omega (arith, at.0))
-item-fits region passed ReturnRead at = omega (arith, at)
+item-fits : (region count : ℕ) (item : CallItem)
+    → IsItemAt region count item → ItemFits region count item
+item-fits region count (KeyRead i) at = (at.1, omega (arith, at.0, at.1))
+item-fits region count (MetadataRead i) at = (at.1, omega (arith, at.0))
+item-fits region count (DerivedKeyWrite i) at = (at.1, omega (arith, at.0))
+item-fits region count (RegionRead i) at = (at.1, omega (arith, at.0))
+item-fits region count (InnerDigestWrite i) at = (at.1, omega (arith, at.0))
+item-fits region count (MacWrite i) at = (at.1, omega (arith, at.0))
+item-fits region count ReturnRead at = omega (arith, at)
 
-pub item_after-fits : (region passed : ℕ) → ItemFits region passed (item_after region passed)
-item_after-fits region passed =
-    item-fits region passed (item_after region passed) (item_after-at region passed)
+pub item_after-fits : (region count : ℕ) → ItemFits region count (item_after region count)
+item_after-fits region count =
+    item-fits region count (item_after region count) (item_after-at region count)
 
 -- words of RAM and of the program are no secrets
 open_word : (place : ℕ)
@@ -52,7 +52,7 @@ word_of_region : (first last j : ℕ) → IsValidRange first last
     → j < words_between first last
     → touches_secrets (Read ((first + 2 * j) / 2 * 2) Word) ≡ false
 word_of_region first last j range within =
-    let ordered : first ≤ last = range.ordered in
+    let in_order : first ≤ last = range.ordered in
     elim range.place [
       | inl ram ↦
           let low : 0x200 ≤ first = ram.0 in

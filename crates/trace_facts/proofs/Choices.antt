@@ -17,7 +17,7 @@ none_there None off = refl
 none_there (Some x) off = absurd (cc)
 
 -- what is there only where a test holds
-pub some_where : {A : Type 0} (test : Bool) (made found : A)
-    → (if test then Some made else None) ≡ Some found → (test ≡ true) × (made ≡ found)
-some_where true made found is = (refl, cc)
-some_where false made found is = absurd (cc)
+pub some_where : {A : Type 0} (test : Bool) (value answer : A)
+    → (if test then Some value else None) ≡ Some answer → (test ≡ true) × (value ≡ answer)
+some_where true value answer is = (refl, cc)
+some_where false value answer is = absurd (cc)

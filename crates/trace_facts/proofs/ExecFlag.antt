@@ -18,11 +18,11 @@ use Rattle.trace_facts.proofs.BoundsStay.{logged_bounds-stay}
 
 -- where the flag is set after a record, this does not clear it, and it starts a run or the flag was
 -- set before
-set_after : (cleared : Bool) (now : SeenRecord) (kept : List SeenRecord)
-    → list_any starts_run (if cleared then [] else now ∷ kept) ≡ true
-    → (cleared ≡ false) × ((starts_run now ≡ true) ⊎ (list_any starts_run kept ≡ true))
-set_after true now kept set = absurd (cc)
-set_after false now kept set = (refl, or_cases (starts_run now) (list_any starts_run kept) set)
+set_after : (is_clear : Bool) (now : SeenRecord) (older : List SeenRecord)
+    → list_any starts_run (if is_clear then [] else now ∷ older) ≡ true
+    → (is_clear ≡ false) × ((starts_run now ≡ true) ⊎ (list_any starts_run older ≡ true))
+set_after true now older set = absurd (cc)
+set_after false now older set = (refl, or_cases (starts_run now) (list_any starts_run older) set)
 
 pub exec-more : (now : SeenRecord) (before : List SeenRecord) → exec (now ∷ before) ≡ true
     → (clears (last_pc before) now ≡ false) × ((starts_run now ≡ true) ⊎ (exec before ≡ true))
@@ -43,7 +43,7 @@ with_record-valid : (start : Start) (logs : Logs) (entry : BusRecord)
 unfolding with_record
 with_record-valid start logs entry before set =
     let now : SeenRecord = record { entry = entry; bounds = logged_bounds start logs } in
-    let more = exec-more now logs.seen set in
+    let more = exec-more now logs.records set in
     let last = or_parts _ (clears_e9 now) more.0 in
     let clean = or_parts (list_any (writes_to metadata_region) (accesses_in entry))
     (is_some entry.reset) last.1 in

@@ -7,13 +7,13 @@ use Rattle.bus_signals.specs.declared.kind.Kind.{Kind}
 use Rattle.bus_signals.specs.declared.kind.Kind.TheVariants.{Boot, Cpu, Idle, Irq, Rom}
 use Rattle.bus_signals.specs.declared.rule.Rule.{Rule}
 use Rattle.part_definitions.specs.Attestation.{call_item, is_return, word_passed}
-use Rattle.part_definitions.specs.CpuRegisters.{pc_of}
+use Rattle.part_definitions.specs.CpuRegister.{pc_of}
 use Rattle.part_definitions.specs.CpuState.{CpuState, Boundary, Executing, Entering, cpu_pc, with_value, completion_or}
 use Rattle.part_definitions.specs.Flag.{last_pc}
 use Rattle.part_definitions.specs.NextAccess.{Next, Asks, Ends}
 use Rattle.device_trace.specs.FirstRule.{first_rule}
 use Rattle.device_trace.specs.Logs.{Logs, step_progress, progress_after, with_events, with_record}
-use Rattle.device_trace.specs.Progress.{Progress, Held, Runs, InCall, next_pc_of, after_return, call_after, running_after, next_progress}
+use Rattle.device_trace.specs.Progress.{Progress, Held, Runs, InCall, next_pc_of, after_return, call_after, cpu_state_after, next_progress}
 use Rattle.device_trace.specs.Signals.{step_kind, signals_at, signals_of}
 use Rattle.device_trace.specs.Start.{Start}
 use Rattle.device_trace.specs.Step.{record_of, next_record}
@@ -46,16 +46,16 @@ completion_or-fresh : (cpu : CpuState) (next : Next) (last : Option ℕ) → IsO
 completion_or-fresh cpu (Asks access) last fresh = fresh
 completion_or-fresh cpu (Ends regs) last fresh = tt
 
-running_after-fresh : (kind : Kind) (cpu : CpuState) (value : ℕ)
-    → IsOfLast (running_after kind cpu value) (Some (cpu_pc cpu))
-running_after-fresh Idle cpu value = own_pc cpu
-running_after-fresh Boot cpu value =
+cpu_state_after-fresh : (kind : Kind) (cpu : CpuState) (value : ℕ)
+    → IsOfLast (cpu_state_after kind cpu value) (Some (cpu_pc cpu))
+cpu_state_after-fresh Idle cpu value = own_pc cpu
+cpu_state_after-fresh Boot cpu value =
     completion_or-fresh (with_value cpu value) _ _ (after_value-fresh cpu value)
-running_after-fresh Cpu cpu value =
+cpu_state_after-fresh Cpu cpu value =
     completion_or-fresh (with_value cpu value) _ _ (after_value-fresh cpu value)
-running_after-fresh Irq cpu value =
+cpu_state_after-fresh Irq cpu value =
     completion_or-fresh (with_value cpu value) _ _ (after_value-fresh cpu value)
-running_after-fresh Rom cpu value =
+cpu_state_after-fresh Rom cpu value =
     completion_or-fresh (with_value cpu value) _ _ (after_value-fresh cpu value)
 
 call_after-fresh : (regs words : List ℕ) (word : ℕ) (last : Option ℕ)
@@ -69,7 +69,7 @@ call_after-fresh regs words word last =
 next_progress-fresh : (kind : Kind) (progress : Progress) (access : Option Access) (value : ℕ)
     → IsFresh (next_progress kind progress access value) (Some (next_pc_of progress))
 next_progress-fresh kind Held access value = tt
-next_progress-fresh kind (Runs cpu) access value = running_after-fresh kind cpu value
+next_progress-fresh kind (Runs cpu) access value = cpu_state_after-fresh kind cpu value
 next_progress-fresh kind (InCall regs words) access value =
     call_after-fresh regs words (word_passed access value) _
 
@@ -81,13 +81,13 @@ progress_after-fresh None kind progress access value =
 progress_after-fresh (Some rule) kind progress access value = tt
 
 abbrev pub LogsAreFresh : Logs → Type 0
-LogsAreFresh logs = IsFresh logs.progress (last_pc logs.seen)
+LogsAreFresh logs = IsFresh logs.progress (last_pc logs.records)
 
 after_record-fresh : (start : Start) (logs : Logs) (reset : Bool)
     → LogsAreFresh (with_record start logs (record_of start logs reset))
 unfolding with_record record_of signals_at
 after_record-fresh start logs reset =
-    progress_after-fresh (first_rule (last_pc logs.seen) (signals_of start logs reset))
+    progress_after-fresh (first_rule (last_pc logs.records) (signals_of start logs reset))
     (step_kind logs)
     (step_progress logs (step_kind logs)) _ _
 

@@ -1,4 +1,4 @@
-pub mod Unbroken
+pub mod BreaksNoRule
 pub mod Sound
 pub mod SoundPlay
 pub mod Choices

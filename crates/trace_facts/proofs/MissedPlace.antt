@@ -24,14 +24,14 @@ MissesPlace (Some (Write place Word number)) p =
 pub last_written-missed : (access : Option Access) (writes : List MemoryWrite) (p before : ℕ)
     → MissesPlace access p
     → last_written (with_access access writes) p before ≡ last_written writes p before
-last_written-missed None writes p before missed = refl
-last_written-missed (Some (Fetch place)) writes p before missed = refl
-last_written-missed (Some (Read place size)) writes p before missed = refl
-last_written-missed (Some (Write place Byte number)) writes p before missed =
-    cond-false (place == p) (number % 256) (last_written writes p before) missed
-last_written-missed (Some (Write place Word number)) writes p before missed =
-    cond-false (place / 2 * 2 + 1 == p) (number / 256 % 256) _ missed.1
-    ∙ cond-false (place / 2 * 2 == p) (number % 256) (last_written writes p before) missed.0
+last_written-missed None writes p before misses = refl
+last_written-missed (Some (Fetch place)) writes p before misses = refl
+last_written-missed (Some (Read place size)) writes p before misses = refl
+last_written-missed (Some (Write place Byte number)) writes p before misses =
+    cond-false (place == p) (number % 256) (last_written writes p before) misses
+last_written-missed (Some (Write place Word number)) writes p before misses =
+    cond-false (place / 2 * 2 + 1 == p) (number / 256 % 256) _ misses.1
+    ∙ cond-false (place / 2 * 2 == p) (number % 256) (last_written writes p before) misses.0
 
 -- nothing in a region
 pub writes_nowhere : (access : Option Access) (region : Region)

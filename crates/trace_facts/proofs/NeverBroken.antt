@@ -15,10 +15,10 @@ use Rattle.bus_signals.specs.Access.{some_writes}
 use Rattle.bus_signals.specs.Kind.{is_boot}
 use Rattle.bus_signals.specs.Map.{ROM_ENTRY, ROM_BODY}
 use Rattle.part_definitions.specs.Attestation.{CallItem, KeyRead, MetadataRead, DerivedKeyWrite, RegionRead, InnerDigestWrite, MacWrite, ReturnRead, region_words, bounds_read, call_item, item_access, item_pc}
-use Rattle.part_definitions.specs.CpuRegisters.{sp_of}
+use Rattle.part_definitions.specs.CpuRegister.{sp_of}
 use Rattle.part_definitions.specs.CpuState.{cpu_pc}
 use Rattle.part_definitions.specs.Flag.{last_pc}
-use Rattle.part_definitions.specs.Monitors.{in_rom, was_inside, leaves_stack_and_mac, breaks_a1, breaks_a2, breaks_a3, breaks_a4, breaks_k1, breaks_k2, breaks_k3, breaks_k4, breaks_k5, breaks_k6, key_rule, atomicity_rule}
+use Rattle.part_definitions.specs.MonitorRule.{in_rom, was_inside, leaves_stack_and_mac, breaks_a1, breaks_a2, breaks_a3, breaks_a4, breaks_k1, breaks_k2, breaks_k3, breaks_k4, breaks_k5, breaks_k6, key_rule, atomicity_rule}
 use Rattle.device_trace.specs.FirstRule.{breaks_x0, breaks_i1, rule_where, or_else, first_rule}
 use Rattle.device_trace.specs.Logs.{Logs, vector_of, step_progress, with_events}
 use Rattle.device_trace.specs.Progress.{Progress, Held, Runs, InCall, next_pc_of, kind_of, progress_within, access_of}
@@ -30,19 +30,19 @@ use Rattle.trace_facts.specs.Naming.{NamesNeitherA1NorK3}
 use Rattle.trace_facts.proofs.CallPlaces.{ItemFits, item_after-fits}
 use Rattle.trace_facts.proofs.Sound.{IsSound, IsWithin, progress_within-right}
 use Rattle.trace_facts.proofs.SoundPlay.{LogsAreSound, with_events-sound, logs_after-sound}
-use Rattle.trace_facts.proofs.Unbroken.{atomicity_rule-none}
+use Rattle.trace_facts.proofs.BreaksNoRule.{atomicity_rule-none}
 
 -- which rule a chain of tests names
 names_a1 : (a3 a2 a1 a4 : Bool)
     → (if a3 then Some A3 else if a2 then Some A2 else if a1 then Some A1
     else if a4 then Some A4 else None) ≡ Some A1
     → a1 ≡ true
-names_a1 a3 a2 a1 a4 named = grind (arith, nat_tests)
+names_a1 a3 a2 a1 a4 name = grind (arith, nat_tests)
 
 names_no_k3 : (a3 a2 a1 a4 : Bool)
     → (if a3 then Some A3 else if a2 then Some A2 else if a1 then Some A1
     else if a4 then Some A4 else None) ≡ Some K3 → ⊥
-names_no_k3 a3 a2 a1 a4 named = grind (arith, nat_tests)
+names_no_k3 a3 a2 a1 a4 name = grind (arith, nat_tests)
 
 abbrev key_chain : Bool → Bool → Bool → Bool → Bool → Bool → Option Rule
 key_chain k1 k2 k3 k4 k5 k6 =
@@ -55,20 +55,20 @@ key_chain k1 k2 k3 k4 k5 k6 =
     else None
 
 names_k3 : (k1 k2 k3 k4 k5 k6 : Bool) → key_chain k1 k2 k3 k4 k5 k6 ≡ Some K3 → k3 ≡ true
-names_k3 k1 k2 k3 k4 k5 k6 named = grind (arith, nat_tests)
+names_k3 k1 k2 k3 k4 k5 k6 name = grind (arith, nat_tests)
 
 names_no_a1 : (k1 k2 k3 k4 k5 k6 : Bool) → key_chain k1 k2 k3 k4 k5 k6 ≡ Some A1 → ⊥
-names_no_a1 k1 k2 k3 k4 k5 k6 named = grind (arith, nat_tests)
+names_no_a1 k1 k2 k3 k4 k5 k6 name = grind (arith, nat_tests)
 
 or_else-some : (first second : Option Rule) (rule : Rule)
     → or_else first second ≡ Some rule
     → (first ≡ Some rule) ⊎ ((first ≡ None) × (second ≡ Some rule))
-or_else-some None second rule named = inr (refl, named)
-or_else-some (Some earlier) second rule named = inl named
+or_else-some None second rule name = inr (refl, name)
+or_else-some (Some earlier) second rule name = inl name
 
-other_rule : (test : Bool) (named other : Rule) → rule_where test named ≡ Some other → named ≡ other
-other_rule true named other is = cc
-other_rule false named other is = absurd (cc)
+other_rule : (test : Bool) (name other : Rule) → rule_where test name ≡ Some other → name ≡ other
+other_rule true name other is = cc
+other_rule false name other is = absurd (cc)
 
 -- a first rule that is neither X0 nor I1
 first_rule-in : (last : Option ℕ) (now : Signals) (rule : Rule)
@@ -78,8 +78,8 @@ first_rule-in : (last : Option ℕ) (now : Signals) (rule : Rule)
     → (atomicity_rule last now ≡ Some rule)
     ⊎ ((atomicity_rule last now ≡ None) × (key_rule now ≡ Some rule))
 unfolding first_rule
-first_rule-in last now rule no_x0 no_i1 named =
-    elim (or_else-some (rule_where (breaks_x0 now) X0) _ rule named) [
+first_rule-in last now rule no_x0 no_i1 name =
+    elim (or_else-some (rule_where (breaks_x0 now) X0) _ rule name) [
       | inl x0 ↦ absurd (no_x0 (other_rule (breaks_x0 now) X0 rule x0))
       | inr later ↦
           elim (or_else-some (atomicity_rule last now) _ rule later.1) [
@@ -96,8 +96,8 @@ first_rule-in last now rule no_x0 no_i1 named =
 first_rule-a1 : (last : Option ℕ) (now : Signals) → first_rule last now ≡ Some A1
     → breaks_a1 last now ≡ true
 unfolding atomicity_rule key_rule
-first_rule-a1 last now named =
-    elim (first_rule-in last now A1 (λ same. cc) (λ same. cc) named) [
+first_rule-a1 last now name =
+    elim (first_rule-in last now A1 (λ same. cc) (λ same. cc) name) [
       | inl atomicity ↦
           names_a1 (breaks_a3 now) (breaks_a2 last now) (breaks_a1 last now) (breaks_a4 now)
           atomicity
@@ -109,8 +109,8 @@ first_rule-a1 last now named =
 first_rule-k3 : (last : Option ℕ) (now : Signals)
     → first_rule last now ≡ Some K3 → (atomicity_rule last now ≡ None) × (breaks_k3 now ≡ true)
 unfolding atomicity_rule key_rule
-first_rule-k3 last now named =
-    elim (first_rule-in last now K3 (λ same. cc) (λ same. cc) named) [
+first_rule-k3 last now name =
+    elim (first_rule-in last now K3 (λ same. cc) (λ same. cc) name) [
       | inl atomicity ↦
           absurd (names_no_k3 (breaks_a3 now) (breaks_a2 last now) (breaks_a1 last now)
           (breaks_a4 now) atomicity)
@@ -157,19 +157,19 @@ mac_word : (i : ℕ) → i < 16 → (number : ℕ)
     → leaves_stack_and_mac (Some (Write ((0x200 + 2 * i) / 2 * 2) Word number)) ≡ false
 mac_word i within number = grind (arith, nat_tests)
 
-pub item_writes-inside : (region passed sp number : ℕ) (bounds : Bounds) (item : CallItem)
-    → ItemFits region passed item
+pub item_writes-inside : (region count sp number : ℕ) (bounds : Bounds) (item : CallItem)
+    → ItemFits region count item
     → (some_writes (Some (item_access sp bounds item number))
     && leaves_stack_and_mac (Some (item_access sp bounds item number))) ≡ false
-item_writes-inside region passed sp number bounds (KeyRead i) fits = refl
-item_writes-inside region passed sp number bounds (MetadataRead i) fits = refl
-item_writes-inside region passed sp number bounds (DerivedKeyWrite i) fits =
+item_writes-inside region count sp number bounds (KeyRead i) fits = refl
+item_writes-inside region count sp number bounds (MetadataRead i) fits = refl
+item_writes-inside region count sp number bounds (DerivedKeyWrite i) fits =
     stack_word i fits.0 number
-item_writes-inside region passed sp number bounds (RegionRead i) fits = refl
-item_writes-inside region passed sp number bounds (InnerDigestWrite i) fits =
+item_writes-inside region count sp number bounds (RegionRead i) fits = refl
+item_writes-inside region count sp number bounds (InnerDigestWrite i) fits =
     inner_word i fits.0 number
-item_writes-inside region passed sp number bounds (MacWrite i) fits = mac_word i fits.0 number
-item_writes-inside region passed sp number bounds ReturnRead fits = refl
+item_writes-inside region count sp number bounds (MacWrite i) fits = mac_word i fits.0 number
+item_writes-inside region count sp number bounds ReturnRead fits = refl
 
 k3_false : (start : Start) (releases : ℕ) (kind : Kind) (progress : Progress)
     → IsWithin kind progress
@@ -185,24 +185,26 @@ k3_false start releases kind (InCall regs words) within =
     (item_after-fits (region_words (bounds_read words)) (length words)))
 
 no_a1 : (start : Start) (logs : Logs) (reset : Bool) → LogsAreSound logs
-    → first_rule (last_pc logs.seen) (signals_of start logs reset) ≡ Some A1 → ⊥
+    → first_rule (last_pc logs.records) (signals_of start logs reset) ≡ Some A1 → ⊥
 unfolding signals_at
-no_a1 start logs reset sound named =
-    let holds : breaks_a1 (last_pc logs.seen) (signals_of start logs reset) ≡ true =
-    first_rule-a1 (last_pc logs.seen) (signals_of start logs reset) named in
-    let fails : breaks_a1 (last_pc logs.seen) (signals_of start logs reset) ≡ false =
-    a1_false logs.progress (vector_of logs) (last_pc logs.seen) sound in
+no_a1 start logs reset sound name =
+    let holds : breaks_a1 (last_pc logs.records) (signals_of start logs reset) ≡ true =
+    first_rule-a1 (last_pc logs.records) (signals_of start logs reset) name in
+    let fails : breaks_a1 (last_pc logs.records) (signals_of start logs reset) ≡ false =
+    a1_false logs.progress (vector_of logs) (last_pc logs.records) sound in
     let clash : true ≡ false = sym holds ∙ fails in
     cc
 
 no_k3 : (start : Start) (logs : Logs) (reset : Bool) → LogsAreSound logs
-    → first_rule (last_pc logs.seen) (signals_of start logs reset) ≡ Some K3 → ⊥
+    → first_rule (last_pc logs.records) (signals_of start logs reset) ≡ Some K3 → ⊥
 unfolding signals_at
-no_k3 start logs reset sound named =
-    let both = first_rule-k3 (last_pc logs.seen) (signals_of start logs reset) named in
-    let atomicity = atomicity_rule-none (last_pc logs.seen) (signals_of start logs reset) both.0 in
+no_k3 start logs reset sound name =
+    let both = first_rule-k3 (last_pc logs.records) (signals_of start logs reset) name in
+    let atomicity =
+    atomicity_rule-none (last_pc logs.records) (signals_of start logs reset) both.0 in
     let within : IsWithin (step_kind logs) (step_progress logs (step_kind logs)) =
-    progress_within-right logs.progress (vector_of logs) (last_pc logs.seen) sound atomicity.a2 in
+    progress_within-right logs.progress (vector_of logs) (last_pc logs.records) sound
+    atomicity.a2 in
     let fails : breaks_k3 (signals_of start logs reset) ≡ false =
     k3_false start (length logs.released_words) (step_kind logs)
     (step_progress logs (step_kind logs)) within in

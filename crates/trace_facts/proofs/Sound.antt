@@ -9,12 +9,12 @@ use Rattle.bus_signals.specs.declared.kind.Kind.TheVariants.{Boot, Cpu, Idle, Ir
 use Rattle.bus_signals.specs.declared.rule.Rule.{Rule}
 use Rattle.bus_signals.specs.Map.{ROM_ENTRY}
 use Rattle.part_definitions.specs.Attestation.{CallItem, KeyRead, MetadataRead, DerivedKeyWrite, RegionRead, InnerDigestWrite, MacWrite, ReturnRead, call_item, item_pc, is_return, word_passed}
-use Rattle.part_definitions.specs.CpuRegisters.{pc_of, is_asleep}
+use Rattle.part_definitions.specs.CpuRegister.{pc_of, is_asleep}
 use Rattle.part_definitions.specs.CpuState.{CpuState, Boundary, Executing, Entering, cpu_pc, with_value, completion_or}
 use Rattle.part_definitions.specs.NextAccess.{Next, Asks, Ends}
-use Rattle.part_definitions.specs.Monitors.{in_rom, was_inside}
+use Rattle.part_definitions.specs.MonitorRule.{in_rom, was_inside}
 use Rattle.device_trace.specs.Logs.{progress_after}
-use Rattle.device_trace.specs.Progress.{Progress, Held, Runs, InCall, next_pc_of, boundary_kind, kind_of, progress_from_boundary, progress_within, after_return, call_after, running_after, next_progress}
+use Rattle.device_trace.specs.Progress.{Progress, Held, Runs, InCall, next_pc_of, boundary_kind, kind_of, progress_from_boundary, progress_within, after_return, call_after, cpu_state_after, next_progress}
 
 -- code that has begun is outside the ROM
 abbrev pub IsOutside : CpuState → Type 0
@@ -82,7 +82,7 @@ progress_within-right Held vector last sound right = refl
 progress_within-right (Runs (Boundary regs)) vector last sound right =
     boundary_rightly regs vector last sound.0 right
 progress_within-right (Runs (Executing regs values)) vector last sound right = sound.1
-progress_within-right (Runs (Entering regs chosen values)) vector last sound right = sound.1
+progress_within-right (Runs (Entering regs choice values)) vector last sound right = sound.1
 progress_within-right (InCall regs words) vector last sound right = refl
 
 -- after a step
@@ -102,16 +102,16 @@ completion_or-outside : (cpu : CpuState) (next : Next) → IsOutside cpu
 completion_or-outside cpu (Asks access) outside = outside
 completion_or-outside cpu (Ends regs) outside = tt
 
-running_after-outside : (kind : Kind) (cpu : CpuState) (value : ℕ)
-    → in_rom (cpu_pc cpu) ≡ false → IsOutside (running_after kind cpu value)
-running_after-outside Idle cpu value outside = outside_of cpu outside
-running_after-outside Boot cpu value outside =
+cpu_state_after-outside : (kind : Kind) (cpu : CpuState) (value : ℕ)
+    → in_rom (cpu_pc cpu) ≡ false → IsOutside (cpu_state_after kind cpu value)
+cpu_state_after-outside Idle cpu value outside = outside_of cpu outside
+cpu_state_after-outside Boot cpu value outside =
     completion_or-outside (with_value cpu value) _ (with_value-outside cpu value outside)
-running_after-outside Cpu cpu value outside =
+cpu_state_after-outside Cpu cpu value outside =
     completion_or-outside (with_value cpu value) _ (with_value-outside cpu value outside)
-running_after-outside Irq cpu value outside =
+cpu_state_after-outside Irq cpu value outside =
     completion_or-outside (with_value cpu value) _ (with_value-outside cpu value outside)
-running_after-outside Rom cpu value outside =
+cpu_state_after-outside Rom cpu value outside =
     completion_or-outside (with_value cpu value) _ (with_value-outside cpu value outside)
 
 return_pc : (item : CallItem) → is_return item ≡ true → was_inside (Some (item_pc item)) ≡ false
@@ -136,7 +136,7 @@ pub next_progress-sound : (kind : Kind) (progress : Progress) (access : Option A
     → IsSound (next_progress kind progress access value) (Some (next_pc_of progress))
 next_progress-sound kind Held access value within = (refl, tt)
 next_progress-sound kind (Runs cpu) access value within =
-    (and_left (in_rom (cpu_pc cpu)) _ within, running_after-outside kind cpu value within)
+    (and_left (in_rom (cpu_pc cpu)) _ within, cpu_state_after-outside kind cpu value within)
 next_progress-sound kind (InCall regs words) access value within =
     call_after-sound regs words (word_passed access value)
 

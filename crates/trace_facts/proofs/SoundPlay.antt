@@ -9,26 +9,26 @@ use Rattle.device_trace.specs.Start.{Start}
 use Rattle.device_trace.specs.Step.{record_of, next_record}
 use Rattle.device_trace.specs.Trace.{next_logs, logs_after}
 use Rattle.trace_facts.proofs.Sound.{IsSound, IsWithin, progress_within-right, progress_after-sound}
-use Rattle.trace_facts.proofs.Unbroken.{first_rule-none}
+use Rattle.trace_facts.proofs.BreaksNoRule.{first_rule-none}
 
 -- of the logs of a play
 abbrev pub LogsAreSound : Logs → Type 0
-LogsAreSound logs = IsSound logs.progress (last_pc logs.seen)
+LogsAreSound logs = IsSound logs.progress (last_pc logs.records)
 
 pub within_unrefused : (start : Start) (logs : Logs) (reset : Bool)
     → LogsAreSound logs
-    → first_rule (last_pc logs.seen) (signals_of start logs reset) ≡ None
+    → first_rule (last_pc logs.records) (signals_of start logs reset) ≡ None
     → IsWithin (step_kind logs) (step_progress logs (step_kind logs))
 unfolding signals_at
 within_unrefused start logs reset sound none =
-    progress_within-right logs.progress (vector_of logs) (last_pc logs.seen) sound
-    (first_rule-none (last_pc logs.seen) (signals_of start logs reset) none).atomicity.a2
+    progress_within-right logs.progress (vector_of logs) (last_pc logs.records) sound
+    (first_rule-none (last_pc logs.records) (signals_of start logs reset) none).atomicity.a2
 
 after_record-sound : (start : Start) (logs : Logs) (reset : Bool)
     → LogsAreSound logs → LogsAreSound (with_record start logs (record_of start logs reset))
 unfolding with_record record_of signals_at
 after_record-sound start logs reset sound =
-    progress_after-sound (first_rule (last_pc logs.seen) (signals_of start logs reset))
+    progress_after-sound (first_rule (last_pc logs.records) (signals_of start logs reset))
     (step_kind logs)
     (step_progress logs (step_kind logs)) _ _ (λ none. within_unrefused start logs reset sound none)
 

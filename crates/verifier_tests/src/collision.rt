@@ -8,11 +8,11 @@ const KEY: [u8; 32] = [0; 32];
 fn a_constant_digest_collides(rt: HostRuntime) -> Result<(), Fail> {
     match exhibit::<Constant>(rt.alloc(), &KEY, &[1], &[2])? {
         Exhibit::Pair(first, second) => {
-            let mut expected = [0x36; 65];
-            expected[64] = 1;
-            assert_eq!(rt; first.as_slice(), expected.as_slice());
-            expected[64] = 2;
-            assert_eq!(rt; second.as_slice(), expected.as_slice());
+            let mut want = [0x36; 65];
+            want[64] = 1;
+            assert_eq!(rt; first.as_slice(), want.as_slice());
+            want[64] = 2;
+            assert_eq!(rt; second.as_slice(), want.as_slice());
         }
         _ => panic!(rt; "the messages collide"),
     }

@@ -50,7 +50,11 @@ fn memory_of(alloc: Global, code: &[u8]) -> Result<Memory, AllocError> {
 }
 
 // What a report with that output shows of a device that ran this code.
-fn shown<D: Digest32>(rt: &impl Abort, alloc: Global, code: &[u8]) -> Result<Exhibit, AllocError> {
+fn exhibit_of<D: Digest32>(
+    rt: &impl Abort,
+    alloc: Global,
+    code: &[u8],
+) -> Result<Exhibit, AllocError> {
     let Ok(policy) = read_policy(alloc, POLICY) else {
         panic!(rt; "the policy is in its form");
     };
@@ -64,7 +68,7 @@ fn shown<D: Digest32>(rt: &impl Abort, alloc: Global, code: &[u8]) -> Result<Exh
 
 // The inner input of an HMAC of the expected bytes under 32 zero bytes, with this first byte of
 // code.
-fn padded(first: u8) -> [u8; 116] {
+fn inner_block(first: u8) -> [u8; 116] {
     let mut all = [0x36; 116];
     for (byte, number) in all[64..96].iter_mut().zip(0..32) {
         *byte = number;
@@ -80,14 +84,14 @@ fn padded(first: u8) -> [u8; 116] {
 fn own_bytes_are_compared_with_those_expected(rt: HostRuntime) -> Result<(), Fail> {
     let alloc = rt.alloc();
     let other = [0x93, 0x42, 0x20, 0x00, 0x00, 0x03, 0x30, 0x41];
-    let same = shown::<Sha256Digest>(&rt, alloc, &CODE)?;
+    let same = exhibit_of::<Sha256Digest>(&rt, alloc, &CODE)?;
     assert!(rt; matches!(same, Exhibit::Same));
-    let told_apart = shown::<Sha256Digest>(&rt, alloc, &other)?;
-    assert!(rt; matches!(told_apart, Exhibit::MacsDiffer));
-    let Exhibit::Pair(expected, own) = shown::<Constant>(&rt, alloc, &other)? else {
+    let apart = exhibit_of::<Sha256Digest>(&rt, alloc, &other)?;
+    assert!(rt; matches!(apart, Exhibit::MacsDiffer));
+    let Exhibit::Pair(other_bytes, own) = exhibit_of::<Constant>(&rt, alloc, &other)? else {
         panic!(rt; "the lists collide");
     };
-    assert_eq!(rt; expected.as_slice(), padded(0x92).as_slice());
-    assert_eq!(rt; own.as_slice(), padded(0x93).as_slice());
+    assert_eq!(rt; other_bytes.as_slice(), inner_block(0x92).as_slice());
+    assert_eq!(rt; own.as_slice(), inner_block(0x93).as_slice());
     Ok(())
 }

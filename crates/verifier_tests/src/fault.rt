@@ -263,6 +263,6 @@ fn utf8_comes_before_all_else(rt: HostRuntime) {
         line: 2,
         kind: FaultKind::Utf8,
     });
-    assert!(rt; read_policy(rt.alloc(), b"or\n\xFF").is_err_and(|known| known == fault));
-    assert!(rt; read_reports(rt.alloc(), b"or\n\xFF").is_err_and(|known| known == fault));
+    assert!(rt; read_policy(rt.alloc(), b"or\n\xFF").is_err_and(|answer| answer == fault));
+    assert!(rt; read_reports(rt.alloc(), b"or\n\xFF").is_err_and(|answer| answer == fault));
 }

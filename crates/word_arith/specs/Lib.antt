@@ -4,5 +4,5 @@ pub mod Sum
 pub mod Decimal
 pub mod Op2
 pub mod Op1
-pub mod Signed
+pub mod SignedNumber
 pub mod DecimalNumber

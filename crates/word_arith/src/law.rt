@@ -1,4 +1,4 @@
-ghost use Rattle.word_arith.specs.Signed.{OverflowIsSigned, ComparisonOrders};
+ghost use Rattle.word_arith.specs.SignedNumber.{OverflowIsSigned, ComparisonOrders};
 ghost use Rattle.word_arith.specs.DecimalNumber.{DecimalSumIsOfNumbers};
 
 /// The law of V in binary sums: it is clear exactly where the result stands for the signed sum.

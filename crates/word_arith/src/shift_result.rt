@@ -12,13 +12,13 @@ fn shift_right(size: Size, dst: u16, top: bool) -> (u16, Flags)
     ensures fits { result.0 < modulus size }
 {
     let operand = size.low_part(dst);
-    let shifted = match size {
+    let number = match size {
         Size::Byte => operand / 2 + u16::from(top) * 0x80,
         Size::Word => operand / 2 + u16::from(top) * 0x8000,
     };
     (
-        shifted,
-        Flags::of_result(size, shifted, operand % 2 == 1, false),
+        number,
+        Flags::of_result(size, number, operand % 2 == 1, false),
     )
 }
 

@@ -16,8 +16,8 @@ loop-i-preserved c =
     omega (arith, c.loop-i-test.true, c.len-i-end.ensures.value) in
     let word : get_or words at.i 0 ≡ c.in-Some.word =
     get_or_from_slice_get words at.i c.in-Some.word 0 (sym c.get.ensures ∙ c.in-Some.is) in
-    let added : c.push_word.new.bytes.items ≡ at.bytes.items ++ word_bytes (get_or words at.i 0) =
+    let adds : c.push_word.new.bytes.items ≡ at.bytes.items ++ word_bytes (get_or words at.i 0) =
     c.in_ok-push_word.ensures ∙ ap (λ w. at.bytes.items ++ word_bytes w) (sym word) in
     words_more word_bytes (c.args.bytes.now.items ++ flat_map word_bytes words) at.bytes.items words
     at.i 0 below at.invariant
-    ∙ ap (λ front. front ++ flat_map word_bytes (drop (at.i + 1) words)) (sym added)
+    ∙ ap (λ prefix. prefix ++ flat_map word_bytes (drop (at.i + 1) words)) (sym adds)

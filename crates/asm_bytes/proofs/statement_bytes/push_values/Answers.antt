@@ -14,7 +14,7 @@ returns-in-Err c =
     let fits : SFits w128 (get_or c.args.values.now at.value-index (pos 0)) = search rules in
     value_refused c.args.size (all_bytes c.args.size values) values at.value-index (pos 0)
     (to_z w128 (of_z w128 item)) c.args.bytes.now.items at.bytes.items c.push_value.new.bytes.items
-    c.push_value.new.bytes.items at.invariant.done c.in-Err.fault (to_z-of_z w128 item fits)
+    c.push_value.new.bytes.items at.invariant.prefix c.in-Err.fault (to_z-of_z w128 item fits)
     c.loop-value-test.true at.invariant.so_far c.in-Err.ensures
 
 pub loop-value-preserved : goal.loop-value-preserved
@@ -25,6 +25,6 @@ loop-value-preserved c =
     let fits : SFits w128 (get_or c.args.values.now at.value-index (pos 0)) = search rules in
     let more = value_added c.args.size (all_bytes c.args.size values) values at.value-index (pos 0)
     (to_z w128 (of_z w128 item)) c.args.bytes.now.items at.bytes.items c.push_value.new.bytes.items
-    at.invariant.done c.in_default.field-0 (to_z-of_z w128 item fits) c.loop-value-test.true
+    at.invariant.prefix c.in_default.field-0 (to_z-of_z w128 item fits) c.loop-value-test.true
     at.invariant.added at.invariant.so_far c.in_default.ensures in
-    record { done = more.0; added = more.1; so_far = more.2 }
+    record { prefix = more.0; added = more.1; so_far = more.2 }

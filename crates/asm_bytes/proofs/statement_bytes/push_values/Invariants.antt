@@ -1,12 +1,12 @@
 use Rattle.std.proofs.Common.{◌≡◌, ◌++◌, ℕ, List, drop}
 use Rattle.asm_bytes.specs.Statement.{all_bytes}
-use Rattle.asm_bytes.proofs.Lists.{followed_by}
+use Rattle.asm_bytes.proofs.Lists.{with_prefix}
 use Rattle.asm_bytes.proofs.statement_bytes.push_values.Given as goal
 
 abbrev pub invariant-loop-value : goal.invariant-loop-value
 invariant-loop-value l = record {
-  done : List ℕ;
-  added : l.bytes.items ≡ l.fn.bytes.items ++ done;
+  prefix : List ℕ;
+  added : l.bytes.items ≡ l.fn.bytes.items ++ prefix;
   so_far : all_bytes l.size l.values
-      ≡ followed_by done (all_bytes l.size (drop l.value-index l.values));
+      ≡ with_prefix prefix (all_bytes l.size (drop l.value-index l.values));
 }

@@ -2,10 +2,10 @@ use Rattle.std.proofs.Common.{◌≡◌, List}
 use Rattle.std.specs.Prelude.{map}
 use Rattle.asm_text.specs.Operand.{parts_of, all_of}
 use Rattle.asm_text.specs.Statement.{is_readable}
-use Rattle.asm_text.proofs.Gathered.{behind}
+use Rattle.asm_text.proofs.Behind.{behind}
 use Rattle.asm_text.proofs.directive.read_ascii.Given as goal
 
 abbrev pub invariant-loop-part : goal.invariant-loop-part
 invariant-loop-part l =
-    (done : List Unit) × (all_of (map is_readable (parts_of l.fn.tokens))
-    ≡ behind done (all_of (map is_readable l.part-iterator)))
+    (prefix : List Unit) × (all_of (map is_readable (parts_of l.fn.tokens))
+    ≡ behind prefix (all_of (map is_readable l.part-iterator)))

@@ -1,6 +1,6 @@
 use Rattle.std.proofs.Common.{arith, ◌∙◌, sym, ◌≡◌, ◌++◌, ◌∷◌, [], ◌≤◌, length}
 use Rattle.std.proofs.lemmas.Result.{err_from_is_err_and}
-use Rattle.asm_text.proofs.Answered.{ok_of_map_err}
+use Rattle.asm_text.proofs.MapError.{ok_of_map_err}
 use Rattle.asm_text.proofs.TermSteps.{next_term, no_term, no_sign, last_term, term_missing}
 use Rattle.asm_text.proofs.expr_reader.read_terms.Goals as goal
 
@@ -23,7 +23,7 @@ returns-in_err-sign c =
 
 pub loop-rest-preserved : goal.loop-rest-preserved
 loop-rest-preserved c =
-    let added : c.add.new.self ≡ c.loop-rest.expr ++ (c.loop-rest.sign, c.in_ok-term_of.field-0) ∷
+    let adds : c.add.new.self ≡ c.loop-rest.expr ++ (c.loop-rest.sign, c.in_ok-term_of.field-0) ∷
     [] =
     rw (ok_of_map_err _ c.add.result c.map_err.result _ c.map_err.ensures.cases
     c.map_err.ensures.variant
@@ -31,7 +31,7 @@ loop-rest-preserved c =
     next_term c.loop-rest.expr c.add.new.self c.loop-rest.sign c.in_ok-sign.sign
     c.loop-rest.rest.now c.in_ok-term_of.field-0 c.loop-rest.invariant c.in-len2-up.len_at_least
     (sym c.term_of.ensures ∙ c.in_ok-term_of.was)
-    (sym c.sign_of.ensures ∙ c.in_ok-sign.was) added
+    (sym c.sign_of.ensures ∙ c.in_ok-sign.was) adds
 
 pub returns-in_err-term_of-in-len1-up : goal.returns-in_err-term_of-in-len1-up
 returns-in_err-term_of-in-len1-up c =
@@ -43,7 +43,7 @@ returns-in_err-term_of-in-len1-up c =
 
 pub returns-in_ok-map_err-in-len1-up : goal.returns-in_ok-map_err-in-len1-up
 returns-in_ok-map_err-in-len1-up c =
-    let added : c.add-in-len1-up.new.self
+    let adds : c.add-in-len1-up.new.self
     ≡ c.loop-rest.expr ++ (c.loop-rest.sign, c.in_ok-term_of-in-len1-up.field-0) ∷ [] =
     rw (ok_of_map_err _ c.add-in-len1-up.result c.map_err-in-len1-up.result _
     c.map_err-in-len1-up.ensures.cases c.map_err-in-len1-up.ensures.variant
@@ -51,7 +51,7 @@ returns-in_ok-map_err-in-len1-up c =
     last_term c.loop-rest.expr c.add-in-len1-up.new.self c.loop-rest.sign c.loop-rest.rest.now
     c.in_ok-term_of-in-len1-up.field-0 c.loop-rest.invariant c.in-len1-up.len_at_least
     c.in_default.len_below
-    (sym c.term_of-in-len1-up.ensures ∙ c.in_ok-term_of-in-len1-up.was) added
+    (sym c.term_of-in-len1-up.ensures ∙ c.in_ok-term_of-in-len1-up.was) adds
 
 pub returns-in-empty : goal.returns-in-empty
 returns-in-empty c =

@@ -3,7 +3,7 @@ use Rattle.std.specs.Prelude.{map}
 use Rattle.std.specs.Vec.Iter.{into_iter_items, into_iter_len}
 use Rattle.asm_text.specs.Operand.{all_of}
 use Rattle.asm_text.specs.Statement.{operand_expr, all_exprs}
-use Rattle.asm_text.proofs.Gathered.{behind}
+use Rattle.asm_text.proofs.Behind.{behind}
 use Rattle.asm_text.proofs.operands.all_exprs.Given as goal
 
 abbrev pub invariant-loop-operand : goal.invariant-loop-operand

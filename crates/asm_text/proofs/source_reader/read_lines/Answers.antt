@@ -1,5 +1,5 @@
 use Rattle.std.proofs.Common.{◌≡◌, ◌++◌, ◌∷◌, []}
-use Rattle.asm_text.proofs.Answered.{ok_of_map_err}
+use Rattle.asm_text.proofs.MapError.{ok_of_map_err}
 use Rattle.asm_text.proofs.SourceSteps.{lines-fit, next-lines, next-so_far}
 use Rattle.asm_text.proofs.source_reader.read_lines.Goals as goal
 
@@ -11,7 +11,7 @@ line_behind-place-requires c =
 
 pub loop-number-preserved : goal.loop-number-preserved
 loop-number-preserved c =
-    let added : c.add.new.self ≡ c.loop-number.source ++ c.in_ok-statement.statement ∷ [] =
+    let adds : c.add.new.self ≡ c.loop-number.source ++ c.in_ok-statement.statement ∷ [] =
     rw (ok_of_map_err _ c.add.result c.map_err.result _ c.map_err.ensures.cases
     c.map_err.ensures.variant c.in_ok-map_err.was) at c.add.ensures in
     record {
@@ -22,5 +22,5 @@ loop-number-preserved c =
           (c.in-Some.number, c.in-Some.line.now) c.next.new.self c.line_behind-place.result
           c.loop-number.source c.add.new.self c.in_ok-statement.statement
           c.loop-number.invariant.lines c.loop-number.invariant.so_far c.in-Some.ensures.steps
-          c.line_behind-place.ensures c.in_ok-statement.ensures added;
+          c.line_behind-place.ensures c.in_ok-statement.ensures adds;
     }

@@ -2,14 +2,14 @@ use Rattle.std.proofs.Common.{◌≡◌, ◌∙◌, refl, arith}
 use Rattle.std.proofs.lemmas.List.{append-nil}
 use Rattle.outside_edge.proofs.SinkLemmas.{takes_both, puts_after}
 use Rattle.hex_loader.specs.HexText.{lines_below, line_at, end_line}
-use Rattle.hex_loader.proofs.Written.{lines_below-next, prefix_in_text}
+use Rattle.hex_loader.proofs.WritePieces.{lines_below-next, prefix_in_text}
 use Rattle.std.proofs.lemmas.Result.{err_from_is_err_and}
 use Rattle.hex_loader.proofs.hex_text.write_places.Goals as goal
 
 pub loop-place-init : goal.loop-place-init
 unfolding lines_below
 loop-place-init g c = record {
-  taken = λ image shows taken stood. rw append-nil stood;
+  taken = λ image shows earlier holds. rw append-nil holds;
   quiet = refl;
 }
 

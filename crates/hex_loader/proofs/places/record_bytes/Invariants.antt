@@ -4,7 +4,7 @@ use Rattle.hex_loader.proofs.places.record_bytes.Given as goal
 
 abbrev pub invariant-loop-offset : goal.invariant-loop-offset
 invariant-loop-offset g l =
-    (length l.found.items ≡ l.offset)
+    (length l.data.items ≡ l.offset)
     × ((image : ℕ → Option ℕ) → g.P.Places.shows l.bytes image
-    → l.found.items ++ run image (l.place + l.offset) (l.offset-end - l.offset)
+    → l.data.items ++ run image (l.place + l.offset) (l.offset-end - l.offset)
     ≡ record_bytes image l.place)

@@ -10,11 +10,11 @@ loop-byte-preserved c =
     let at = c.loop-byte in
     let bytes = c.args.bytes.now in
     let within = c.loop-byte-test.true in
-    let taken : is_image_place at.place ≡ true = sym c.set_byte.ensures.taken
+    let takes : is_image_place at.place ≡ true = sym c.set_byte.ensures.taken
     ∙ c.if-not-set_byte.false in
     record {
       place = omega (arith, at.invariant.place);
-      taken = at.invariant.taken ∙ are_image_places-more bytes at.byte-index at.place within taken;
+      taken = at.invariant.taken ∙ are_image_places-more bytes at.byte-index at.place within takes;
       bytes = λ place.
           rw (c.set_byte.ensures.bytes place, c.if-not-set_byte.false)
           (byte_among-more bytes at.byte-index at.place place (byte_in at.image place) within

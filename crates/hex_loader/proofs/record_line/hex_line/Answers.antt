@@ -1,6 +1,6 @@
 use Rattle.std.proofs.Common.{arith, ◌++◌, ◌∷◌, [], ℕ, List, ap, codes}
 use Rattle.hex.specs.Hex.{upper_digits, encode_upper}
-use Rattle.hex_loader.proofs.Written.{encode_with-more, encode_with-end}
+use Rattle.hex_loader.proofs.WritePieces.{encode_with-more, encode_with-end}
 use Rattle.hex_loader.proofs.record_line.hex_line.Goals as goal
 
 pub loop-byte-preserved : goal.loop-byte-preserved

@@ -4,14 +4,14 @@ use Rattle.std.proofs.lemmas.Result.{err_from_is_err_and}
 use Rattle.mem_map.specs.Image.{byte_in}
 use Rattle.outside_edge.proofs.SinkLemmas.{takes_both}
 use Rattle.msp_disasm.specs.Listing.{items_below, lines_of, line_at}
-use Rattle.msp_disasm.proofs.Written.{begun_at, lines_of-next, place_after-next, prefix_in_listing}
+use Rattle.msp_disasm.proofs.NextLines.{item_there, lines_of-next, place_after-next, prefix_in_listing}
 use Rattle.msp_disasm.proofs.listing_writer.write_listing.Goals as goal
 
 pub loop-place-init : goal.loop-place-init
 unfolding items_below
 loop-place-init g c = record {
   free = refl;
-  taken = λ taken stood. rw append-nil stood;
+  taken = λ earlier stands. rw append-nil stands;
   quiet = refl;
 }
 
@@ -35,7 +35,7 @@ loop-place-preserved g c =
           (rw at.invariant.free at c.in_ok-free.ensures.free);
       taken = rw (lines_of-next bytes at.place)
           (takes_both g.W.Sink.stands c.args.sink.now at.sink c.write_item.new.sink
-          (lines_of (items_below bytes at.place)) (line_at at.place (begun_at bytes at.place))
+          (lines_of (items_below bytes at.place)) (line_at at.place (item_there bytes at.place))
           at.invariant.taken
           (rw at.invariant.free at c.in_ok-free.ensures.puts.all));
       quiet = c.in_ok-free.ensures.counts.quiet ∙ at.invariant.quiet;

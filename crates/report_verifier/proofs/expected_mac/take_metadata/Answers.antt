@@ -2,7 +2,7 @@ use Rattle.std.proofs.Common.{[], ◌∷◌}
 use Rattle.std.proofs.Math.Path.{subst}
 use Rattle.hmac_core.specs.Hmac.{HmacStandsFor}
 use Rattle.part_definitions.specs.Attestation.{bytes_of_words}
-use Rattle.report_verifier.proofs.Regrouped.{append-six}
+use Rattle.report_verifier.proofs.SixPieces.{append-six}
 use Rattle.report_verifier.proofs.expected_mac.take_metadata.Goals as goal
 
 pub returns : goal.returns

@@ -1,4 +1,4 @@
-use Rattle.report_verifier.proofs.Accepted.{one_mac, expected-or_collides}
+use Rattle.report_verifier.proofs.Acceptance.{one_mac, expected-or_collides}
 use Rattle.report_verifier.proofs.law.accept_is_of_expected_bytes.Goals as goal
 
 pub returns-clause-one_mac : goal.returns-clause-one_mac

@@ -5,7 +5,7 @@ use Rattle.swatt_rom.proofs.word_bytes.bytes_of.Goals as goal
 pub loop-word-preserved : goal.loop-word-preserved
 loop-word-preserved g c = record {
   bytes = c.push-in-loop-word.ensures.items
-      ∙ ap (λ front. front ++ get_or c.to_le_bytes.result 1 0 ∷ []) c.push.ensures.items
+      ∙ ap (λ prefix. prefix ++ get_or c.to_le_bytes.result 1 0 ∷ []) c.push.ensures.items
       ∙ bytes_of_words-more c.args.words.now c.loop-word.word-index c.loop-word.bytes.items
       (get_or c.to_le_bytes.result 0 0) (get_or c.to_le_bytes.result 1 0)
       (omega arith) c.loop-word.invariant.bytes

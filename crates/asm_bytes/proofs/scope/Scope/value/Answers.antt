@@ -10,15 +10,15 @@ pub loop-is_subtracted-preserved : goal.loop-is_subtracted-preserved
 loop-is_subtracted-preserved c =
     let at = c.loop-is_subtracted in
     let items = c.as_slice-is_subtracted-items in
-    let found = c.in_ok-term_value.field-0 in
+    let part = c.in_ok-term_value.field-0 in
     let fits : SFits w64 c.in_ok-term_value.field-0 = search rules in
     let total = to_z w128 at.total-bits in
     let next = to_z w128 (of_z w128 (total +ℤ to_z w128 (of_z w128 c.with_sign.result))) in
     let sum : next ≡ total +ℤ c.with_sign.result = omega (arith, ints) in
     record {
       so_far = sum_step (scope_in c.args.self.now) c.args.expr.now items.result.now
-          at.is_subtracted-index _ total found (to_z w64 (of_z w64 found)) c.with_sign.result next
-          items.ensures (to_z-of_z w64 found fits) c.loop-is_subtracted-test.true
+          at.is_subtracted-index _ total part (to_z w64 (of_z w64 part)) c.with_sign.result next
+          items.ensures (to_z-of_z w64 part fits) c.loop-is_subtracted-test.true
           at.invariant.so_far c.in_ok-term_value.ensures c.with_sign.ensures.value sum;
       least = omega (arith, ints);
       most = omega (arith, ints);

@@ -1,10 +1,10 @@
 use Rattle.std.proofs.Common.{◌≡◌, drop}
 use Rattle.asm_bytes.specs.Scope.{scope_in}
 use Rattle.asm_bytes.specs.Statement.{values_of}
-use Rattle.asm_bytes.proofs.Lists.{followed_by}
+use Rattle.asm_bytes.proofs.Lists.{with_prefix}
 use Rattle.asm_bytes.proofs.scope.Scope.values.Given as goal
 
 abbrev pub invariant-loop-expr : goal.invariant-loop-expr
 invariant-loop-expr l =
     values_of (scope_in l.self) l.exprs
-    ≡ followed_by l.values.items (values_of (scope_in l.self) (drop l.expr-index l.exprs))
+    ≡ with_prefix l.values.items (values_of (scope_in l.self) (drop l.expr-index l.exprs))

@@ -1,5 +1,5 @@
 use Rattle.std.proofs.Common.{◌≡◌, ◌+◌, ◌++◌, ◌∷◌, [], length, rules, arith}
-use Rattle.part_definitions.specs.Attestation.{metadata_read, region_read, region_words, derived_in}
+use Rattle.part_definitions.specs.Attestation.{metadata_read, region_read, region_words, call_key}
 use Rattle.swatt_rom.proofs.Steps.{region-left, region-last, region-more, HashesRegion-more}
 use Rattle.swatt_rom.proofs.phase.Phase.after_region_word.Goals as goal
 
@@ -11,7 +11,7 @@ returns-in-Some g c = λ words stands.
     c.in-Some.ensures.bounds c.in-Some.ensures.next stands
     (HashesRegion-more g.D.Digest32.has_taken g.D.Digest32.digest_of c.update_word.new.self
     words c.args.word (omega arith) (region-left c.args.region words stands.same_bounds count)
-    (c.update_word.ensures (derived_in g.D.Digest32.digest_of words)
+    (c.update_word.ensures (call_key g.D.Digest32.digest_of words)
     (metadata_read words ++ region_read words) stands.hashes))
 
 pub returns-in-None : goal.returns-in-None
@@ -22,5 +22,5 @@ returns-in-None g c = λ words stands.
     (region-last c.args.region words c.args.word stands.same_bounds count last)
     (HashesRegion-more g.D.Digest32.has_taken g.D.Digest32.digest_of c.update_word.new.self
     words c.args.word (omega arith) (region-left c.args.region words stands.same_bounds count)
-    (c.update_word.ensures (derived_in g.D.Digest32.digest_of words)
+    (c.update_word.ensures (call_key g.D.Digest32.digest_of words)
     (metadata_read words ++ region_read words) stands.hashes))

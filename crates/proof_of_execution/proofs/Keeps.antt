@@ -16,7 +16,7 @@ use Rattle.trace_facts.proofs.Choices.{other_false, first_false, none_there}
 use Rattle.trace_facts.proofs.MissedPlace.{writes_nowhere}
 use Rattle.device_trace.specs.WholeRun.{is_inside, runs_undisturbed, keeps_code, keeps_output}
 
-pub record Kept (last : Option ℕ) (now : SeenRecord) : Type 0 where
+pub record Keeps (last : Option ℕ) (now : SeenRecord) : Type 0 where
   pub e1 : clears_e1 now ≡ false
   pub e2 : clears_e2 last now ≡ false
   pub e3 : clears_e3 last now ≡ false
@@ -27,7 +27,7 @@ pub record Kept (last : Option ℕ) (now : SeenRecord) : Type 0 where
   pub e8 : clears_e8 now ≡ false
   pub e9 : clears_e9 now ≡ false
 
-pub clears-kept : (last : Option ℕ) (now : SeenRecord) → clears last now ≡ false → Kept last now
+pub clears-kept : (last : Option ℕ) (now : SeenRecord) → clears last now ≡ false → Keeps last now
 clears-kept last now none =
     let p9 = or_parts _ (clears_e9 now) none in
     let p8 = or_parts _ (clears_e8 now) p9.0 in
@@ -50,21 +50,22 @@ clears-kept last now none =
     }
 
 -- inside ER
-pub undisturbed-kept : (last : Option ℕ) (now : SeenRecord) → Kept last now → runs_inside now ≡ true
+pub undisturbed-kept : (last : Option ℕ) (now : SeenRecord)
+    → Keeps last now → runs_inside now ≡ true
     → runs_undisturbed now.bounds now.entry ≡ true
-undisturbed-kept last now kept inside =
+undisturbed-kept last now keeps inside =
     let within : is_inside now.bounds now.entry ≡ true = inside in
     let quiet : now.entry.irq ≡ false =
-    other_false now.entry.irq (runs_inside now) kept.e4 inside in
+    other_false now.entry.irq (runs_inside now) keeps.e4 inside in
     let no_dma : is_some now.entry.dma ≡ false =
-    other_false (is_some now.entry.dma) (runs_inside now) kept.e7 inside in
+    other_false (is_some now.entry.dma) (runs_inside now) keeps.e7 inside in
     let no_fetch : list_any (fetches_outside (executable_region now.bounds)) (accesses_in now.entry)
     ≡ false =
     other_false (list_any (fetches_outside (executable_region now.bounds)) (accesses_in now.entry))
     (runs_inside now)
     (and_comm (list_any (fetches_outside (executable_region now.bounds)) (accesses_in now.entry))
     (runs_inside now)
-    ∙ kept.e8) inside in
+    ∙ keeps.e8) inside in
     and_from (is_inside now.bounds now.entry && not now.entry.irq && is_none now.entry.dma) _
     (and_from (is_inside now.bounds now.entry && not now.entry.irq) (is_none now.entry.dma)
     (and_from (is_inside now.bounds now.entry) (not now.entry.irq) within
@@ -72,17 +73,17 @@ undisturbed-kept last now kept inside =
     (ap is_none (none_there now.entry.dma no_dma)))
     (not_from_false _ no_fetch)
 
-pub code-kept : (last : Option ℕ) (now : SeenRecord) → Kept last now
+pub code-kept : (last : Option ℕ) (now : SeenRecord) → Keeps last now
     → keeps_code now.bounds now.entry ≡ true
-code-kept last now kept =
+code-kept last now keeps =
     let dma =
     or_parts (some_touches now.entry.dma (executable_region now.bounds))
-    (some_touches now.entry.dma (output_region now.bounds)) kept.e6 in
+    (some_touches now.entry.dma (output_region now.bounds)) keeps.e6 in
     let rest = or_parts (list_any (writes_to metadata_region) (accesses_in now.entry))
-    (is_some now.entry.reset) kept.e9 in
+    (is_some now.entry.reset) keeps.e9 in
     let no_write =
     not_from_false
-    (list_any (writes_to (executable_region now.bounds)) (accesses_in now.entry)) kept.e1 in
+    (list_any (writes_to (executable_region now.bounds)) (accesses_in now.entry)) keeps.e1 in
     let no_dma = not_from_false (some_touches now.entry.dma (executable_region now.bounds)) dma.0 in
     let no_metadata =
     not_from_false (list_any (writes_to metadata_region) (accesses_in now.entry)) rest.0 in
@@ -97,17 +98,17 @@ touches_nowhere access region off =
     writes_nowhere access region
     (and_right (some_writes access) (some_touches access region) off)
 
-pub output-kept : (last : Option ℕ) (now : SeenRecord) → Kept last now → runs_inside now ≡ false
+pub output-kept : (last : Option ℕ) (now : SeenRecord) → Keeps last now → runs_inside now ≡ false
     → keeps_output now.bounds now.entry ≡ true
-output-kept last now kept outside =
+output-kept last now keeps outside =
     let region : Region = output_region now.bounds in
     let dma =
     or_parts (some_touches now.entry.dma (executable_region now.bounds))
-    (some_touches now.entry.dma region) kept.e6 in
+    (some_touches now.entry.dma region) keeps.e6 in
     let cpu_off : list_any (writes_to region) (option_to_list now.entry.cpu) ≡ false =
     writes_nowhere now.entry.cpu region
     (first_false (some_writes now.entry.cpu && some_touches now.entry.cpu region)
-    (runs_inside now) kept.e5 outside) in
+    (runs_inside now) keeps.e5 outside) in
     let dma_off : list_any (writes_to region) (option_to_list now.entry.dma) ≡ false =
     touches_nowhere now.entry.dma region dma.1 in
     let off : list_any (writes_to region) (accesses_in now.entry) ≡ false =
@@ -116,12 +117,12 @@ output-kept last now kept outside =
     and_from _ _ (not_from_false _ off) (not_from_false _ dma.1)
 
 -- how ER is entered and left
-pub left_at_end : (last : Option ℕ) (now : SeenRecord) → Kept last now
+pub leaves_at_end : (last : Option ℕ) (now : SeenRecord) → Keeps last now
     → ran_inside last (executable_region now.bounds) ≡ true → runs_inside now ≡ false
     → ran_at last now.bounds.er_max ≡ true
-left_at_end last now kept was_inside outside =
+leaves_at_end last now keeps was_inside outside =
     ends (ran_inside last (executable_region now.bounds)) (ran_at last now.bounds.er_max)
-    (runs_inside now) kept.e2 was_inside outside
+    (runs_inside now) keeps.e2 was_inside outside
   where
     ends : (was at inside : Bool) → (was && not at && not inside) ≡ false → was ≡ true
         → inside ≡ false → at ≡ true
@@ -130,12 +131,12 @@ left_at_end last now kept was_inside outside =
     ends true false false off was outside = absurd (cc)
     ends false at inside off was outside = absurd (cc)
 
-pub entered_at_start : (last : Option ℕ) (now : SeenRecord) → Kept last now
+pub enters_at_start : (last : Option ℕ) (now : SeenRecord) → Keeps last now
     → runs_inside now ≡ true → ran_inside last (executable_region now.bounds) ≡ false
     → (now.entry.pc == now.bounds.er_min) ≡ true
-entered_at_start last now kept inside was_outside =
+enters_at_start last now keeps inside was_outside =
     begins (runs_inside now) (ran_inside last (executable_region now.bounds))
-    (now.entry.pc == now.bounds.er_min) kept.e3 inside was_outside
+    (now.entry.pc == now.bounds.er_min) keeps.e3 inside was_outside
   where
     begins : (inside was at : Bool) → (inside && not was && not at) ≡ false → inside ≡ true
         → was ≡ false → at ≡ true

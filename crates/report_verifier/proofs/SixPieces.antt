@@ -4,7 +4,7 @@ use Rattle.std.proofs.Math.Seq.{take-append_seam}
 use Rattle.std.proofs.lemmas.List.{append_assoc}
 use Rattle.part_definitions.specs.Attestation.{bytes_of_words}
 use Rattle.report_verifier.specs.declared.expect.Expect.{Expect}
-use Rattle.report_verifier.specs.Expected.{expected_metadata}
+use Rattle.report_verifier.specs.Expectation.{expected_metadata}
 
 pub append-six :
     (all a b c d e f : List ℕ)

@@ -16,11 +16,11 @@ use Rattle.report_verifier.specs.declared.evidence.Exhibit.TheVariants.{Same, Ma
 use Rattle.report_verifier.specs.declared.expect.Expect.{Expect}
 use Rattle.report_verifier.specs.Collision.{HaveOneMac, Exhibits}
 use Rattle.report_verifier.specs.Comparison.{OutputFits, expected_key, expected_bytes, own_bytes}
-use Rattle.report_verifier.specs.Expected.{expected_mac, output_of}
-use Rattle.report_verifier.specs.Policy.{expected_at}
+use Rattle.report_verifier.specs.Expectation.{expected_mac, output_of}
+use Rattle.report_verifier.specs.Policy.{expect_at}
 use Rattle.report_verifier.specs.Verdict.{same_bounds, verdict}
 use Rattle.part_definitions.proofs.BytesFrom.{length-bytes_from}
-use Rattle.report_verifier.proofs.Accepted.{tests-hold, same-bounds}
+use Rattle.report_verifier.proofs.Acceptance.{tests-hold, same-bounds}
 use Rattle.device_cli.specs.VerdictLine.{verdict_line}
 use Rattle.device_cli.specs.Verify.{is_accept}
 use Rattle.device_cli.specs.Judge.{Judge}
@@ -104,10 +104,10 @@ told-fits :
     → same_bounds expect.bounds report.bounds ≡ true
     → report.output ≡ reported_output bytes report.bounds
     → OutputFits expect.bounds report.output
-told-fits bytes expect report same told =
+told-fits bytes expect report same tells =
     let bounds = same-bounds expect.bounds report.bounds same in
     let fits = reported-fits bytes report.bounds (are_valid report.bounds) refl in
-    rw (told, bounds) fits
+    rw (tells, bounds) fits
 
 accepted_on-fits :
     (digest : List ℕ → List ℕ) (key : List ℕ) (image : ℕ → Option ℕ) (bytes : ℕ → ℕ)
@@ -115,50 +115,50 @@ accepted_on-fits :
     → report.output ≡ reported_output bytes report.bounds
     → is_accept (verdict digest key image expect report) ≡ true
     → IfSome expect (λ expect. OutputFits expect.bounds report.output)
-accepted_on-fits digest key image bytes None report told accepts = tt
-accepted_on-fits digest key image bytes (Some expect) report told accepts =
+accepted_on-fits digest key image bytes None report tells accepts = tt
+accepted_on-fits digest key image bytes (Some expect) report tells accepts =
     let tests = tests-hold (bytes_eq expect.chal report.chal)
     (same_bounds expect.bounds report.bounds) report.exec
     (bytes_eq (expected_mac digest key image expect report.output) report.mac)
     (accept-is (verdict digest key image (Some expect) report) accepts) in
-    told-fits bytes expect report tests.1 told
+    told-fits bytes expect report tests.1 tells
 
 -- an accepted report has no longer output than is expected
 pub accepted-fits :
     (judge : Judge) (i : ℕ) (bytes : ℕ → ℕ) (report : ReportFields)
     → TellsOutput bytes (Some report)
     → is_accept (verdict_at judge i report) ≡ true
-    → IfSome (expected_at judge.policy i) (λ expect. OutputFits expect.bounds report.output)
-accepted-fits judge i bytes report told accepts =
-    accepted_on-fits judge.digest judge.key judge.image bytes (expected_at judge.policy i) report
-    told accepts
+    → IfSome (expect_at judge.policy i) (λ expect. OutputFits expect.bounds report.output)
+accepted-fits judge i bytes report tells accepts =
+    accepted_on-fits judge.digest judge.key judge.image bytes (expect_at judge.policy i) report
+    tells accepts
 
 -- a verdict and what is expected, as the code has them
-pub record IsJudged (judge : Judge) (i : ℕ) (report : ReportFields) (decided : Decision)
+pub record IsJudged (judge : Judge) (i : ℕ) (report : ReportFields) (choice : Decision)
     (expect : Option Expect) : Type 0 where
-  pub decision : decided ≡ verdict_at judge i report
-  pub expectation : expect ≡ expected_at judge.policy i
+  pub decision : choice ≡ verdict_at judge i report
+  pub expectation : expect ≡ expect_at judge.policy i
 
 pub is-judged :
-    (judge : Judge) (i : ℕ) (report : ReportFields) {decided : Decision}
+    (judge : Judge) (i : ℕ) (report : ReportFields) {choice : Decision}
     {expect other : Option Expect}
-    → expect ≡ expected_at judge.policy i
+    → expect ≡ expect_at judge.policy i
     → other ≡ expect
-    → decided ≡ verdict judge.digest judge.key judge.image other report
-    → IsJudged judge i report decided expect
-is-judged judge i report expected same is = record {
+    → choice ≡ verdict judge.digest judge.key judge.image other report
+    → IsJudged judge i report choice expect
+is-judged judge i report expectation same is = record {
   decision = is
       ∙ ap (λ (expect : Option Expect). verdict judge.digest judge.key judge.image expect report)
-      (same ∙ expected);
-  expectation = expected;
+      (same ∙ expectation);
+  expectation = expectation;
 }
 
 pub evidence-fits :
-    (judge : Judge) (i : ℕ) (bytes : ℕ → ℕ) (report : ReportFields) {decided : Decision}
+    (judge : Judge) (i : ℕ) (bytes : ℕ → ℕ) (report : ReportFields) {choice : Decision}
     {expect : Option Expect}
-    → IsJudged judge i report decided expect
+    → IsJudged judge i report choice expect
     → TellsOutput bytes (Some report)
-    → is_accept decided ≡ true
+    → is_accept choice ≡ true
     → IfSome expect (λ expect. OutputFits expect.bounds report.output)
 evidence-fits judge i bytes report is tells accepts =
     rw is.expectation
@@ -167,62 +167,62 @@ evidence-fits judge i bytes report is tells accepts =
 -- a verdict was begun
 pub verdict-begun :
     {S : Type 0} (stands : S → List ℕ → Type 0) (old new : S) (judge : Judge) (i : ℕ)
-    (bytes : ℕ → ℕ) (report : ReportFields) {decided : Decision} {expect : Option Expect}
-    → IsJudged judge i report decided expect
-    → TakesPrefix stands old new (verdict_line (i + 1) decided)
+    (bytes : ℕ → ℕ) (report : ReportFields) {choice : Decision} {expect : Option Expect}
+    → IsJudged judge i report choice expect
+    → TakesPrefix stands old new (verdict_line (i + 1) choice)
     → TakesPrefix stands old new (judgement_lines judge i bytes (Some report))
-verdict-begun stands old new judge i bytes report is begun =
+verdict-begun stands old new judge i bytes report is begins =
     prefix_of_more stands old new (verdict_line (i + 1) (verdict_at judge i report))
-    (evidence_lines judge (expected_at judge.policy i) (verdict_at judge i report) report.output
+    (evidence_lines judge (expect_at judge.policy i) (verdict_at judge i report) report.output
     bytes)
-    (rw is.decision at begun)
+    (rw is.decision at begins)
 
 -- and what it shows was put behind it
 pub evidence-put :
     {S V E : Type 0} (stands : S → List ℕ → Type 0) (old mid new : S) (judge : Judge) (i : ℕ)
-    (bytes : ℕ → ℕ) (report : ReportFields) {decided : Decision} {expect : Option Expect}
+    (bytes : ℕ → ℕ) (report : ReportFields) {choice : Decision} {expect : Option Expect}
     (result : Result V E)
-    → IsJudged judge i report decided expect
-    → Takes stands old mid (verdict_line (i + 1) decided)
-    → Puts stands mid new (evidence_lines judge expect decided report.output bytes) result
+    → IsJudged judge i report choice expect
+    → Takes stands old mid (verdict_line (i + 1) choice)
+    → Puts stands mid new (evidence_lines judge expect choice report.output bytes) result
     → Puts stands old new (judgement_lines judge i bytes (Some report)) result
 evidence-put stands old mid new judge i bytes report result is first more =
     puts_after stands old mid new (verdict_line (i + 1) (verdict_at judge i report))
-    (evidence_lines judge (expected_at judge.policy i) (verdict_at judge i report) report.output
+    (evidence_lines judge (expect_at judge.policy i) (verdict_at judge i report) report.output
     bytes)
     result (rw is.decision at first) (rw (is.expectation, is.decision) at more)
 
 pub pair-of_report :
-    (judge : Judge) (i : ℕ) (bytes : ℕ → ℕ) (report : ReportFields) {decided : Decision}
+    (judge : Judge) (i : ℕ) (bytes : ℕ → ℕ) (report : ReportFields) {choice : Decision}
     {expect : Option Expect}
-    → IsJudged judge i report decided expect
-    → is_pair_shown judge expect decided report.output bytes ≡ true
+    → IsJudged judge i report choice expect
+    → is_pair_shown judge expect choice report.output bytes ≡ true
     → judgement_has_pair judge i bytes (Some report) ≡ true
-pair-of_report judge i bytes report is shown = rw (is.expectation, is.decision) at shown
+pair-of_report judge i bytes report is shows = rw (is.expectation, is.decision) at shows
 
 -- an accept, where something is expected
 pub evidence-of :
-    (judge : Judge) (expect : Option Expect) (decided : Decision) (output : Option (List ℕ))
-    (bytes : ℕ → ℕ) (expected : Expect)
-    → expect ≡ Some expected
-    → is_accept decided ≡ true
-    → evidence_lines judge expect decided output bytes ≡ comparison_lines judge expected output
+    (judge : Judge) (expect : Option Expect) (choice : Decision) (output : Option (List ℕ))
+    (bytes : ℕ → ℕ) (expectation : Expect)
+    → expect ≡ Some expectation
+    → is_accept choice ≡ true
+    → evidence_lines judge expect choice output bytes ≡ comparison_lines judge expectation output
     bytes
-evidence-of judge expect decided output bytes expected is accepts = rw (is, accepts) refl
+evidence-of judge expect choice output bytes expectation is accepts = rw (is, accepts) refl
 
 pub pair-of :
-    (judge : Judge) (expect : Option Expect) (decided : Decision) (output : Option (List ℕ))
-    (bytes : ℕ → ℕ) (expected : Expect)
-    → expect ≡ Some expected
-    → is_accept decided ≡ true
-    → is_pair_shown judge expect decided output bytes
-    ≡ own_bytes_collide judge expected output bytes
-pair-of judge expect decided output bytes expected is accepts = rw (is, accepts) refl
+    (judge : Judge) (expect : Option Expect) (choice : Decision) (output : Option (List ℕ))
+    (bytes : ℕ → ℕ) (expectation : Expect)
+    → expect ≡ Some expectation
+    → is_accept choice ≡ true
+    → is_pair_shown judge expect choice output bytes
+    ≡ own_bytes_collide judge expectation output bytes
+pair-of judge expect choice output bytes expectation is accepts = rw (is, accepts) refl
 
 pub fits-of :
-    (expect : Option Expect) (decided : Decision) (output : Option (List ℕ)) (expected : Expect)
-    → expect ≡ Some expected
-    → is_accept decided ≡ true
-    → (is_accept decided ≡ true → IfSome expect (λ expect. OutputFits expect.bounds output))
-    → OutputFits expected.bounds output
-fits-of expect decided output expected is accepts fits = rw is at (fits accepts)
+    (expect : Option Expect) (choice : Decision) (output : Option (List ℕ)) (expectation : Expect)
+    → expect ≡ Some expectation
+    → is_accept choice ≡ true
+    → (is_accept choice ≡ true → IfSome expect (λ expect. OutputFits expect.bounds output))
+    → OutputFits expectation.bounds output
+fits-of expect choice output expectation is accepts fits = rw is at (fits accepts)

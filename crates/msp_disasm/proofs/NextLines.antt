@@ -1,5 +1,5 @@
 -- A listing that is written item by item.
-use Rattle.std.proofs.Common.{◌≡◌, ◌∙◌, ◌≤◌, ◌<◌, ◌+◌, ℕ, zero, suc, List, [], ◌∷◌, ◌++◌, add-one, append_assoc, append-nil, Option, Some, None, refl, sym, arith, inl, inr}
+use Rattle.std.proofs.Common.{◌≡◌, ◌≤◌, ◌<◌, ◌+◌, ℕ, zero, suc, List, [], ◌++◌, add-one, append_assoc, append-nil, Option, Some, None, refl, sym, arith, inl, inr}
 use Rattle.std.proofs.lemmas.Bool.{cases_lt}
 use Rattle.outside_edge.specs.Sink.{Takes, TakesPrefix}
 use Rattle.outside_edge.proofs.SinkLemmas.{prefix_after, prefix_of_more}
@@ -7,35 +7,35 @@ use Rattle.msp_disasm.specs.declared.item.Item.{Item}
 use Rattle.msp_disasm.specs.Item.{item_at}
 use Rattle.msp_disasm.specs.Listing.{place_after, item_begun, with_item, items_below, lines_of, line_at, free_after, listing}
 
-lines_of-with : (earlier : List (ℕ × Item)) (place : ℕ) (found : Option Item)
-    → lines_of (with_item earlier place found) ≡ lines_of earlier ++ line_at place found
+lines_of-with : (earlier : List (ℕ × Item)) (place : ℕ) (answer : Option Item)
+    → lines_of (with_item earlier place answer) ≡ lines_of earlier ++ line_at place answer
 lines_of-with earlier place None = sym (append-nil (lines_of earlier))
 lines_of-with earlier place (Some item) = refl
 
-place_after-with : (earlier : List (ℕ × Item)) (place : ℕ) (found : Option Item)
-    → place_after (with_item earlier place found) ≡ free_after (place_after earlier) place found
+place_after-with : (earlier : List (ℕ × Item)) (place : ℕ) (answer : Option Item)
+    → place_after (with_item earlier place answer) ≡ free_after (place_after earlier) place answer
 place_after-with earlier place None = refl
 place_after-with earlier place (Some item) = refl
 
 -- the item that begins at a place, after those below it
-abbrev pub begun_at : (ℕ → Option ℕ) → ℕ → Option Item
-begun_at bytes place =
+abbrev pub item_there : (ℕ → Option ℕ) → ℕ → Option Item
+item_there bytes place =
     item_begun (place_after (items_below bytes place)) place (item_at bytes place)
 
 -- the lines below the next place
 pub lines_of-next : (bytes : ℕ → Option ℕ) (place : ℕ)
     → lines_of (items_below bytes (place + 1))
-    ≡ lines_of (items_below bytes place) ++ line_at place (begun_at bytes place)
+    ≡ lines_of (items_below bytes place) ++ line_at place (item_there bytes place)
 unfolding items_below
 lines_of-next bytes place =
-    rw add-one (lines_of-with (items_below bytes place) place (begun_at bytes place))
+    rw add-one (lines_of-with (items_below bytes place) place (item_there bytes place))
 
 pub place_after-next : (bytes : ℕ → Option ℕ) (place : ℕ)
     → place_after (items_below bytes (place + 1))
-    ≡ free_after (place_after (items_below bytes place)) place (begun_at bytes place)
+    ≡ free_after (place_after (items_below bytes place)) place (item_there bytes place)
 unfolding items_below
 place_after-next bytes place =
-    rw add-one (place_after-with (items_below bytes place) place (begun_at bytes place))
+    rw add-one (place_after-with (items_below bytes place) place (item_there bytes place))
 
 -- the lines below a place begin those below a later one
 lines_of-prefix : (bytes : ℕ → Option ℕ) (first last : ℕ) → first ≤ last
@@ -51,10 +51,10 @@ lines_of-prefix bytes first (suc last) order =
           ([], rw is (sym (append-nil (lines_of (items_below bytes (suc last))))))
       | inr below ↦
           let before = lines_of-prefix bytes first last below in (
-            before.0 ++ line_at last (begun_at bytes last),
+            before.0 ++ line_at last (item_there bytes last),
             rw (← add-one last, lines_of-next bytes last, before.1)
                 (append_assoc (lines_of (items_below bytes first)) before.0
-                (line_at last (begun_at bytes last))),
+                (line_at last (item_there bytes last))),
           )
     ]
 
@@ -62,12 +62,12 @@ lines_of-prefix bytes first (suc last) order =
 pub prefix_in_listing : {S : Type 0} (stands : S → List ℕ → Type 0) (bytes : ℕ → Option ℕ)
     (old mid new : S) (place : ℕ) → place < 65536
     → Takes stands old mid (lines_of (items_below bytes place))
-    → TakesPrefix stands mid new (line_at place (begun_at bytes place))
+    → TakesPrefix stands mid new (line_at place (item_there bytes place))
     → TakesPrefix stands old new (listing bytes)
 prefix_in_listing stands bytes old mid new place within before prefix =
     let rest = lines_of-prefix bytes (place + 1) 65536 (omega arith) in
     let lines = lines_of (items_below bytes place) in
-    let line = line_at place (begun_at bytes place) in
+    let line = line_at place (item_there bytes place) in
     rw (rest.1, lines_of-next)
     (prefix_of_more stands old new (lines ++ line) rest.0
     (prefix_after stands old mid new lines line before prefix))

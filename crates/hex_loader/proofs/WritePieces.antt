@@ -16,8 +16,8 @@ pub encode_with-more : (digits line bytes whole : List ℕ) (i : ℕ) → i < le
 unfolding encode_with
 encode_with-more digits line bytes whole i within before =
     let next : drop (i + 1) bytes ≡ drop (suc i) bytes = ap (λ (k : ℕ). drop k bytes) (add-one i) in
-    let opened = rw (drop-cons bytes i 0 within) at before in
-    rw next (simp append_assoc opened)
+    let opens = rw (drop-cons bytes i 0 within) at before in
+    rw next (simp append_assoc opens)
 
 -- and at the last byte
 pub encode_with-end : (digits line bytes whole : List ℕ) (i : ℕ) → length bytes ≤ i
@@ -28,24 +28,25 @@ encode_with-end digits line bytes whole i all before =
     sym (append-nil line) ∙ rw none at before
 
 -- a run with one byte more
-pub run-more : (image : ℕ → Option ℕ) (found whole : List ℕ) (place offset most byte : ℕ)
+pub run-more : (image : ℕ → Option ℕ) (earlier whole : List ℕ) (place offset most byte : ℕ)
     → offset < most
     → image (place + offset) ≡ Some byte
-    → found ++ run image (place + offset) (most - offset) ≡ whole
-    → (found ++ byte ∷ []) ++ run image (place + (offset + 1)) (most - (offset + 1)) ≡ whole
-run-more image found whole place offset most byte within here before =
+    → earlier ++ run image (place + offset) (most - offset) ≡ whole
+    → (earlier ++ byte ∷ []) ++ run image (place + (offset + 1)) (most - (offset + 1)) ≡ whole
+run-more image earlier whole place offset most byte within here before =
     let more : most - offset ≡ suc (most - (offset + 1)) = omega arith in
     let next : place + offset + 1 ≡ place + (offset + 1) = omega arith in
-    let opened = rw (more, here, next) at before in
-    rw append_assoc opened
+    let opens = rw (more, here, next) at before in
+    rw append_assoc opens
 
 -- a run ends where there is no byte
-pub run-end : (image : ℕ → Option ℕ) (found whole : List ℕ) (place offset most : ℕ) → offset < most
+pub run-end : (image : ℕ → Option ℕ) (earlier whole : List ℕ) (place offset most : ℕ)
+    → offset < most
     → image (place + offset) ≡ None
-    → found ++ run image (place + offset) (most - offset) ≡ whole → found ≡ whole
-run-end image found whole place offset most within none before =
+    → earlier ++ run image (place + offset) (most - offset) ≡ whole → earlier ≡ whole
+run-end image earlier whole place offset most within none before =
     let more : most - offset ≡ suc (most - (offset + 1)) = omega arith in
-    sym (append-nil found) ∙ rw (more, none) at before
+    sym (append-nil earlier) ∙ rw (more, none) at before
 
 -- the lines below the next place
 pub lines_below-next : (image : ℕ → Option ℕ) (place : ℕ)

@@ -16,24 +16,24 @@ use Rattle.bus_signals.specs.declared.kind.Kind.{Kind}
 use Rattle.bus_signals.specs.declared.kind.Kind.TheVariants.{Boot, Cpu, Idle, Irq, Rom}
 use Rattle.bus_signals.specs.declared.rule.Rule.{Rule}
 use Rattle.bus_signals.specs.Map.{RESET_VECTOR}
-use Rattle.part_definitions.specs.Accesses.{fetch_at, read_at, write_at}
+use Rattle.part_definitions.specs.BusAccess.{fetch_at, read_at, write_at}
 use Rattle.part_definitions.specs.Attestation.{CallItem, KeyRead, MetadataRead, DerivedKeyWrite, RegionRead, InnerDigestWrite, MacWrite, ReturnRead, item_access, bounds_read, call_item}
 use Rattle.part_definitions.specs.declared.cpu_access.CpuAccess.{CpuAccess}
 use Rattle.part_definitions.specs.declared.cpu_access.CpuAccess.TheVariants.{FetchImmediate, FetchSourceIndex, ReadSource, ReadIncrementing, FetchDestinationIndex, ReadDestination, WriteResult, PushSource, PushPc, PopSr, PopPc}
 use Rattle.part_definitions.specs.declared.working_state.WorkingState.{WorkingState}
-use Rattle.part_definitions.specs.CpuAccesses.{accesses_of}
+use Rattle.part_definitions.specs.CpuAccess.{accesses_of}
 use Rattle.part_definitions.specs.CpuState.{CpuState, Boundary, Executing, Entering, asked_access, cpu_access}
 use Rattle.part_definitions.specs.Dma.{Transfer, is_active, place_of_word, access_at, transfer_access, dma_access, transfer_of, latch}
 use Rattle.part_definitions.specs.Instruction.{bus_access, after_value}
 use Rattle.part_definitions.specs.NextAccess.{walk, walk_head, next_access, entry_access}
-use Rattle.part_definitions.specs.Operands.{size_of, working_at_start}
+use Rattle.part_definitions.specs.Operand.{size_of, state_at_start}
 use Rattle.device_trace.specs.Progress.{Progress, Held, Runs, InCall, running_access, access_of}
 use Rattle.device_trace.specs.Logs.{Logs, step_progress}
 use Rattle.device_trace.specs.Signals.{signals_at, step_kind, proposed_access}
 use Rattle.device_trace.specs.Start.{Start}
 use Rattle.device_trace.specs.Step.{without_number, access_recorded, record_of, next_record}
 use Rattle.device_trace.specs.Trace.{trace}
-use Rattle.device_trace.specs.Formed.{AccessesAreFormed}
+use Rattle.device_trace.specs.AccessesAreFormed.{AccessesAreFormed}
 
 fetch_at-formed : (place : ℕ) → IsFormed (fetch_at place)
 fetch_at-formed place = mul-mod_left (place / 2) 2
@@ -47,34 +47,34 @@ write_at-formed Byte place number = omega arith
 write_at-formed Word place number = mul-mod_left (place / 2) 2
 
 -- the accesses of an instruction
-bus_access-formed : (head : Head) (access : CpuAccess) (working : WorkingState)
-    → IsFormed (bus_access head access working)
-bus_access-formed head FetchImmediate working = fetch_at-formed _
-bus_access-formed head (FetchSourceIndex register) working = fetch_at-formed _
-bus_access-formed head ReadSource working = read_at-formed (size_of head) _
-bus_access-formed head (ReadIncrementing register) working = read_at-formed (size_of head) _
-bus_access-formed head (FetchDestinationIndex register) working = fetch_at-formed _
-bus_access-formed head ReadDestination working = read_at-formed (size_of head) _
-bus_access-formed head WriteResult working = write_at-formed (size_of head) _ _
-bus_access-formed head PushSource working = write_at-formed (size_of head) _ _
-bus_access-formed head PushPc working = write_at-formed Word _ 0
-bus_access-formed head PopSr working = read_at-formed Word _
-bus_access-formed head PopPc working = read_at-formed Word _
+bus_access-formed : (head : Head) (access : CpuAccess) (work : WorkingState)
+    → IsFormed (bus_access head access work)
+bus_access-formed head FetchImmediate work = fetch_at-formed _
+bus_access-formed head (FetchSourceIndex register) work = fetch_at-formed _
+bus_access-formed head ReadSource work = read_at-formed (size_of head) _
+bus_access-formed head (ReadIncrementing register) work = read_at-formed (size_of head) _
+bus_access-formed head (FetchDestinationIndex register) work = fetch_at-formed _
+bus_access-formed head ReadDestination work = read_at-formed (size_of head) _
+bus_access-formed head WriteResult work = write_at-formed (size_of head) _ _
+bus_access-formed head PushSource work = write_at-formed (size_of head) _ _
+bus_access-formed head PushPc work = write_at-formed Word _ 0
+bus_access-formed head PopSr work = read_at-formed Word _
+bus_access-formed head PopPc work = read_at-formed Word _
 
 walk-formed :
-    (head : Head) (accesses : List CpuAccess) (working : WorkingState) (values : List ℕ)
-    → IfSome (asked_access (walk head accesses working values)) IsFormed
-walk-formed head [] working values = tt
-walk-formed head (access ∷ accesses) working [] = bus_access-formed head access working
-walk-formed head (access ∷ accesses) working (value ∷ values) =
-    walk-formed head accesses (after_value head access value working) values
+    (head : Head) (accesses : List CpuAccess) (work : WorkingState) (values : List ℕ)
+    → IfSome (asked_access (walk head accesses work values)) IsFormed
+walk-formed head [] work values = tt
+walk-formed head (access ∷ accesses) work [] = bus_access-formed head access work
+walk-formed head (access ∷ accesses) work (value ∷ values) =
+    walk-formed head accesses (after_value head access value work) values
 
 walk_head-formed :
     (head : Option Head) (regs values : List ℕ)
     → IfSome (asked_access (walk_head head regs values)) IsFormed
 walk_head-formed None regs values = tt
 walk_head-formed (Some head) regs values =
-    walk-formed head (accesses_of head) (working_at_start head regs) values
+    walk-formed head (accesses_of head) (state_at_start head regs) values
 
 next_access-formed : (regs values : List ℕ)
     → IfSome (asked_access (next_access regs values)) IsFormed
@@ -145,17 +145,17 @@ transfer_access-formed transfer =
 
 without_number-formed : (access : Option Access) → IfSome access IsFormed
     → IfSome (without_number access) IsFormed
-without_number-formed None formed = tt
-without_number-formed (Some (Fetch place)) formed = formed
-without_number-formed (Some (Read place size)) formed = formed
-without_number-formed (Some (Write place Byte number)) formed = omega arith
-without_number-formed (Some (Write place Word number)) formed = formed
+without_number-formed None is_formed = tt
+without_number-formed (Some (Fetch place)) is_formed = is_formed
+without_number-formed (Some (Read place size)) is_formed = is_formed
+without_number-formed (Some (Write place Byte number)) is_formed = omega arith
+without_number-formed (Some (Write place Word number)) is_formed = is_formed
 
 access_recorded-formed :
     (rule : Option Rule) (access : Option Access) → IfSome access IsFormed
     → IfSome (access_recorded rule access) IsFormed
-access_recorded-formed None access formed = formed
-access_recorded-formed (Some rule) access formed = without_number-formed access formed
+access_recorded-formed None access is_formed = is_formed
+access_recorded-formed (Some rule) access is_formed = without_number-formed access is_formed
 
 pub record_of-formed : (start : Start) (logs : Logs) (reset : Bool)
     → AccessesAreFormed (record_of start logs reset)

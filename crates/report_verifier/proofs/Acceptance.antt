@@ -17,12 +17,12 @@ use Rattle.report_verifier.specs.declared.expect.Expect.{Expect}
 use Rattle.report_verifier.specs.Acceptance.{IsAccepted, StandsAsExpected}
 use Rattle.report_verifier.specs.Collision.{Collides, colliding_pair}
 use Rattle.report_verifier.specs.Comparison.{expected_key, expected_bytes, own_bytes}
-use Rattle.report_verifier.specs.Expected.{expected_mac, expected_metadata, expected_rest, image_byte, image_code, output_of}
+use Rattle.report_verifier.specs.Expectation.{expected_mac, expected_metadata, expected_rest, image_byte, image_code, output_of}
 use Rattle.report_verifier.specs.PolicyGrammar.{bounds_with}
 use Rattle.report_verifier.specs.Verdict.{same_bounds}
 use Rattle.report_verifier.proofs.Pairs.{one_mac-collides}
 use Rattle.part_definitions.proofs.BytesFrom.{length-bytes_from}
-use Rattle.report_verifier.proofs.Regrouped.{length-metadata, take-chal}
+use Rattle.report_verifier.proofs.SixPieces.{length-metadata, take-chal}
 
 -- an accept says that all four tests hold
 pub tests-hold : (chal bounds exec mac : Bool)
@@ -94,7 +94,7 @@ pub one_mac : (digest : List ℕ → List ℕ) (key : List ℕ) (image : ℕ →
 one_mac digest key image expect bytes report is =
     let agrees = accept-agrees digest key image expect bytes report is in
     agrees.mac
-    ∙ ap (λ (derived : List ℕ). hmac digest derived (own_bytes bytes))
+    ∙ ap (λ (mac_key : List ℕ). hmac digest mac_key (own_bytes bytes))
     (same-key digest key expect bytes agrees.chal)
 
 -- two lists of two parts, of which the first ones have one length
@@ -145,15 +145,15 @@ pub expected-or_collides : (digest : List ℕ → List ℕ) (key : List ℕ) (im
     ⊎ Collides digest (colliding_pair digest (expected_key digest key expect)
     (expected_bytes image expect report.output) (own_bytes bytes))
 expected-or_collides digest key image expect bytes report is =
-    let expected : List ℕ = expected_bytes image expect report.output in
+    let target : List ℕ = expected_bytes image expect report.output in
     let own : List ℕ = own_bytes bytes in
-    elim (cases_Bool (bytes_eq expected own)) [
+    elim (cases_Bool (bytes_eq target own)) [
       | inl same ↦
           inl (expected-where digest key image expect bytes report is
-          ((bytes_eq-Decides expected own).0 same))
+          ((bytes_eq-Decides target own).0 same))
       | inr differ ↦
-          inr (one_mac-collides digest (expected_key digest key expect) expected own (
-            λ same. false≢true (sym differ ∙ (bytes_eq-Decides expected own).1 same),
+          inr (one_mac-collides digest (expected_key digest key expect) target own (
+            λ same. false≢true (sym differ ∙ (bytes_eq-Decides target own).1 same),
             one_mac digest key image expect bytes report is,
           ))
     ]
