@@ -6,7 +6,7 @@ and kind; `listing` and `hex_text` give the printed texts of an image.
 """
 import re
 
-from file_readers import Fault, is_place, limited, lines_of
+from file_readers import Fault, is_place, within_limit, lines_of
 
 REGISTERS = {"pc": 0, "sp": 1, "sr": 2, **{f"r{number}": number for number in range(16)}}
 TWO = "mov add addc subc sub cmp dadd bit bic bis xor and".split()
@@ -36,17 +36,17 @@ class Unreadable(Exception):
 def tokens_of(line):
     tokens, at = [], 0
     while line[at:].strip(" \t") and line[at:].lstrip(" \t")[0] != ";":
-        found = TOKEN.match(line, at)
-        if not found:
+        match = TOKEN.match(line, at)
+        if not match:
             raise Unreadable
-        kind = found.lastgroup
-        value = found[kind]
+        kind = match.lastgroup
+        value = match[kind]
         if kind == "number":
             value = int(value, 16 if value.startswith("0x") else 10)
             if value > 65535:
                 raise Unreadable
         tokens.append((kind, value))
-        at = found.end()
+        at = match.end()
     return tokens
 
 
@@ -234,7 +234,7 @@ def statement_of(number, line):
     return label, statement
 
 
-def generated(operand, is_byte):
+def constant_form(operand, is_byte):
     """Register and mode of the constant generator, where it makes the operand."""
     form, terms, _ = operand
     if form != "immediate" or len(terms) != 1 or not isinstance(terms[0][1], int):
@@ -252,10 +252,10 @@ def size_of(statement):
     if kind == "word":
         return 2 * len(parts)
     is_byte, operands = parts[1], parts[2:]
-    extended = [operand for operand in operands
-                if operand[0] not in ("register", "indirect", "increment")
-                and not generated(operand, is_byte)]
-    return 2 + 2 * len(extended)
+    with_words = [operand for operand in operands
+                  if operand[0] not in ("register", "indirect", "increment")
+                  and not constant_form(operand, is_byte)]
+    return 2 + 2 * len(with_words)
 
 
 class Scope:
@@ -278,21 +278,21 @@ class Scope:
         self.is_out_of_range |= not least <= total <= most
         return total
 
-    def checked(self, value):
+    def in_range(self, value):
         """The value, where all so far were in their ranges."""
         if self.is_out_of_range:
             raise Fault(self.number, "Range")
         return value
 
-    def encoded(self, operand, is_byte, place):
+    def encoding_of(self, operand, is_byte, place):
         """Register, mode and extension words of an operand whose extension word stands at this
         place.
         """
         form, terms, register = operand
         if form in ("register", "indirect", "increment"):
             return register, {"register": 0, "indirect": 2, "increment": 3}[form], []
-        if generated(operand, is_byte):
-            return *generated(operand, is_byte), []
+        if constant_form(operand, is_byte):
+            return *constant_form(operand, is_byte), []
         if form == "immediate":
             return 0, 3, [self.value(terms, *((-128, 255) if is_byte else (-32768, 65535)))]
         if form == "absolute":
@@ -312,10 +312,11 @@ class Scope:
             self.is_out_of_range |= distance % 2 == 1 or not -512 <= distance // 2 <= 511
             return [0x2000 | condition << 10 | distance // 2 % 1024]
         opcode, is_byte, first = parts[:3]
-        register, mode, words = self.encoded(first, is_byte, self.place + 2)
+        register, mode, words = self.encoding_of(first, is_byte, self.place + 2)
         if kind == "one":
             return [0x1000 | opcode << 7 | is_byte << 6 | mode << 4 | register, *words]
-        other, is_memory, more = self.encoded(parts[3], is_byte, self.place + 2 + 2 * len(words))
+        place = self.place + 2 + 2 * len(words)
+        other, is_memory, more = self.encoding_of(parts[3], is_byte, place)
         head = opcode + 4 << 12 | register << 8 | is_memory << 7 | is_byte << 6 | mode << 4 | other
         return [head, *words, *more]
 
@@ -325,14 +326,14 @@ class Scope:
             return parts
         if kind == "byte":
             values = [self.value(terms, -128, 255) for terms in parts]
-            return self.checked(bytes(value % 256 for value in values))
-        return self.checked(b"".join(
+            return self.in_range(bytes(value % 256 for value in values))
+        return self.in_range(b"".join(
             (word % 65536).to_bytes(2, "little") for word in self.words_of(kind, parts)))
 
 
-def placed(statements):
+def placement_of(statements):
     """The first pass: the names, and the statements that give bytes with their lines and places."""
-    names, used, given, place = {}, set(), [], 0xC000
+    names, occupancy, bodies, place = {}, set(), [], 0xC000
     for number, (label, statement) in statements:
         scope = Scope(number, dict(names), place)
         kind, parts = statement or (None, None)
@@ -342,33 +343,34 @@ def placed(statements):
             if name is not None:
                 names[name] = place
         if kind == "equ":
-            names[parts[0]] = scope.checked(scope.value(parts[1], -32768, 65535))
+            names[parts[0]] = scope.in_range(scope.value(parts[1], -32768, 65535))
         elif kind == "org":
-            place = scope.checked(scope.value(parts, 0, 65535))
+            place = scope.in_range(scope.value(parts, 0, 65535))
         elif kind:
             places = range(place, place + size_of(statement))
             if (places and kind not in ("byte", "text") and place % 2
                     or not all(map(is_place, places))):
                 raise Fault(number, "Place")
-            if not used.isdisjoint(places):
+            if not occupancy.isdisjoint(places):
                 raise Fault(number, "Overlap")
-            used.update(places)
-            given.append((number, statement, place))
+            occupancy.update(places)
+            bodies.append((number, statement, place))
             place += len(places)
-    return names, given
+    return names, bodies
 
 
 def assemble(text):
     """The bytes of the image by their places."""
-    lines = lines_of(limited(text, 1048576))
+    lines = lines_of(within_limit(text, 1048576))
     for number, line in lines:
         try:
             line.decode()
         except UnicodeDecodeError:
             raise Fault(number, "Utf8") from None
-    names, given = placed([(number, statement_of(number, line.decode())) for number, line in lines])
+    statements = [(number, statement_of(number, line.decode())) for number, line in lines]
+    names, bodies = placement_of(statements)
     image = {}
-    for number, statement, place in given:
+    for number, statement, place in bodies:
         image.update(enumerate(Scope(number, names, place).bytes_of(statement), place))
     return image
 
@@ -414,8 +416,8 @@ class Item:
         return f"&0x{word:04x}" if register == 2 else f"0x{word:04x}(r{register})"
 
     def source(self, register, mode):
-        for value, made in CONSTANTS.items():
-            if made == (register, mode):
+        for value, form in CONSTANTS.items():
+            if form == (register, mode):
                 return f"#{value}"
         if mode == 0:
             return f"r{register}"

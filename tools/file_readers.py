@@ -24,14 +24,14 @@ def lines_of(text):
     return list(enumerate(lines + [last] if last else lines, 1))
 
 
-def limited(text, limit):
+def within_limit(text, limit):
     if len(text) > limit:
         raise Fault(0, "TooLong")
     return text
 
 
 def read_key(text):
-    limited(text, 256)
+    within_limit(text, 256)
     for end in (b"\r\n", b"\n"):
         if text.endswith(end):
             text = text[:-len(end)]
@@ -68,7 +68,7 @@ def read_record(number, line):
 
 def read_image(text):
     """The bytes by their places."""
-    limited(text, 1048576)
+    within_limit(text, 1048576)
     image, base, has_end = {}, 0, False
     lines = lines_of(text)
     for number, line in lines:
@@ -136,7 +136,7 @@ class Words:
 
 def texts_of(text, limit):
     """The words of each line that has some and is no comment, and the number of lines."""
-    lines = lines_of(limited(text, limit))
+    lines = lines_of(within_limit(text, limit))
     for number, line in lines:
         try:
             line.decode()
