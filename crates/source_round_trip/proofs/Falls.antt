@@ -97,11 +97,11 @@ falls-nothing = record {
       ap (λ (p : ℕ). tokens_of p rest) there ∙ behind-none (tokens_of (place + 0) rest);
 }
 
--- a token at the front
-pub token-front : (place count : ℕ) (text rest : List ℕ) (token : Token) → 0 < count
+-- a token that begins a text
+pub token-prefix : (place count : ℕ) (text rest : List ℕ) (token : Token) → 0 < count
     → count ≡ length text → piece_of place (text ++ rest) ≡ pieces.Token token count
     → tokens_of place (text ++ rest) ≡ behind (token ∷ []) (tokens_of (place + length text) rest)
-token-front place count text rest token some long is =
+token-prefix place count text rest token some long is =
     let here : place ≡ place + 0 = omega arith in
     let there : place + (0 + count) ≡ place + length text = omega (arith, long) in
     let passes : 0 + count ≡ length text = omega (arith, long) in
@@ -115,9 +115,9 @@ token-front place count text rest token some long is =
     ∙ ap (tokens_of (place + length text)) (drop-append_seam text rest))
     ∙ before-behind token (tokens_of (place + length text) rest)
 
-blank-front : (place c : ℕ) (rest : List ℕ) → piece_of place (c ∷ rest) ≡ pieces.Blank
+blank-prefix : (place c : ℕ) (rest : List ℕ) → piece_of place (c ∷ rest) ≡ pieces.Blank
     → tokens_of place (c ∷ rest) ≡ tokens_of (place + 1) rest
-blank-front place c rest is =
+blank-prefix place c rest is =
     let here : place ≡ place + 0 = omega arith in
     let there : place + (0 + 1) ≡ place + 1 = omega arith in
     ap (λ (p : ℕ). tokens_of p (c ∷ rest)) here
@@ -128,7 +128,7 @@ blank-front place c rest is =
 pub blank-falls : FallsAlways (codes " ") (λ place. [])
 unfolding piece_of
 blank-falls = record {
-  cut = λ place rest. blank-front place 32 rest refl ∙ behind-none (tokens_of (place + 1) rest);
+  cut = λ place rest. blank-prefix place 32 rest refl ∙ behind-none (tokens_of (place + 1) rest);
 }
 
 -- a mark
@@ -137,7 +137,7 @@ mark-falls : (mark : ℕ) (token : Token)
     → FallsAlways (mark ∷ []) (λ place. token ∷ [])
 mark-falls mark token is = record {
   cut = λ place rest.
-      token-front place 1 (mark ∷ []) rest token (omega arith) refl (is place rest);
+      token-prefix place 1 (mark ∷ []) rest token (omega arith) refl (is place rest);
 }
 
 pub colon-falls : FallsAlways (codes ":") (λ place. Colon ∷ [])
@@ -229,7 +229,7 @@ word-falls (c ∷ word) token all some is =
     let parts = and_parts (is_word_character c) (list_all is_word_character word) all in
     record {
       cut = λ place rest apart.
-          token-front place (length (c ∷ word)) (c ∷ word) rest (token place) some refl
+          token-prefix place (length (c ∷ word)) (c ∷ word) rest (token place) some refl
           (word-piece_of place c (word ++ rest) parts.0
           ∙ ap (word_piece place) (word-cut (c ∷ word) rest all apart) ∙ is place);
     }

@@ -69,27 +69,27 @@ one_mnemonic one.Call = Call
 two-operation : (op : Op2) (size : Size)
     → IsOperation (op2_name op ++ size_suffix size) (operations.Instr (two_mnemonic op) size)
 two-operation op.Mov sizes.Byte =
-    record { all = refl; some = omega arith; front = refl; register = refl; names = refl }
+    record { all = refl; some = omega arith; begins = refl; register = refl; names = refl }
 two-operation op.Mov sizes.Word =
-    record { all = refl; some = omega arith; front = refl; register = refl; names = refl }
+    record { all = refl; some = omega arith; begins = refl; register = refl; names = refl }
 two-operation op sizes.Byte =
-    record { all = refl; some = omega arith; front = refl; register = refl; names = refl }
+    record { all = refl; some = omega arith; begins = refl; register = refl; names = refl }
 two-operation op sizes.Word =
-    record { all = refl; some = omega arith; front = refl; register = refl; names = refl }
+    record { all = refl; some = omega arith; begins = refl; register = refl; names = refl }
 
 one-operation : (op : OneOp) (size : Size) → has_size op size ≡ true
     → IsOperation (one_name op ++ size_suffix size) (operations.Instr (one_mnemonic op) size)
 one-operation one.Rrc sizes.Byte is =
-    record { all = refl; some = omega arith; front = refl; register = refl; names = refl }
+    record { all = refl; some = omega arith; begins = refl; register = refl; names = refl }
 one-operation one.Rra sizes.Byte is =
-    record { all = refl; some = omega arith; front = refl; register = refl; names = refl }
+    record { all = refl; some = omega arith; begins = refl; register = refl; names = refl }
 one-operation one.Push sizes.Byte is =
-    record { all = refl; some = omega arith; front = refl; register = refl; names = refl }
+    record { all = refl; some = omega arith; begins = refl; register = refl; names = refl }
 one-operation op sizes.Byte is = absurd (false≢true is)
 one-operation one.Rrc sizes.Word is =
-    record { all = refl; some = omega arith; front = refl; register = refl; names = refl }
+    record { all = refl; some = omega arith; begins = refl; register = refl; names = refl }
 one-operation op sizes.Word is =
-    record { all = refl; some = omega arith; front = refl; register = refl; names = refl }
+    record { all = refl; some = omega arith; begins = refl; register = refl; names = refl }
 
 two-form : (op : Op2) → form_of (two_mnemonic op) ≡ forms.SourceAndDestination
 two-form op.Mov = refl
@@ -154,7 +154,7 @@ two-again place op size source dest fits fits_dest form = record {
       (two-operation op size) refl
       (falls-apart (source-falls source fits) refl
       (falls-then comma-falls (dest-falls dest fits_dest)))
-      ((source-read source).front (Comma ∷ dest_tokens dest))
+      ((source-read source).begins (Comma ∷ dest_tokens dest))
       (two-read (source-read source) (dest-read dest))
       (rw (two-form op, source-form source form, dest-form dest) refl);
   bytes = λ text names.

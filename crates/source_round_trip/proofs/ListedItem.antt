@@ -25,7 +25,7 @@ use Rattle.source_round_trip.proofs.ListedJump.{number-operand}
 
 reti-operation : IsOperation (codes "reti") (operations.Instr RetiMnemonic sizes.Word)
 reti-operation =
-    record { all = refl; some = omega arith; front = refl; register = refl; names = refl }
+    record { all = refl; some = omega arith; begins = refl; register = refl; names = refl }
 
 pub reti-again : (place : ℕ) → IsReadAs place (items.Instruction Reti)
 reti-again place =
@@ -45,7 +45,7 @@ word-again place word below = record {
   body = bodies.Word (number_expr word ∷ []);
   read = λ number start.
       statement-read {word = codes ".word"} number start (Symbolic (number_expr word) ∷ [])
-      (record { all = refl; some = omega arith; front = refl; register = refl; names = refl }) refl
+      (record { all = refl; some = omega arith; begins = refl; register = refl; names = refl }) refl
       (word-falls word below) refl (one-read (number-operand word)) refl;
   bytes = λ text names.
       ap (λ (number : ℤ). all_bytes sizes.Word (number ∷ [])) (+ℤ_idr (pos word))
@@ -58,7 +58,7 @@ byte-again place byte below = record {
   read = λ number start.
       statement-read {word = codes ".byte"} {text = codes "0x" ++ byte_digits byte} number start
       (Symbolic (number_expr byte) ∷ [])
-      (record { all = refl; some = omega arith; front = refl; register = refl; names = refl }) refl
+      (record { all = refl; some = omega arith; begins = refl; register = refl; names = refl }) refl
       (number-falls (codes "0x" ++ byte_digits byte) byte (byte_text-number byte below)) refl
       (one-read (number-operand byte)) refl;
   bytes = λ text names.

@@ -38,7 +38,7 @@ use Rattle.source_round_trip.proofs.ListedInstruction.{bytes_read}
 pub number-operand : (number : ℕ) → IsOperandOf (Number number ∷ []) (Symbolic (number_expr number))
 unfolding terms_of
 number-operand number =
-    record { some = omega arith; alone = refl; read = refl; front = λ rest. refl }
+    record { some = omega arith; alone = refl; read = refl; begins = λ rest. refl }
 
 -- the conditions' mnemonics
 abbrev jump_mnemonic : Cond → Mnemonic
@@ -54,9 +54,9 @@ jump_mnemonic conditions.Always = Jmp
 jump-operation : (condition : Cond)
     → IsOperation (jump_name condition) (operations.Instr (jump_mnemonic condition) sizes.Word)
 jump-operation conditions.Ne =
-    record { all = refl; some = omega arith; front = refl; register = refl; names = refl }
+    record { all = refl; some = omega arith; begins = refl; register = refl; names = refl }
 jump-operation condition =
-    record { all = refl; some = omega arith; front = refl; register = refl; names = refl }
+    record { all = refl; some = omega arith; begins = refl; register = refl; names = refl }
 
 jump-form : (condition : Cond) → form_of (jump_mnemonic condition) ≡ forms.Target
 jump-form conditions.Ne = refl

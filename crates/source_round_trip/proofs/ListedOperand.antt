@@ -138,34 +138,34 @@ indexed-read : (register : Reg) (index : ℕ)
     → IsOperandOf (indexed_tokens register index) (indexed_operand register index)
 unfolding terms_of
 indexed-read R2 index =
-    record { some = omega arith; alone = refl; read = refl; front = λ rest. refl }
+    record { some = omega arith; alone = refl; read = refl; begins = λ rest. refl }
 indexed-read register index =
-    record { some = omega arith; alone = refl; read = refl; front = λ rest. refl }
+    record { some = omega arith; alone = refl; read = refl; begins = λ rest. refl }
 
 constant-read : (constant : Gen)
     → IsOperandOf (constant_tokens constant) (source_operand (source.Constant constant))
 unfolding terms_of
 constant-read gen.MinusOne =
-    record { some = omega arith; alone = refl; read = refl; front = λ rest. refl }
+    record { some = omega arith; alone = refl; read = refl; begins = λ rest. refl }
 constant-read constant =
-    record { some = omega arith; alone = refl; read = refl; front = λ rest. refl }
+    record { some = omega arith; alone = refl; read = refl; begins = λ rest. refl }
 
 pub source-read : (source : Source) → IsOperandOf (source_tokens source) (source_operand source)
 unfolding terms_of
 source-read (source.Reg register) =
-    record { some = omega arith; alone = refl; read = refl; front = λ rest. refl }
+    record { some = omega arith; alone = refl; read = refl; begins = λ rest. refl }
 source-read (source.Indexed register index) = indexed-read register index
 source-read (source.Indirect register) =
-    record { some = omega arith; alone = refl; read = refl; front = λ rest. refl }
+    record { some = omega arith; alone = refl; read = refl; begins = λ rest. refl }
 source-read (source.IndirectInc register) =
-    record { some = omega arith; alone = refl; read = refl; front = λ rest. refl }
+    record { some = omega arith; alone = refl; read = refl; begins = λ rest. refl }
 source-read (source.Immediate word) =
-    record { some = omega arith; alone = refl; read = refl; front = λ rest. refl }
+    record { some = omega arith; alone = refl; read = refl; begins = λ rest. refl }
 source-read (source.Constant constant) = constant-read constant
 
 pub dest-read : (dest : Dest) → IsOperandOf (dest_tokens dest) (dest_operand dest)
 dest-read (dest.Reg register) =
-    record { some = omega arith; alone = refl; read = refl; front = λ rest. refl }
+    record { some = omega arith; alone = refl; read = refl; begins = λ rest. refl }
 dest-read (dest.Indexed register index) = indexed-read register index
 
 -- the forms that a legal source and a destination have

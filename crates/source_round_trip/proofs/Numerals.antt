@@ -104,15 +104,15 @@ decimals (c ∷ word) n answer =
       digit = (and_parts (is_ascii_digit c) (list_all is_ascii_digit word) parts.1).0;
     }
 
-by_front : (word : List ℕ) (n : ℕ) (is_hex : Bool) → bytes_eq (take 2 word) (codes "0x") ≡ is_hex
+by_prefix : (word : List ℕ) (n : ℕ) (is_hex : Bool) → bytes_eq (take 2 word) (codes "0x") ≡ is_hex
     → cond is_hex (numeral 16 is_ascii_hexdigit (drop 2 word)) (numeral 10 is_ascii_digit word)
     ≡ Some n → IsNumber word
-by_front word n true is answer =
+by_prefix word n true is answer =
     hexadecimal word n ((bytes_eq-Decides (take 2 word) (codes "0x")).0 is) answer
-by_front word n false is answer = decimals word n answer
+by_prefix word n false is answer = decimals word n answer
 
 pub number-is : (word : List ℕ) (n : ℕ) → number_of word ≡ Some n → IsNumber word
-number-is word n answer = by_front word n (bytes_eq (take 2 word) (codes "0x")) refl answer
+number-is word n answer = by_prefix word n (bytes_eq (take 2 word) (codes "0x")) refl answer
 
 pub number-falls : (word : List ℕ) (n : ℕ) → number_of word ≡ Some n
     → FallsInto word (λ place. Number n ∷ [])

@@ -76,12 +76,12 @@ pub record IsOperandOf (tokens : List Token) (operand : Operand) : Type 0 where
   pub some : 0 < length tokens
   pub alone : has_no_comma tokens ≡ true
   pub read : operand_of tokens ≡ Ok operand
-  pub front : (rest : List Token) → begins_with_colon (tokens ++ rest) ≡ false
+  pub begins : (rest : List Token) → begins_with_colon (tokens ++ rest) ≡ false
 
 pub no_colon-first : {tokens : List Token} {operand : Operand} → IsOperandOf tokens operand
     → begins_with_colon tokens ≡ false
 no_colon-first {tokens = tokens} is =
-    ap begins_with_colon (sym (append-nil tokens)) ∙ is.front []
+    ap begins_with_colon (sym (append-nil tokens)) ∙ is.begins []
 
 -- one operand alone, and two
 pub one-read : {tokens : List Token} {operand : Operand} → IsOperandOf tokens operand

@@ -21,8 +21,8 @@ use Rattle.source_round_trip.specs.ReadBack.{AreNumerals}
 use Rattle.source_round_trip.specs.SaidLine.{Name, SaidExpr, SaidOperand, Symbolic, Empty, Org, Word, Byte, Ascii, Equ, said_expr, said_operand}
 use Rattle.source_round_trip.specs.SaidText.{Numerals, operand_text, operands_text}
 use Rattle.source_round_trip.specs.Writable.{is_free_name, is_writable_expr, are_writable, is_writable_body}
-use Rattle.source_round_trip.proofs.Falls.{FallsInto, token-front, falls-then, falls-apart, falls-nothing, blank-falls}
-use Rattle.source_round_trip.proofs.PlacedName.{Stands, stands-front, stands-back, stands-name, says-operands}
+use Rattle.source_round_trip.proofs.Falls.{FallsInto, token-prefix, falls-then, falls-apart, falls-nothing, blank-falls}
+use Rattle.source_round_trip.proofs.PlacedName.{Stands, stands-prefix, stands-back, stands-name, says-operands}
 use Rattle.source_round_trip.proofs.PlacedExpr.{placed_expr}
 use Rattle.source_round_trip.proofs.PlacedOperand.{placed_operands}
 use Rattle.source_round_trip.proofs.Words.{IsOperation, operation-falls, first-operation, no_label}
@@ -44,7 +44,7 @@ empty-text numerals = record {
 -- `.org`
 org-operation : IsOperation (codes ".org") operations.Org
 org-operation =
-    record { all = refl; some = omega arith; front = refl; register = refl; names = refl }
+    record { all = refl; some = omega arith; begins = refl; register = refl; names = refl }
 
 abbrev said_part : SaidOperand → SaidExpr
 said_part (Symbolic expr) = expr
@@ -121,11 +121,11 @@ says-exprs source numerals place exprs stands =
 
 word-directive : IsOperation (codes ".word") operations.Word
 word-directive =
-    record { all = refl; some = omega arith; front = refl; register = refl; names = refl }
+    record { all = refl; some = omega arith; begins = refl; register = refl; names = refl }
 
 byte-directive : IsOperation (codes ".byte") operations.Byte
 byte-directive =
-    record { all = refl; some = omega arith; front = refl; register = refl; names = refl }
+    record { all = refl; some = omega arith; begins = refl; register = refl; names = refl }
 
 -- a directive with expressions
 exprs-text : (numerals : Numerals) → AreNumerals numerals → (exprs : List SaidExpr)
@@ -205,7 +205,7 @@ quoted-falls : (text : List ℕ) → list_all is_text_character text ≡ true
     (λ place. tokens.Text (span_at (place + 1) (length text)) ∷ [])
 quoted-falls text all = record {
   cut = λ place rest apart.
-      token-front place (length text + 2) (34 ∷ text ++ 34 ∷ []) rest
+      token-prefix place (length text + 2) (34 ∷ text ++ 34 ∷ []) rest
       (tokens.Text (span_at (place + 1) (length text))) (omega arith)
       (omega (arith, length-append text (34 ∷ [])))
       (ap (λ (later : List ℕ). piece_of place (34 ∷ later)) (append_assoc text (34 ∷ []) rest)
@@ -214,7 +214,7 @@ quoted-falls text all = record {
 
 ascii-operation : IsOperation (codes ".ascii") operations.Ascii
 ascii-operation =
-    record { all = refl; some = omega arith; front = refl; register = refl; names = refl }
+    record { all = refl; some = omega arith; begins = refl; register = refl; names = refl }
 
 abbrev quoted_token : ℕ → List ℕ → Token
 quoted_token place text = tokens.Text (span_at (place + 6 + 1 + 1) (length text))
@@ -247,7 +247,7 @@ ascii-text numerals text all = record {
       let quote : Stands source (place + 6 + 1) ((34 ∷ []) ++ (text ++ 34 ∷ [])) =
       stands-back (codes " ") literal blank in
       ap (λ (answer : List ℕ). Ascii answer)
-      (stands-name text (stands-front text (34 ∷ [])
+      (stands-name text (stands-prefix text (34 ∷ [])
       (stands-back (34 ∷ []) (text ++ 34 ∷ []) quote)));
 }
 
@@ -255,7 +255,7 @@ ascii-text numerals text all = record {
 
 equ-operation : IsOperation (codes ".equ") operations.Equ
 equ-operation =
-    record { all = refl; some = omega arith; front = refl; register = refl; names = refl }
+    record { all = refl; some = omega arith; begins = refl; register = refl; names = refl }
 
 abbrev name_operand : List ℕ → SaidOperand
 name_operand name = Symbolic ((false, Name name) ∷ [])

@@ -45,14 +45,14 @@ byte-operation Mov has =
     record {
       all = refl;
       some = omega arith;
-      front = refl;
+      begins = refl;
       register = refl;
       names = byte-names Mov has;
     }
 byte-operation mnemonic has = record {
   all = refl;
   some = omega arith;
-  front = refl;
+  begins = refl;
   register = refl;
   names = byte-names mnemonic has;
 }
@@ -60,9 +60,9 @@ byte-operation mnemonic has = record {
 word-operation : (mnemonic : Mnemonic)
     → IsOperation (mnemonic_text mnemonic ++ []) (operations.Instr mnemonic sizes.Word)
 word-operation Mov =
-    record { all = refl; some = omega arith; front = refl; register = refl; names = refl }
+    record { all = refl; some = omega arith; begins = refl; register = refl; names = refl }
 word-operation mnemonic =
-    record { all = refl; some = omega arith; front = refl; register = refl; names = refl }
+    record { all = refl; some = omega arith; begins = refl; register = refl; names = refl }
 
 pub mnemonic-operation : (mnemonic : Mnemonic) (size : Size) → has_size mnemonic size ≡ true
     → IsOperation (mnemonic_text mnemonic ++ size_suffix size) (operations.Instr mnemonic size)

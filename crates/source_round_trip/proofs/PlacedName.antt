@@ -15,9 +15,9 @@ pub record Stands (source : List ℕ) (place : ℕ) (text : List ℕ) : Type 0 w
   pub after : List ℕ
   pub cut : drop place source ≡ text ++ after
 
-pub stands-front : {source : List ℕ} {place : ℕ} (first next : List ℕ)
+pub stands-prefix : {source : List ℕ} {place : ℕ} (first next : List ℕ)
     → Stands source place (first ++ next) → Stands source place first
-stands-front first next stands = record {
+stands-prefix first next stands = record {
   after = next ++ stands.after;
   cut = stands.cut ∙ append_assoc first next stands.after;
 }
@@ -54,7 +54,7 @@ says-more source numerals place ((is_subtracted, term) ∷ rest) stands =
     let sign : List ℕ = sign_text is_subtracted in
     let word : List ℕ = term_text numerals term in
     let first = says-term source numerals (place + length sign) term
-    (stands-back sign word (stands-front (sign ++ word) (more_text numerals rest) stands)) in
+    (stands-back sign word (stands-prefix (sign ++ word) (more_text numerals rest) stands)) in
     let later = says-more source numerals (place + length (sign ++ word)) rest
     (stands-back (sign ++ word) (more_text numerals rest) stands) in
     rw (first, later) refl
@@ -67,7 +67,7 @@ says-expr source numerals place ((false, term) ∷ rest) stands =
     let word : List ℕ = term_text numerals term in
     rw (
       says-term source numerals place term
-          (stands-front word (more_text numerals rest) stands),
+          (stands-prefix word (more_text numerals rest) stands),
       says-more source numerals (place + length word) rest
           (stands-back word (more_text numerals rest) stands),
     ) refl
@@ -77,7 +77,7 @@ says-expr source numerals place ((true, term) ∷ rest) stands =
     stands-back (codes "-") (word ++ more_text numerals rest) stands in
     rw (
       says-term source numerals (place + 1) term
-          (stands-front word (more_text numerals rest) behind),
+          (stands-prefix word (more_text numerals rest) behind),
       says-more source numerals (place + 1 + length word) rest
           (stands-back word (more_text numerals rest) behind),
     ) refl
@@ -95,8 +95,8 @@ says-operand source numerals place (Abs expr) stands =
 says-operand source numerals place (Indexed expr register) stands =
     let word : List ℕ = expr_text numerals expr in
     rw (says-expr source numerals place expr
-    (stands-front word (codes "(") (stands-front (word ++ codes "(") (register_text register)
-    (stands-front (word ++ codes "(" ++ register_text register) (codes ")") stands)))) refl
+    (stands-prefix word (codes "(") (stands-prefix (word ++ codes "(") (register_text register)
+    (stands-prefix (word ++ codes "(" ++ register_text register) (codes ")") stands)))) refl
 says-operand source numerals place (Symbolic expr) stands =
     rw (says-expr source numerals place expr stands) refl
 says-operand source numerals place (Indirect register) stands = refl
@@ -109,12 +109,12 @@ says-all : (source : List ℕ) (numerals : Numerals) (place : ℕ) (first : Said
     → map (said_operand source) (placed_operands numerals place (first ∷ rest)) ≡ first ∷ rest
 says-all source numerals place first [] stands =
     rw (says-operand source numerals place first
-    (stands-front (operand_text numerals first) [] stands)) refl
+    (stands-prefix (operand_text numerals first) [] stands)) refl
 says-all source numerals place first (next ∷ rest) stands =
     let word : List ℕ = operand_text numerals first in
     let remainder : List ℕ = operand_text numerals next ++ more_operands_text numerals rest in
     rw (
-      says-operand source numerals place first (stands-front word (codes "," ++ remainder) stands),
+      says-operand source numerals place first (stands-prefix word (codes "," ++ remainder) stands),
       says-all source numerals (place + length word + 1) next rest
           (stands-back (codes ",") remainder (stands-back word (codes "," ++ remainder) stands)),
     ) refl

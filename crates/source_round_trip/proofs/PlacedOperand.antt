@@ -179,18 +179,18 @@ pub operand-read : (numerals : Numerals) (place : ℕ) (operand : SaidOperand)
     → is_writable_operand operand ≡ true
     → IsOperandOf (operand_tokens numerals place operand) (placed_operand numerals place operand)
 operand-read numerals place (Reg register) is =
-    record { some = omega arith; alone = refl; read = refl; front = λ rest. refl }
+    record { some = omega arith; alone = refl; read = refl; begins = λ rest. refl }
 operand-read numerals place (Imm expr) is = record {
   some = omega arith;
   alone = none-comma (expr_tokens numerals (place + 1) expr) (expr-are numerals (place + 1) expr);
   read = rw (expr-read numerals (place + 1) expr is) refl;
-  front = λ rest. refl;
+  begins = λ rest. refl;
 }
 operand-read numerals place (Abs expr) is = record {
   some = omega arith;
   alone = none-comma (expr_tokens numerals (place + 1) expr) (expr-are numerals (place + 1) expr);
   read = rw (expr-read numerals (place + 1) expr is) refl;
-  front = λ rest. refl;
+  begins = λ rest. refl;
 }
 operand-read numerals place (Indexed expr register) is =
     let last : List Token = tokens.Open ∷ tokens.Register register ∷ tokens.Close ∷ [] in
@@ -203,7 +203,7 @@ operand-read numerals place (Indexed expr register) is =
           ∙ rw (none-comma all are) refl;
       read = indexed-read all (placed_expr numerals place expr) register are some
           (expr-read numerals place expr parts.0);
-      front = λ rest. ap begins_with_colon (append_assoc all last rest)
+      begins = λ rest. ap begins_with_colon (append_assoc all last rest)
           ∙ no-colon all (last ++ rest) are some;
     }
 operand-read numerals place (Symbolic expr) is =
@@ -214,9 +214,9 @@ operand-read numerals place (Symbolic expr) is =
       alone = none-comma all are;
       read = symbolic-read all (placed_expr numerals place expr) are some
           (expr-read numerals place expr is);
-      front = λ rest. no-colon all rest are some;
+      begins = λ rest. no-colon all rest are some;
     }
 operand-read numerals place (Indirect register) is =
-    record { some = omega arith; alone = refl; read = refl; front = λ rest. refl }
+    record { some = omega arith; alone = refl; read = refl; begins = λ rest. refl }
 operand-read numerals place (IndirectInc register) is =
-    record { some = omega arith; alone = refl; read = refl; front = λ rest. refl }
+    record { some = omega arith; alone = refl; read = refl; begins = λ rest. refl }

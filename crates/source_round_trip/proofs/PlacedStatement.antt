@@ -80,15 +80,15 @@ operands-read numerals place first rest is all =
     (parts-alone numerals next rest all)
     (rw (answer.read, parts-read numerals next rest all) refl)
 
-operands-front : (numerals : Numerals) (place : ℕ) (first : SaidOperand)
+operands-prefix : (numerals : Numerals) (place : ℕ) (first : SaidOperand)
     (rest : List SaidOperand) → is_writable_operand first ≡ true
     → begins_with_colon (all_tokens numerals place first rest) ≡ false
 unfolding joint_tokens
-operands-front numerals place first [] is =
+operands-prefix numerals place first [] is =
     no_colon-first (operand-read numerals place first is)
-operands-front numerals place first (next ∷ rest) is =
+operands-prefix numerals place first (next ∷ rest) is =
     let behind : ℕ = place + length (operand_text numerals first) + 1 in
-    (operand-read numerals place first is).front
+    (operand-read numerals place first is).begins
     (tokens.Comma ∷ joint_tokens (operand_tokens numerals behind next)
     (parts_at numerals (behind + length (operand_text numerals next) + 1) rest))
 
@@ -128,7 +128,7 @@ operation-body numerals are {word = word} (first ∷ rest) body is other all ans
           (answer place);
       plain = λ place. no_label (word_token place word)
           (all_tokens numerals (place + length word + 1) first rest)
-          (operands-front numerals (place + length word + 1) first rest parts.0);
+          (operands-prefix numerals (place + length word + 1) first rest parts.0);
     }
 
 -- what is read of a text, and what it says there

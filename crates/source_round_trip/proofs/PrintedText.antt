@@ -44,7 +44,7 @@ same-printed c d same is = ap is_printed (eqb-true c d same) ∙ is
 alphanumeric-printed : (c : ℕ) → is_ascii_alphanumeric c ≡ true → is_printed c ≡ true
 alphanumeric-printed c is =
     elim (or_cases (is_ascii_digit c || is_in_range 65 90 c) (is_in_range 97 122 c) is) [
-      | inl front ↦ elim (or_cases (is_ascii_digit c) (is_in_range 65 90 c) front) [
+      | inl upper ↦ elim (or_cases (is_ascii_digit c) (is_in_range 65 90 c) upper) [
         | inl digit ↦ in_range-printed 48 57 c (omega arith) (omega arith) digit
         | inr letter ↦ in_range-printed 65 90 c (omega arith) (omega arith) letter
       ]

@@ -36,7 +36,7 @@ register-falls register =
 pub record IsOperation (word : List ℕ) (operation : Operation) : Type 0 where
   pub all : list_all is_word_character word ≡ true
   pub some : 0 < length word
-  pub front : is_ascii_digit (slice_index word 0) ≡ false
+  pub begins : is_ascii_digit (slice_index word 0) ≡ false
   pub register : register_of (lower_case word) ≡ None
   pub names : operation_of (lower_case word) ≡ Some operation
 
@@ -44,7 +44,7 @@ pub operation-falls : {word : List ℕ} {operation : Operation} → IsOperation 
     → FallsInto word (λ place. word_token place word ∷ [])
 unfolding word_piece
 operation-falls {word = word} is =
-    word-falls word (λ place. word_token place word) is.all is.some (λ place. rw is.front refl)
+    word-falls word (λ place. word_token place word) is.all is.some (λ place. rw is.begins refl)
 
 first-name : (word : List ℕ) (operation : Option Operation) (span : Span) (is : Bool)
     → is_name word ≡ is → first_word (name_token word operation span) ≡ Ok operation

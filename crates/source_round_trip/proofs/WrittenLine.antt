@@ -18,7 +18,7 @@ use Rattle.source_round_trip.specs.Writable.{is_free_label, is_writable_body, is
 use Rattle.source_round_trip.proofs.Falls.{FallsInto, falls-then, falls-apart, colon-falls, blank-falls}
 use Rattle.source_round_trip.proofs.PlacedBody.{body-placed}
 use Rattle.source_round_trip.proofs.PlacedStatement.{IsPlaced}
-use Rattle.source_round_trip.proofs.PlacedName.{Stands, stands-front, stands-back, stands-name}
+use Rattle.source_round_trip.proofs.PlacedName.{Stands, stands-prefix, stands-back, stands-name}
 use Rattle.source_round_trip.proofs.PlacedExpr.{name-falls}
 use Rattle.source_round_trip.proofs.Words.{without_label, line-read}
 
@@ -72,7 +72,7 @@ placed-back numerals number before after (Some name) body free is =
           (ap (λ (answer : Result Body FaultKind). answer >>= (λ body. Ok (Some span, body)))
           (is.text.read first));
       says = rw (
-        stands-name name (stands-front name (codes ":" ++ (codes " " ++ text)) stands),
+        stands-name name (stands-prefix name (codes ":" ++ (codes " " ++ text)) stands),
         is.says source first behind,
       ) refl;
     }
