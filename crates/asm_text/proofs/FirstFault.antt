@@ -14,24 +14,24 @@ abbrev then_later : List PlacedLine → Statement → Result (List Statement) Fa
 then_later lines statement =
     all_of (map statement_of lines) >>= (λ later. Ok (statement ∷ later))
 
-said_first : (line : PlacedLine) (lines : List PlacedLine) (statements : List Statement)
+lone_first : (line : PlacedLine) (lines : List PlacedLine) (statements : List Statement)
     (answer : Result Statement FaultKind) → lone_statement line ≡ answer
     → ((later : List Statement) → all_of (map statement_of lines) ≡ Ok later
     → map lone_statement lines ≡ map Ok later)
     → (in_line line.1.0 answer >>= then_later lines) ≡ Ok statements
     → map lone_statement (line ∷ lines) ≡ map Ok statements
-said_first line lines statements (Err kind) is later h = absurd (cc h)
-said_first line lines statements (Ok statement) is later h =
+lone_first line lines statements (Err kind) is later h = absurd (cc h)
+lone_first line lines statements (Ok statement) is later h =
     let rest = later_read (λ (later : List Statement). statement ∷ later)
     (all_of (map statement_of lines)) statements h in
     rw rest.2 (cc (is, later rest.0 rest.1))
 
-all_said : (lines : List PlacedLine) (statements : List Statement)
+lone_all : (lines : List PlacedLine) (statements : List Statement)
     → all_of (map statement_of lines) ≡ Ok statements → map lone_statement lines ≡ map Ok statements
-all_said [] statements h =
+lone_all [] statements h =
     let none : [] ≡ statements = cc h in ap (map Ok) none
-all_said (line ∷ lines) statements h =
-    said_first line lines statements (lone_statement line) refl (all_said lines) h
+lone_all (line ∷ lines) statements h =
+    lone_first line lines statements (lone_statement line) refl (lone_all lines) h
 
 fault_first : (line : PlacedLine) (lines : List PlacedLine) (fault : FaultAt)
     (answer : Result Statement FaultKind) → lone_statement line ≡ answer
@@ -73,7 +73,7 @@ pub source_of-lines : (text : List ℕ) (statements : List Statement)
 unfolding source_of
 source_of-lines text statements h =
     let sound = text_read text (all_of (map statement_of (placed_lines text))) statements h in
-    record { utf8 = sound.0; each = all_said (placed_lines text) statements sound.1 }
+    record { utf8 = sound.0; each = lone_all (placed_lines text) statements sound.1 }
 
 pub source_of-fault : (text : List ℕ) (fault : FaultAt) → source_of text ≡ Err fault
     → IsFaultOf text fault

@@ -35,9 +35,9 @@ impl BusMaster for Proposal {
 
     ghost takes = { λ access value. Unit {0} };
 
-    ghost moved = { λ access value. None };
+    ghost after_take = { λ access value. None };
 
-    ghost cleared = { λ access. None };
+    ghost after_clear = { λ access. None };
 
     fn ask(&self) -> Option<Access> {
         self.access

@@ -1,5 +1,5 @@
 -- The memory map: regions of addresses, and what an access touches.
-use Rattle.std.specs.Prelude.{◌&&◌, ℕ, Bool, false, Option, Some, None, nat_le}
+use Rattle.std.specs.Prelude.{◌&&◌, ◌+◌, ◌-◌, ℕ, Bool, false, Option, Some, None, nat_le}
 use Rattle.std.specs.List.{list_any, list_all}
 use Rattle.bus_signals.specs.declared.region.Region.{Region}
 use Rattle.bus_signals.specs.declared.access.Access.{Access}
@@ -36,19 +36,19 @@ metadata_region = record { first = 0x0240; last = 0x0269 }
 
 -- the words of the metadata: the challenge is its first 32 bytes
 abbrev pub ER_MIN : ℕ
-ER_MIN = 0x0260
+ER_MIN = metadata_region.first + 32
 
 abbrev pub ER_MAX : ℕ
-ER_MAX = 0x0262
+ER_MAX = ER_MIN + 2
 
 abbrev pub OR_MIN : ℕ
-OR_MIN = 0x0264
+OR_MIN = ER_MAX + 2
 
 abbrev pub OR_MAX : ℕ
-OR_MAX = 0x0266
+OR_MAX = OR_MIN + 2
 
 abbrev pub EXEC_WORD : ℕ
-EXEC_WORD = 0x0268
+EXEC_WORD = OR_MAX + 2
 
 -- the exclusive stack of the attestation (VRASED's XS)
 abbrev pub stack_region : Region
@@ -59,7 +59,7 @@ abbrev pub DERIVED_KEY : ℕ
 DERIVED_KEY = stack_region.first
 
 abbrev pub INNER_DIGEST : ℕ
-INNER_DIGEST = 0x4020
+INNER_DIGEST = DERIVED_KEY + 32
 
 -- the device key (VRASED's KR)
 abbrev pub key_region : Region
@@ -81,14 +81,14 @@ abbrev pub ROM_ENTRY : ℕ
 ROM_ENTRY = rom_region.first
 
 abbrev pub ROM_BODY : ℕ
-ROM_BODY = 0xA002
+ROM_BODY = ROM_ENTRY + 2
 
 abbrev pub ROM_EXIT : ℕ
-ROM_EXIT = 0xBFFE
+ROM_EXIT = rom_region.last - 1
 
 -- where a boot finds the first address of the program
 abbrev pub RESET_VECTOR : ℕ
-RESET_VECTOR = 0xFFFE
+RESET_VECTOR = vector_region.last - 1
 
 -- an address lies in a region from its first to its last address
 abbrev pub lies_in : Region → ℕ → Bool

@@ -22,7 +22,7 @@ use Rattle.part_definitions.specs.declared.cpu_access.CpuAccess.{CpuAccess}
 use Rattle.part_definitions.specs.declared.cpu_access.CpuAccess.TheVariants.{FetchImmediate, FetchSourceIndex, ReadSource, ReadIncrementing, FetchDestinationIndex, ReadDestination, WriteResult, PushSource, PushPc, PopSr, PopPc}
 use Rattle.part_definitions.specs.declared.working_state.WorkingState.{WorkingState}
 use Rattle.part_definitions.specs.CpuAccess.{accesses_of}
-use Rattle.part_definitions.specs.CpuState.{CpuState, Boundary, Executing, Entering, asked_access, cpu_access}
+use Rattle.part_definitions.specs.CpuState.{CpuState, Boundary, Executing, Entering, ask_of, cpu_access}
 use Rattle.part_definitions.specs.Dma.{Transfer, is_active, place_of_word, access_at, transfer_access, dma_access, transfer_of, latch}
 use Rattle.part_definitions.specs.Instruction.{bus_access, after_value}
 use Rattle.part_definitions.specs.NextAccess.{walk, walk_head, next_access, entry_access}
@@ -63,7 +63,7 @@ bus_access-formed head PopPc work = read_at-formed Word _
 
 walk-formed :
     (head : Head) (accesses : List CpuAccess) (work : WorkingState) (values : List ℕ)
-    → IfSome (asked_access (walk head accesses work values)) IsFormed
+    → IfSome (ask_of (walk head accesses work values)) IsFormed
 walk-formed head [] work values = tt
 walk-formed head (access ∷ accesses) work [] = bus_access-formed head access work
 walk-formed head (access ∷ accesses) work (value ∷ values) =
@@ -71,13 +71,13 @@ walk-formed head (access ∷ accesses) work (value ∷ values) =
 
 walk_head-formed :
     (head : Option Head) (regs values : List ℕ)
-    → IfSome (asked_access (walk_head head regs values)) IsFormed
+    → IfSome (ask_of (walk_head head regs values)) IsFormed
 walk_head-formed None regs values = tt
 walk_head-formed (Some head) regs values =
     walk-formed head (accesses_of head) (state_at_start head regs) values
 
 next_access-formed : (regs values : List ℕ)
-    → IfSome (asked_access (next_access regs values)) IsFormed
+    → IfSome (ask_of (next_access regs values)) IsFormed
 unfolding next_access
 next_access-formed regs [] = fetch_at-formed _
 next_access-formed regs (word ∷ values) = walk_head-formed (head_of word) regs values
@@ -85,7 +85,7 @@ next_access-formed regs (word ∷ values) = walk_head-formed (head_of word) regs
 -- the accesses of an interrupt entry
 entry_access-formed :
     (regs : List ℕ) (vector : ℕ) (values : List ℕ)
-    → IfSome (asked_access (entry_access regs vector values)) IsFormed
+    → IfSome (ask_of (entry_access regs vector values)) IsFormed
 unfolding entry_access
 entry_access-formed regs vector [] = write_at-formed Word _ 0
 entry_access-formed regs vector (first ∷ []) = write_at-formed Word _ 0

@@ -18,14 +18,14 @@ with_key digest key image =
     }
 
 -- the next of these words at each write of the MAC, 0 past their end; 0 is written to the stack
-abbrev pub given_word : List ℕ → ℕ → CallItem → ℕ
-given_word words releases (MacWrite i) = slice_index words releases
-given_word words releases item = 0
+abbrev pub mac_word : List ℕ → ℕ → CallItem → ℕ
+mac_word words releases (MacWrite i) = slice_index words releases
+mac_word words releases item = 0
 
 -- without a key: its bytes read as 0, and these are the words that the calls release
 abbrev pub without_key : List ℕ → (ℕ → ℕ) → Start
 without_key words image =
     record {
       power = record { key = λ i. 0; image = image };
-      call_word = λ releases item _. given_word words releases item;
+      call_word = λ releases item _. mac_word words releases item;
     }

@@ -104,9 +104,9 @@ impl BusMaster for Dma {
 
     ghost takes = { λ events value. Unit {0} };
 
-    ghost moved = { λ events value. DmaAccess value ∷ events };
+    ghost after_take = { λ events value. DmaAccess value ∷ events };
 
-    ghost cleared = { λ events. DeviceReset ∷ events };
+    ghost after_clear = { λ events. DeviceReset ∷ events };
 
     #[inline(always)]
     fn ask(&self) -> Option<Access>

@@ -13,7 +13,7 @@ use Rattle.part_definitions.specs.Attestation.{CallItem, KeyRead, MetadataRead, 
 use Rattle.device_trace.specs.Blank.{touches_secrets, blank_access, blank_value}
 use Rattle.device_trace.specs.Logs.{Logs, exec_of, logged_byte, with_released_word}
 use Rattle.device_trace.specs.Signals.{value_read}
-use Rattle.device_trace.specs.Start.{Start, given_word}
+use Rattle.device_trace.specs.Start.{Start, mac_word}
 use Rattle.key_isolation.proofs.Bytes.{key_byte-hide, zero_either}
 use Rattle.key_isolation.proofs.Numbers.{key_word-zero}
 use Rattle.key_isolation.proofs.Hiding.{open_start, hide}
@@ -136,10 +136,10 @@ mac_off_stack : (i : ℕ) → i < 16
 mac_off_stack i within = grind (arith, nat_tests)
 
 -- the word that comes next is the one that is released
-next_given : (old : List ℕ) (number : ℕ) (more : List ℕ)
+next_number : (old : List ℕ) (number : ℕ) (more : List ℕ)
     → slice_index ((old ++ number ∷ []) ++ more) (length old) ≡ number
-next_given [] number more = refl
-next_given (first ∷ old) number more = next_given old number more
+next_number [] number more = refl
+next_number (first ∷ old) number more = next_number old number more
 
 next_released : (old free more : List ℕ) (place number : ℕ)
     → lies_in mac_region place ≡ true
@@ -149,7 +149,7 @@ next_released old free more place number mac split =
     ap (λ (words : List ℕ). slice_index words (length old))
     (split ∙ ap (λ (words : List ℕ). words ++ more)
     (cond-true (lies_in mac_region place) (old ++ number ∷ []) old mac))
-    ∙ next_given old number more
+    ∙ next_number old number more
 
 -- the return read touches no secret where rule A4 is not broken
 return_off : (place : ℕ)
@@ -167,7 +167,7 @@ pub same_item : (start : Start) (free more : List ℕ) (logs : Logs) (sp count n
     → free ≡ with_released_word (Some (item_access sp bounds item number)) logs.released_words
     ++ more
     → SameItem start free logs count (item_access sp bounds item number)
-    (item_access sp bounds item (given_word free (length logs.released_words) item))
+    (item_access sp bounds item (mac_word free (length logs.released_words) item))
 same_item start free more logs sp count number bounds (KeyRead i) fits a4 split =
     read_key start free logs count i fits.0 fits.1
 same_item start free more logs sp count number bounds (MetadataRead i) fits a4 split =

@@ -19,7 +19,7 @@ use Rattle.device_trace.specs.Blank.{touches_secrets, blank_access, blank_value}
 use Rattle.device_trace.specs.Logs.{Logs, with_released_word, released_words_after}
 use Rattle.device_trace.specs.Progress.{Progress, Held, Runs, InCall, next_pc_of, running_access, access_of, after_return, call_after, next_progress}
 use Rattle.device_trace.specs.Signals.{value_read}
-use Rattle.device_trace.specs.Start.{Start, given_word}
+use Rattle.device_trace.specs.Start.{Start, mac_word}
 use Rattle.key_isolation.proofs.Bytes.{zero_either}
 use Rattle.trace_facts.proofs.Choices.{first_false}
 use Rattle.trace_facts.proofs.Sound.{IsWithin}
@@ -157,15 +157,15 @@ call_same : (start : Start) (free more : List ℕ) (logs : Logs) (regs words : L
     (access_of (open_start free start) (length logs.released_words) Rom
     (hide_progress (InCall regs words)))
 call_same start free more logs regs words keeps split =
-    let access_given : Access =
+    let open_access : Access =
     item_access (sp_of regs) (bounds_read words) (call_item words)
-    (given_word free (length logs.released_words) (call_item words)) in
+    (mac_word free (length logs.released_words) (call_item words)) in
     let view : access_of (open_start free start) (length logs.released_words) Rom
-    (hide_progress (InCall regs words)) ≡ Some access_given =
+    (hide_progress (InCall regs words)) ≡ Some open_access =
     ap (λ (access : Access). Some access) (item_access-hide (sp_of regs) words _)
     ∙ ap (λ (item : CallItem). Some
     (item_access (sp_of regs) (bounds_read words) (call_item words)
-    (given_word free (length logs.released_words) item)))
+    (mac_word free (length logs.released_words) item)))
     (call_item-hide words) in
     let same =
     same_item start free more logs (sp_of regs) (length words)
@@ -175,7 +175,7 @@ call_same start free more logs regs words keeps split =
     let claim : Option Access → Type 0 =
     λ access. SameStep start free logs Rom (InCall regs words)
     (access_of start (length logs.released_words) Rom (InCall regs words)) access in
-    let at_access : claim (Some access_given) =
+    let at_access : claim (Some open_access) =
     record {
       access = same.access;
       value = same.value;

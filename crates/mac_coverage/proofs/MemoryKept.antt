@@ -130,9 +130,9 @@ rest-alike left right alike =
     ∙ bounded-alike left right (bounds_in right) alike
 
 -- the metadata up to the EXEC word
-front-alike : (left right : ℕ → ℕ) → AreAlike left right
+prefix-alike : (left right : ℕ → ℕ) → AreAlike left right
     → bytes_from left 0x240 40 ≡ bytes_from right 0x240 40
-front-alike left right alike =
+prefix-alike left right alike =
     bytes_from-same left right 0x240 40
     (λ i within. alike (0x240 + i) (no_write i within) (off_exec i within))
   where
@@ -147,7 +147,7 @@ pub attested-but_exec : (left right : ℕ → ℕ) → AreAlike left right
 attested-but_exec left right alike =
     let metadata : take 40 (metadata_bytes left) ≡ take 40 (metadata_bytes right) =
     take-bytes_from left 0x240 40 42 (omega arith)
-    ∙ (front-alike left right alike ∙ sym (take-bytes_from right 0x240 40 42 (omega arith))) in
+    ∙ (prefix-alike left right alike ∙ sym (take-bytes_from right 0x240 40 42 (omega arith))) in
     let rest = rest-alike left right alike in
     λ i. record { metadata = metadata i; rest = rest i }
 

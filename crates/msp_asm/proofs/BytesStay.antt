@@ -9,7 +9,7 @@ use Rattle.asm_bytes.specs.Statement.{size_of, bytes_of}
 use Rattle.asm_bytes.proofs.StatementSize.{bytes_have_their_size}
 use Rattle.msp_asm.specs.FirstPass.{at_line, first_fault, first_pass_fault, is_among, is_placed, scope_after}
 use Rattle.mem_map.specs.ByteAmong.{byte_among}
-use Rattle.msp_asm.specs.SecondPass.{given_byte, byte_placed, scope_among}
+use Rattle.msp_asm.specs.SecondPass.{byte_from, byte_placed, scope_among}
 use Rattle.msp_asm.proofs.LinesSoFar.{neither, no_fault_at}
 use Rattle.msp_asm.proofs.FreePlaces.{count_after, scope_text, are_free, apart}
 
@@ -34,13 +34,13 @@ byte_among-apart first (byte ∷ bytes) place other =
           (byte_among-apart (first + 1) bytes place (apart_more first (length bytes) place other))
     ]
 
-given_byte-apart : (answer : Result (List ℕ) FaultKind) (first count place : ℕ)
+byte_from-apart : (answer : Result (List ℕ) FaultKind) (first count place : ℕ)
     → IfOk answer (λ bytes. length bytes ≡ count)
     → is_among first count place ≡ false
-    → given_byte first answer place ≡ None
-given_byte-apart (Ok bytes) first count place is other =
+    → byte_from first answer place ≡ None
+byte_from-apart (Ok bytes) first count place is other =
     byte_among-apart first bytes place (ap (λ n. is_among first n place) is ∙ other)
-given_byte-apart (Err kind) first count place is other = refl
+byte_from-apart (Err kind) first count place is other = refl
 
 -- how many bytes a statement has, is known before all names are
 pub has_size : (text : List ℕ) (all earlier : List Statement) (s : Statement)
@@ -72,7 +72,7 @@ stays text all (s ∷ later) earlier place none is_taken =
     free.free so_far.0 refl in (
       ap (λ among. among || is_placed text before place) other ∙ so_far.0,
       ap (λ byte. option_or byte (byte_placed text all before place))
-          (given_byte-apart (bytes_of (scope_among text all before) s.body) scope.here count place
+          (byte_from-apart (bytes_of (scope_among text all before) s.body) scope.here count place
           (has_size text all before s) other)
           ∙ so_far.1,
     )

@@ -23,7 +23,7 @@ use Rattle.mem_map.specs.declared.image.Image.{Image}
 use Rattle.mem_map.specs.Image.{byte_in}
 use Rattle.msp_asm.specs.FirstPass.{first_fault, first_pass_fault, is_placed, scope_after}
 use Rattle.mem_map.specs.ByteAmong.{byte_among}
-use Rattle.msp_asm.specs.SecondPass.{given_byte, byte_placed, byte_of_image, fault_of, image_of, scope_among, second_pass_fault}
+use Rattle.msp_asm.specs.SecondPass.{byte_from, byte_placed, byte_of_image, fault_of, image_of, scope_among, second_pass_fault}
 use Rattle.msp_asm.specs.Source.{source_image}
 use Rattle.msp_asm.specs.HasBytes.{HasBytes, HasBytesOf, HasInstruction, HasInstructionOf, OfEachStatement}
 use Rattle.msp_asm.proofs.LinesSoFar.{neither, no_fault_at}
@@ -85,7 +85,7 @@ stand_among text all later earlier s image (Ok bytes) is sound none gives =
     in
     gives place (all_among is_image_place here count place free.placed from within)
     ∙ (stays text all later (s ∷ earlier) place none is_taken).1
-    ∙ ap (λ value. option_or (given_byte here value place) (byte_placed text all earlier place)) is)
+    ∙ ap (λ value. option_or (byte_from here value place) (byte_placed text all earlier place)) is)
 
 -- an image that was made, and nothing was at fault
 both : (fault : Option FaultAt) (bytes image : ℕ → Option ℕ) → value_or_fault fault bytes ≡ Ok image

@@ -14,7 +14,7 @@ use Rattle.asm_bytes.specs.Names.{value_in}
 use Rattle.asm_bytes.specs.Statement.{bytes_of}
 use Rattle.msp_asm.specs.declared.assembly.Layout.{Layout}
 use Rattle.msp_asm.specs.FirstPass.{first_fault, first_pass_fault, scope_after}
-use Rattle.msp_asm.specs.SecondPass.{given_byte, byte_placed, scope_among, second_pass_fault, byte_of_image, image_of}
+use Rattle.msp_asm.specs.SecondPass.{byte_from, byte_placed, scope_among, second_pass_fault, byte_of_image, image_of}
 use Rattle.msp_asm.specs.Assembly.{AnswersAt, LayoutStandsFor}
 
 same_scope : (text : List ℕ) (names other : List ℕ → Option ℤ) (here there : ℕ)
@@ -48,13 +48,13 @@ pub placed_more : (text : List ℕ) (all earlier : List Statement) (s : Statemen
     (old new : ℕ → Option ℕ) (place : ℕ)
     → scope ≡ scope_among text all earlier
     → old place ≡ byte_placed text all earlier place
-    → new place ≡ option_or (given_byte scope.here (bytes_of scope s.body) place) (old place)
+    → new place ≡ option_or (byte_from scope.here (bytes_of scope s.body) place) (old place)
     → new place ≡ byte_placed text all (s ∷ earlier) place
 unfolding byte_placed
 placed_more text all earlier s scope old new place is before after =
     after
-    ∙ ap (λ (it : Scope). option_or (given_byte it.here (bytes_of it s.body) place) (old place)) is
-    ∙ ap (option_or (given_byte (scope_among text all earlier).here
+    ∙ ap (λ (it : Scope). option_or (byte_from it.here (bytes_of it s.body) place) (old place)) is
+    ∙ ap (option_or (byte_from (scope_among text all earlier).here
     (bytes_of (scope_among text all earlier) s.body) place)) before
 
 -- an image has no byte where it may hold none

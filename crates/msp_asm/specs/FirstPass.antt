@@ -88,9 +88,9 @@ scope_after text (statement ∷ earlier) =
     next_scope (scope_after text earlier) statement
 
 -- a name that has a value already
-abbrev pub is_given : List ℕ → (List ℕ → Option ℤ) → Option Span → Bool
-is_given text names None = false
-is_given text names (Some name) = is_some (names (characters text name))
+abbrev pub has_value : List ℕ → (List ℕ → Option ℤ) → Option Span → Bool
+has_value text names None = false
+has_value text names (Some name) = is_some (names (characters text name))
 
 -- both names are the same
 abbrev pub are_same : List ℕ → Option Span → Option Span → Bool
@@ -102,8 +102,8 @@ are_same text (Some name) (Some other) =
 -- a name that the statement gives has a value, or it gives one name twice
 abbrev pub gives_again : Scope → Statement → Bool
 gives_again scope statement =
-    is_given scope.text scope.names statement.label
-    || is_given scope.text scope.names (constant_name statement.body)
+    has_value scope.text scope.names statement.label
+    || has_value scope.text scope.names (constant_name statement.body)
     || are_same scope.text statement.label (constant_name statement.body)
 
 -- the fault of the expression of `.org` or `.equ`

@@ -28,16 +28,16 @@ second_pass_fault text all earlier statement =
     result_err (bytes_of (scope_among text all earlier) statement.body)
 
 -- which of the bytes that a statement gives, if it has no fault
-abbrev pub given_byte : ℕ → Result (List ℕ) FaultKind → ℕ → Option ℕ
-given_byte first (Ok bytes) place = byte_among first bytes place
-given_byte first (Err kind) place = None
+abbrev pub byte_from : ℕ → Result (List ℕ) FaultKind → ℕ → Option ℕ
+byte_from first (Ok bytes) place = byte_among first bytes place
+byte_from first (Err kind) place = None
 
 -- the byte at a place is the one that the statement at that place gives
 unfoldable pub byte_placed : List ℕ → List Statement → List Statement → ℕ → Option ℕ
 byte_placed text all [] place = None
 byte_placed text all (statement ∷ earlier) place =
     let scope = scope_among text all earlier in
-    option_or (given_byte scope.here (bytes_of scope statement.body) place)
+    option_or (byte_from scope.here (bytes_of scope statement.body) place)
     (byte_placed text all earlier place)
 
 -- the first fault of a source's statements: of the first pass, and then of the second

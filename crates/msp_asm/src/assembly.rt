@@ -8,7 +8,7 @@ ghost use Rattle.asm_bytes.specs.Scope.{scope_in};
 ghost use Rattle.asm_bytes.specs.Statement.{bytes_of};
 ghost use Rattle.msp_asm.specs.FirstPass.{first_fault, first_pass_fault};
 ghost use Rattle.msp_asm.specs.FirstPassState.{AnswersFault};
-ghost use Rattle.msp_asm.specs.SecondPass.{given_byte, byte_placed, second_pass_fault, image_of};
+ghost use Rattle.msp_asm.specs.SecondPass.{byte_from, byte_placed, second_pass_fault, image_of};
 ghost use Rattle.msp_asm.specs.Assembly.{LayoutStandsFor, AnswersAt, IsMemory};
 
 use crate::first_pass::FirstPass;
@@ -102,7 +102,7 @@ fn place_statement(
     ensures bytes { OnOk result ((place : ℕ) → IsTrue (is_image_place place)
         → byte_in image.new place
         ≡ option_or
-        (given_byte scope.now.here (bytes_of (scope_in scope.now) statement.now.body) place)
+        (byte_from scope.now.here (bytes_of (scope_in scope.now) statement.now.body) place)
         (byte_in image.old place)) }
 {
     match scope.bytes_of(alloc, &statement.body) {

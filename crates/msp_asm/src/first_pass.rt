@@ -82,7 +82,7 @@ impl<'a> FirstPass<'a> {
     ghost use Rattle.asm_bytes.specs.Names.{value_in};
     ghost use Rattle.asm_bytes.specs.Scope.{scope_in};
     ghost use Rattle.asm_bytes.specs.Statement.{size_of};
-    ghost use Rattle.msp_asm.specs.FirstPass.{is_given, gives_again, constant_name, constant_value, constant_fault, places_byte, place_fault, next_scope, statement_fault, first_pass_fault};
+    ghost use Rattle.msp_asm.specs.FirstPass.{has_value, gives_again, constant_name, constant_value, constant_fault, places_byte, place_fault, next_scope, statement_fault, first_pass_fault};
     ghost use Rattle.msp_asm.specs.FirstPassState.{occupies, AnswersFault};
     ghost use Rattle.msp_asm.specs.FirstPassStands.{scope_of, FirstPassStandsFor};
 
@@ -124,8 +124,8 @@ impl<'a> FirstPass<'a> {
         }
     }
 
-    fn is_given(&self, name: Option<Span>) -> bool
-        ensures { result ≡ is_given (scope_of self.now).text (scope_of self.now).names name }
+    fn has_value(&self, name: Option<Span>) -> bool
+        ensures { result ≡ has_value (scope_of self.now).text (scope_of self.now).names name }
     {
         match name {
             Some(name) => self.names.get(characters(self.text, name)).is_some(),
@@ -138,8 +138,8 @@ impl<'a> FirstPass<'a> {
         ensures { result ≡ gives_again (scope_of self.now) statement.now }
     {
         let constant = constant_name(&statement.body);
-        self.is_given(statement.label)
-            || self.is_given(constant)
+        self.has_value(statement.label)
+            || self.has_value(constant)
             || are_same(self.text, statement.label, constant)
     }
 

@@ -2,7 +2,7 @@
 use Rattle.std.proofs.Common.{◌≡◌, ◌++◌, ℕ, false, List, [], ◌∷◌, Some, refl, sym, ap, ◌∙◌, append_assoc}
 use Rattle.bus_signals.specs.declared.access.Access.{Access}
 use Rattle.part_definitions.specs.NextAccess.{Next, Asks, Ends, next_access, entry_access}
-use Rattle.part_definitions.specs.CpuState.{CpuState, Boundary, Executing, Entering, registers_of, is_at_boundary, is_entering, cpu_next, asked_access, cpu_access, with_value, completion_or, cpu_after, cpu_takes}
+use Rattle.part_definitions.specs.CpuState.{CpuState, Boundary, Executing, Entering, registers_of, is_at_boundary, is_entering, cpu_next, ask_of, cpu_access, with_value, completion_or, cpu_after, cpu_takes}
 use Rattle.msp_exec.specs.declared.phase.Phase.{Phase}
 use Rattle.msp_exec.specs.declared.phase.Phase.TheVariants.{Boundary as AtBoundary, Executing as InInstruction, Entering as InEntry}
 use Rattle.msp_exec.specs.declared.cpu.Cpu.{Cpu}
@@ -29,7 +29,7 @@ state_course-with_value (Entering regs vector before) value values =
 pub cpu_access_some : (cpu : Cpu) (state : CpuState) (access : Access)
     → CpuStandsFor cpu state → cpu_course cpu [] ≡ Asks access → cpu_access state ≡ Some access
 cpu_access_some cpu state access stands asks =
-    ap asked_access (sym (state_course-nil state) ∙ (stands.same_course [] ∙ asks))
+    ap ask_of (sym (state_course-nil state) ∙ (stands.same_course [] ∙ asks))
 
 registers_of-with_value : (state : CpuState) (value : ℕ)
     → registers_of (with_value state value) ≡ registers_of state

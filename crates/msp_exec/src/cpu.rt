@@ -354,9 +354,9 @@ impl BusMaster for Cpu {
 
     ghost takes = { λ state value. IsTrue (cpu_takes state value) };
 
-    ghost moved = { cpu_after };
+    ghost after_take = { cpu_after };
 
-    ghost cleared = { λ state. clear_cpu };
+    ghost after_clear = { λ state. clear_cpu };
 
     #[inline(always)]
     fn ask(&self) -> Option<Access> {

@@ -20,14 +20,40 @@ pub data CallItem : Type 0 where
   MacWrite : ℕ → CallItem
   ReturnRead : CallItem
 
--- the bounds are words 16 to 19 of the metadata, which come after the 32 words of the key
+-- how many words the metadata has
+abbrev pub METADATA_WORDS : ℕ
+METADATA_WORDS = 21
+
+-- how many words pass before the metadata is read: 32 of the key; before the derived key is
+-- written: with those of the metadata; before the region is read: with 16 of the derived key
+abbrev pub BEFORE_METADATA : ℕ
+BEFORE_METADATA = 32
+
+abbrev pub BEFORE_DERIVED_KEY : ℕ
+BEFORE_DERIVED_KEY = BEFORE_METADATA + METADATA_WORDS
+
+abbrev pub BEFORE_REGION : ℕ
+BEFORE_REGION = BEFORE_DERIVED_KEY + 16
+
+-- and beside those of the region before the MAC is written: with 16 of the inner digest; before the
+-- return read: with 16 of the MAC
+abbrev pub BEFORE_MAC : ℕ
+BEFORE_MAC = BEFORE_REGION + 16
+
+abbrev pub BEFORE_RETURN : ℕ
+BEFORE_RETURN = BEFORE_MAC + 16
+
+-- a word of the metadata; the bounds are words 16 to 19 of it, behind the challenge
+abbrev pub metadata_word : List ℕ → ℕ → ℕ
+metadata_word words i = slice_index words (BEFORE_METADATA + i)
+
 abbrev pub bounds_read : List ℕ → Bounds
 bounds_read words =
     record {
-      er_min = slice_index words 48;
-      er_max = slice_index words 49;
-      or_min = slice_index words 50;
-      or_max = slice_index words 51;
+      er_min = metadata_word words 16;
+      er_max = metadata_word words 17;
+      or_min = metadata_word words 18;
+      or_max = metadata_word words 19;
     }
 
 -- how many words there are from one place to another
@@ -43,25 +69,6 @@ region_words bounds =
     if are_valid bounds
     then executable_words bounds + words_between bounds.or_min bounds.or_max
     else 0
-
--- how many words pass before the metadata is read: 32 of the key; before the derived key is
--- written: with 21 of the metadata; before the region is read: with 16 of the derived key
-abbrev pub BEFORE_METADATA : ℕ
-BEFORE_METADATA = 32
-
-abbrev pub BEFORE_DERIVED_KEY : ℕ
-BEFORE_DERIVED_KEY = 53
-
-abbrev pub BEFORE_REGION : ℕ
-BEFORE_REGION = 69
-
--- and beside those of the region before the MAC is written: with 16 of the inner digest; before the
--- return read: with 16 of the MAC
-abbrev pub BEFORE_MAC : ℕ
-BEFORE_MAC = 85
-
-abbrev pub BEFORE_RETURN : ℕ
-BEFORE_RETURN = 101
 
 -- a call's accesses in order, where it reads so many words of ER and OR: the one after so many
 -- words that passed
@@ -118,7 +125,7 @@ abbrev pub key_read : List ℕ → List ℕ
 key_read words = bytes_of_words (take BEFORE_METADATA words)
 
 abbrev pub metadata_read : List ℕ → List ℕ
-metadata_read words = bytes_of_words (take 21 (drop BEFORE_METADATA words))
+metadata_read words = bytes_of_words (take METADATA_WORDS (drop BEFORE_METADATA words))
 
 abbrev pub region_read : List ℕ → List ℕ
 region_read words =

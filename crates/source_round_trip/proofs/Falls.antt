@@ -80,7 +80,7 @@ falls-apart {a = a} {b = b} {first = first} {next = next} before between after =
       ∙ both-behind (first place) (next (place + length a)) a b place rest;
 }
 
--- a text whose tokens are said in another way
+-- a text whose tokens are written in another way
 pub falls-as : {text : List ℕ} {tokens other : ℕ → List Token} → FallsInto text tokens
     → ((place : ℕ) → tokens place ≡ other place) → FallsInto text other
 falls-as {text = text} falls same = record {

@@ -1,14 +1,14 @@
 -- Statements are read back.
 use Rattle.std.proofs.Common.{◌≡◌, true}
 use Rattle.source_round_trip.specs.ReadBack.{AreNumerals}
-use Rattle.source_round_trip.specs.SaidLine.{SaidBody, Empty, Instr, Org, Word, Byte, Ascii, Equ}
-use Rattle.source_round_trip.specs.SaidText.{Numerals}
+use Rattle.source_round_trip.specs.LineSyntax.{BodySyntax, Empty, Instr, Org, Word, Byte, Ascii, Equ}
+use Rattle.source_round_trip.specs.SyntaxText.{Numerals}
 use Rattle.source_round_trip.specs.Writable.{is_writable_body}
 use Rattle.source_round_trip.proofs.PlacedStatement.{IsPlaced}
 use Rattle.source_round_trip.proofs.PlacedInstruction.{placed_instruction, instruction-parts, instruction-text, instruction-says}
 use Rattle.source_round_trip.proofs.PlacedDirective.{empty-text, org-text, words-text, bytes-text, ascii-text, equ-text}
 
-pub body-placed : (numerals : Numerals) → AreNumerals numerals → (body : SaidBody)
+pub body-placed : (numerals : Numerals) → AreNumerals numerals → (body : BodySyntax)
     → is_writable_body body ≡ true → IsPlaced numerals body
 body-placed numerals are Empty is = empty-text numerals
 body-placed numerals are (Instr mnemonic size first second) is =

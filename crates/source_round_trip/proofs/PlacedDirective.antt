@@ -18,8 +18,8 @@ use Rattle.asm_text.specs.Expr.{SignedTerm}
 use Rattle.asm_text.specs.Statement.{body_of, is_ascii_directive, all_exprs, exprs_of, operation_body, statement_body}
 use Rattle.asm_text.specs.Token.{span_at, word_token, is_text_character, ends_text, piece_of}
 use Rattle.source_round_trip.specs.ReadBack.{AreNumerals}
-use Rattle.source_round_trip.specs.SaidLine.{Name, SaidExpr, SaidOperand, Symbolic, Empty, Org, Word, Byte, Ascii, Equ, said_expr, said_operand}
-use Rattle.source_round_trip.specs.SaidText.{Numerals, operand_text, operands_text}
+use Rattle.source_round_trip.specs.LineSyntax.{Name, ExprSyntax, OperandSyntax, Symbolic, Empty, Org, Word, Byte, Ascii, Equ, expr_syntax, operand_syntax}
+use Rattle.source_round_trip.specs.SyntaxText.{Numerals, operand_text, operands_text}
 use Rattle.source_round_trip.specs.Writable.{is_free_name, is_writable_expr, are_writable, is_writable_body}
 use Rattle.source_round_trip.proofs.Falls.{FallsInto, token-prefix, falls-then, falls-apart, falls-nothing, blank-falls}
 use Rattle.source_round_trip.proofs.PlacedName.{Stands, stands-prefix, stands-back, stands-name, says-operands}
@@ -46,15 +46,15 @@ org-operation : IsOperation (codes ".org") operations.Org
 org-operation =
     record { all = refl; some = omega arith; begins = refl; register = refl; names = refl }
 
-abbrev said_part : SaidOperand → SaidExpr
-said_part (Symbolic expr) = expr
-said_part operand = []
+abbrev symbolic_expr : OperandSyntax → ExprSyntax
+symbolic_expr (Symbolic expr) = expr
+symbolic_expr operand = []
 
-abbrev first_expr : List SaidOperand → SaidExpr
+abbrev first_expr : List OperandSyntax → ExprSyntax
 first_expr [] = []
-first_expr (first ∷ rest) = said_part first
+first_expr (first ∷ rest) = symbolic_expr first
 
-pub org-text : (numerals : Numerals) → AreNumerals numerals → (expr : SaidExpr)
+pub org-text : (numerals : Numerals) → AreNumerals numerals → (expr : ExprSyntax)
     → is_writable_expr expr ≡ true → IsPlaced numerals (Org expr)
 org-text numerals are expr is = record {
   body_at = λ place. bodies.Org (placed_expr numerals (place + 4 + 1) expr);
@@ -62,7 +62,7 @@ org-text numerals are expr is = record {
       (λ place. bodies.Org (placed_expr numerals (place + 4 + 1) expr)) org-operation refl
       (rw is refl) (λ place. refl);
   says = λ source place stands.
-      ap (λ (all : List SaidOperand). Org (first_expr all))
+      ap (λ (all : List OperandSyntax). Org (first_expr all))
       (says-operands source numerals (place + 4) (Symbolic expr ∷ [])
       (stands-back (codes ".org") (operands_text numerals (Symbolic expr ∷ [])) stands));
 }
@@ -72,25 +72,25 @@ abbrev operand_part : Operand → List SignedTerm
 operand_part (operands.Symbolic expr) = expr
 operand_part operand = []
 
-abbrev placed_exprs : Numerals → ℕ → List SaidExpr → List (List SignedTerm)
+abbrev placed_exprs : Numerals → ℕ → List ExprSyntax → List (List SignedTerm)
 placed_exprs numerals place exprs =
     map operand_part (placed_operands numerals place (map Symbolic exprs))
 
-exprs-all : (numerals : Numerals) (place : ℕ) (exprs : List SaidExpr)
+exprs-all : (numerals : Numerals) (place : ℕ) (exprs : List ExprSyntax)
     → all_exprs (placed_operands numerals place (map Symbolic exprs))
     ≡ Ok (placed_exprs numerals place exprs)
 exprs-all numerals place [] = refl
 exprs-all numerals place (expr ∷ exprs) =
     rw (exprs-all numerals (place + length (operand_text numerals (Symbolic expr)) + 1) exprs) refl
 
-exprs-read : (numerals : Numerals) (place : ℕ) (exprs : List SaidExpr)
+exprs-read : (numerals : Numerals) (place : ℕ) (exprs : List ExprSyntax)
     → nat_lt 0 (length exprs) ≡ true
     → exprs_of (placed_operands numerals place (map Symbolic exprs))
     ≡ Ok (placed_exprs numerals place exprs)
 exprs-read numerals place [] some = absurd (false≢true some)
 exprs-read numerals place (expr ∷ exprs) some = exprs-all numerals place (expr ∷ exprs)
 
-pub symbolic-are : (exprs : List SaidExpr) → list_all is_writable_expr exprs ≡ true
+pub symbolic-are : (exprs : List ExprSyntax) → list_all is_writable_expr exprs ≡ true
     → are_operands (map Symbolic exprs) ≡ true
 symbolic-are [] all = refl
 symbolic-are (expr ∷ exprs) all =
@@ -99,24 +99,24 @@ symbolic-are (expr ∷ exprs) all =
     (symbolic-are exprs parts.1)
 
 parts-same : (source : List ℕ) (all : List Operand)
-    → map (said_expr source) (map operand_part all)
-    ≡ map said_part (map (said_operand source) all)
+    → map (expr_syntax source) (map operand_part all)
+    ≡ map symbolic_expr (map (operand_syntax source) all)
 parts-same source [] = refl
 parts-same source (operands.Symbolic expr ∷ all) =
-    ap (λ (rest : List SaidExpr). said_expr source expr ∷ rest) (parts-same source all)
+    ap (λ (rest : List ExprSyntax). expr_syntax source expr ∷ rest) (parts-same source all)
 parts-same source (operand ∷ all) =
-    ap (λ (rest : List SaidExpr). [] ∷ rest) (parts-same source all)
+    ap (λ (rest : List ExprSyntax). [] ∷ rest) (parts-same source all)
 
-parts-symbolic : (exprs : List SaidExpr) → map said_part (map Symbolic exprs) ≡ exprs
+parts-symbolic : (exprs : List ExprSyntax) → map symbolic_expr (map Symbolic exprs) ≡ exprs
 parts-symbolic [] = refl
-parts-symbolic (expr ∷ exprs) = ap (λ (rest : List SaidExpr). expr ∷ rest) (parts-symbolic exprs)
+parts-symbolic (expr ∷ exprs) = ap (λ (rest : List ExprSyntax). expr ∷ rest) (parts-symbolic exprs)
 
-says-exprs : (source : List ℕ) (numerals : Numerals) (place : ℕ) (exprs : List SaidExpr)
+says-exprs : (source : List ℕ) (numerals : Numerals) (place : ℕ) (exprs : List ExprSyntax)
     → Stands source place (operands_text numerals (map Symbolic exprs))
-    → map (said_expr source) (placed_exprs numerals (place + 1) exprs) ≡ exprs
+    → map (expr_syntax source) (placed_exprs numerals (place + 1) exprs) ≡ exprs
 says-exprs source numerals place exprs stands =
     parts-same source (placed_operands numerals (place + 1) (map Symbolic exprs))
-    ∙ ap (map said_part) (says-operands source numerals place (map Symbolic exprs) stands)
+    ∙ ap (map symbolic_expr) (says-operands source numerals place (map Symbolic exprs) stands)
     ∙ parts-symbolic exprs
 
 word-directive : IsOperation (codes ".word") operations.Word
@@ -128,7 +128,7 @@ byte-directive =
     record { all = refl; some = omega arith; begins = refl; register = refl; names = refl }
 
 -- a directive with expressions
-exprs-text : (numerals : Numerals) → AreNumerals numerals → (exprs : List SaidExpr)
+exprs-text : (numerals : Numerals) → AreNumerals numerals → (exprs : List ExprSyntax)
     → are_writable exprs ≡ true → {word : List ℕ} {operation : Operation}
     (make : List (List SignedTerm) → Body) → IsOperation word operation
     → is_ascii_directive (Some operation) ≡ false
@@ -146,30 +146,30 @@ exprs-text numerals are exprs is {word = word} make is_named other read =
     answer >>= (λ all. Ok (make all)))
     (exprs-read numerals (place + length word + 1) exprs parts.0))
 
-exprs-says : (source : List ℕ) (numerals : Numerals) (place : ℕ) (exprs : List SaidExpr)
+exprs-says : (source : List ℕ) (numerals : Numerals) (place : ℕ) (exprs : List ExprSyntax)
     (word : List ℕ) → Stands source place (word ++ operands_text numerals (map Symbolic exprs))
-    → map (said_expr source) (placed_exprs numerals (place + length word + 1) exprs) ≡ exprs
+    → map (expr_syntax source) (placed_exprs numerals (place + length word + 1) exprs) ≡ exprs
 exprs-says source numerals place exprs word stands =
     says-exprs source numerals (place + length word) exprs
     (stands-back word (operands_text numerals (map Symbolic exprs)) stands)
 
-pub words-text : (numerals : Numerals) → AreNumerals numerals → (exprs : List SaidExpr)
+pub words-text : (numerals : Numerals) → AreNumerals numerals → (exprs : List ExprSyntax)
     → are_writable exprs ≡ true → IsPlaced numerals (Word exprs)
 words-text numerals are exprs is = record {
   body_at = λ place. bodies.Word (placed_exprs numerals (place + 5 + 1) exprs);
   text = exprs-text numerals are exprs is (λ all. bodies.Word all) word-directive refl
       (λ all. refl);
-  says = λ source place stands. ap (λ (answer : List SaidExpr). Word answer)
+  says = λ source place stands. ap (λ (answer : List ExprSyntax). Word answer)
       (exprs-says source numerals place exprs (codes ".word") stands);
 }
 
-pub bytes-text : (numerals : Numerals) → AreNumerals numerals → (exprs : List SaidExpr)
+pub bytes-text : (numerals : Numerals) → AreNumerals numerals → (exprs : List ExprSyntax)
     → are_writable exprs ≡ true → IsPlaced numerals (Byte exprs)
 bytes-text numerals are exprs is = record {
   body_at = λ place. bodies.Byte (placed_exprs numerals (place + 5 + 1) exprs);
   text = exprs-text numerals are exprs is (λ all. bodies.Byte all) byte-directive refl
       (λ all. refl);
-  says = λ source place stands. ap (λ (answer : List SaidExpr). Byte answer)
+  says = λ source place stands. ap (λ (answer : List ExprSyntax). Byte answer)
       (exprs-says source numerals place exprs (codes ".byte") stands);
 }
 
@@ -257,37 +257,37 @@ equ-operation : IsOperation (codes ".equ") operations.Equ
 equ-operation =
     record { all = refl; some = omega arith; begins = refl; register = refl; names = refl }
 
-abbrev name_operand : List ℕ → SaidOperand
+abbrev name_operand : List ℕ → OperandSyntax
 name_operand name = Symbolic ((false, Name name) ∷ [])
 
-abbrev placed_equ : Numerals → List ℕ → SaidExpr → ℕ → Body
+abbrev placed_equ : Numerals → List ℕ → ExprSyntax → ℕ → Body
 placed_equ numerals name expr place =
     bodies.Equ (span_at (place + 4 + 1) (length name))
     (placed_expr numerals
     (place + 4 + 1 + length (operand_text numerals (name_operand name)) + 1) expr)
 
-abbrev name_in : SaidExpr → List ℕ
+abbrev name_in : ExprSyntax → List ℕ
 name_in ((false, Name name) ∷ rest) = name
 name_in expr = []
 
-abbrev first_name : List SaidOperand → List ℕ
+abbrev first_name : List OperandSyntax → List ℕ
 first_name [] = []
-first_name (first ∷ rest) = name_in (said_part first)
+first_name (first ∷ rest) = name_in (symbolic_expr first)
 
-abbrev second_expr : List SaidOperand → SaidExpr
-second_expr (first ∷ second ∷ rest) = said_part second
+abbrev second_expr : List OperandSyntax → ExprSyntax
+second_expr (first ∷ second ∷ rest) = symbolic_expr second
 second_expr all = []
 
-pub equ-text : (numerals : Numerals) → AreNumerals numerals → (name : List ℕ) (expr : SaidExpr)
+pub equ-text : (numerals : Numerals) → AreNumerals numerals → (name : List ℕ) (expr : ExprSyntax)
     → is_writable_body (Equ name expr) ≡ true → IsPlaced numerals (Equ name expr)
 equ-text numerals are name expr is =
     let parts = and_parts (is_free_name name) (is_writable_expr expr) is in
-    let all : List SaidOperand = name_operand name ∷ Symbolic expr ∷ [] in record {
+    let all : List OperandSyntax = name_operand name ∷ Symbolic expr ∷ [] in record {
       body_at = placed_equ numerals name expr;
       text = operation-body numerals are all (placed_equ numerals name expr) equ-operation refl
           (rw (parts.0, parts.1) refl) (λ place. refl);
       says = λ source place stands.
-          ap (λ (answer : List SaidOperand). Equ (first_name answer) (second_expr answer))
+          ap (λ (answer : List OperandSyntax). Equ (first_name answer) (second_expr answer))
           (says-operands source numerals (place + 4) all
           (stands-back (codes ".equ") (operands_text numerals all) stands));
     }

@@ -14,20 +14,20 @@ use Rattle.asm_text.specs.Operand.{term_of, sign_of, terms_of, expr_of}
 use Rattle.asm_text.specs.Token.{span_at, number_piece, word_piece, named_token, name_token, word_token}
 use Rattle.asm_text.specs.Word.{is_word_character, is_name, is_name_character, number_of, register_of, operation_of, lower_case}
 use Rattle.source_round_trip.specs.ReadBack.{AreNumerals}
-use Rattle.source_round_trip.specs.SaidLine.{SaidTerm, Number, Name, Here, SaidExpr}
-use Rattle.source_round_trip.specs.SaidText.{Numerals, term_text, sign_text, more_text, expr_text}
+use Rattle.source_round_trip.specs.LineSyntax.{TermSyntax, Number, Name, Here, ExprSyntax}
+use Rattle.source_round_trip.specs.SyntaxText.{Numerals, term_text, sign_text, more_text, expr_text}
 use Rattle.source_round_trip.specs.Writable.{is_free_name, is_writable_term, is_writable_expr}
 use Rattle.source_round_trip.proofs.Falls.{ends, FallsInto, FallsAlways, falls-then, falls-apart, falls-into, falls-nothing, word-falls, plus-falls, minus-falls, here-falls}
 use Rattle.source_round_trip.proofs.Numerals.{number-falls}
 use Rattle.source_round_trip.proofs.Operands.{not-false}
 
 -- a term that is written at a place
-abbrev pub placed_term : ℕ → SaidTerm → Term
+abbrev pub placed_term : ℕ → TermSyntax → Term
 placed_term place (Number number) = terms.Number number
 placed_term place (Name name) = terms.Name (span_at place (length name))
 placed_term place Here = terms.Here
 
-abbrev pub term_token : ℕ → SaidTerm → Token
+abbrev pub term_token : ℕ → TermSyntax → Token
 term_token place (Number number) = tokens.Number number
 term_token place (Name name) =
     tokens.Name (span_at place (length name)) (operation_of (lower_case name))
@@ -38,14 +38,14 @@ sign_token false = tokens.Plus
 sign_token true = tokens.Minus
 
 -- further terms
-abbrev pub placed_more : Numerals → ℕ → SaidExpr → List SignedTerm
+abbrev pub placed_more : Numerals → ℕ → ExprSyntax → List SignedTerm
 placed_more numerals place [] = []
 placed_more numerals place ((is_subtracted, term) ∷ rest) =
     (is_subtracted, placed_term (place + length (sign_text is_subtracted)) term)
     ∷ placed_more numerals
     (place + length (sign_text is_subtracted ++ term_text numerals term)) rest
 
-abbrev more_tokens : Numerals → ℕ → SaidExpr → List Token
+abbrev more_tokens : Numerals → ℕ → ExprSyntax → List Token
 more_tokens numerals place [] = []
 more_tokens numerals place ((is_subtracted, term) ∷ rest) =
     sign_token is_subtracted ∷ term_token (place + length (sign_text is_subtracted)) term
@@ -53,7 +53,7 @@ more_tokens numerals place ((is_subtracted, term) ∷ rest) =
     (place + length (sign_text is_subtracted ++ term_text numerals term)) rest
 
 -- an expression
-abbrev pub placed_expr : Numerals → ℕ → SaidExpr → List SignedTerm
+abbrev pub placed_expr : Numerals → ℕ → ExprSyntax → List SignedTerm
 placed_expr numerals place [] = []
 placed_expr numerals place ((false, term) ∷ rest) =
     (false, placed_term place term)
@@ -62,7 +62,7 @@ placed_expr numerals place ((true, term) ∷ rest) =
     (true, placed_term (place + 1) term)
     ∷ placed_more numerals (place + 1 + length (term_text numerals term)) rest
 
-abbrev pub expr_tokens : Numerals → ℕ → SaidExpr → List Token
+abbrev pub expr_tokens : Numerals → ℕ → ExprSyntax → List Token
 expr_tokens numerals place [] = []
 expr_tokens numerals place ((false, term) ∷ rest) =
     term_token place term ∷ more_tokens numerals (place + length (term_text numerals term)) rest
@@ -142,7 +142,7 @@ name-falls name is =
     ∙ ap (λ (token : Token). pieces.Token token (length name))
     (name-token place name free.is free.other))
 
-pub term-falls : (numerals : Numerals) → AreNumerals numerals → (term : SaidTerm)
+pub term-falls : (numerals : Numerals) → AreNumerals numerals → (term : TermSyntax)
     → is_writable_term term ≡ true
     → FallsInto (term_text numerals term) (λ place. term_token place term ∷ [])
 term-falls numerals are (Number number) is =
@@ -155,19 +155,19 @@ sign-falls : (is_subtracted : Bool)
 sign-falls false = plus-falls
 sign-falls true = minus-falls
 
-abbrev pub are_terms : SaidExpr → Bool
+abbrev pub are_terms : ExprSyntax → Bool
 are_terms terms = list_all (λ term. is_writable_term term.1) terms
 
 -- the terms of what can be written
-pub terms-are : (expr : SaidExpr) → is_writable_expr expr ≡ true → are_terms expr ≡ true
+pub terms-are : (expr : ExprSyntax) → is_writable_expr expr ≡ true → are_terms expr ≡ true
 terms-are expr is = (and_parts (nat_lt 0 (length expr)) (are_terms expr) is).1
 
-more-ends : (numerals : Numerals) (terms : SaidExpr) → ends (more_text numerals terms) ≡ true
+more-ends : (numerals : Numerals) (terms : ExprSyntax) → ends (more_text numerals terms) ≡ true
 more-ends numerals [] = refl
 more-ends numerals ((false, term) ∷ rest) = refl
 more-ends numerals ((true, term) ∷ rest) = refl
 
-more-falls : (numerals : Numerals) → AreNumerals numerals → (terms : SaidExpr)
+more-falls : (numerals : Numerals) → AreNumerals numerals → (terms : ExprSyntax)
     → are_terms terms ≡ true
     → FallsInto (more_text numerals terms) (λ place. more_tokens numerals place terms)
 more-falls numerals are [] all = falls-nothing
@@ -176,7 +176,7 @@ more-falls numerals are ((is_subtracted, term) ∷ rest) all =
     falls-apart (falls-then (sign-falls is_subtracted) (term-falls numerals are term parts.0))
     (more-ends numerals rest) (more-falls numerals are rest parts.1)
 
-pub expr-falls : (numerals : Numerals) → AreNumerals numerals → (expr : SaidExpr)
+pub expr-falls : (numerals : Numerals) → AreNumerals numerals → (expr : ExprSyntax)
     → are_terms expr ≡ true
     → FallsInto (expr_text numerals expr) (λ place. expr_tokens numerals place expr)
 expr-falls numerals are [] all = falls-nothing
@@ -192,7 +192,7 @@ expr-falls numerals are ((true, term) ∷ rest) all =
 
 -- expressions are read back
 
-term-read : (place : ℕ) (term : SaidTerm)
+term-read : (place : ℕ) (term : TermSyntax)
     → term_of (term_token place term) ≡ Ok (placed_term place term)
 term-read place (Number number) = refl
 term-read place (Name name) = refl
@@ -202,8 +202,8 @@ sign-read : (is_subtracted : Bool) → sign_of (sign_token is_subtracted) ≡ Ok
 sign-read false = refl
 sign-read true = refl
 
-terms-read : (numerals : Numerals) (is_subtracted : Bool) (place next : ℕ) (term : SaidTerm)
-    (rest : SaidExpr)
+terms-read : (numerals : Numerals) (is_subtracted : Bool) (place next : ℕ) (term : TermSyntax)
+    (rest : ExprSyntax)
     → terms_of is_subtracted (term_token place term ∷ more_tokens numerals next rest)
     ≡ Ok ((is_subtracted, placed_term place term) ∷ placed_more numerals next rest)
 unfolding terms_of
@@ -217,14 +217,14 @@ terms-read numerals is_subtracted place next term ((sign, later) ∷ rest) =
           (next + length (sign_text sign ++ term_text numerals later)) later rest,
     ) refl
 
-plain-read : (numerals : Numerals) (place next : ℕ) (term : SaidTerm) (rest : SaidExpr)
+plain-read : (numerals : Numerals) (place next : ℕ) (term : TermSyntax) (rest : ExprSyntax)
     → expr_of (term_token place term ∷ more_tokens numerals next rest)
     ≡ terms_of false (term_token place term ∷ more_tokens numerals next rest)
 plain-read numerals place next (Number number) rest = refl
 plain-read numerals place next (Name name) rest = refl
 plain-read numerals place next Here rest = refl
 
-pub expr-read : (numerals : Numerals) (place : ℕ) (expr : SaidExpr) → is_writable_expr expr ≡ true
+pub expr-read : (numerals : Numerals) (place : ℕ) (expr : ExprSyntax) → is_writable_expr expr ≡ true
     → expr_of (expr_tokens numerals place expr) ≡ Ok (placed_expr numerals place expr)
 expr-read numerals place [] is = absurd (false≢true is)
 expr-read numerals place ((false, term) ∷ rest) is =
@@ -245,7 +245,7 @@ is_expr_token token = false
 abbrev pub are_expr_tokens : List Token → Bool
 are_expr_tokens all = list_all is_expr_token all
 
-term-are : (place : ℕ) (term : SaidTerm) → is_expr_token (term_token place term) ≡ true
+term-are : (place : ℕ) (term : TermSyntax) → is_expr_token (term_token place term) ≡ true
 term-are place (Number number) = refl
 term-are place (Name name) = refl
 term-are place Here = refl
@@ -254,14 +254,14 @@ sign-are : (is_subtracted : Bool) → is_expr_token (sign_token is_subtracted) �
 sign-are false = refl
 sign-are true = refl
 
-more-are : (numerals : Numerals) (place : ℕ) (terms : SaidExpr)
+more-are : (numerals : Numerals) (place : ℕ) (terms : ExprSyntax)
     → are_expr_tokens (more_tokens numerals place terms) ≡ true
 more-are numerals place [] = refl
 more-are numerals place ((is_subtracted, term) ∷ rest) =
     rw (sign-are is_subtracted, term-are (place + length (sign_text is_subtracted)) term)
     (more-are numerals (place + length (sign_text is_subtracted ++ term_text numerals term)) rest)
 
-pub expr-are : (numerals : Numerals) (place : ℕ) (expr : SaidExpr)
+pub expr-are : (numerals : Numerals) (place : ℕ) (expr : ExprSyntax)
     → are_expr_tokens (expr_tokens numerals place expr) ≡ true
 expr-are numerals place [] = refl
 expr-are numerals place ((false, term) ∷ rest) =
@@ -270,7 +270,7 @@ expr-are numerals place ((true, term) ∷ rest) =
     rw (term-are (place + 1) term)
     (more-are numerals (place + 1 + length (term_text numerals term)) rest)
 
-pub expr-some : (numerals : Numerals) (place : ℕ) (expr : SaidExpr) → is_writable_expr expr ≡ true
+pub expr-some : (numerals : Numerals) (place : ℕ) (expr : ExprSyntax) → is_writable_expr expr ≡ true
     → 0 < length (expr_tokens numerals place expr)
 expr-some numerals place [] is = absurd (false≢true is)
 expr-some numerals place ((false, term) ∷ rest) is = omega arith

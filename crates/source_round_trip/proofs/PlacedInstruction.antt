@@ -16,9 +16,9 @@ use Rattle.asm_text.specs.declared.operation.Operation.TheVariants as operations
 use Rattle.asm_text.specs.Statement.{form_of, fits, is_source, is_destination}
 use Rattle.asm_text.specs.Word.{lower_case, operation_of, byte_form, has_byte_form}
 use Rattle.source_round_trip.specs.ReadBack.{AreNumerals}
-use Rattle.source_round_trip.specs.SaidLine.{SaidOperand, Reg, Instr, said_body}
-use Rattle.source_round_trip.specs.SaidText.{Numerals, operand_text, operands_text, mnemonic_text, body_text}
-use Rattle.source_round_trip.specs.Writable.{form_in, is_given, has_size, is_writable_body}
+use Rattle.source_round_trip.specs.LineSyntax.{OperandSyntax, Reg, Instr, body_syntax}
+use Rattle.source_round_trip.specs.SyntaxText.{Numerals, operand_text, operands_text, mnemonic_text, body_text}
+use Rattle.source_round_trip.specs.Writable.{form_in, is_none_or_writable, has_size, is_writable_body}
 use Rattle.source_round_trip.proofs.PlacedName.{Stands, stands-back, says-operands}
 use Rattle.source_round_trip.proofs.PlacedOperand.{placed_operand}
 use Rattle.source_round_trip.proofs.Words.{IsOperation}
@@ -71,17 +71,17 @@ mnemonic-operation mnemonic sizes.Byte has = byte-operation mnemonic has
 
 -- what fits goes by the forms alone
 
-source-same : (numerals : Numerals) (place : ℕ) (operand : SaidOperand)
+source-same : (numerals : Numerals) (place : ℕ) (operand : OperandSyntax)
     → is_source (placed_operand numerals place operand) ≡ is_source (form_in operand)
 source-same numerals place (Reg register) = refl
 source-same numerals place operand = refl
 
-destination-same : (numerals : Numerals) (place : ℕ) (operand : SaidOperand)
+destination-same : (numerals : Numerals) (place : ℕ) (operand : OperandSyntax)
     → is_destination (placed_operand numerals place operand) ≡ is_destination (form_in operand)
 destination-same numerals place (Reg register) = refl
 destination-same numerals place operand = refl
 
-one-same : (numerals : Numerals) (place : ℕ) (form : OperandForm) (operand : SaidOperand)
+one-same : (numerals : Numerals) (place : ℕ) (form : OperandForm) (operand : OperandSyntax)
     → fits form (Some (placed_operand numerals place operand)) None
     ≡ fits form (Some (form_in operand)) None
 one-same numerals place forms.Source (Reg register) = refl
@@ -90,7 +90,7 @@ one-same numerals place form (Reg register) = refl
 one-same numerals place form operand = refl
 
 two-same : (numerals : Numerals) (place next : ℕ) (form : OperandForm)
-    (first second : SaidOperand)
+    (first second : OperandSyntax)
     → fits form (Some (placed_operand numerals place first))
     (Some (placed_operand numerals next second))
     ≡ fits form (Some (form_in first)) (Some (form_in second))
@@ -104,8 +104,8 @@ second-alone form operand = refl
 
 -- the instruction that is read
 
-abbrev pub placed_instruction : Numerals → Mnemonic → Size → Option SaidOperand → Option SaidOperand
-    → ℕ → Body
+abbrev pub placed_instruction : Numerals → Mnemonic → Size → Option OperandSyntax
+    → Option OperandSyntax → ℕ → Body
 placed_instruction numerals mnemonic size None second place = bodies.Instr mnemonic size None None
 placed_instruction numerals mnemonic size (Some first) None place =
     bodies.Instr mnemonic size
@@ -118,27 +118,28 @@ placed_instruction numerals mnemonic size (Some first) (Some second) place =
 
 -- the operands of an instruction that can be written
 pub record IsWritableInstruction (mnemonic : Mnemonic) (size : Size)
-    (first second : Option SaidOperand) : Type 0 where
+    (first second : Option OperandSyntax) : Type 0 where
   pub sized : has_size mnemonic size ≡ true
   pub fitting : fits (form_of mnemonic) (option_map form_in first) (option_map form_in second)
       ≡ true
-  pub one : is_given first ≡ true
-  pub two : is_given second ≡ true
+  pub one : is_none_or_writable first ≡ true
+  pub two : is_none_or_writable second ≡ true
 
-pub instruction-parts : (mnemonic : Mnemonic) (size : Size) (first second : Option SaidOperand)
+pub instruction-parts : (mnemonic : Mnemonic) (size : Size) (first second : Option OperandSyntax)
     → is_writable_body (Instr mnemonic size first second) ≡ true
     → IsWritableInstruction mnemonic size first second
 instruction-parts mnemonic size first second is =
     let is_sized : Bool = has_size mnemonic size in
     let does_fit : Bool =
     fits (form_of mnemonic) (option_map form_in first) (option_map form_in second) in
-    let last = and_parts (is_sized && does_fit && is_given first) (is_given second) is in
-    let middle = and_parts (is_sized && does_fit) (is_given first) last.0 in
+    let last = and_parts (is_sized && does_fit && is_none_or_writable first)
+    (is_none_or_writable second) is in
+    let middle = and_parts (is_sized && does_fit) (is_none_or_writable first) last.0 in
     let prefix = and_parts is_sized does_fit middle.0 in
     record { sized = prefix.0; fitting = prefix.1; one = middle.1; two = last.1 }
 
 pub instruction-text : (numerals : Numerals) → AreNumerals numerals → (mnemonic : Mnemonic)
-    (size : Size) (first second : Option SaidOperand)
+    (size : Size) (first second : Option OperandSyntax)
     → IsWritableInstruction mnemonic size first second
     → IsBodyText (body_text numerals (Instr mnemonic size first second))
     (placed_instruction numerals mnemonic size first second)
@@ -163,30 +164,30 @@ instruction-text numerals are mnemonic size (Some first) (Some second) is =
     rw (two-same numerals word (word + length (operand_text numerals first) + 1)
     (form_of mnemonic) first second ∙ is.fitting) refl)
 
-abbrev first_of : List SaidOperand → Option SaidOperand
+abbrev first_of : List OperandSyntax → Option OperandSyntax
 first_of [] = None
 first_of (first ∷ rest) = Some first
 
-abbrev second_of : List SaidOperand → Option SaidOperand
+abbrev second_of : List OperandSyntax → Option OperandSyntax
 second_of (first ∷ second ∷ rest) = Some second
 second_of all = None
 
 pub instruction-says : (source : List ℕ) (numerals : Numerals) (mnemonic : Mnemonic) (size : Size)
-    (first second : Option SaidOperand) (place : ℕ)
+    (first second : Option OperandSyntax) (place : ℕ)
     → IsWritableInstruction mnemonic size first second
     → Stands source place (body_text numerals (Instr mnemonic size first second))
-    → said_body source (placed_instruction numerals mnemonic size first second place)
+    → body_syntax source (placed_instruction numerals mnemonic size first second place)
     ≡ Instr mnemonic size first second
 instruction-says source numerals mnemonic size None None place is stands = refl
 instruction-says source numerals mnemonic size None (Some second) place is stands =
     absurd (false≢true (sym (second-alone (form_of mnemonic) (form_in second)) ∙ is.fitting))
 instruction-says source numerals mnemonic size (Some first) None place is stands =
     let word : List ℕ = mnemonic_text mnemonic ++ size_suffix size in
-    ap (λ (all : List SaidOperand). Instr mnemonic size (first_of all) (second_of all))
+    ap (λ (all : List OperandSyntax). Instr mnemonic size (first_of all) (second_of all))
     (says-operands source numerals (place + length word) (first ∷ [])
     (stands-back word (operands_text numerals (first ∷ [])) stands))
 instruction-says source numerals mnemonic size (Some first) (Some second) place is stands =
     let word : List ℕ = mnemonic_text mnemonic ++ size_suffix size in
-    ap (λ (all : List SaidOperand). Instr mnemonic size (first_of all) (second_of all))
+    ap (λ (all : List OperandSyntax). Instr mnemonic size (first_of all) (second_of all))
     (says-operands source numerals (place + length word) (first ∷ second ∷ [])
     (stands-back word (operands_text numerals (first ∷ second ∷ [])) stands))

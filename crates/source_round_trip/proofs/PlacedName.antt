@@ -5,8 +5,8 @@ use Rattle.std.proofs.Math.Seq.{drop-append_seam, take-append_seam}
 use Rattle.std.proofs.lemmas.List.{drop-drop}
 use Rattle.asm_text.specs.Token.{span_at}
 use Rattle.asm_bytes.specs.Value.{characters}
-use Rattle.source_round_trip.specs.SaidLine.{SaidTerm, Number, Name, Here, SaidExpr, SaidOperand, Reg, Imm, Abs, Indexed, Symbolic, Indirect, IndirectInc, said_term, said_expr, said_operand}
-use Rattle.source_round_trip.specs.SaidText.{Numerals, term_text, sign_text, more_text, expr_text, register_text, operand_text, more_operands_text, operands_text}
+use Rattle.source_round_trip.specs.LineSyntax.{TermSyntax, Number, Name, Here, ExprSyntax, OperandSyntax, Reg, Imm, Abs, Indexed, Symbolic, Indirect, IndirectInc, term_syntax, expr_syntax, operand_syntax}
+use Rattle.source_round_trip.specs.SyntaxText.{Numerals, term_text, sign_text, more_text, expr_text, register_text, operand_text, more_operands_text, operands_text}
 use Rattle.source_round_trip.proofs.PlacedExpr.{placed_term, placed_more, placed_expr}
 use Rattle.source_round_trip.proofs.PlacedOperand.{placed_operand, placed_operands}
 
@@ -38,17 +38,17 @@ stands-name {source = source} {place = place} name stands =
     ap (λ (n : ℕ). take n (drop place source)) count
     ∙ ap (take (length name)) stands.cut ∙ take-append_seam name stands.after
 
-says-term : (source : List ℕ) (numerals : Numerals) (place : ℕ) (term : SaidTerm)
+says-term : (source : List ℕ) (numerals : Numerals) (place : ℕ) (term : TermSyntax)
     → Stands source place (term_text numerals term)
-    → said_term source (placed_term place term) ≡ term
+    → term_syntax source (placed_term place term) ≡ term
 says-term source numerals place (Number number) stands = refl
 says-term source numerals place (Name name) stands =
     ap (λ (answer : List ℕ). Name answer) (stands-name name stands)
 says-term source numerals place Here stands = refl
 
-says-more : (source : List ℕ) (numerals : Numerals) (place : ℕ) (terms : SaidExpr)
+says-more : (source : List ℕ) (numerals : Numerals) (place : ℕ) (terms : ExprSyntax)
     → Stands source place (more_text numerals terms)
-    → said_expr source (placed_more numerals place terms) ≡ terms
+    → expr_syntax source (placed_more numerals place terms) ≡ terms
 says-more source numerals place [] stands = refl
 says-more source numerals place ((is_subtracted, term) ∷ rest) stands =
     let sign : List ℕ = sign_text is_subtracted in
@@ -59,9 +59,9 @@ says-more source numerals place ((is_subtracted, term) ∷ rest) stands =
     (stands-back (sign ++ word) (more_text numerals rest) stands) in
     rw (first, later) refl
 
-pub says-expr : (source : List ℕ) (numerals : Numerals) (place : ℕ) (expr : SaidExpr)
+pub says-expr : (source : List ℕ) (numerals : Numerals) (place : ℕ) (expr : ExprSyntax)
     → Stands source place (expr_text numerals expr)
-    → said_expr source (placed_expr numerals place expr) ≡ expr
+    → expr_syntax source (placed_expr numerals place expr) ≡ expr
 says-expr source numerals place [] stands = refl
 says-expr source numerals place ((false, term) ∷ rest) stands =
     let word : List ℕ = term_text numerals term in
@@ -82,9 +82,9 @@ says-expr source numerals place ((true, term) ∷ rest) stands =
           (stands-back word (more_text numerals rest) behind),
     ) refl
 
-pub says-operand : (source : List ℕ) (numerals : Numerals) (place : ℕ) (operand : SaidOperand)
+pub says-operand : (source : List ℕ) (numerals : Numerals) (place : ℕ) (operand : OperandSyntax)
     → Stands source place (operand_text numerals operand)
-    → said_operand source (placed_operand numerals place operand) ≡ operand
+    → operand_syntax source (placed_operand numerals place operand) ≡ operand
 says-operand source numerals place (Reg register) stands = refl
 says-operand source numerals place (Imm expr) stands =
     rw (says-expr source numerals (place + 1) expr
@@ -103,10 +103,10 @@ says-operand source numerals place (Indirect register) stands = refl
 says-operand source numerals place (IndirectInc register) stands = refl
 
 -- operands one behind the other
-says-all : (source : List ℕ) (numerals : Numerals) (place : ℕ) (first : SaidOperand)
-    (rest : List SaidOperand)
+says-all : (source : List ℕ) (numerals : Numerals) (place : ℕ) (first : OperandSyntax)
+    (rest : List OperandSyntax)
     → Stands source place (operand_text numerals first ++ more_operands_text numerals rest)
-    → map (said_operand source) (placed_operands numerals place (first ∷ rest)) ≡ first ∷ rest
+    → map (operand_syntax source) (placed_operands numerals place (first ∷ rest)) ≡ first ∷ rest
 says-all source numerals place first [] stands =
     rw (says-operand source numerals place first
     (stands-prefix (operand_text numerals first) [] stands)) refl
@@ -120,8 +120,8 @@ says-all source numerals place first (next ∷ rest) stands =
     ) refl
 
 pub says-operands : (source : List ℕ) (numerals : Numerals) (place : ℕ)
-    (all : List SaidOperand) → Stands source place (operands_text numerals all)
-    → map (said_operand source) (placed_operands numerals (place + 1) all) ≡ all
+    (all : List OperandSyntax) → Stands source place (operands_text numerals all)
+    → map (operand_syntax source) (placed_operands numerals (place + 1) all) ≡ all
 says-operands source numerals place [] stands = refl
 says-operands source numerals place (first ∷ rest) stands =
     says-all source numerals (place + 1) first rest

@@ -20,8 +20,8 @@ use Rattle.asm_text.specs.declared.token.Token.TheVariants as tokens
 use Rattle.asm_text.specs.Expr.{SignedTerm}
 use Rattle.asm_text.specs.Operand.{is_comma, expr_of, with_expr, place_operand, place_of, operand_of}
 use Rattle.source_round_trip.specs.ReadBack.{AreNumerals}
-use Rattle.source_round_trip.specs.SaidLine.{SaidOperand, Reg, Imm, Abs, Indexed, Symbolic, Indirect, IndirectInc}
-use Rattle.source_round_trip.specs.SaidText.{Numerals, expr_text, register_text, operand_text}
+use Rattle.source_round_trip.specs.LineSyntax.{OperandSyntax, Reg, Imm, Abs, Indexed, Symbolic, Indirect, IndirectInc}
+use Rattle.source_round_trip.specs.SyntaxText.{Numerals, expr_text, register_text, operand_text}
 use Rattle.source_round_trip.specs.Writable.{is_writable_expr, is_register, is_writable_operand}
 use Rattle.source_round_trip.proofs.Falls.{FallsInto, falls-then, falls-apart, falls-into, hash-falls, ampersand-falls, at-falls, plus-falls, open-falls, close-falls}
 use Rattle.source_round_trip.proofs.Numerals.{below-passes, all_below}
@@ -29,7 +29,7 @@ use Rattle.source_round_trip.proofs.Operands.{IsOperandOf, has_no_comma}
 use Rattle.source_round_trip.proofs.Words.{register-falls, begins_with_colon}
 use Rattle.source_round_trip.proofs.PlacedExpr.{terms-are, placed_expr, expr_tokens, expr-falls, expr-read, is_expr_token, are_expr_tokens, expr-are, expr-some}
 
-abbrev pub placed_operand : Numerals → ℕ → SaidOperand → Operand
+abbrev pub placed_operand : Numerals → ℕ → OperandSyntax → Operand
 placed_operand numerals place (Reg register) = operands.Reg register
 placed_operand numerals place (Imm expr) = operands.Imm (placed_expr numerals (place + 1) expr)
 placed_operand numerals place (Abs expr) = operands.Abs (placed_expr numerals (place + 1) expr)
@@ -39,7 +39,7 @@ placed_operand numerals place (Symbolic expr) = operands.Symbolic (placed_expr n
 placed_operand numerals place (Indirect register) = operands.Indirect register
 placed_operand numerals place (IndirectInc register) = operands.IndirectInc register
 
-abbrev pub operand_tokens : Numerals → ℕ → SaidOperand → List Token
+abbrev pub operand_tokens : Numerals → ℕ → OperandSyntax → List Token
 operand_tokens numerals place (Reg register) = tokens.Register register ∷ []
 operand_tokens numerals place (Imm expr) = tokens.Hash ∷ expr_tokens numerals (place + 1) expr
 operand_tokens numerals place (Abs expr) = tokens.Ampersand ∷ expr_tokens numerals (place + 1) expr
@@ -52,7 +52,7 @@ operand_tokens numerals place (IndirectInc register) =
     tokens.At ∷ tokens.Register register ∷ tokens.Plus ∷ []
 
 -- operands one behind the other
-abbrev pub placed_operands : Numerals → ℕ → List SaidOperand → List Operand
+abbrev pub placed_operands : Numerals → ℕ → List OperandSyntax → List Operand
 placed_operands numerals place [] = []
 placed_operands numerals place (first ∷ rest) =
     placed_operand numerals place first
@@ -77,7 +77,7 @@ number-register-falls number below =
     (λ place. tokens.Register (reg_number (reg_of number)) ∷ [])) text
     (register-falls (reg_of number)))
 
-pub operand-falls : (numerals : Numerals) → AreNumerals numerals → (operand : SaidOperand)
+pub operand-falls : (numerals : Numerals) → AreNumerals numerals → (operand : OperandSyntax)
     → is_writable_operand operand ≡ true
     → FallsInto (operand_text numerals operand) (λ place. operand_tokens numerals place operand)
 operand-falls numerals are (Reg register) is =
@@ -175,7 +175,7 @@ indexed-read all expr register are some outcome =
     answer >>= (λ outcome. Ok (operands.Indexed outcome register))) outcome
 
 -- operands are read back
-pub operand-read : (numerals : Numerals) (place : ℕ) (operand : SaidOperand)
+pub operand-read : (numerals : Numerals) (place : ℕ) (operand : OperandSyntax)
     → is_writable_operand operand ≡ true
     → IsOperandOf (operand_tokens numerals place operand) (placed_operand numerals place operand)
 operand-read numerals place (Reg register) is =

@@ -12,8 +12,8 @@ use Rattle.asm_text.specs.Operand.{operand_of, operands_of}
 use Rattle.asm_text.specs.Statement.{is_ascii_directive, body_of, statement_body, labelled_body}
 use Rattle.asm_text.specs.Token.{word_token}
 use Rattle.source_round_trip.specs.ReadBack.{AreNumerals}
-use Rattle.source_round_trip.specs.SaidLine.{SaidOperand, SaidBody, said_body}
-use Rattle.source_round_trip.specs.SaidText.{Numerals, operand_text, more_operands_text, operands_text, body_text}
+use Rattle.source_round_trip.specs.LineSyntax.{OperandSyntax, BodySyntax, body_syntax}
+use Rattle.source_round_trip.specs.SyntaxText.{Numerals, operand_text, more_operands_text, operands_text, body_text}
 use Rattle.source_round_trip.specs.Writable.{is_writable_operand}
 use Rattle.source_round_trip.proofs.Falls.{FallsInto, falls-then, falls-apart, falls-as, falls-nothing, blank-falls, comma-falls}
 use Rattle.source_round_trip.proofs.Operands.{no_colon-first, has_no_comma, joint_tokens, joint-read}
@@ -22,22 +22,22 @@ use Rattle.source_round_trip.proofs.PlacedOperand.{operand_tokens, placed_operan
 use Rattle.source_round_trip.proofs.Words.{IsOperation, begins_with_colon, without_label, operation-falls, no_label, operation-read}
 
 -- the tokens of operands one behind the other
-abbrev parts_at : Numerals → ℕ → List SaidOperand → List (List Token)
+abbrev parts_at : Numerals → ℕ → List OperandSyntax → List (List Token)
 parts_at numerals place [] = []
 parts_at numerals place (first ∷ rest) =
     operand_tokens numerals place first
     ∷ parts_at numerals (place + length (operand_text numerals first) + 1) rest
 
-abbrev all_tokens : Numerals → ℕ → SaidOperand → List SaidOperand → List Token
+abbrev all_tokens : Numerals → ℕ → OperandSyntax → List OperandSyntax → List Token
 all_tokens numerals place first rest =
     joint_tokens (operand_tokens numerals place first)
     (parts_at numerals (place + length (operand_text numerals first) + 1) rest)
 
-abbrev pub are_operands : List SaidOperand → Bool
+abbrev pub are_operands : List OperandSyntax → Bool
 are_operands all = list_all is_writable_operand all
 
-operands-falls : (numerals : Numerals) → AreNumerals numerals → (first : SaidOperand)
-    (rest : List SaidOperand) → is_writable_operand first ≡ true → are_operands rest ≡ true
+operands-falls : (numerals : Numerals) → AreNumerals numerals → (first : OperandSyntax)
+    (rest : List OperandSyntax) → is_writable_operand first ≡ true → are_operands rest ≡ true
     → FallsInto (operand_text numerals first ++ more_operands_text numerals rest)
     (λ place. all_tokens numerals place first rest)
 unfolding joint_tokens
@@ -49,7 +49,7 @@ operands-falls numerals are first (next ∷ rest) is all =
     falls-apart (operand-falls numerals are first is) refl
     (falls-then comma-falls (operands-falls numerals are next rest parts.0 parts.1))
 
-parts-alone : (numerals : Numerals) (place : ℕ) (all : List SaidOperand)
+parts-alone : (numerals : Numerals) (place : ℕ) (all : List OperandSyntax)
     → are_operands all ≡ true → list_all has_no_comma (parts_at numerals place all) ≡ true
 parts-alone numerals place [] each = refl
 parts-alone numerals place (first ∷ rest) each =
@@ -57,7 +57,7 @@ parts-alone numerals place (first ∷ rest) each =
     rw ((operand-read numerals place first parts.0).alone)
     (parts-alone numerals (place + length (operand_text numerals first) + 1) rest parts.1)
 
-parts-read : (numerals : Numerals) (place : ℕ) (all : List SaidOperand)
+parts-read : (numerals : Numerals) (place : ℕ) (all : List OperandSyntax)
     → are_operands all ≡ true
     → map operand_of (parts_at numerals place all) ≡ map Ok (placed_operands numerals place all)
 parts-read numerals place [] each = refl
@@ -68,7 +68,8 @@ parts-read numerals place (first ∷ rest) each =
       parts-read numerals (place + length (operand_text numerals first) + 1) rest parts.1,
     ) refl
 
-operands-read : (numerals : Numerals) (place : ℕ) (first : SaidOperand) (rest : List SaidOperand)
+operands-read : (numerals : Numerals) (place : ℕ) (first : OperandSyntax)
+    (rest : List OperandSyntax)
     → is_writable_operand first ≡ true → are_operands rest ≡ true
     → operands_of (all_tokens numerals place first rest)
     ≡ Ok (placed_operands numerals place (first ∷ rest))
@@ -80,8 +81,8 @@ operands-read numerals place first rest is all =
     (parts-alone numerals next rest all)
     (rw (answer.read, parts-read numerals next rest all) refl)
 
-operands-prefix : (numerals : Numerals) (place : ℕ) (first : SaidOperand)
-    (rest : List SaidOperand) → is_writable_operand first ≡ true
+operands-prefix : (numerals : Numerals) (place : ℕ) (first : OperandSyntax)
+    (rest : List OperandSyntax) → is_writable_operand first ≡ true
     → begins_with_colon (all_tokens numerals place first rest) ≡ false
 unfolding joint_tokens
 operands-prefix numerals place first [] is =
@@ -101,7 +102,7 @@ pub record IsBodyText (text : List ℕ) (body : ℕ → Body) : Type 0 where
       → labelled_body (tokens_at place) ≡ (statement_body (tokens_at place) >>= without_label)
 
 pub operation-body : (numerals : Numerals) → AreNumerals numerals → {word : List ℕ}
-    {operation : Operation} (all : List SaidOperand) (body : ℕ → Body)
+    {operation : Operation} (all : List OperandSyntax) (body : ℕ → Body)
     → IsOperation word operation → is_ascii_directive (Some operation) ≡ false
     → are_operands all ≡ true
     → ((place : ℕ) → body_of (Some operation)
@@ -132,8 +133,8 @@ operation-body numerals are {word = word} (first ∷ rest) body is other all ans
     }
 
 -- what is read of a text, and what it says there
-pub record IsPlaced (numerals : Numerals) (body : SaidBody) : Type 0 where
+pub record IsPlaced (numerals : Numerals) (body : BodySyntax) : Type 0 where
   pub body_at : ℕ → Body
   pub text : IsBodyText (body_text numerals body) body_at
   pub says : (source : List ℕ) (place : ℕ) → Stands source place (body_text numerals body)
-      → said_body source (body_at place) ≡ body
+      → body_syntax source (body_at place) ≡ body

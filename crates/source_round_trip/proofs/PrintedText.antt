@@ -11,9 +11,9 @@ use Rattle.asm_text.specs.Token.{is_text_character}
 use Rattle.asm_text.specs.Word.{is_word_character, is_name_character}
 use Rattle.msp_disasm.specs.ItemText.{size_suffix}
 use Rattle.source_round_trip.specs.ReadBack.{AreNumerals}
-use Rattle.source_round_trip.specs.SaidLine.{SaidTerm, Number, Name, Here, SaidExpr, SaidOperand, Reg, Imm, Abs, Indexed, Symbolic, Indirect, IndirectInc, SaidBody, Empty, Instr, Org, Word, Byte, Ascii, Equ, SaidLine}
-use Rattle.source_round_trip.specs.SaidText.{Numerals, term_text, sign_text, more_text, expr_text, register_text, operand_text, more_operands_text, operands_text, mnemonic_text, given_operands, body_text, label_text, said_text}
-use Rattle.source_round_trip.specs.Writable.{is_free_name, is_writable_term, is_writable_expr, is_register, is_writable_operand, is_given, is_writable_body, is_free_label, is_writable}
+use Rattle.source_round_trip.specs.LineSyntax.{TermSyntax, Number, Name, Here, ExprSyntax, OperandSyntax, Reg, Imm, Abs, Indexed, Symbolic, Indirect, IndirectInc, BodySyntax, Empty, Instr, Org, Word, Byte, Ascii, Equ, LineSyntax}
+use Rattle.source_round_trip.specs.SyntaxText.{Numerals, term_text, sign_text, more_text, expr_text, register_text, operand_text, more_operands_text, operands_text, mnemonic_text, operand_list, body_text, label_text, syntax_text}
+use Rattle.source_round_trip.specs.Writable.{is_free_name, is_writable_term, is_writable_expr, is_register, is_writable_operand, is_none_or_writable, is_writable_body, is_free_label, is_writable}
 use Rattle.source_round_trip.proofs.Numerals.{number-is, all_below, below-passes}
 use Rattle.source_round_trip.proofs.PlacedDirective.{symbolic-are}
 use Rattle.source_round_trip.proofs.PlacedInstruction.{instruction-parts, mnemonic-operation}
@@ -86,7 +86,7 @@ both-printed a b first next =
 name-printed : (name : List ℕ) → is_free_name name ≡ true → are_printed name ≡ true
 name-printed name is = words-printed name (name-characters name is)
 
-term-printed : (numerals : Numerals) → AreNumerals numerals → (term : SaidTerm)
+term-printed : (numerals : Numerals) → AreNumerals numerals → (term : TermSyntax)
     → is_writable_term term ≡ true → are_printed (term_text numerals term) ≡ true
 term-printed numerals are (Number number) is =
     words-printed (numerals number)
@@ -98,7 +98,7 @@ sign-printed : (is_subtracted : Bool) → are_printed (sign_text is_subtracted) 
 sign-printed false = refl
 sign-printed true = refl
 
-more-printed : (numerals : Numerals) → AreNumerals numerals → (terms : SaidExpr)
+more-printed : (numerals : Numerals) → AreNumerals numerals → (terms : ExprSyntax)
     → are_terms terms ≡ true → are_printed (more_text numerals terms) ≡ true
 more-printed numerals are [] all = refl
 more-printed numerals are ((is_subtracted, term) ∷ rest) all =
@@ -107,7 +107,7 @@ more-printed numerals are ((is_subtracted, term) ∷ rest) all =
     (both-printed (sign_text is_subtracted) (term_text numerals term) (sign-printed is_subtracted)
     (term-printed numerals are term parts.0)) (more-printed numerals are rest parts.1)
 
-expr-printed : (numerals : Numerals) → AreNumerals numerals → (expr : SaidExpr)
+expr-printed : (numerals : Numerals) → AreNumerals numerals → (expr : ExprSyntax)
     → is_writable_expr expr ≡ true → are_printed (expr_text numerals expr) ≡ true
 expr-printed numerals are [] is = refl
 expr-printed numerals are ((false, term) ∷ rest) is =
@@ -128,7 +128,7 @@ register-printed register is =
     below-passes (λ number. are_printed (register_text number)) 16 refl register
     (ltb-true register 16 is)
 
-operand-printed : (numerals : Numerals) → AreNumerals numerals → (operand : SaidOperand)
+operand-printed : (numerals : Numerals) → AreNumerals numerals → (operand : OperandSyntax)
     → is_writable_operand operand ≡ true → are_printed (operand_text numerals operand) ≡ true
 operand-printed numerals are (Reg register) is = register-printed register is
 operand-printed numerals are (Imm expr) is = expr-printed numerals are expr is
@@ -146,7 +146,7 @@ operand-printed numerals are (IndirectInc register) is =
     both-printed (codes "@" ++ register_text register) (codes "+") (register-printed register is)
     refl
 
-more_operands-printed : (numerals : Numerals) → AreNumerals numerals → (rest : List SaidOperand)
+more_operands-printed : (numerals : Numerals) → AreNumerals numerals → (rest : List OperandSyntax)
     → are_operands rest ≡ true → are_printed (more_operands_text numerals rest) ≡ true
 more_operands-printed numerals are [] all = refl
 more_operands-printed numerals are (next ∷ rest) all =
@@ -154,7 +154,7 @@ more_operands-printed numerals are (next ∷ rest) all =
     both-printed (codes "," ++ operand_text numerals next) (more_operands_text numerals rest)
     (operand-printed numerals are next parts.0) (more_operands-printed numerals are rest parts.1)
 
-operands-printed : (numerals : Numerals) → AreNumerals numerals → (all : List SaidOperand)
+operands-printed : (numerals : Numerals) → AreNumerals numerals → (all : List OperandSyntax)
     → are_operands all ≡ true → are_printed (operands_text numerals all) ≡ true
 operands-printed numerals are [] all = refl
 operands-printed numerals are (first ∷ rest) all =
@@ -162,22 +162,23 @@ operands-printed numerals are (first ∷ rest) all =
     both-printed (codes " " ++ operand_text numerals first) (more_operands_text numerals rest)
     (operand-printed numerals are first parts.0) (more_operands-printed numerals are rest parts.1)
 
-is_given-are : (first second : Option SaidOperand) → is_given first ≡ true → is_given second ≡ true
-    → are_operands (given_operands first second) ≡ true
-is_given-are None second one two = refl
-is_given-are (Some first) None one two = rw one refl
-is_given-are (Some first) (Some second) one two = rw (one, two) refl
+none_or_writable-are : (first second : Option OperandSyntax)
+    → is_none_or_writable first ≡ true → is_none_or_writable second ≡ true
+    → are_operands (operand_list first second) ≡ true
+none_or_writable-are None second one two = refl
+none_or_writable-are (Some first) None one two = rw one refl
+none_or_writable-are (Some first) (Some second) one two = rw (one, two) refl
 
-body-printed : (numerals : Numerals) → AreNumerals numerals → (body : SaidBody)
+body-printed : (numerals : Numerals) → AreNumerals numerals → (body : BodySyntax)
     → is_writable_body body ≡ true → are_printed (body_text numerals body) ≡ true
 body-printed numerals are Empty is = refl
 body-printed numerals are (Instr mnemonic size first second) is =
     let parts = instruction-parts mnemonic size first second is in
     let word : List ℕ = mnemonic_text mnemonic ++ size_suffix size in
-    both-printed word (operands_text numerals (given_operands first second))
+    both-printed word (operands_text numerals (operand_list first second))
     (words-printed word (mnemonic-operation mnemonic size parts.sized).all)
-    (operands-printed numerals are (given_operands first second)
-    (is_given-are first second parts.one parts.two))
+    (operands-printed numerals are (operand_list first second)
+    (none_or_writable-are first second parts.one parts.two))
 body-printed numerals are (Org expr) is =
     operands-printed numerals are (Symbolic expr ∷ []) (rw is refl)
 body-printed numerals are (Word exprs) is =
@@ -200,9 +201,9 @@ label-printed : (label : Option (List ℕ)) → is_free_label label ≡ true
 label-printed None is = refl
 label-printed (Some name) is = both-printed name (codes ": ") (name-printed name is) refl
 
-pub line-printed : (numerals : Numerals) → AreNumerals numerals → (said_line : SaidLine)
-    → is_writable said_line ≡ true → are_printed (said_text numerals said_line) ≡ true
-line-printed numerals are said_line is =
-    let parts = and_parts (is_free_label said_line.label) (is_writable_body said_line.body) is in
-    both-printed (label_text said_line.label) (body_text numerals said_line.body)
-    (label-printed said_line.label parts.0) (body-printed numerals are said_line.body parts.1)
+pub line-printed : (numerals : Numerals) → AreNumerals numerals → (line : LineSyntax)
+    → is_writable line ≡ true → are_printed (syntax_text numerals line) ≡ true
+line-printed numerals are line is =
+    let parts = and_parts (is_free_label line.label) (is_writable_body line.body) is in
+    both-printed (label_text line.label) (body_text numerals line.body)
+    (label-printed line.label parts.0) (body-printed numerals are line.body parts.1)

@@ -79,8 +79,8 @@ pub operation-read : (place : ℕ) {word : List ℕ} {operation : Operation} (re
     → body_of (Some operation) operands ≡ Ok body
     → statement_body (word_token place word ∷ rest) ≡ Ok body
 unfolding operation_body
-operation-read place {operation = operation} rest operands is other outcome said_line =
-    rw (first-operation place is, other, outcome) said_line
+operation-read place {operation = operation} rest operands is other outcome gives =
+    rw (first-operation place is, other, outcome) gives
 
 whole-read : {text : List ℕ} {tokens : ℕ → List Token} → FallsInto text tokens → (start : ℕ)
     → tokens_of start text ≡ Ok (tokens start)
@@ -91,11 +91,11 @@ whole-read {text = text} {tokens = tokens} falls start =
 
 -- a line is read by its tokens
 pub line-read : {text : List ℕ} {tokens : ℕ → List Token} (number start : ℕ)
-    (said_line : Option Span × Body) → FallsInto text tokens
-    → labelled_body (tokens start) ≡ Ok said_line
-    → line_statement number start text ≡ Ok (statement_in_line number said_line)
+    (pair : Option Span × Body) → FallsInto text tokens
+    → labelled_body (tokens start) ≡ Ok pair
+    → line_statement number start text ≡ Ok (statement_in_line number pair)
 unfolding line_statement
-line-read {text = text} {tokens = tokens} number start said_line falls is =
+line-read {text = text} {tokens = tokens} number start pair falls is =
     ap (λ (answer : Result (List Token) FaultKind). answer >>= (λ all. labelled_body all
     >>= (λ both. Ok (statement_in_line number both)))) (whole-read falls start)
     ∙ ap (λ (answer : Result (Option Span × Body) FaultKind).
@@ -110,10 +110,10 @@ pub statement-read : {word text : List ℕ} {operation : Operation} {tokens : Li
     → line_statement number start (word ++ codes " " ++ text)
     ≡ Ok (statement_in_line number (None, body))
 statement-read {word = word} {text = text} {tokens = tokens} number start operands {body = body}
-    is other falls prefix outcome said_line =
+    is other falls prefix outcome gives =
     ap (line_statement number start) (append_assoc word (codes " ") text)
     ∙ line-read number start (None, body)
     (falls-apart (operation-falls is) refl (falls-then blank-falls falls))
     (no_label (word_token start word) tokens prefix
     ∙ ap (λ (answer : Result Body FaultKind). answer >>= without_label)
-    (operation-read start tokens operands is other outcome said_line))
+    (operation-read start tokens operands is other outcome gives))

@@ -12,8 +12,8 @@ use Rattle.asm_text.specs.Source.{statement_in_line}
 use Rattle.asm_text.specs.Token.{span_at}
 use Rattle.asm_text.specs.Word.{lower_case, operation_of}
 use Rattle.source_round_trip.specs.ReadBack.{AreNumerals, IsReadBack}
-use Rattle.source_round_trip.specs.SaidLine.{SaidBody, SaidLine}
-use Rattle.source_round_trip.specs.SaidText.{Numerals, body_text}
+use Rattle.source_round_trip.specs.LineSyntax.{BodySyntax, LineSyntax}
+use Rattle.source_round_trip.specs.SyntaxText.{Numerals, body_text}
 use Rattle.source_round_trip.specs.Writable.{is_free_label, is_writable_body, is_writable}
 use Rattle.source_round_trip.proofs.Falls.{FallsInto, falls-then, falls-apart, colon-falls, blank-falls}
 use Rattle.source_round_trip.proofs.PlacedBody.{body-placed}
@@ -35,7 +35,7 @@ labelled-text : (name text : List ℕ)
 labelled-text name text = sym (append_assoc name (codes ": ") text)
 
 placed-back : (numerals : Numerals) (number : ℕ) (before after : List ℕ)
-    (label : Option (List ℕ)) (body : SaidBody) → is_free_label label ≡ true
+    (label : Option (List ℕ)) (body : BodySyntax) → is_free_label label ≡ true
     → IsPlaced numerals body
     → IsReadBack numerals number before after (record { label = label; body = body })
 placed-back numerals number before after None body free is =
@@ -45,7 +45,7 @@ placed-back numerals number before after None body free is =
       read = line-read number start (None, is.body_at start) is.text.falls
           (is.text.plain start
           ∙ ap (λ (answer : Result Body FaultKind). answer >>= without_label) (is.text.read start));
-      says = ap (λ (answer : SaidBody). record { label = None; body = answer })
+      says = ap (λ (answer : BodySyntax). record { label = None; body = answer })
           (is.says (before ++ text ++ after) start (stands-there before text after));
     }
 placed-back numerals number before after (Some name) body free is =
@@ -77,10 +77,10 @@ placed-back numerals number before after (Some name) body free is =
       ) refl;
     }
 
-pub read-back : (numerals : Numerals) (number : ℕ) (before after : List ℕ) (said_line : SaidLine)
-    → AreNumerals numerals → is_writable said_line ≡ true
-    → IsReadBack numerals number before after said_line
-read-back numerals number before after said_line are is =
-    let parts = and_parts (is_free_label said_line.label) (is_writable_body said_line.body) is in
-    placed-back numerals number before after said_line.label said_line.body parts.0
-    (body-placed numerals are said_line.body parts.1)
+pub read-back : (numerals : Numerals) (number : ℕ) (before after : List ℕ) (line : LineSyntax)
+    → AreNumerals numerals → is_writable line ≡ true
+    → IsReadBack numerals number before after line
+read-back numerals number before after line are is =
+    let parts = and_parts (is_free_label line.label) (is_writable_body line.body) is in
+    placed-back numerals number before after line.label line.body parts.0
+    (body-placed numerals are line.body parts.1)

@@ -15,8 +15,8 @@ use Rattle.asm_text.specs.declared.statement.Statement.{Statement}
 use Rattle.asm_text.specs.Operand.{all_of}
 use Rattle.asm_text.specs.Source.{places_behind_ends, line_starts, PlacedLine, placed_lines, statement_of, source_of}
 use Rattle.source_round_trip.specs.ReadBack.{AreNumerals, source_text, IsSourceReadBack}
-use Rattle.source_round_trip.specs.SaidLine.{SaidLine, said_line_of}
-use Rattle.source_round_trip.specs.SaidText.{Numerals, said_text}
+use Rattle.source_round_trip.specs.LineSyntax.{LineSyntax, line_syntax_of}
+use Rattle.source_round_trip.specs.SyntaxText.{Numerals, syntax_text}
 use Rattle.source_round_trip.specs.Writable.{is_writable}
 use Rattle.source_round_trip.proofs.PrintedText.{is_printed, are_printed, line-printed}
 use Rattle.source_round_trip.proofs.WrittenLine.{read-back}
@@ -67,10 +67,10 @@ next-lines place number line rest all =
     ((number, line) ∷ numbered_lines (number + 1) (lines rest))) (line-places place line rest all)
 
 -- the lines of statements that were written, behind others
-record IsReadFrom (source : List ℕ) (lines : List PlacedLine) (all : List SaidLine) : Type 0 where
+record IsReadFrom (source : List ℕ) (lines : List PlacedLine) (all : List LineSyntax) : Type 0 where
   statements : List Statement
   read : all_of {Fault = FaultAt} (map statement_of lines) ≡ Ok statements
-  says : map (said_line_of source) statements ≡ all
+  says : map (line_syntax_of source) statements ≡ all
 
 -- a statement and the later ones
 both-read : {read : Result Statement FaultAt} {later : Result (List Statement) FaultAt}
@@ -80,31 +80,31 @@ both-read : {read : Result Statement FaultAt} {later : Result (List Statement) F
 both-read statement statements first rest = rw (first, rest) refl
 
 -- a line before others
-abbrev line_before : Numerals → SaidLine → List SaidLine → List ℕ
-line_before numerals said_line rest =
-    said_text numerals said_line ++ 10 ∷ source_text numerals rest
+abbrev line_before : Numerals → LineSyntax → List LineSyntax → List ℕ
+line_before numerals line_syntax rest =
+    syntax_text numerals line_syntax ++ 10 ∷ source_text numerals rest
 
-text-cut : (numerals : Numerals) (said_line : SaidLine) (rest : List SaidLine)
-    → source_text numerals (said_line ∷ rest) ≡ line_before numerals said_line rest
-text-cut numerals said_line rest =
-    append_assoc (said_text numerals said_line) (codes "\n") (source_text numerals rest)
+text-cut : (numerals : Numerals) (line_syntax : LineSyntax) (rest : List LineSyntax)
+    → source_text numerals (line_syntax ∷ rest) ≡ line_before numerals line_syntax rest
+text-cut numerals line_syntax rest =
+    append_assoc (syntax_text numerals line_syntax) (codes "\n") (source_text numerals rest)
 
-read-from : (numerals : Numerals) → AreNumerals numerals → (all : List SaidLine)
+read-from : (numerals : Numerals) → AreNumerals numerals → (all : List LineSyntax)
     → list_all is_writable all ≡ true → (before : List ℕ) (number : ℕ)
     → IsReadFrom (before ++ source_text numerals all)
     (lines_from (length before) number (source_text numerals all)) all
 read-from numerals are [] writable before number =
     record { statements = []; read = refl; says = refl }
-read-from numerals are (said_line ∷ rest) writable before number =
-    let parts = and_parts (is_writable said_line) (list_all is_writable rest) writable in
-    let line : List ℕ = said_text numerals said_line in
+read-from numerals are (line_syntax ∷ rest) writable before number =
+    let parts = and_parts (is_writable line_syntax) (list_all is_writable rest) writable in
+    let line : List ℕ = syntax_text numerals line_syntax in
     let tail : List ℕ = source_text numerals rest in
-    let source : List ℕ = before ++ source_text numerals (said_line ∷ rest) in
+    let source : List ℕ = before ++ source_text numerals (line_syntax ∷ rest) in
     let prefix : List ℕ = before ++ line ++ codes "\n" in
-    let first = read-back numerals number before (codes "\n" ++ tail) said_line are parts.0 in
+    let first = read-back numerals number before (codes "\n" ++ tail) line_syntax are parts.0 in
     let whole : before ++ line ++ (codes "\n" ++ tail) ≡ source =
     append_assoc before line (codes "\n" ++ tail)
-    ∙ ap (λ (text : List ℕ). before ++ text) (sym (text-cut numerals said_line rest)) in
+    ∙ ap (λ (text : List ℕ). before ++ text) (sym (text-cut numerals line_syntax rest)) in
     let count : length prefix ≡ length before + length line + 1 =
     omega (arith, length-append (before ++ line) (codes "\n"), length-append before line) in
     let behind : prefix ++ tail ≡ source =
@@ -115,14 +115,14 @@ read-from numerals are (said_line ∷ rest) writable before number =
     (lines_from (length before + length line + 1) (number + 1) tail) rest) behind
     (subst (λ (place : ℕ). IsReadFrom (prefix ++ tail) (lines_from place (number + 1) tail) rest)
     count (read-from numerals are rest parts.1 prefix (number + 1))) in
-    let cut : lines_from (length before) number (source_text numerals (said_line ∷ rest))
+    let cut : lines_from (length before) number (source_text numerals (line_syntax ∷ rest))
     ≡ (length before, (number, line))
     ∷ lines_from (length before + length line + 1) (number + 1) tail =
     ap (λ (text : List ℕ). lines_from (length before) number text)
-    (text-cut numerals said_line rest)
-    ∙ next-lines (length before) number line tail (line-printed numerals are said_line parts.0) in
-    let says : said_line_of source first.statement ≡ said_line =
-    ap (λ (text : List ℕ). said_line_of text first.statement) (sym whole) ∙ first.says in
+    (text-cut numerals line_syntax rest)
+    ∙ next-lines (length before) number line tail (line-printed numerals are line_syntax parts.0) in
+    let says : line_syntax_of source first.statement ≡ line_syntax =
+    ap (λ (text : List ℕ). line_syntax_of text first.statement) (sym whole) ∙ first.says in
     record {
       statements = first.statement ∷ later.statements;
       read = ap (λ (answer : List PlacedLine). all_of (map statement_of answer)) cut
@@ -141,16 +141,16 @@ printed-ascii (c ∷ line) rest all ascii zero =
 printed-ascii (c ∷ line) rest all ascii (suc i) =
     printed-ascii line rest (and_parts (is_printed c) (are_printed line) all).1 ascii i
 
-source-ascii : (numerals : Numerals) → AreNumerals numerals → (all : List SaidLine)
+source-ascii : (numerals : Numerals) → AreNumerals numerals → (all : List LineSyntax)
     → list_all is_writable all ≡ true → IsAscii (source_text numerals all)
 source-ascii numerals are [] writable = λ i. omega arith
-source-ascii numerals are (said_line ∷ rest) writable =
-    let parts = and_parts (is_writable said_line) (list_all is_writable rest) writable in
-    subst (λ (text : List ℕ). IsAscii text) (sym (text-cut numerals said_line rest))
-    (printed-ascii (said_text numerals said_line) (source_text numerals rest)
-    (line-printed numerals are said_line parts.0) (source-ascii numerals are rest parts.1))
+source-ascii numerals are (line_syntax ∷ rest) writable =
+    let parts = and_parts (is_writable line_syntax) (list_all is_writable rest) writable in
+    subst (λ (text : List ℕ). IsAscii text) (sym (text-cut numerals line_syntax rest))
+    (printed-ascii (syntax_text numerals line_syntax) (source_text numerals rest)
+    (line-printed numerals are line_syntax parts.0) (source-ascii numerals are rest parts.1))
 
-pub source-read_back : (numerals : Numerals) (all : List SaidLine) → AreNumerals numerals
+pub source-read_back : (numerals : Numerals) (all : List LineSyntax) → AreNumerals numerals
     → list_all is_writable all ≡ true → IsSourceReadBack numerals all
 unfolding source_of
 source-read_back numerals all are writable =

@@ -2,9 +2,9 @@
 use Rattle.std.specs.Prelude.{true, false, [], ◌∷◌, codes, Some}
 use Rattle.word_arith.specs.declared.size.Size.TheVariants as sizes
 use Rattle.asm_text.specs.declared.mnemonic.Mnemonic.TheVariants.{Mov}
-use Rattle.source_round_trip.specs.SaidLine.{Number, Name, Imm, Indexed, Instr, SaidLine}
+use Rattle.source_round_trip.specs.LineSyntax.{Number, Name, Imm, Indexed, Instr, LineSyntax}
 
-abbrev pub labelled_move : SaidLine
+abbrev pub labelled_move : LineSyntax
 labelled_move =
     record {
       label = Some (codes "loop");

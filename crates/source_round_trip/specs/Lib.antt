@@ -1,5 +1,5 @@
-pub mod SaidLine
-pub mod SaidText
+pub mod LineSyntax
+pub mod SyntaxText
 pub mod Writable
 pub mod ReadBack
 pub mod Listing

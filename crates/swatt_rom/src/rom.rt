@@ -66,9 +66,9 @@ impl<D: Digest32> BusMaster for Rom<D> {
 
     ghost takes = { λ call value. Unit {0} };
 
-    ghost moved = { after_value D.digest_of };
+    ghost after_take = { after_value D.digest_of };
 
-    ghost cleared = { λ call. NoCall };
+    ghost after_clear = { λ call. NoCall };
 
     fn ask(&self) -> Option<Access>
         ensures access { Answers (RomStandsFor D.has_taken D.digest_of) self.now

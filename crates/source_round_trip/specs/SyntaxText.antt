@@ -4,13 +4,13 @@ use Rattle.std.specs.Fmt.{decimal}
 use Rattle.asm_text.specs.declared.mnemonic.Mnemonic.{Mnemonic}
 use Rattle.asm_text.specs.declared.mnemonic.Mnemonic.TheVariants.{Mov, Add, Addc, Subc, Sub, Cmp, Dadd, Bit, Bic, Bis, Xor, And, Rrc, Swpb, Rra, Sxt, Push, Call, Reti, Jne, Jeq, Jnc, Jc, Jn, Jge, Jl, Jmp, Adc, Br, Clr, Clrc, Clrn, Clrz, Dadc, Dec, Decd, Dint, Eint, Inc, Incd, Inv, Nop, Pop, Ret, Rla, Rlc, Sbc, Setc, Setn, Setz, Tst}
 use Rattle.msp_disasm.specs.ItemText.{size_suffix}
-use Rattle.source_round_trip.specs.SaidLine.{SaidTerm, Number, Name, Here, SaidExpr, SaidOperand, Reg, Imm, Abs, Indexed, Symbolic, Indirect, IndirectInc, SaidBody, Empty, Instr, Org, Word, Byte, Ascii, Equ, SaidLine}
+use Rattle.source_round_trip.specs.LineSyntax.{TermSyntax, Number, Name, Here, ExprSyntax, OperandSyntax, Reg, Imm, Abs, Indexed, Symbolic, Indirect, IndirectInc, BodySyntax, Empty, Instr, Org, Word, Byte, Ascii, Equ, LineSyntax}
 
 -- how numbers are written
 abbrev pub Numerals : Type 0
 Numerals = ℕ → List ℕ
 
-abbrev pub term_text : Numerals → SaidTerm → List ℕ
+abbrev pub term_text : Numerals → TermSyntax → List ℕ
 term_text numerals (Number number) = numerals number
 term_text numerals (Name name) = name
 term_text numerals Here = codes "$"
@@ -20,13 +20,13 @@ sign_text false = codes "+"
 sign_text true = codes "-"
 
 -- further terms, each behind its sign
-abbrev pub more_text : Numerals → SaidExpr → List ℕ
+abbrev pub more_text : Numerals → ExprSyntax → List ℕ
 more_text numerals [] = []
 more_text numerals ((is_subtracted, term) ∷ rest) =
     sign_text is_subtracted ++ term_text numerals term ++ more_text numerals rest
 
 -- the first term has a sign only where it is subtracted
-abbrev pub expr_text : Numerals → SaidExpr → List ℕ
+abbrev pub expr_text : Numerals → ExprSyntax → List ℕ
 expr_text numerals [] = []
 expr_text numerals ((false, term) ∷ rest) = term_text numerals term ++ more_text numerals rest
 expr_text numerals ((true, term) ∷ rest) =
@@ -35,7 +35,7 @@ expr_text numerals ((true, term) ∷ rest) =
 abbrev pub register_text : ℕ → List ℕ
 register_text register = codes "r" ++ decimal register
 
-abbrev pub operand_text : Numerals → SaidOperand → List ℕ
+abbrev pub operand_text : Numerals → OperandSyntax → List ℕ
 operand_text numerals (Reg register) = register_text register
 operand_text numerals (Imm expr) = codes "#" ++ expr_text numerals expr
 operand_text numerals (Abs expr) = codes "&" ++ expr_text numerals expr
@@ -46,13 +46,13 @@ operand_text numerals (Indirect register) = codes "@" ++ register_text register
 operand_text numerals (IndirectInc register) = codes "@" ++ register_text register ++ codes "+"
 
 -- further operands, each behind a comma
-abbrev pub more_operands_text : Numerals → List SaidOperand → List ℕ
+abbrev pub more_operands_text : Numerals → List OperandSyntax → List ℕ
 more_operands_text numerals [] = []
 more_operands_text numerals (next ∷ rest) =
     codes "," ++ operand_text numerals next ++ more_operands_text numerals rest
 
 -- a space before the first
-abbrev pub operands_text : Numerals → List SaidOperand → List ℕ
+abbrev pub operands_text : Numerals → List OperandSyntax → List ℕ
 operands_text numerals [] = []
 operands_text numerals (first ∷ rest) =
     codes " " ++ operand_text numerals first ++ more_operands_text numerals rest
@@ -112,17 +112,17 @@ mnemonic_text Setz = codes "setz"
 mnemonic_text Tst = codes "tst"
 
 -- the operands that there are
-abbrev pub given_operands : Option SaidOperand → Option SaidOperand → List SaidOperand
-given_operands None second = []
-given_operands (Some first) None = first ∷ []
-given_operands (Some first) (Some second) = first ∷ second ∷ []
+abbrev pub operand_list : Option OperandSyntax → Option OperandSyntax → List OperandSyntax
+operand_list None second = []
+operand_list (Some first) None = first ∷ []
+operand_list (Some first) (Some second) = first ∷ second ∷ []
 
 -- a text stands between quotes (34)
-abbrev pub body_text : Numerals → SaidBody → List ℕ
+abbrev pub body_text : Numerals → BodySyntax → List ℕ
 body_text numerals Empty = []
 body_text numerals (Instr mnemonic size first second) =
     mnemonic_text mnemonic ++ size_suffix size
-    ++ operands_text numerals (given_operands first second)
+    ++ operands_text numerals (operand_list first second)
 body_text numerals (Org expr) = codes ".org" ++ operands_text numerals (Symbolic expr ∷ [])
 body_text numerals (Word exprs) = codes ".word" ++ operands_text numerals (map Symbolic exprs)
 body_text numerals (Byte exprs) = codes ".byte" ++ operands_text numerals (map Symbolic exprs)
@@ -135,5 +135,5 @@ abbrev pub label_text : Option (List ℕ) → List ℕ
 label_text None = []
 label_text (Some name) = name ++ codes ": "
 
-abbrev pub said_text : Numerals → SaidLine → List ℕ
-said_text numerals line = label_text line.label ++ body_text numerals line.body
+abbrev pub syntax_text : Numerals → LineSyntax → List ℕ
+syntax_text numerals line = label_text line.label ++ body_text numerals line.body
