@@ -156,8 +156,8 @@ def directive(name, operands):
         return name, terms
     if name == "org":
         return (name, terms[0]) if len(terms) == 1 else None
-    is_given = len(terms) == 2 and len(terms[0]) == 1 and terms[0][0][0] == 1
-    if not is_given or not isinstance(terms[0][0][1], str) or terms[0][0][1] == "$":
+    is_lone_term = len(terms) == 2 and len(terms[0]) == 1 and terms[0][0][0] == 1
+    if not is_lone_term or not isinstance(terms[0][0][1], str) or terms[0][0][1] == "$":
         return None
     return "equ", (terms[0][0][1], terms[1])
 
