@@ -1,116 +1,100 @@
-ghost use Rattle.std.specs.Prelude.{◌≡◌, ◌≤◌, ◌++◌, [], ℕ, List, IfOk, option_map};
-ghost use Rattle.bus_signals.specs.Report.{fields_of};
+ghost use Rattle.std.specs.Prelude.{◌≡◌, ◌<◌, ◌≤◌, ◌-◌, ◌++◌, [], ℕ, List, IfOk, Some};
 ghost use Rattle.outside_edge.specs.Sink.{Puts, CountsFaults};
 ghost use Rattle.bus_signals.specs.declared.event.Event.{Event};
 ghost use Rattle.device_trace.specs.Start.{Start, with_key};
-ghost use Rattle.device_trace.specs.Text.{sent_lines, reset_lines, report_lines, play_text};
+ghost use Rattle.device_trace.specs.Text.{sent_lines, reset_lines, report_lines, lines_of, play_text};
 ghost use Rattle.device_trace.specs.Trace.{play_of};
 ghost use Rattle.play_script.specs.Script.{events_of};
 ghost use Rattle.key_isolation.specs.Agreement.{ReleaseAlike};
 ghost use Rattle.mac_coverage.specs.Coverage.{IsDeviceKey, IsOfBytes};
 ghost use Rattle.device_cli.specs.Limit.{most_steps};
 ghost use Rattle.device_cli.specs.PlayLaws.{ObeysLaws};
-ghost use Rattle.device_core.specs.Device.{HasStepped, HeldStandsFor, LiveStandsFor, steps_of};
+ghost use Rattle.device_core.specs.StepLine.{byte_in_line, rule_in_line, report_in_line};
+ghost use Rattle.device_core.specs.Device.{HeldStandsFor, LiveStandsFor, steps_of, steps_made};
+ghost use Rattle.device_cli.specs.Leaves.{Leaves, AreLeft};
 ghost use Rattle.device_cli.specs.LastStepLines.{last_step_lines};
 
-use bus_signals::{ReportView, Rule};
-use device_core::{Device, Held, Live};
+use device_core::{Device, Held, Live, StepLine};
 use hmac_core::Digest32;
 use outside_edge::{Failed, Sink};
-use play_script::Script;
+use play_script::{Playback, Script};
 use report_text::{print_end, print_report, print_reset, print_sent};
 
-// Puts the lines of one step.
-fn print_step<W: Sink>(
-    step: u64,
-    sent_byte: Option<u8>,
-    reset: Option<Rule>,
-    report: Option<ReportView<'_>>,
-    sink: &mut W,
-) -> Result<(), Failed>
+// Puts the line of the step of this number.
+fn print_line<W: Sink>(step: u64, line: &StepLine<'_>, sink: &mut W) -> Result<(), Failed>
     ensures puts { Puts W.stands sink.old sink.new
-        (sent_lines step sent_byte ++ reset_lines step reset
-        ++ report_lines (option_map fields_of report.entry)) result }
+        (sent_lines step (byte_in_line (Some line.now))
+        ++ reset_lines step (rule_in_line (Some line.now))
+        ++ report_lines (report_in_line (Some line.now))) result }
     ensures counts { CountsFaults W.faults sink.old sink.new result }
 {
-    print_sent_and_reset(step, sent_byte, reset, sink)?;
-    print_finished_call(report, sink)
-}
-
-fn print_sent_and_reset<W: Sink>(
-    step: u64,
-    sent_byte: Option<u8>,
-    reset: Option<Rule>,
-    sink: &mut W,
-) -> Result<(), Failed>
-    ensures puts { Puts W.stands sink.old sink.new
-        (sent_lines step sent_byte ++ reset_lines step reset) result }
-    ensures counts { CountsFaults W.faults sink.old sink.new result }
-{
-    print_sent_byte(step, sent_byte, sink)?;
-    print_broken_rule(step, reset, sink)
-}
-
-fn print_finished_call<W: Sink>(report: Option<ReportView<'_>>, sink: &mut W) -> Result<(), Failed>
-    ensures puts { Puts W.stands sink.old sink.new
-        (report_lines (option_map fields_of report.entry)) result }
-    ensures counts { CountsFaults W.faults sink.old sink.new result }
-{
-    match report {
-        Some(view) => print_report(&view, sink),
-        None => Ok(()),
+    match line {
+        StepLine::Sent(byte) => print_sent(step, *byte, sink),
+        StepLine::Reset(rule) => print_reset(step, *rule, sink),
+        StepLine::Report(view) => print_report(view, sink),
     }
 }
 
-fn print_sent_byte<W: Sink>(step: u64, sent_byte: Option<u8>, sink: &mut W) -> Result<(), Failed>
-    ensures puts { Puts W.stands sink.old sink.new (sent_lines step sent_byte) result }
-    ensures counts { CountsFaults W.faults sink.old sink.new result }
-{
-    match sent_byte {
-        Some(byte) => print_sent(step, byte, sink),
-        None => Ok(()),
-    }
-}
-
-fn print_broken_rule<W: Sink>(step: u64, reset: Option<Rule>, sink: &mut W) -> Result<(), Failed>
-    ensures puts { Puts W.stands sink.old sink.new (reset_lines step reset) result }
-    ensures counts { CountsFaults W.faults sink.old sink.new result }
-{
-    match reset {
-        Some(rule) => print_reset(step, rule, sink),
-        None => Ok(()),
-    }
-}
-
-// Puts the lines of the last step, which has this number.
-#[inline(never)]
-fn print_lines<D: Digest32, W: Sink>(step: u64, live: &Live<D>, sink: &mut W) -> Result<(), Failed>
-    requires { HasStepped live.now }
-    ensures puts { (start : Start) (play : List (List Event))
-        → LiveStandsFor D.has_taken D.digest_of live.now start play
-        → Puts W.stands sink.old sink.new (last_step_lines start play step) result }
-    ensures counts { CountsFaults W.faults sink.old sink.new result }
-{
-    print_step(step, live.sent(), live.entry().reset, live.report(), sink)
-}
-
-/// Puts the lines of the last step, which has this number. Most steps have none.
-#[inline(always)]
+/// Puts the line of the last step, which has this number, where it has one.
 pub fn print_last_step<D: Digest32, W: Sink>(
     step: u64,
     live: &Live<D>,
     sink: &mut W,
 ) -> Result<(), Failed>
-    requires { HasStepped live.now }
     ensures puts { (start : Start) (play : List (List Event))
         → LiveStandsFor D.has_taken D.digest_of live.now start play
         → Puts W.stands sink.old sink.new (last_step_lines start play step) result }
     ensures counts { CountsFaults W.faults sink.old sink.new result }
 {
-    if live.is_silent() {
-        Ok(())
+    match live.line() {
+        Some(line) => print_line(step, &line, sink),
+        None => Ok(()),
+    }
+}
+
+// Up to where no event comes, where none comes in this step and none between it and the next.
+fn idle_until(step: u64, next: u64, steps: u64) -> u64
+    requires { step < steps }
+    ensures after { step < result }
+    ensures within { result ≤ steps }
+    ensures idle { (later : ℕ) → step < later → later < result → later < next }
+{
+    if next <= step {
+        step + 1
+    } else if next < steps {
+        next
     } else {
-        print_lines(step, live, sink)
+        steps
+    }
+}
+
+// Makes steps up to the next event, or to one that has a line; at most so many are made then.
+fn play_more<D: Digest32>(live: Live<D>, playback: &mut Playback<'_>, steps: u64) -> Live<D>
+    requires more { steps_made live < steps }
+    requires few { steps ≤ most_steps }
+    ensures made { steps_made live < steps_made result }
+    ensures within { steps_made result ≤ steps }
+    ensures kept { AreLeft playback.old playback.new (steps_made result) }
+    ensures stands { (key : List ℕ) (image : ℕ → ℕ) (events_at : ℕ → List Event)
+        → Leaves playback.old events_at (steps_made live)
+        → LiveStandsFor D.has_taken D.digest_of live (with_key D.digest_of key image)
+        (play_of events_at (steps_made live))
+        → LiveStandsFor D.has_taken D.digest_of result (with_key D.digest_of key image)
+        (play_of events_at (steps_made result)) }
+    ensures silent { (key : List ℕ) (image : ℕ → ℕ) (events_at : ℕ → List Event)
+        → Leaves playback.old events_at (steps_made live)
+        → LiveStandsFor D.has_taken D.digest_of live (with_key D.digest_of key image)
+        (play_of events_at (steps_made live))
+        → lines_of (with_key D.digest_of key image) (play_of events_at (steps_made result - 1))
+        ≡ lines_of (with_key D.digest_of key image) (play_of events_at (steps_made live)) }
+{
+    let step = live.steps();
+    let events = playback.pass(step);
+    if events.is_empty() {
+        let until = idle_until(step, playback.next_step(), steps);
+        live.play_on(until - step)
+    } else {
+        live.step(events)
     }
 }
 
@@ -147,9 +131,11 @@ pub fn play_on<D: Digest32, W: Sink>(
 {
     let mut live = Live::Held(device);
     let mut playback = script.playback();
-    for step in 0..steps {
-        live = live.step(playback.pass(step));
-        print_last_step(step, &live, sink)?;
+    let mut step = 0;
+    while step < steps {
+        live = play_more(live, &mut playback, steps);
+        step = live.steps();
+        print_last_step(step - 1, &live, sink)?;
     }
     print_end(steps, live.next_pc(), live.exec(), sink)?;
     Ok(live)

@@ -1,5 +1,5 @@
 -- What the bus stands for, between two steps and within one.
-use Rattle.std.specs.Prelude.{Bool, false, ◌≡◌, ◌&&◌, ℕ, List, [], ◌∷◌, length, Option, Some, None, is_some}
+use Rattle.std.specs.Prelude.{Bool, false, ◌≡◌, ◌&&◌, ℕ, List, [], ◌∷◌, Option, Some, None, is_some}
 use Rattle.bus_signals.specs.declared.access.Access.{Access}
 use Rattle.bus_signals.specs.declared.bus_record.BusRecord.{BusRecord}
 use Rattle.bus_signals.specs.declared.rule.Rule.{Rule}
@@ -10,13 +10,13 @@ use Rattle.part_definitions.specs.Flag.{exec}
 use Rattle.mem_map.specs.Memory.{MemoryStandsFor}
 use Rattle.device_trace.specs.Logs.{Logs, exec_of, logged_bounds, vector_of, step_progress, accepts_timer, with_record}
 use Rattle.device_trace.specs.Progress.{next_pc_of, last_registers, tells_irq, fetches_opcode}
-use Rattle.device_trace.specs.Signals.{step_kind, proposed_access, signals_of, word_fetched, value_read}
+use Rattle.device_trace.specs.Signals.{step_kind, proposed_access, value_read}
 use Rattle.device_trace.specs.Start.{Start}
 use Rattle.device_trace.specs.Step.{record_of, record_from, dma_value_read}
 use Rattle.device_core.specs.Monitors.{MonitorsStandFor}
 use Rattle.device_core.specs.Peripherals.{PeripheralsStandFor}
 use Rattle.device_core.specs.declared.bus.Bus.{Bus}
-use Rattle.device_core.specs.declared.past.Past.{Past}
+use Rattle.device_core.specs.Silence.{has_line}
 use Rattle.device_core.specs.declared.turn.Turn.{Turn}
 
 -- the newest record
@@ -24,15 +24,17 @@ abbrev pub last_seen : List SeenRecord → Option BusRecord
 last_seen [] = None
 last_seen (now ∷ before) = Some now.entry
 
-pub record PastStandsFor (past : Past) (records : List SeenRecord) : Type 0 where
-  pub same_steps : past.steps ≡ length records
-  pub same_last : past.last ≡ last_seen records
+-- the record of the last step, where it was kept; where it was not, that step has no line
+abbrev pub LastStandsFor : Option BusRecord → List SeenRecord → Type 0
+LastStandsFor (Some entry) records = last_seen records ≡ Some entry
+LastStandsFor None [] = Unit {0}
+LastStandsFor None (now ∷ before) = has_line now.entry ≡ false
 
 pub record BusStandsFor (bus : Bus) (start : Start) (logs : Logs) : Type 0 where
   pub same_memory : MemoryStandsFor bus.memory start.power (exec_of logs) logs.memory
   pub same_peripherals : PeripheralsStandFor bus.peripherals logs.peripherals
   pub same_monitors : MonitorsStandFor bus.monitors logs.records
-  pub same_past : PastStandsFor bus.past logs.records
+  pub same_last : LastStandsFor bus.last logs.records
 
 -- it is the turn of the step that comes next, from these registers
 pub record TurnStandsFor (regs : List ℕ) (turn : Turn) (start : Start) (logs : Logs) : Type 0 where
@@ -75,50 +77,21 @@ MakesTurn old regs turn dma script_reset new =
     → dma ≡ dma_access logs.peripherals.dma
     → BusStandsFor new start (logs_after_step start logs script_reset)
 
--- these are the signals of the step that comes next, from these registers, in which the script
--- asks for a reset or not
-pub record SignalsStandFor (regs : List ℕ) (is_accepted : Bool) (now : Signals) (start : Start)
-    (logs : Logs) (script_reset : Bool) : Type 0 where
-  pub same_regs : regs ≡ last_registers logs.progress
-  pub same_signals : now ≡ signals_of start logs script_reset
-  pub same_acceptance : is_accepted ≡ accepts_timer logs.progress now.kind (vector_of logs)
+-- the record of a step with these signals that breaks no rule, and the logs after it
+abbrev pub record_performed : Start → Logs → List ℕ → Signals → BusRecord
+record_performed start logs regs now =
+    record_from regs now None (value_read start logs now.cpu) (dma_value_read start logs now)
 
--- what the bus answers to these signals
-abbrev pub AnswersSignals : Bus → List ℕ → Bool → Signals → Option ℕ → Type 0
-AnswersSignals bus regs is_accepted now answer =
-    (start : Start) (logs : Logs) (script_reset : Bool)
-    → BusStandsFor bus start logs
-    → SignalsStandFor regs is_accepted now start logs script_reset
-    → answer ≡ answer_in (record_of start logs script_reset)
-
--- the bus makes the step of these signals, or refuses it
-abbrev pub MakesSignals : Bus → List ℕ → Bool → Signals → Bus → Type 0
-MakesSignals old regs is_accepted now new =
-    (start : Start) (logs : Logs) (script_reset : Bool)
-    → BusStandsFor old start logs
-    → SignalsStandFor regs is_accepted now start logs script_reset
-    → BusStandsFor new start (logs_after_step start logs script_reset)
-
--- what the processor reads in a step with these signals
-abbrev pub ReadsValue : Bus → Signals → ℕ → Type 0
-ReadsValue bus now value =
-    (start : Start) (logs : Logs)
-    → BusStandsFor bus start logs
-    → now.word ≡ word_fetched start logs now.cpu
-    → value ≡ value_read start logs now.cpu
-
--- the logs after a step with these signals that breaks no rule
 abbrev pub logs_performed : Start → Logs → List ℕ → Signals → Logs
 logs_performed start logs regs now =
-    with_record start logs
-    (record_from regs now None (value_read start logs now.cpu) (dma_value_read start logs now))
+    with_record start logs (record_performed start logs regs now)
 
--- the bus makes such a step
-abbrev pub Performs : Bus → List ℕ → Bool → Signals → Bus → Type 0
-Performs old regs is_accepted now new =
+-- the bus makes such a step, in which the processor's access read this value
+abbrev pub Performs : Bus → List ℕ → Bool → Signals → ℕ → Bus → Type 0
+Performs old regs is_accepted now value new =
     (start : Start) (logs : Logs)
     → BusStandsFor old start logs
-    → now.word ≡ word_fetched start logs now.cpu
+    → value ≡ value_read start logs now.cpu
     → now.dma ≡ dma_access logs.peripherals.dma
     → is_accepted ≡ accepts_timer logs.progress now.kind (vector_of logs)
     → BusStandsFor new start (logs_performed start logs regs now)

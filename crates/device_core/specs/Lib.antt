@@ -1,10 +1,12 @@
-pub mod Bus
+-- What public clauses speak of.
 pub mod Device
-pub mod Machine
-pub mod Outside
-pub mod Monitors
-pub mod Past
-pub mod Peripherals
-pub mod Silence
 pub mod Step
+pub mod StepLine
+pub mod Silence
+pub mod Outside
+-- What the parts within stand for, and how they make a step.
+pub mod Bus
+pub mod Machine
+pub mod Monitors
+pub mod Peripherals
 pub mod Turn

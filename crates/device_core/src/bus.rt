@@ -1,4 +1,4 @@
-ghost use Rattle.std.specs.Prelude.{◌≡◌, ◌<◌, ◌^◌, ◌∷◌, ℕ, Bool, true, List, Option, IfSome, IfOk, Some, None};
+ghost use Rattle.std.specs.Prelude.{◌≡◌, ◌∷◌, ℕ, Bool, true, false, List, Option, IfSome, IfOk, IsSome, None, is_none};
 ghost use Rattle.bus_signals.specs.Access.{IsFormed};
 ghost use Rattle.bus_signals.specs.declared.access.Access.{Access as AccessValue};
 ghost use Rattle.bus_signals.specs.declared.bounds.Bounds.{Bounds as BoundsBefore};
@@ -7,35 +7,27 @@ ghost use Rattle.bus_signals.specs.declared.rule.Rule.{Rule};
 ghost use Rattle.bus_signals.specs.declared.signals.Signals.{Signals};
 ghost use Rattle.bus_signals.specs.SeenRecord.{SeenRecord};
 ghost use Rattle.part_definitions.specs.Dma.{dma_access};
-ghost use Rattle.part_definitions.specs.Flag.{exec};
-ghost use Rattle.part_definitions.specs.Memory.{PowerOn, MemoryWrite};
+ghost use Rattle.part_definitions.specs.Flag.{exec, last_pc};
+ghost use Rattle.part_definitions.specs.Memory.{PowerOn, MemoryWrite, with_access};
 ghost use Rattle.part_definitions.specs.Part.{Takes};
 ghost use Rattle.mem_map.specs.Memory.{MemoryStandsFor};
 ghost use Rattle.mem_map.specs.Image.{power_on_of};
+ghost use Rattle.device_trace.specs.FirstRule.{first_rule};
 ghost use Rattle.device_trace.specs.Start.{Start};
+ghost use Rattle.device_core.specs.Bus.{TurnStandsFor};
 ghost use Rattle.device_trace.specs.Logs.{Logs, power_on_logs, accepts_timer, memory_after, with_events, with_record, exec_of, vector_of};
 ghost use Rattle.device_trace.specs.Signals.{signals_of, word_fetched, value_read};
-ghost use Rattle.device_trace.specs.Peripherals.{Peripherals as PeripheralLogs};
 ghost use Rattle.device_trace.specs.Step.{is_reset, asks_reset, dma_value_read, record_from};
-ghost use Rattle.device_core.specs.Peripherals.{PeripheralsStandFor};
 
 use crate::access::{value_read, word_fetched};
 use crate::monitors::Monitors;
-use crate::past::Past;
 use crate::peripherals::Peripherals;
-use crate::record::{record_of_refusal, record_of_step};
+use crate::record::{keep_record, record_of_refusal, record_of_step};
 use crate::turn::Turn;
 use bus_arbiter::{Proposal, exchange};
 use bus_signals::{Access, Bounds, BusMaster, BusRecord, CR, Event, Rule, Signals};
 use mem_map::{Image, Memory};
 use std::alloc::{AllocError, Global};
-
-// What the accesses of a step read, 0 for a write and for none.
-#[derive(Clone, Copy)]
-struct Values {
-    cpu: u16,
-    dma: u16,
-}
 
 /// The bus, with what is reached over it and what watches it.
 #[derive(Drop)]
@@ -43,7 +35,8 @@ pub struct Bus {
     pub memory: Memory,
     pub peripherals: Peripherals,
     pub monitors: Monitors,
-    pub past: Past,
+    /// The record of the last step, where it was kept. A step whose record is not has no line.
+    pub last: Option<BusRecord>,
 }
 
 fn is_reset(event: &Event) -> bool
@@ -71,35 +64,65 @@ fn show_exec(memory: &mut Memory, was_set: bool, is_set: bool)
     }
 }
 
-// Makes the accesses of a step: the DMA sees what the processor writes.
+// The access of the processor, where it is a write.
+fn write_in(access: Option<Access>) -> Option<Access>
+    requires { IfSome access IsFormed }
+    ensures formed { IfSome result IsFormed }
+    ensures writes { (writes : List MemoryWrite) → with_access result writes ≡ with_access access writes }
+{
+    match access {
+        Some(Access::Write(..)) => access,
+        Some(Access::Fetch(_) | Access::Read(..)) | None => None,
+    }
+}
+
+// Writes what the processor writes to memory, and makes the access of the DMA, which sees that.
+// What the DMA read, 0 for a write and for none.
 #[inline(always)]
-fn make_accesses(memory: &mut Memory, peripherals: &Peripherals, now: &Signals) -> Values
+fn exchange_with(memory: &mut Memory, now: &Signals) -> u16
     requires cpu { IfSome now.now.cpu IsFormed }
     requires dma { IfSome now.now.dma IsFormed }
-    ensures cpu { (start : Start) (logs : Logs)
+    ensures value { (start : Start) (logs : Logs)
         → MemoryStandsFor memory.old start.power (exec_of logs) logs.memory
-        → PeripheralsStandFor peripherals.now logs.peripherals
-        → now.now.word ≡ word_fetched start logs now.now.cpu
-        → result.cpu ≡ value_read start logs now.now.cpu }
-    ensures dma { (start : Start) (logs : Logs)
-        → MemoryStandsFor memory.old start.power (exec_of logs) logs.memory
-        → result.dma ≡ dma_value_read start logs now.now }
+        → result ≡ dma_value_read start logs now.now }
     ensures memory { (start : PowerOn) (flag : Bool) (writes : List MemoryWrite)
         → MemoryStandsFor memory.old start flag writes
         → MemoryStandsFor memory.new start flag (memory_after None now.now.cpu now.now.dma writes) }
 {
-    let cpu = value_read(memory, peripherals, now.cpu, now.word);
-    let values = exchange(memory, &Proposal::new(now.cpu), &Proposal::new(now.dma));
-    Values {
-        cpu,
-        dma: values.second,
+    let written = write_in(now.cpu);
+    exchange(memory, &Proposal::new(written), &Proposal::new(now.dma)).second
+}
+
+// What the step of this turn is about to do, whose access reads this value, and in which the DMA
+// asks for this access.
+#[inline(always)]
+#[tactic(auto, unfolding(device_trace::specs::Signals::signals_at))]
+fn signals(turn: &Turn, value: u16, dma: Option<Access>, script_reset: bool) -> Signals
+    requires formed { IfSome turn.now.access IsFormed }
+    requires dma_formed { IfSome dma IsFormed }
+    ensures cpu { IfSome result.cpu IsFormed }
+    ensures dma { IfSome result.dma IsFormed }
+    ensures access { result.cpu ≡ turn.now.access }
+    ensures signals { (start : Start) (logs : Logs) (regs : List ℕ)
+        → TurnStandsFor regs turn.now start logs
+        → value ≡ value_read start logs turn.now.access
+        → dma ≡ dma_access logs.peripherals.dma
+        → result ≡ signals_of start logs script_reset }
+{
+    Signals {
+        kind: turn.kind,
+        pc: turn.pc,
+        cpu: turn.access,
+        dma,
+        irq: turn.irq,
+        word: word_fetched(turn.access, value),
+        opcode: turn.opcode,
+        script_reset,
     }
 }
 
 impl Bus {
-    ghost use Rattle.device_core.specs.Bus.{BusStandsFor, PastStandsFor, AnswersTurn, MakesTurn, AnswersSignals, MakesSignals, ReadsValue, Performs, StaysClear, TurnStandsFor, logs_performed};
-    ghost use Rattle.device_core.specs.Peripherals.{peripherals_after_step};
-    ghost use Rattle.device_core.specs.Past.{StepsFrom};
+    ghost use Rattle.device_core.specs.Bus.{BusStandsFor, LastStandsFor, AnswersTurn, MakesTurn, Performs, StaysClear, logs_performed, record_performed};
     ghost use Rattle.device_core.specs.Monitors.{MonitorsStandFor};
 
     /// The bus at power-on.
@@ -108,29 +131,25 @@ impl Bus {
         ensures stands { (start : Start)
             → start.power ≡ power_on_of key.now image.now
             → IfOk result (λ bus. BusStandsFor bus start power_on_logs) }
-        ensures none { IfOk result (λ bus. bus.past.steps ≡ 0) }
     {
         Ok(Bus {
             memory: Memory::new(alloc, key, image)?,
             peripherals: Peripherals::new(alloc)?,
             monitors: Monitors::new(),
-            past: Past {
-                steps: 0,
-                last: None,
-            },
+            last: None,
         })
     }
 
     /// The events of a step come, in their order. Whether one asks for a reset.
     #[tactic(auto, unfolding(device_trace::specs::Logs::with_events))]
-    pub fn hear(&mut self, events: &[Event]) -> bool
-        ensures past { self.new.past ≡ self.old.past }
+    pub fn take_events(&mut self, events: &[Event]) -> bool
+        ensures last { self.new.last ≡ self.old.last }
         ensures reset { result ≡ asks_reset events.now }
         ensures stands { (start : Start) (logs : Logs)
             → BusStandsFor self.old start logs
             → BusStandsFor self.new start (with_events logs events.now) }
     {
-        self.peripherals.hear(events);
+        self.peripherals.take_events(events);
         asks_reset(events)
     }
 
@@ -145,121 +164,73 @@ impl Bus {
         self.peripherals.dma.ask()
     }
 
-    // What the step of this turn is about to do, in which the DMA asks for this access.
+    // The monitors see the record of a step, with the bounds before it, and memory shows the EXEC
+    // flag.
     #[inline(always)]
-    #[tactic(auto, unfolding(device_trace::specs::Signals::signals_at))]
-    fn signals(&self, turn: &Turn, dma: Option<Access>, script_reset: bool) -> Signals
-        requires formed { IfSome turn.now.access IsFormed }
-        requires dma_formed { IfSome dma IsFormed }
-        ensures cpu { IfSome result.cpu IsFormed }
-        ensures dma { IfSome result.dma IsFormed }
-        ensures value { (start : Start) (logs : Logs) (regs : List ℕ)
-            → BusStandsFor self.now start logs
-            → TurnStandsFor regs turn.now start logs
-            → dma ≡ dma_access logs.peripherals.dma
-            → result ≡ signals_of start logs script_reset }
-    {
-        Signals {
-            kind: turn.kind,
-            pc: turn.pc,
-            cpu: turn.access,
-            dma,
-            irq: turn.irq,
-            word: word_fetched(&self.memory, &self.peripherals, turn.access),
-            opcode: turn.opcode,
-            script_reset,
-        }
-    }
-
-    // The step ends with this record; the bounds are those before it.
-    #[inline(always)]
-    fn record(&mut self, entry: BusRecord, bounds: &Bounds)
-        requires few { self.old.past.steps < 2 ^ 63 }
-        requires cpu { IfSome entry.cpu IsFormed }
-        requires dma { IfSome entry.dma IsFormed }
-        ensures past_steps { StepsFrom self.old.past self.new.past }
+    fn watch(&mut self, entry: &BusRecord, bounds: &Bounds)
+        requires cpu { IfSome entry.now.cpu IsFormed }
+        requires dma { IfSome entry.now.dma IsFormed }
+        ensures last { self.new.last ≡ self.old.last }
         ensures peripherals { self.new.peripherals ≡ self.old.peripherals }
         ensures memory { (start : PowerOn) (writes : List MemoryWrite) (records : List SeenRecord)
             → MemoryStandsFor self.old.memory start (exec records) writes
             → MonitorsStandFor self.old.monitors records
             → MemoryStandsFor self.new.memory start
-            (exec (record { entry = entry; bounds = bounds.now } ∷ records)) writes }
+            (exec (record { entry = entry.now; bounds = bounds.now } ∷ records)) writes }
         ensures monitors { Takes MonitorsStandFor self.old.monitors
-            (record { entry = entry; bounds = bounds.now }) self.new.monitors }
-        ensures past { Takes PastStandsFor self.old.past
-            (record { entry = entry; bounds = bounds.now }) self.new.past }
+            (record { entry = entry.now; bounds = bounds.now }) self.new.monitors }
     {
         let was_set = self.monitors.exec();
-        self.past.steps += 1;
-        let entry = self.past.last.insert(entry);
         self.monitors.see(entry, bounds);
         show_exec(&mut self.memory, was_set, self.monitors.exec());
     }
 
-    // The step ends with this record, which leaves the EXEC flag as it is.
+    // Makes the writes of a step that breaks no rule, whose access read this value, and the DMA's
+    // read. Its record.
     #[inline(always)]
-    fn record_alone(&mut self, entry: BusRecord)
-        requires { self.old.past.steps < 2 ^ 63 }
-        ensures past_steps { StepsFrom self.old.past self.new.past }
-        ensures memory { self.new.memory ≡ self.old.memory }
-        ensures peripherals { self.new.peripherals ≡ self.old.peripherals }
-        ensures monitors { (bounds : BoundsBefore) (records : List SeenRecord)
-            → MonitorsStandFor self.old.monitors records
-            → exec (record { entry = entry; bounds = bounds } ∷ records) ≡ exec records
-            → MonitorsStandFor self.new.monitors
-            (record { entry = entry; bounds = bounds } ∷ records) }
-        ensures past { (bounds : BoundsBefore)
-            → Takes PastStandsFor self.old.past
-            (record { entry = entry; bounds = bounds }) self.new.past }
-    {
-        self.past.steps += 1;
-        let entry = self.past.last.insert(entry);
-        self.monitors.pass(entry);
-    }
-
-    // Makes the accesses of a step that breaks no rule.
-    #[inline(always)]
-    fn make(&mut self, is_accepted: bool, now: &Signals) -> Values
+    fn make(&mut self, regs: &[u16; 16], now: &Signals, value: u16) -> BusRecord
         requires cpu { IfSome now.now.cpu IsFormed }
         requires dma { IfSome now.now.dma IsFormed }
+        ensures peripherals { self.new.peripherals ≡ self.old.peripherals }
         ensures monitors { self.new.monitors ≡ self.old.monitors }
-        ensures past { self.new.past ≡ self.old.past }
-        ensures cpu { (start : Start) (logs : Logs)
+        ensures last { self.new.last ≡ self.old.last }
+        ensures cpu { IfSome result.cpu IsFormed }
+        ensures dma { IfSome result.dma IsFormed }
+        ensures kind { result.kind ≡ now.now.kind }
+        ensures pc { result.pc ≡ now.now.pc }
+        ensures reset { result.reset ≡ None }
+        ensures value { (start : Start) (logs : Logs)
             → BusStandsFor self.old start logs
-            → now.now.word ≡ word_fetched start logs now.now.cpu
-            → result.cpu ≡ value_read start logs now.now.cpu }
-        ensures dma { (start : Start) (logs : Logs)
-            → BusStandsFor self.old start logs
-            → result.dma ≡ dma_value_read start logs now.now }
+            → value ≡ value_read start logs now.now.cpu
+            → result ≡ record_performed start logs regs.now now.now }
         ensures memory { (start : PowerOn) (flag : Bool) (writes : List MemoryWrite)
             → MemoryStandsFor self.old.memory start flag writes
             → MemoryStandsFor self.new.memory start flag
             (memory_after None now.now.cpu now.now.dma writes) }
-        ensures peripherals { (logs : PeripheralLogs)
-            → PeripheralsStandFor self.old.peripherals logs
-            → PeripheralsStandFor self.new.peripherals
-            (peripherals_after_step None is_accepted now.now.cpu now.now.dma result.dma logs) }
     {
-        let values = make_accesses(&mut self.memory, &self.peripherals, now);
-        self.peripherals
-            .serve(now.cpu, now.dma, values.dma, is_accepted);
-        values
+        let dma_value = exchange_with(&mut self.memory, now);
+        record_of_step(regs, now, value, dma_value)
     }
 
-    // Makes a step that breaks no rule. What the access of the processor read.
+    // Makes a step that breaks no rule, whose access read this value.
     #[inline(always)]
-    fn perform(&mut self, regs: &[u16; 16], is_accepted: bool, now: &Signals) -> u16
-        requires few { self.old.past.steps < 2 ^ 63 }
+    fn perform(
+        &mut self,
+        regs: &[u16; 16],
+        is_accepted: bool,
+        now: &Signals,
+        value: u16,
+        keeps: bool,
+    )
         requires cpu { IfSome now.now.cpu IsFormed }
         requires dma { IfSome now.now.dma IsFormed }
-        ensures past_steps { StepsFrom self.old.past self.new.past }
-        ensures value { ReadsValue self.old now.now result }
-        ensures stands { Performs self.old regs.now is_accepted now.now self.new }
+        ensures kept { keeps ≡ true → IsSome self.new.last }
+        ensures stands { Performs self.old regs.now is_accepted now.now value self.new }
     {
         if self.stays_clear(now.pc) {
-            self.perform_alone(regs, is_accepted, now)
+            self.perform_alone(regs, is_accepted, now, value, keeps);
         } else {
-            self.perform_watched(regs, is_accepted, *now)
+            self.perform_watched(regs, is_accepted, *now, value, keeps);
         }
     }
 
@@ -274,84 +245,84 @@ impl Bus {
         self.monitors.exec.stays_clear(pc, self.memory.er_min())
     }
 
-    // Likewise a step in which the EXEC flag is not set and stays so: nothing looks at the bounds.
+    // Makes a step that breaks no rule, in which the EXEC flag is not set and stays so: nothing
+    // looks at the bounds.
     #[inline(always)]
     #[tactic(auto, unfolding(device_trace::specs::Logs::with_record))]
-    fn perform_alone(&mut self, regs: &[u16; 16], is_accepted: bool, now: &Signals) -> u16
-        requires few { self.old.past.steps < 2 ^ 63 }
+    fn perform_alone(
+        &mut self,
+        regs: &[u16; 16],
+        is_accepted: bool,
+        now: &Signals,
+        value: u16,
+        keeps: bool,
+    )
         requires cpu { IfSome now.now.cpu IsFormed }
         requires dma { IfSome now.now.dma IsFormed }
-        ensures past_steps { StepsFrom self.old.past self.new.past }
-        ensures value { ReadsValue self.old now.now result }
+        ensures kept { keeps ≡ true → IsSome self.new.last }
         ensures stands { (start : Start) (logs : Logs)
             → StaysClear start logs now.now.pc
             → BusStandsFor self.old start logs
-            → now.now.word ≡ word_fetched start logs now.now.cpu
+            → value ≡ value_read start logs now.now.cpu
             → now.now.dma ≡ dma_access logs.peripherals.dma
             → is_accepted ≡ accepts_timer logs.progress now.now.kind (vector_of logs)
             → BusStandsFor self.new start (logs_performed start logs regs.now now.now) }
     {
-        let values = self.make(is_accepted, now);
-        self.record_alone(record_of_step(regs, now, values.cpu, values.dma));
-        values.cpu
+        let entry = self.make(regs, now, value);
+        let sent = self.peripherals.finish_step(&entry, is_accepted);
+        self.monitors.pass(&entry);
+        keep_record(&mut self.last, entry, sent, keeps);
     }
 
-    // Likewise any step. The signals are copied, so that other steps keep none in memory.
+    // Makes any step that breaks no rule. The signals are copied, so that other steps keep none in
+    // memory.
     #[inline(never)]
     #[tactic(auto, unfolding(device_trace::specs::Logs::with_record))]
-    fn perform_watched(&mut self, regs: &[u16; 16], is_accepted: bool, now: Signals) -> u16
-        requires few { self.old.past.steps < 2 ^ 63 }
+    fn perform_watched(
+        &mut self,
+        regs: &[u16; 16],
+        is_accepted: bool,
+        now: Signals,
+        value: u16,
+        keeps: bool,
+    )
         requires cpu { IfSome now.cpu IsFormed }
         requires dma { IfSome now.dma IsFormed }
-        ensures past_steps { StepsFrom self.old.past self.new.past }
-        ensures value { ReadsValue self.old now result }
-        ensures stands { Performs self.old regs.now is_accepted now self.new }
+        ensures kept { keeps ≡ true → IsSome self.new.last }
+        ensures stands { Performs self.old regs.now is_accepted now value self.new }
     {
         let bounds = self.memory.bounds();
-        let values = self.make(is_accepted, &now);
-        self.record(record_of_step(regs, &now, values.cpu, values.dma), &bounds);
-        values.cpu
+        let entry = self.make(regs, &now, value);
+        let sent = self.peripherals.finish_step(&entry, is_accepted);
+        self.watch(&entry, &bounds);
+        keep_record(&mut self.last, entry, sent, keeps);
     }
 
-    // Makes no access, and resets all that is reached over the bus but memory and pins.
+    // Of a step that breaks a rule: makes no access, and resets all that is reached over the bus but
+    // memory and pins. The signals are copied, so that other steps keep none in memory.
     #[inline(never)]
     #[tactic(auto, unfolding(device_trace::specs::Logs::with_record))]
-    fn refuse(&mut self, regs: &[u16; 16], rule: Rule, now: &Signals)
-        requires few { self.old.past.steps < 2 ^ 63 }
-        requires cpu { IfSome now.now.cpu IsFormed }
-        requires dma { IfSome now.now.dma IsFormed }
-        ensures past_steps { StepsFrom self.old.past self.new.past }
+    fn refuse(&mut self, regs: &[u16; 16], now: Signals)
+        requires cpu { IfSome now.cpu IsFormed }
+        requires dma { IfSome now.dma IsFormed }
+        ensures kept { IsSome self.new.last }
         ensures stands { (start : Start) (logs : Logs) (value dma_value : ℕ)
             → BusStandsFor self.old start logs
+            → is_none (first_rule (last_pc logs.records) now) ≡ false
             → BusStandsFor self.new start (with_record start logs
-            (record_from regs.now now.now (Some rule) value dma_value)) }
+            (record_from regs.now now (first_rule (last_pc logs.records) now) value dma_value)) }
     {
+        let rule = self.monitors.broken_rule(&now);
         let bounds = self.memory.bounds();
         self.peripherals.clear();
-        self.record(record_of_refusal(regs, now, rule), &bounds);
-    }
-
-    // Tries the rules one by one, and makes or refuses the step of these signals.
-    #[inline(never)]
-    fn act_by_rule(&mut self, regs: &[u16; 16], is_accepted: bool, now: Signals) -> Option<u16>
-        requires few { self.old.past.steps < 2 ^ 63 }
-        requires cpu { IfSome now.cpu IsFormed }
-        requires dma { IfSome now.dma IsFormed }
-        ensures past_steps { StepsFrom self.old.past self.new.past }
-        ensures answer { AnswersSignals self.old regs.now is_accepted now result }
-        ensures stands { MakesSignals self.old regs.now is_accepted now self.new }
-    {
-        match self.monitors.first_rule(&now) {
-            None => Some(self.perform_watched(regs, is_accepted, now)),
-            Some(rule) => {
-                self.refuse(regs, rule, &now);
-                None
-            }
-        }
+        let entry = record_of_refusal(regs, &now, rule);
+        self.watch(&entry, &bounds);
+        self.last = Some(entry);
     }
 
     /// Tries the rules, and makes the step of this turn where none is broken, in which the DMA asks
     /// for this access. What the access of processor or ROM read, `None` where the step is refused.
+    /// The record is kept where that is asked for and where the step has a line.
     #[inline(always)]
     pub fn act(
         &mut self,
@@ -359,38 +330,41 @@ impl Bus {
         turn: &Turn,
         dma: Option<Access>,
         script_reset: bool,
+        keeps: bool,
     ) -> Option<u16>
-        requires few { self.old.past.steps < 2 ^ 63 }
         requires formed { IfSome turn.now.access IsFormed }
         requires dma_formed { IfSome dma IsFormed }
-        ensures past_steps { StepsFrom self.old.past self.new.past }
+        ensures kept { keeps ≡ true → IsSome self.new.last }
         ensures answer { AnswersTurn self.old regs.now turn.now dma script_reset result }
         ensures stands { MakesTurn self.old regs.now turn.now dma script_reset self.new }
     {
         if CR.contains(turn.pc) {
-            self.act_in_rom(regs, *turn, script_reset)
+            self.act_in_rom(regs, *turn, dma, script_reset, keeps)
         } else {
-            self.act_anywhere(regs, turn, dma, script_reset)
+            self.act_anywhere(regs, turn, dma, script_reset, keeps)
         }
     }
 
-    // Likewise in the ROM, apart from the other steps, which are shorter by that. It asks the DMA
-    // again, so that the others need not keep its access in memory.
+    // A step in the ROM, apart from the other steps, which are shorter by that.
     #[inline(never)]
-    fn act_in_rom(&mut self, regs: &[u16; 16], turn: Turn, script_reset: bool) -> Option<u16>
-        requires few { self.old.past.steps < 2 ^ 63 }
+    fn act_in_rom(
+        &mut self,
+        regs: &[u16; 16],
+        turn: Turn,
+        dma: Option<Access>,
+        script_reset: bool,
+        keeps: bool,
+    ) -> Option<u16>
         requires formed { IfSome turn.access IsFormed }
-        ensures past_steps { StepsFrom self.old.past self.new.past }
-        ensures answer { (dma : Option AccessValue)
-            → AnswersTurn self.old regs.now turn dma script_reset result }
-        ensures stands { (dma : Option AccessValue)
-            → MakesTurn self.old regs.now turn dma script_reset self.new }
+        requires dma_formed { IfSome dma IsFormed }
+        ensures kept { keeps ≡ true → IsSome self.new.last }
+        ensures answer { AnswersTurn self.old regs.now turn dma script_reset result }
+        ensures stands { MakesTurn self.old regs.now turn dma script_reset self.new }
     {
-        let dma = self.dma_access();
-        self.act_anywhere(regs, &turn, dma, script_reset)
+        self.act_anywhere(regs, &turn, dma, script_reset, keeps)
     }
 
-    // Likewise wherever `pc` is.
+    // A step wherever `pc` is.
     #[inline(always)]
     fn act_anywhere(
         &mut self,
@@ -398,19 +372,22 @@ impl Bus {
         turn: &Turn,
         dma: Option<Access>,
         script_reset: bool,
+        keeps: bool,
     ) -> Option<u16>
-        requires few { self.old.past.steps < 2 ^ 63 }
         requires formed { IfSome turn.now.access IsFormed }
         requires dma_formed { IfSome dma IsFormed }
-        ensures past_steps { StepsFrom self.old.past self.new.past }
+        ensures kept { keeps ≡ true → IsSome self.new.last }
         ensures answer { AnswersTurn self.old regs.now turn.now dma script_reset result }
         ensures stands { MakesTurn self.old regs.now turn.now dma script_reset self.new }
     {
-        let now = self.signals(turn, dma, script_reset);
+        let value = value_read(&self.memory, &self.peripherals, turn.access);
+        let now = signals(turn, value, dma, script_reset);
         if self.monitors.permits(&now) {
-            Some(self.perform(regs, turn.accepts_timer, &now))
+            self.perform(regs, turn.accepts_timer, &now, value, keeps);
+            Some(value)
         } else {
-            self.act_by_rule(regs, turn.accepts_timer, now)
+            self.refuse(regs, now);
+            None
         }
     }
 }

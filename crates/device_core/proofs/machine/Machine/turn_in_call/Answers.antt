@@ -1,0 +1,23 @@
+use Rattle.part_definitions.specs.CpuRegister.{sp_of}
+use Rattle.device_trace.specs.Progress.{last_registers}
+use Rattle.device_trace.specs.Start.{Start, with_key}
+use Rattle.device_core.proofs.Turns.{calling-turn, calling-within, stage-InRom, words_of}
+use Rattle.device_core.proofs.machine.Machine.turn_in_call.Goals as goal
+
+pub returns-clause-turn : goal.returns-clause-turn
+returns-clause-turn g c = λ key image logs stands stage.
+    let start : Start = with_key g.D.Digest32.digest_of key image in
+    let regs = last_registers logs.progress in
+    let words = words_of logs.progress in
+    let calls = stage-InRom logs.progress stage in
+    let parts = rw calls at stands.same_progress in
+    record {
+      same_bus = stands.same_bus;
+      same_turn =
+          rw (
+            c.of_call.ensures.value (sp_of regs) words parts.same_call,
+            c.is_interrupted.ensures start logs stands,
+          )
+          (calling-turn start logs regs words calls);
+      same_progress = rw (calling-within logs regs words calls) parts;
+    }

@@ -1,0 +1,22 @@
+use Rattle.std.proofs.Common.{◌∙◌, [], sym}
+use Rattle.part_definitions.specs.CpuRegister.{sp_of}
+use Rattle.device_trace.specs.Progress.{last_registers}
+use Rattle.device_trace.specs.Start.{Start, with_key}
+use Rattle.device_core.proofs.Turns.{begun-turn, begun-within, boundary-step}
+use Rattle.device_core.proofs.machine.Machine.turn_of_new_call.Goals as goal
+
+pub returns-clause-turn : goal.returns-clause-turn
+returns-clause-turn g c = λ key image logs stands here irq rom.
+    let start : Start = with_key g.D.Digest32.digest_of key image in
+    let regs = last_registers logs.progress in
+    let parts = rw here at stands.same_progress in
+    let begins = sym (boundary-step logs regs here) ∙ rom in
+    let call = rw (c.sp.ensures _ parts.same_processor) at c.begin.ensures in
+    record {
+      same_bus = stands.same_bus;
+      same_turn =
+          rw (c.of_call.ensures.value (sp_of regs) [] call, irq)
+          (begun-turn start logs regs here begins);
+      same_progress = rw (begun-within logs regs here begins)
+          (record { same_processor = parts.same_processor; same_call = call });
+    }

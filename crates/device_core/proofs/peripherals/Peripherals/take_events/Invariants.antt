@@ -1,0 +1,11 @@
+use Rattle.std.proofs.Common.{take}
+use Rattle.device_trace.specs.Peripherals.{Peripherals as PeripheralLogs}
+use Rattle.device_trace.specs.Peripherals.{with_all_events}
+use Rattle.device_core.specs.Peripherals.{PeripheralsStandFor}
+use Rattle.device_core.proofs.peripherals.Peripherals.take_events.Given as goal
+
+abbrev pub invariant-loop-event : goal.invariant-loop-event
+invariant-loop-event l =
+    (logs : PeripheralLogs)
+    → PeripheralsStandFor l.initial.self logs
+    → PeripheralsStandFor l.self (with_all_events logs (take l.event-index l.events))

@@ -1,0 +1,21 @@
+-- What the line of a step tells.
+use Rattle.std.specs.Prelude.{ℕ, Option, Some, None}
+use Rattle.bus_signals.specs.declared.rule.Rule.{Rule}
+use Rattle.bus_signals.specs.Report.{ReportFields, fields_of}
+use Rattle.device_core.specs.declared.step_line.StepLine.{StepLine}
+use Rattle.device_core.specs.declared.step_line.StepLine.TheVariants.{Sent, Reset, Report}
+
+-- the byte that was sent
+abbrev pub byte_in_line : Option StepLine → Option ℕ
+byte_in_line (Some (Sent byte)) = Some byte
+byte_in_line line = None
+
+-- the rule that was broken
+abbrev pub rule_in_line : Option StepLine → Option Rule
+rule_in_line (Some (Reset rule)) = Some rule
+rule_in_line line = None
+
+-- the report of a finished call
+abbrev pub report_in_line : Option StepLine → Option ReportFields
+report_in_line (Some (Report view)) = Some (fields_of view)
+report_in_line line = None
