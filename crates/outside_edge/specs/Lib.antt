@@ -1,3 +1,5 @@
+pub mod Buffer
+pub mod Calls
 pub mod Count
 pub mod File
 pub mod FileFault

@@ -1,0 +1,93 @@
+//! Files in memory that can be opened once each, and fail as they are told.
+
+use crate::FileOpener;
+use crate::tests::error_of;
+use std::io;
+use std::io::{Error, ErrorKind, Read, Seek, SeekFrom};
+
+/// What an opener gives in turn to those that ask for this name: a file, or the error of a number.
+#[derive(Clone, Copy)]
+pub struct Opening<'a> {
+    pub name: &'a str,
+    pub file: Result<FakeFile<'a>, i32>,
+}
+
+/// A file that gives at most `most` bytes in one call.
+#[derive(Clone, Copy)]
+pub struct FakeFile<'a> {
+    pub bytes: &'a [u8],
+    pub at: usize,
+    pub most: usize,
+    /// The number of the error in place of its end.
+    pub break_off: Option<i32>,
+    /// The number of the error where it is sought.
+    pub seek_fault: Option<i32>,
+}
+
+/// Each opening is given once; a name of which none is left is not found.
+#[derive(Drop)]
+pub struct FakeFiles<'a> {
+    pub openings: Vec<Opening<'a>>,
+}
+
+impl<'a> FakeFile<'a> {
+    /// A file that can be sought and ends without a fault.
+    pub fn new(bytes: &'a [u8], most: usize) -> FakeFile<'a> {
+        FakeFile {
+            bytes,
+            at: 0,
+            most,
+            break_off: None,
+            seek_fault: None,
+        }
+    }
+
+    /// A pipe, which can't be sought (ESPIPE).
+    pub fn pipe(bytes: &'a [u8], most: usize) -> FakeFile<'a> {
+        FakeFile {
+            seek_fault: Some(29),
+            ..FakeFile::new(bytes, most)
+        }
+    }
+}
+
+impl<'a> FileOpener for FakeFiles<'a> {
+    type File = FakeFile<'a>;
+
+    fn open(&mut self, name: &str) -> io::Result<FakeFile<'a>> {
+        let Some(index) = self
+            .openings
+            .iter()
+            .position(|opening| opening.name == name)
+        else {
+            return Err(Error::from(ErrorKind::NotFound));
+        };
+        self.openings.remove(index).file.map_err(error_of)
+    }
+}
+
+impl Read for FakeFile<'_> {
+    fn read(&mut self, piece: &mut [u8]) -> io::Result<usize> {
+        let rest = self.bytes.get(self.at..).unwrap_or(b"");
+        let count = piece.len().min(self.most).min(rest.len());
+        piece[..count].copy_from_slice(&rest[..count]);
+        self.at = self.at.saturating_add(count);
+        match self.break_off {
+            Some(number) if rest.is_empty() => Err(error_of(number)),
+            _ => Ok(count),
+        }
+    }
+}
+
+impl Seek for FakeFile<'_> {
+    fn seek(&mut self, to: SeekFrom) -> io::Result<u64> {
+        match (self.seek_fault, to) {
+            (Some(number), _) => Err(error_of(number)),
+            (None, SeekFrom::Start(at)) => {
+                self.at = at as usize;
+                Ok(at)
+            }
+            _ => Err(Error::from(ErrorKind::InvalidInput)),
+        }
+    }
+}

@@ -1,0 +1,2 @@
+pub mod PlayLines
+pub mod PrintableReport
