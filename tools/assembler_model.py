@@ -361,7 +361,7 @@ def placement_of(statements):
 
 def assemble(text):
     """The bytes of the image by their places."""
-    lines = lines_of(within_limit(text, 1048576))
+    lines = lines_of(within_limit(text, "source"))
     for number, line in lines:
         try:
             line.decode()
@@ -375,6 +375,12 @@ def assemble(text):
     return image
 
 
+def hex_record(place, data):
+    """A data record of Intel HEX, without a line end."""
+    record = bytes([len(data), place >> 8, place & 255, 0, *data])
+    return b":" + (record + bytes([-sum(record) % 256])).hex().upper().encode()
+
+
 def hex_text(image):
     """The image as it is printed."""
     lines, places = [], sorted(image)
@@ -383,10 +389,9 @@ def hex_text(image):
         while last + 1 in image and (last + 1) % 16:
             last += 1
         data = [image[place] for place in range(first, last + 1)]
-        record = bytes([len(data), first >> 8, first & 255, 0, *data])
-        lines.append(":" + (record + bytes([-sum(record) % 256])).hex().upper())
+        lines.append(hex_record(first, data))
         del places[:len(data)]
-    return "\n".join([*lines, ":00000001FF", ""]).encode()
+    return b"\n".join([*lines, b":00000001FF", b""])
 
 
 def is_illegal(word):

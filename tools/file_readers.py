@@ -1,19 +1,24 @@
-"""Readers of the program's files for tools/fuzz, written from docs/formats.md and apart from the
-program's own.
+"""Readers of the program's files for tools/fuzz and tools/messages.py, written from docs/formats.md
+and apart from the program's own.
 
-Each gives the value of a file, or raises Fault with the first fault's line and kind.
+Each gives the value of a file, or raises Fault with the first fault's line and kind, and where it
+can with its column, from 1 and in bytes, and with what is wanted there.
 """
+import re
 import string
 
+import reference
+
 HEX = set(string.hexdigits.encode())
-RULES = b"X0 A1 A2 A3 A4 K1 K2 K3 K4 K5 K6 I1".split()
-VERDICTS = b"accept no-challenge chal-differs bounds-differ exec-zero mac-differs".split()
+RULES = [name.encode() for name in reference.RULES]
+VERDICTS = [name.encode() for name in reference.VERDICTS]
 COUNTS = {1: 0, 2: 2, 3: 4, 4: 2, 5: 4}
 
 
 class Fault(Exception):
-    def __init__(self, line, kind):
+    def __init__(self, line, kind, column=None, wanted=None):
         super().__init__(f"line {line}: {kind}")
+        self.line, self.kind, self.column, self.wanted = line, kind, column, wanted
 
 
 def lines_of(text):
@@ -24,22 +29,27 @@ def lines_of(text):
     return list(enumerate(lines + [last] if last else lines, 1))
 
 
-def within_limit(text, limit):
-    if len(text) > limit:
+def within_limit(text, kind):
+    if len(text) > reference.FILES[kind].limit:
         raise Fault(0, "TooLong")
     return text
 
 
+def column_of_no_digit(text):
+    """That of the first character that is no hexadecimal digit, None where all are."""
+    return next((column for column, digit in enumerate(text, 1) if digit not in HEX), None)
+
+
 def read_key(text):
-    within_limit(text, 256)
+    within_limit(text, "key")
     for end in (b"\r\n", b"\n"):
         if text.endswith(end):
             text = text[:-len(end)]
             break
     if len(text) != 128:
-        raise Fault(1, "Missing" if len(text) < 128 else "Extra")
-    if not HEX.issuperset(text):
-        raise Fault(1, "Digit")
+        raise Fault(1, "Missing" if len(text) < 128 else "Extra", min(len(text), 128) + 1)
+    if column_of_no_digit(text):
+        raise Fault(1, "Digit", column_of_no_digit(text))
     return bytes.fromhex(text.decode())
 
 
@@ -50,36 +60,36 @@ def is_place(place):
 def read_record(number, line):
     """The type, the address and the bytes of a record."""
     if line[:1] != b":":
-        raise Fault(number, "NoColon")
-    if not HEX.issuperset(line[1:]):
-        raise Fault(number, "Digit")
+        raise Fault(number, "NoColon", 1)
+    if column_of_no_digit(line[1:]):
+        raise Fault(number, "Digit", 1 + column_of_no_digit(line[1:]))
     digits = line[1:].decode()
     if len(digits) < 10 or len(digits) != 10 + 2 * int(digits[:2], 16):
-        raise Fault(number, "Count")
+        raise Fault(number, "Count", 2)
     record = bytes.fromhex(digits)
     if sum(record) % 256:
-        raise Fault(number, "Check")
+        raise Fault(number, "Check", len(line) - 1, "%02X" % (-sum(record[:-1]) % 256))
     if record[3] > 5:
-        raise Fault(number, "RecordType")
+        raise Fault(number, "RecordType", 8)
     if COUNTS.get(record[3], record[0]) != record[0]:
-        raise Fault(number, "Count")
+        raise Fault(number, "Count", 2)
     return record[3], int.from_bytes(record[1:3], "big"), record[4:-1]
 
 
 def read_image(text):
     """The bytes by their places."""
-    within_limit(text, 1048576)
+    within_limit(text, "image")
     image, base, has_end = {}, 0, False
     lines = lines_of(text)
     for number, line in lines:
         if not line:
             continue
         if has_end:
-            raise Fault(number, "AfterEnd")
+            raise Fault(number, "AfterEnd", 1)
         kind, address, data = read_record(number, line)
         if kind == 0:
             if not all(is_place(base + address + at) for at in range(len(data))):
-                raise Fault(number, "Place")
+                raise Fault(number, "Place", 4)
             image.update((base + address + at, byte) for at, byte in enumerate(data))
         elif kind == 1:
             has_end = True
@@ -93,35 +103,51 @@ def read_image(text):
 class Words:
     """The words of a line, read from the left."""
 
-    def __init__(self, number, words):
-        self.number, self.words = number, words
+    def __init__(self, number, line):
+        self.number, self.length = number, len(line)
+        self.matches = list(re.finditer(rb"[^ \t]+", line))
+        self.column = None  # of the word taken last, or after the line's end
 
-    def fault(self, kind):
-        raise Fault(self.number, kind)
+    def is_text(self):
+        return bool(self.matches) and not self.matches[0].group().startswith(b"#")
 
-    def take(self):
-        return self.words.pop(0) if self.words else self.fault("Missing")
+    def fault(self, kind, wanted=None):
+        raise Fault(self.number, kind, self.column, wanted)
+
+    def is_next(self, word):
+        return bool(self.matches) and self.matches[0].group() == word
+
+    def take(self, wanted=None):
+        if not self.matches:
+            self.column = self.length + 1
+            self.fault("Missing", wanted)
+        match = self.matches.pop(0)
+        self.column = match.start() + 1
+        return match.group()
 
     def keyword(self, *names):
-        word = self.take()
-        return word if word in names else self.fault("Word")
+        wanted = b" or ".join(names).decode()
+        word = self.take(wanted)
+        return word if word in names else self.fault("Word", wanted)
 
     def decimal(self, most):
-        word = self.take()
+        wanted = f"a decimal, 0 to {most}"
+        word = self.take(wanted)
         if not word.isdigit():
-            self.fault("Digit")
+            self.fault("Digit", wanted)
         if len(word) > 10 or int(word) > most:
-            self.fault("Range")
+            self.fault("Range", wanted)
         return int(word)
 
-    def digits(self, is_right):
-        word = self.take()
+    def digits(self, is_right, wanted="hexadecimal digits, an even number"):
+        word = self.take(wanted)
         if not HEX.issuperset(word):
-            self.fault("Digit")
-        return bytes.fromhex(word.decode()) if is_right(len(word)) else self.fault("Count")
+            self.fault("Digit", wanted)
+        return bytes.fromhex(word.decode()) if is_right(len(word)) else self.fault("Count", wanted)
 
     def bytes(self, count):
-        return self.digits(lambda length: length == 2 * count)
+        wanted = f"{2 * count} hexadecimal digits"
+        return self.digits(lambda length: length == 2 * count, wanted)
 
     def word(self):
         return int.from_bytes(self.bytes(2), "big")
@@ -130,27 +156,27 @@ class Words:
         return self.digits(lambda length: length % 2 == 0)
 
     def end(self):
-        if self.words:
+        if self.matches:
+            self.take()
             self.fault("Extra")
+        self.column = None
 
 
-def texts_of(text, limit):
+def texts_of(text, kind):
     """The words of each line that has some and is no comment, and the number of lines."""
-    lines = lines_of(within_limit(text, limit))
+    lines = lines_of(within_limit(text, kind))
     for number, line in lines:
         try:
             line.decode()
-        except UnicodeDecodeError:
-            raise Fault(number, "Utf8") from None
-    split = [(number, [word for word in line.replace(b"\t", b" ").split(b" ") if word])
-             for number, line in lines]
-    return ([Words(number, words) for number, words in split if words and words[0][:1] != b"#"],
-            len(lines))
+        except UnicodeDecodeError as error:
+            raise Fault(number, "Utf8", error.start + 1) from None
+    words = [Words(number, line) for number, line in lines]
+    return [each for each in words if each.is_text()], len(lines)
 
 
 def read_script(text):
     last = 0
-    for words in texts_of(text, 1048576)[0]:
+    for words in texts_of(text, "script")[0]:
         words.keyword(b"at")
         step = words.decimal(9999999)
         kind = words.keyword(b"rx", b"p1", b"dma", b"reset")
@@ -184,7 +210,7 @@ def is_valid(bounds):
 
 def read_policy(text):
     """The bounds and the challenges."""
-    lines, count = texts_of(text, 65536)
+    lines, count = texts_of(text, "policy")
     bounds, challenges = [], []
     for words in lines:
         kind = words.keyword(b"er", b"or", b"chal")
@@ -214,8 +240,8 @@ def read_report(words):
     words.keyword(b"or")
     bounds += [words.word(), words.word()]
     words.keyword(b"data")
-    has_none = words.words[:1] == [b"-"]
-    data = words.words.pop(0) if has_none else words.any_bytes()
+    has_none = words.is_next(b"-")
+    data = words.take() if has_none else words.any_bytes()
     words.keyword(b"mac")
     mac = words.bytes(32)
     words.end()
@@ -228,7 +254,7 @@ def read_report(words):
 def read_reports(text):
     """The reports in their order."""
     reports = []
-    for words in texts_of(text, 1048576)[0]:
+    for words in texts_of(text, "reports")[0]:
         kind = words.keyword(b"report", b"tx", b"reset", b"verdict", b"collision", b"end")
         if kind == b"report":
             reports.append(read_report(words))

@@ -25,6 +25,3 @@ measure:
         mov     r6, &0x0300
 measured:
         ret
-
-        .section .reset_vector, "a"
-        .word   start

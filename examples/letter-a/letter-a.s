@@ -3,6 +3,3 @@
         .globl  start
 start:  mov     #0x41, &0x0076          ; STXD
 stop:   jmp     stop
-
-        .section .reset_vector, "a"
-        .word   start

@@ -1,6 +1,7 @@
 // Faulty sources with their first fault, by the rules of docs/assembler.md.
 use msp_asm::assemble;
 use std::alloc::Global;
+use std::process::Abort;
 use text_scan::{FaultAt, FaultKind, TextFault};
 
 // A source, and the line and the kind of its first fault.
@@ -13,18 +14,15 @@ fn fault_of(alloc: Global, source: &str) -> Option<FaultAt> {
     }
 }
 
-// The first row whose source has another fault, or none.
-fn other_row(alloc: Global, rows: &[Row]) -> Option<&'static str> {
+// Each source has the first fault of its row.
+fn have_faults(rt: &impl Abort, alloc: Global, rows: &[Row]) {
     for (source, line, kind) in rows {
         let fault = FaultAt {
             line: *line,
             kind: *kind,
         };
-        if fault_of(alloc, source) != Some(fault) {
-            return Some(source);
-        }
+        assert_eq!(rt; fault_of(alloc, source), Some(fault), "in {source}");
     }
-    None
 }
 
 // A line without a reading, an unknown word, operands of another number or form.
@@ -40,7 +38,7 @@ fn faults_of_the_reading(rt: HostRuntime) {
         ("mov #1,#2", 1, FaultKind::Operand),
         ("mov r4,", 1, FaultKind::Syntax),
     ];
-    assert!(rt; other_row(rt.alloc(), &rows) == None);
+    have_faults(&rt, rt.alloc(), &rows);
 }
 
 // Names that have no value yet or one already, and places that are none or are taken.
@@ -69,7 +67,7 @@ fn faults_of_the_first_pass(rt: HostRuntime) {
         ("nop\n.org 0xC001\n.byte 1", 3, FaultKind::Overlap),
         (".byte 1\n.org 0xBFFF\n.byte 1,2", 3, FaultKind::Place),
     ];
-    assert!(rt; other_row(rt.alloc(), &rows) == None);
+    have_faults(&rt, rt.alloc(), &rows);
 }
 
 // Names without a value come before values out of range.
@@ -105,7 +103,7 @@ fn faults_of_the_second_pass(rt: HostRuntime) {
         (".equ a,65535+1", 1, FaultKind::Range),
         (".equ a,-32769", 1, FaultKind::Range),
     ];
-    assert!(rt; other_row(rt.alloc(), &rows) == None);
+    have_faults(&rt, rt.alloc(), &rows);
 }
 
 // The reading goes over all lines first, then the first pass, then the second.
@@ -118,5 +116,5 @@ fn first_fault_of_the_first_pass_that_has_one(rt: HostRuntime) {
         ("mov #x,r5\nmvo r4,r5", 2, FaultKind::Mnemonic),
         ("a:\na:\nmov r4", 3, FaultKind::Operand),
     ];
-    assert!(rt; other_row(rt.alloc(), &rows) == None);
+    have_faults(&rt, rt.alloc(), &rows);
 }

@@ -274,7 +274,12 @@ fn the_first_fault_of_the_first_faulty_line_counts(rt: HostRuntime) {
         (b"\n\nfoo @r2,(", 3, FaultKind::Syntax),
     ];
     for (text, line, kind) in rows {
-        assert_eq!(rt; fault_of(rt.alloc(), text), Some(FaultAt { line, kind }));
+        let fault = fault_of(rt.alloc(), text);
+        assert_eq!(rt;
+            fault,
+            Some(FaultAt { line, kind }),
+            "for {kind} in line {line}"
+        );
     }
     for (letters, fault) in [
         ("", None),

@@ -4,6 +4,7 @@
 use mem_map::Image;
 use msp_asm::assemble;
 use std::alloc::Global;
+use std::process::Abort;
 
 // A statement, or a few lines, and the words.
 type Row = (&'static str, &'static [u16]);
@@ -15,7 +16,7 @@ fn word_at(image: &Image, place: u16) -> Option<u16> {
     Some(u16::from_le_bytes([low, high]))
 }
 
-// Whether the image of a source has these words from a place on, and none behind them.
+// Whether the image of a source has these words from a place on, and none after them.
 fn has_words(image: &Image, first: u16, words: &[u16]) -> bool {
     let mut place = first;
     for word in words {
@@ -35,14 +36,11 @@ fn assembles_to(alloc: Global, source: &str, words: &[u16]) -> bool {
     }
 }
 
-// The first row whose source is assembled to other words.
-fn other_row(alloc: Global, rows: &[Row]) -> Option<&'static str> {
+// Each source is assembled to the words of its row.
+fn have_words(rt: &impl Abort, alloc: Global, rows: &[Row]) {
     for (source, words) in rows {
-        if !assembles_to(alloc, source, words) {
-            return Some(source);
-        }
+        assert!(rt; assembles_to(alloc, source, words), "in {source}");
     }
-    None
 }
 
 // By `llvm-mc`.
@@ -74,7 +72,7 @@ fn instructions_of_two_operands(rt: HostRuntime) {
         ("MOV.W R4,PC", &[0x4400]),
         ("mov.B @SP+,sr", &[0x4172]),
     ];
-    assert!(rt; other_row(rt.alloc(), &rows) == None);
+    have_words(&rt, rt.alloc(), &rows);
 }
 
 // By `llvm-mc`.
@@ -97,7 +95,7 @@ fn constants_and_immediates(rt: HostRuntime) {
         ("mov #-2,r5", &[0x4035, 0xFFFE]),
         ("mov #-0,r5", &[0x4305]),
     ];
-    assert!(rt; other_row(rt.alloc(), &rows) == None);
+    have_words(&rt, rt.alloc(), &rows);
 }
 
 // By `llvm-mc`.
@@ -120,7 +118,7 @@ fn instructions_of_one_operand(rt: HostRuntime) {
         ("reti", &[0x1300]),
         ("push r3", &[0x1203]),
     ];
-    assert!(rt; other_row(rt.alloc(), &rows) == None);
+    have_words(&rt, rt.alloc(), &rows);
 }
 
 // By `llvm-mc`.
@@ -162,7 +160,7 @@ fn emulated_instructions(rt: HostRuntime) {
         ("tst.b 1(r10)", &[0x93CA, 0x0001]),
         ("br &0xFFFE", &[0x4210, 0xFFFE]),
     ];
-    assert!(rt; other_row(rt.alloc(), &rows) == None);
+    have_words(&rt, rt.alloc(), &rows);
 }
 
 // By `llvm-mc`.
@@ -176,7 +174,7 @@ fn values_and_text(rt: HostRuntime) {
         (".equ low,-5\n.word low,-low", &[0xFFFB, 0x0005]),
         ("back: nop\njmp back", &[0x4303, 0x3FFE]),
     ];
-    assert!(rt; other_row(rt.alloc(), &rows) == None);
+    have_words(&rt, rt.alloc(), &rows);
 }
 
 // By hand: the extension word is the address less that of the extension word itself.
@@ -193,7 +191,7 @@ fn symbolic_operands(rt: HostRuntime) {
         ("br 0xC010", &[0x4010, 0x000E]),
         ("call 0xC010", &[0x1290, 0x000E]),
     ];
-    assert!(rt; other_row(rt.alloc(), &rows) == None);
+    have_words(&rt, rt.alloc(), &rows);
 }
 
 // By hand: a lone number is a constant of the generators, a sum or a name is not.
@@ -207,7 +205,7 @@ fn lone_numbers_alone_are_constants(rt: HostRuntime) {
         ("br #4", &[0x4220]),
         ("call #8", &[0x12B2]),
     ];
-    assert!(rt; other_row(rt.alloc(), &rows) == None);
+    have_words(&rt, rt.alloc(), &rows);
 }
 
 // By hand.
@@ -220,7 +218,7 @@ fn sources_that_another_assembler_lacks(rt: HostRuntime) {
         ("pop.b r12", &[0x417C]),
         ("br @r5+", &[0x4530]),
     ];
-    assert!(rt; other_row(rt.alloc(), &rows) == None);
+    have_words(&rt, rt.alloc(), &rows);
 }
 
 // By hand: half the way from the word after the jump, in ten bits.
@@ -242,7 +240,7 @@ fn jumps(rt: HostRuntime) {
         ("jl $-1022", &[0x3A00]),
         ("jmp $+1024", &[0x3DFF]),
     ];
-    assert!(rt; other_row(rt.alloc(), &rows) == None);
+    have_words(&rt, rt.alloc(), &rows);
 }
 
 // By hand.
@@ -255,7 +253,7 @@ fn names_and_places(rt: HostRuntime) {
         (".equ a,1\n.equ b,a+a\n.org 0xC000+b-2\n.word b", &[0x0002]),
         (".ascii \"\"\nnop", &[0x4303]),
     ];
-    assert!(rt; other_row(rt.alloc(), &rows) == None);
+    have_words(&rt, rt.alloc(), &rows);
 }
 
 // By hand.

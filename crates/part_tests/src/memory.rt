@@ -30,7 +30,7 @@ fn an_image_takes_bytes_of_ram_program_and_vectors(rt: HostRuntime) -> Result<()
         (0xFFFF, true),
     ] {
         assert_eq!(rt; image.set(place, 7), is_place, "at {place}");
-        assert_eq!(rt; image.get(place).is_some(), is_place, "at {place}");
+        assert_eq!(rt; image.get(place), is_place.then_some(7), "at {place}");
     }
     Ok(())
 }

@@ -73,7 +73,11 @@ fn the_first_fault_of_the_first_faulty_line_is_answered(rt: HostRuntime) -> Resu
     ];
     for (text, line, kind) in rows {
         let fault = TextFault::At(FaultAt { line, kind });
-        assert_eq!(rt; read_hex(rt.alloc(), text).err(), Some(fault));
+        assert_eq!(rt;
+            read_hex(rt.alloc(), text).err(),
+            Some(fault),
+            "for {kind} in line {line}"
+        );
     }
     Ok(())
 }
@@ -129,13 +133,13 @@ fn images_that_other_tools_wrote_are_read(rt: HostRuntime) -> Result<(), Fail> {
         b"\xB2\x40\x41\x00\x76\x00\xFF\x3F\x00\x01\x02\x03\x04\x05\x06\x07\x08\x09\x0A\x0B\x0C\
         \x0D\x0E\x0F\x10\x11\x12\x13\x14\x15\x16\x17\x18\x19\x1A\x1B\x1C\x1D\x1E\x1F\x20";
     let texts = [
-        (OBJCOPY, 0xC000),
-        (LLVM_OBJCOPY, 0xC000),
-        (SREC_CAT_SEGMENTS, 0x0200),
-        (SREC_CAT_LINEAR, 0x0200),
+        ("objcopy", OBJCOPY, 0xC000),
+        ("llvm-objcopy", LLVM_OBJCOPY, 0xC000),
+        ("srec_cat, segments", SREC_CAT_SEGMENTS, 0x0200),
+        ("srec_cat, linear", SREC_CAT_LINEAR, 0x0200),
     ];
-    for (text, first) in texts {
-        assert!(rt; holds(rt.alloc(), text, first, bytes)?);
+    for (tool, text, first) in texts {
+        assert!(rt; holds(rt.alloc(), text, first, bytes)?, "of {tool}");
     }
     // The base 0C00 times 16, then 0 again; the byte that was placed last counts; a record of no
     // bytes.

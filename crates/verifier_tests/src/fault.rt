@@ -1,9 +1,23 @@
 use report_text::read_reports;
 use report_verifier::read_policy;
+use std::alloc::{AllocError, Global};
+use std::test::Fail;
 use text_scan::{FaultAt, FaultKind, TextFault};
 
+// A text with 64 zeros in the place of each `@`.
+fn with_zeros(alloc: Global, text: &str) -> Result<Vec<u8>, AllocError> {
+    let mut bytes = Vec::new(alloc);
+    for byte in text.as_bytes() {
+        match byte {
+            b'@' => bytes.extend_from_slice(&[b'0'; 64])?,
+            _ => bytes.push(*byte)?,
+        }
+    }
+    Ok(bytes)
+}
+
 #[test]
-fn faulty_policies(rt: HostRuntime) {
+fn faulty_policies(rt: HostRuntime) -> Result<(), Fail> {
     for (text, line, kind) in [
         ("", 0, FaultKind::Missing),
         ("# nothing\n\n", 2, FaultKind::Missing),
@@ -20,31 +34,13 @@ fn faulty_policies(rt: HostRuntime) {
         ("er c02 c022", 1, FaultKind::Count),
         ("er c020 0c022", 1, FaultKind::Count),
         ("er c020 c022\nor 0300 0300\nchal 00", 3, FaultKind::Count),
-        (
-            "er c020 c022\nor 0300 0300\nchal \
-             00000000000000000000000000000000000000000000000000000000000000000",
-            3,
-            FaultKind::Count,
-        ),
+        ("er c020 c022\nor 0300 0300\nchal @0", 3, FaultKind::Count),
         ("er c020 c022 c024", 1, FaultKind::Extra),
-        (
-            "er c020 c022\nor 0300 0300\nchal \
-             0000000000000000000000000000000000000000000000000000000000000000 1",
-            3,
-            FaultKind::Extra,
-        ),
+        ("er c020 c022\nor 0300 0300\nchal @ 1", 3, FaultKind::Extra),
         ("or 0300 0300", 1, FaultKind::Order),
-        (
-            "chal 0000000000000000000000000000000000000000000000000000000000000000",
-            1,
-            FaultKind::Order,
-        ),
+        ("chal @", 1, FaultKind::Order),
         ("er c020 c022\ner c020 c022", 2, FaultKind::Order),
-        (
-            "er c020 c022\nchal 0000000000000000000000000000000000000000000000000000000000000000",
-            2,
-            FaultKind::Order,
-        ),
+        ("er c020 c022\nchal @", 2, FaultKind::Order),
         (
             "er c020 c022\nor 0300 0300\nor 0300 0300",
             3,
@@ -62,167 +58,120 @@ fn faulty_policies(rt: HostRuntime) {
         ("er c020 c022\nor c022 c022", 2, FaultKind::Bounds),
         ("er c020 ffde\nor ffde ffde", 2, FaultKind::Bounds),
     ] {
-        let fault = match read_policy(rt.alloc(), text.as_bytes()) {
+        let bytes = with_zeros(rt.alloc(), text)?;
+        let fault = match read_policy(rt.alloc(), bytes.as_slice()) {
             Err(TextFault::At(fault)) => Some(fault),
             _ => None,
         };
         assert_eq!(rt; fault, Some(FaultAt { line, kind }), "in {text}");
     }
+    Ok(())
 }
 
 #[test]
-fn faulty_report_files(rt: HostRuntime) {
+fn faulty_report_files(rt: HostRuntime) -> Result<(), Fail> {
     for (text, line, kind) in [
         ("note 1", 1, FaultKind::Word),
         ("Tx 1 41", 1, FaultKind::Word),
         (
-            "report x exec 1 chal \
-             0000000000000000000000000000000000000000000000000000000000000000 er c020 c022 or \
-             0300 0300 data 0000 mac \
-             0000000000000000000000000000000000000000000000000000000000000000",
+            "report x exec 1 chal @ er c020 c022 or 0300 0300 data 0000 mac @",
             1,
             FaultKind::Digit,
         ),
         (
-            "report 4294967296 exec 1 chal \
-             0000000000000000000000000000000000000000000000000000000000000000 er c020 c022 or \
-             0300 0300 data 0000 mac \
-             0000000000000000000000000000000000000000000000000000000000000000",
+            "report 4294967296 exec 1 chal @ er c020 c022 or 0300 0300 data 0000 mac @",
             1,
             FaultKind::Range,
         ),
         (
-            "report 1 exec 2 chal \
-             0000000000000000000000000000000000000000000000000000000000000000 er c020 c022 or \
-             0300 0300 data 0000 mac \
-             0000000000000000000000000000000000000000000000000000000000000000",
+            "report 1 exec 2 chal @ er c020 c022 or 0300 0300 data 0000 mac @",
             1,
             FaultKind::Range,
         ),
         (
-            "report 1 exec y chal \
-             0000000000000000000000000000000000000000000000000000000000000000 er c020 c022 or \
-             0300 0300 data 0000 mac \
-             0000000000000000000000000000000000000000000000000000000000000000",
+            "report 1 exec y chal @ er c020 c022 or 0300 0300 data 0000 mac @",
             1,
             FaultKind::Digit,
         ),
         (
-            "report 1 EXEC 1 chal \
-             0000000000000000000000000000000000000000000000000000000000000000 er c020 c022 or \
-             0300 0300 data 0000 mac \
-             0000000000000000000000000000000000000000000000000000000000000000",
+            "report 1 EXEC 1 chal @ er c020 c022 or 0300 0300 data 0000 mac @",
             1,
             FaultKind::Word,
         ),
         (
-            "report 1 exec 1 chal 00 er c020 c022 or 0300 0300 data 0000 mac \
-             0000000000000000000000000000000000000000000000000000000000000000",
+            "report 1 exec 1 chal 00 er c020 c022 or 0300 0300 data 0000 mac @",
             1,
             FaultKind::Count,
         ),
         (
             "report 1 exec 1 chal \
              000000000000000000000000000000000000000000000000000000000000000g er c020 c022 or \
-             0300 0300 data 0000 mac \
-             0000000000000000000000000000000000000000000000000000000000000000",
+             0300 0300 data 0000 mac @",
             1,
             FaultKind::Digit,
         ),
         (
-            "report 1 exec 1 er c020 c022 or 0300 0300 data 0000 mac \
-             0000000000000000000000000000000000000000000000000000000000000000",
+            "report 1 exec 1 er c020 c022 or 0300 0300 data 0000 mac @",
             1,
             FaultKind::Word,
         ),
         (
-            "report 1 exec 1 chal \
-             0000000000000000000000000000000000000000000000000000000000000000 er c020 or 0300 \
-             0300 data 0000 mac 0000000000000000000000000000000000000000000000000000000000000000",
+            "report 1 exec 1 chal @ er c020 or 0300 0300 data 0000 mac @",
             1,
             FaultKind::Digit,
         ),
         (
-            "report 1 exec 1 chal \
-             0000000000000000000000000000000000000000000000000000000000000000 er c020 c22 or 0300 \
-             0300 data 0000 mac 0000000000000000000000000000000000000000000000000000000000000000",
+            "report 1 exec 1 chal @ er c020 c22 or 0300 0300 data 0000 mac @",
             1,
             FaultKind::Count,
         ),
         (
-            "report 1 exec 1 chal \
-             0000000000000000000000000000000000000000000000000000000000000000 er c020 c022 or \
-             0300 0300 0300 data 0000 mac \
-             0000000000000000000000000000000000000000000000000000000000000000",
+            "report 1 exec 1 chal @ er c020 c022 or 0300 0300 0300 data 0000 mac @",
             1,
             FaultKind::Word,
         ),
         (
-            "report 1 exec 1 chal \
-             0000000000000000000000000000000000000000000000000000000000000000 er c020 c022 or \
-             0300 0300 data 000 mac \
-             0000000000000000000000000000000000000000000000000000000000000000",
+            "report 1 exec 1 chal @ er c020 c022 or 0300 0300 data 000 mac @",
             1,
             FaultKind::Count,
         ),
         (
-            "report 1 exec 1 chal \
-             0000000000000000000000000000000000000000000000000000000000000000 er c020 c022 or \
-             0300 0300 data -- mac \
-             0000000000000000000000000000000000000000000000000000000000000000",
+            "report 1 exec 1 chal @ er c020 c022 or 0300 0300 data -- mac @",
             1,
             FaultKind::Digit,
         ),
         (
-            "report 1 exec 1 chal \
-             0000000000000000000000000000000000000000000000000000000000000000 er c020 c022 or \
-             0300 0300 data 0000",
+            "report 1 exec 1 chal @ er c020 c022 or 0300 0300 data 0000",
             1,
             FaultKind::Missing,
         ),
         (
-            "report 1 exec 1 chal \
-             0000000000000000000000000000000000000000000000000000000000000000 er c020 c022 or \
-             0300 0300 data 0000 mac 0000000000",
+            "report 1 exec 1 chal @ er c020 c022 or 0300 0300 data 0000 mac 0000000000",
             1,
             FaultKind::Count,
         ),
         (
-            "report 1 exec 1 chal \
-             0000000000000000000000000000000000000000000000000000000000000000 er c020 c022 or \
-             0300 0300 data 0000 mac \
-             0000000000000000000000000000000000000000000000000000000000000000 1",
+            "report 1 exec 1 chal @ er c020 c022 or 0300 0300 data 0000 mac @ 1",
             1,
             FaultKind::Extra,
         ),
         (
-            "report 1 exec 1 chal \
-             0000000000000000000000000000000000000000000000000000000000000000 er c020 c022 or \
-             0300 0300 data - mac 0000000000000000000000000000000000000000000000000000000000000000",
+            "report 1 exec 1 chal @ er c020 c022 or 0300 0300 data - mac @",
             1,
             FaultKind::Output,
         ),
         (
-            "report 1 exec 1 chal \
-             0000000000000000000000000000000000000000000000000000000000000000 er c020 c022 or \
-             0300 0300 data 00000000 mac \
-             0000000000000000000000000000000000000000000000000000000000000000",
+            "report 1 exec 1 chal @ er c020 c022 or 0300 0300 data 00000000 mac @",
             1,
             FaultKind::Output,
         ),
         (
-            "report 1 exec 1 chal \
-             0000000000000000000000000000000000000000000000000000000000000000 er c020 c022 or \
-             0302 0300 data 0000 mac \
-             0000000000000000000000000000000000000000000000000000000000000000",
+            "report 1 exec 1 chal @ er c020 c022 or 0302 0300 data 0000 mac @",
             1,
             FaultKind::Output,
         ),
         (
-            "report 1 exec 1 chal \
-             0000000000000000000000000000000000000000000000000000000000000000 er c020 c022 or \
-             0300 0300 data 00 mac \
-             0000000000000000000000000000000000000000000000000000000000000000",
+            "report 1 exec 1 chal @ er c020 c022 or 0300 0300 data 00 mac @",
             1,
             FaultKind::Output,
         ),
@@ -249,12 +198,14 @@ fn faulty_report_files(rt: HostRuntime) {
             FaultKind::Missing,
         ),
     ] {
-        let fault = match read_reports(rt.alloc(), text.as_bytes()) {
+        let bytes = with_zeros(rt.alloc(), text)?;
+        let fault = match read_reports(rt.alloc(), bytes.as_slice()) {
             Err(TextFault::At(fault)) => Some(fault),
             _ => None,
         };
         assert_eq!(rt; fault, Some(FaultAt { line, kind }), "in {text}");
     }
+    Ok(())
 }
 
 #[test]

@@ -1,0 +1,62 @@
+; What runs before main, and attest. A `start` of the firmware's own takes the place of this one.
+
+        .section .start, "ax"
+        .weak   start
+start:  mov     #stack_top, r1
+        mov     #data_values, r12       ; after a reset too, so that globals begin anew
+        mov     #data_start, r13
+copy:   cmp     #data_end, r13
+        jhs     copied
+        mov     @r12, 0(r13)
+        incd    r12
+        incd    r13
+        jmp     copy
+copied: cmp     #bss_end, r13           ; .bss follows .data
+        jhs     cleared
+        clr     0(r13)
+        incd    r13
+        jmp     copied
+cleared:
+        call    #main
+ended:  bis     #0x10, r2               ; sleeps after main
+        jmp     ended
+
+        .section .reset_vector, "a"
+        .word   start
+
+        .section .text.attest, "ax"
+        .globl  attest
+attest: push    r2
+        dint
+        mov     #0x0240, r13            ; the metadata begins with the challenge
+byte:   mov.b   @r12, 0(r13)
+        inc     r12
+        inc     r13
+        cmp     #0x0260, r13
+        jne     byte
+        mov     #er_min, &0x0260
+        mov     #er_max, &0x0262
+        mov     #or_min, &0x0264
+        mov     #or_max, &0x0266
+        call    #er_min
+        call    #0xa000                 ; the attestation ROM makes the report
+        pop     r2
+        ret
+
+; The executable region is entered at its first instruction alone, and left at its last. It has a
+; stack of its own: whoever calls it may have put theirs on the output.
+        .section .er.entry, "ax"
+er_min: mov     r1, &caller_stack
+        mov     #region_stack, r1
+        call    #region
+        mov     &caller_stack, r1
+        br      #er_max
+
+        .section .er.exit, "ax"
+er_max: ret
+
+        .section .bss.region_stack, "aw", @nobits
+        .space  128
+region_stack:
+caller_stack:
+        .space  2

@@ -1,0 +1,23 @@
+/* RAM from 0300 on is the firmware's: below stand MAC and metadata. The stack grows down from the
+   end of RAM. clang names the vector of an interrupt function of number N __interrupt_vector_N. */
+ENTRY(start)
+MEMORY
+{
+    ram : ORIGIN = 0x0300, LENGTH = 0x1F00
+    program : ORIGIN = 0xC000, LENGTH = 0x3FE0
+    vectors : ORIGIN = 0xFFE0, LENGTH = 0x20
+}
+SECTIONS
+{
+    .text : { *(.start) *(.text .text.*) *(.rodata .rodata.*) . = ALIGN(2); } > program
+    .er : { *(.er.entry) *(.er) *(.er.exit) } > program
+    .data : { data_start = .; *(.data .data.*) . = ALIGN(2); data_end = .; } > ram AT > program
+    .bss (NOLOAD) : { *(.bss .bss.* COMMON) . = ALIGN(2); bss_end = .; } > ram
+    .or (NOLOAD) : ALIGN(2) { or_min = .; KEEP(*(.or)) . = ALIGN(2); or_max = . - 2; } > ram
+    data_values = LOADADDR(.data);
+    stack_top = 0x2200;
+    .timer_vector 0xFFF2 : { KEEP(*(.timer_vector __interrupt_vector_9)) } > vectors
+    .serial_vector 0xFFF4 : { KEEP(*(.serial_vector __interrupt_vector_10)) } > vectors
+    .reset_vector 0xFFFE : { KEEP(*(.reset_vector)) } > vectors
+    /DISCARD/ : { *(.comment) *(.note*) }
+}

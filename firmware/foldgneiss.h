@@ -1,0 +1,49 @@
+// The device for C firmware: registers, metadata, interrupts and attestation. docs/memory-map.md
+// and docs/peripherals.md say what each place does.
+#ifndef FOLDGNEISS_H
+#define FOLDGNEISS_H
+
+#include <stdint.h>
+
+#define FOLDGNEISS_WORD(place) (*(volatile uint16_t *)(place))
+
+#define P1IN FOLDGNEISS_WORD(0x0020)   // the 16 pins
+#define SCTL FOLDGNEISS_WORD(0x0070)   // bit 0 enables the receive interrupt
+#define SSTAT FOLDGNEISS_WORD(0x0072)  // bit 0: a byte waits; bit 1: a byte was dropped
+#define SRXD FOLDGNEISS_WORD(0x0074)   // a read takes the oldest byte that waits
+#define STXD FOLDGNEISS_WORD(0x0076)   // a write sends its low byte
+#define TCTL FOLDGNEISS_WORD(0x0160)   // bit 0 runs the timer, bit 1 enables its interrupt
+#define TCNT FOLDGNEISS_WORD(0x0162)   // the count
+#define TCMP FOLDGNEISS_WORD(0x0164)   // the last number of the count
+#define DCTL FOLDGNEISS_WORD(0x01E0)   // a write with bit 0 starts a transfer; 1 while it is active
+#define DSRC FOLDGNEISS_WORD(0x01E2)   // its source, destination and number of words
+#define DDST FOLDGNEISS_WORD(0x01E4)
+#define DLEN FOLDGNEISS_WORD(0x01E6)
+
+#define EXEC FOLDGNEISS_WORD(0x0268)             // the EXEC flag
+#define MAC ((const volatile uint8_t *)0x0200)  // 32 bytes: the last report's MAC
+
+// A handler: INTERRUPT(SERIAL) void on_byte(void) { .. }
+#define INTERRUPT(source) __attribute__((interrupt(source##_VECTOR)))
+#define TIMER_VECTOR 9    // the word at FFF2
+#define SERIAL_VECTOR 10  // the word at FFF4
+
+static inline void enable_interrupts(void) { __asm__ volatile("bis #8, r2" ::: "memory"); }
+static inline void disable_interrupts(void) { __asm__ volatile("bic #8, r2" ::: "memory"); }
+
+// Sleeps with interrupts enabled. A handler that returns sends the processor back to sleep.
+static inline void sleep(void) { __asm__ volatile("bis #0x18, r2" ::: "memory"); }
+
+// The code whose run a report proves is `region`, which the firmware defines, and the functions
+// that it calls, each with the word REGION; a call out of the region ends the proof (EXEC becomes
+// 0). What it proves is the value of the variables with the word OUTPUT, which only this code may
+// write. Its stack has 128 bytes.
+#define REGION __attribute__((section(".er"), noinline))
+#define OUTPUT volatile __attribute__((section(".or")))
+void region(void);
+
+// Answers a challenge of 32 bytes: writes the metadata, runs `region` and calls the attestation
+// ROM, with interrupts off meanwhile.
+void attest(const uint8_t *challenge);
+
+#endif

@@ -1,0 +1,130 @@
+"""Trials of the kit in firmware/, where clang is."""
+import os
+import random
+import re
+import shutil
+import tempfile
+
+from sample_files import EXAMPLES, read, write
+from trial import ROOT
+
+# The operators that clang calls functions for, and the types of C with their bits.
+OPERATORS = ("*", "/", "%", "<<", ">>")
+TYPES = {"uint16_t": 16, "int16_t": 16, "uint32_t": 32, "int32_t": 32}
+FIRMWARE = """
+#include "foldgneiss.h"
+static void send(uint32_t value) {
+    for (int i = 0; i < 4; i++, value >>= 8) {
+        STXD = value;
+    }
+}
+void *memcpy(void *, const void *, unsigned);
+void *memset(void *, int, unsigned);
+static uint8_t from[] = {7, 8}, to[4];
+int main(void) {
+    memset(to, 5, sizeof to);
+    memcpy(to, from, sizeof from);
+    for (int i = 0; i < 4; i++) {
+        STXD = to[i];
+    }
+%s    STXD = 'E';
+    for (;;) {
+    }
+}
+"""
+
+
+def is_compiler_there():
+    return all(map(shutil.which, ("make", "clang", "ld.lld", "llvm-objcopy", "llvm-nm")))
+
+
+def image_of(trial, sources):
+    """The image that the Makefile makes of these sources, or None."""
+    with tempfile.TemporaryDirectory() as folder:
+        for name, text in sources.items():
+            write(f"{folder}/{name}", text)
+        trial.expect(0, "", "-s", "-C", folder, "-f", f"{ROOT}/firmware/Makefile",
+                     command=["make"])
+        name = f"{folder}/image.hex"
+        return read(name) if os.path.exists(name) else None
+
+
+def value_of(operator, kind, left, right):
+    """What C says of an operation, in 32 bits."""
+    bits = TYPES[kind]
+    if operator in "/%":
+        quotient = abs(left) // abs(right) * (1 if (left < 0) == (right < 0) else -1)
+        value = quotient if operator == "/" else left - quotient * right
+    elif operator == "*":
+        value = left * right
+    else:
+        value = left << right if operator == "<<" else left >> right
+    value %= 1 << bits
+    if not kind.startswith("u") and value >> bits - 1:
+        value -= 1 << bits
+    return value % 2**32
+
+
+def operations():
+    """Pairs of a statement in C and the value that it sends."""
+    rng = random.Random(1)
+    for kind, bits in TYPES.items():
+        least = 0 if kind.startswith("u") else -(1 << bits - 1)
+        for operator in OPERATORS:
+            if operator == "<<" and least:
+                continue  # (undefined in C)
+            for divisor in (1, 10, 1000, -7 if least else 7, least + (1 << bits) - 1):
+                left = rng.randrange(least, least + (1 << bits))
+                right = rng.randrange(bits) if operator in "<<>>" else divisor
+                yield (f"    {{ volatile {kind} left = {left}, right = {right}; "
+                       f"send(({kind})(left {operator} right)); }}\n",
+                       value_of(operator, kind, left, right))
+
+
+def arithmetic(trial, files):
+    """Products, quotients, shifts and copies of C firmware are those of C."""
+    pairs = list(operations())
+    text = FIRMWARE % "".join(statement for statement, _ in pairs)
+    image = image_of(trial, {"arithmetic.c": text.encode()})
+    if image is None:
+        return
+    name = files.add("arithmetic.hex", image)
+    text = trial.expect(0, "", "play", name, files.script, files.key, "1000000")
+    sent = bytes.fromhex(b"".join(re.findall(rb"^tx \d+ (..)", text, re.M)).decode())
+    pairs.insert(0, ("    memset and memcpy", 0x05050807))
+    for number, (statement, value) in enumerate(pairs):
+        if sent[4 * number:4 * number + 4] != value.to_bytes(4, "little"):
+            return trial.fault(f"arithmetic: other bytes of {statement.strip()}")
+    if sent[4 * len(pairs):] != b"E":
+        trial.fault("arithmetic: no end")
+
+
+def readme(trial, files):
+    """README's lines that build, run and verify firmware end in accept."""
+    text = read(f"{ROOT}/README.md").decode()
+    start = text.index("    cp ../foldgneiss")
+    lines = [line.strip().replace("../foldgneiss/foldgneiss", trial.program)
+             for line in text[start:text.index("\n\n", start)].split("\n")]
+    os.symlink(ROOT, files["foldgneiss"])
+    os.mkdir(files["mine"])
+    printed = trial.expect(0, "", "\n".join(lines), cwd=files["mine"],
+                           command=["bash", "-e", "-c"])
+    if len(lines) != 10 or not printed.endswith(b"\nverdict 1 accept\n"):
+        trial.fault(f"README's {len(lines)} lines: printed {printed!r}")
+
+
+def examples(trial):
+    """Each example's image is what the kit makes of its sources."""
+    for name in ("letter-a", "echo", "attest", "sensor"):
+        folder = f"{EXAMPLES}/{name}"
+        sources = {source: read(f"{folder}/{source}") for source in os.listdir(folder)
+                   if source.endswith((".c", ".s"))}
+        if image_of(trial, sources) != read(f"{folder}/image.hex"):
+            trial.fault(f"{name}: not the image that firmware/Makefile makes")
+
+
+def firmware(trial, files):
+    if is_compiler_there():
+        examples(trial)
+        readme(trial, files)
+        arithmetic(trial, files)

@@ -1,0 +1,154 @@
+"""What ./foldgneiss says beside the program's own lines.
+
+    messages.py help WORD..                   the text of --help, or its part on the command among
+                                              the words
+    messages.py explain STATUS LINE WORD..    on a run of these words that ended with this status
+    and
+                                              this line on standard error: what was wrong, and where
+"""
+import os
+import re
+import stat
+import sys
+
+sys.dont_write_bytecode = True
+import file_readers  # noqa: E402
+import reference_texts  # noqa: E402
+from readers import READERS  # noqa: E402
+from reference import COMMANDS, FAULTS, FILES, RANGES  # noqa: E402
+
+WIDTH = 76
+
+SCRIPT_HELP = """
+The script ./foldgneiss has these too:
+  foldgneiss build           proves all crates and makes the proved program
+  foldgneiss help [COMMAND]  prints this, or what it says of one command; so do
+                             -h and --help, alone or after a command
+Its own statuses are 125 where an unproved run is cut off or does not compile,
+127 where there is no rt, and 1 where a crate does not prove in build.
+"""
+
+
+def wrong_words(words):
+    """What is wrong with the words of a call."""
+    if not words:
+        return "a command is wanted: " + ", ".join(COMMANDS)
+    name, *arguments = words
+    if name not in COMMANDS:
+        return f"{name} is no command; the commands are {', '.join(COMMANDS)}"
+    command = COMMANDS[name]
+    if len(arguments) != len(command.words):
+        return f"{name} takes {len(command.words)} arguments, not {len(arguments)}"
+    for word, argument in zip(command.words, arguments):
+        try:
+            argument.encode()
+        except UnicodeEncodeError:
+            return f"{word.upper()} is not UTF-8"
+        least, most = RANGES.get(word, (0, 0))
+        if word in RANGES and not (re.fullmatch("[0-9]{1,10}", argument)
+                                   and least <= int(argument) <= most):
+            return f"{word.upper()} is {argument!r}, not a number from {least} to {most}"
+    return None
+
+
+def files_of(words):
+    """The kinds and names of a call's files, in the order in which they are read."""
+    command = COMMANDS[words[0]]
+    names = dict(zip(command.words, words[1:]))
+    return [(kind, names[kind]) for kind in FILES if kind in names]
+
+
+def contents(name):
+    """The bytes of a file, or None where it is a pipe or a device, which is read once."""
+    if name and not stat.S_ISREG(os.stat(name).st_mode) and not os.path.isdir(name):
+        return None
+    with open(name, "rb") as file:
+        return file.read()
+
+
+def unread_file(words):
+    """What is said of the first file that is absent or cannot be read."""
+    for kind, name in files_of(words):
+        try:
+            contents(name)
+        except OSError as error:
+            return f"{kind.upper()} {name or repr(name)}: {error.strerror}"
+    return None
+
+
+def column_of(kind, text, number, fault):
+    """The column of a fault, in bytes, None where it is of the whole line; and what is wanted."""
+    try:
+        READERS[kind](text)
+    except file_readers.Fault as found:
+        if (found.line, found.kind) == (number, fault):
+            return found.column, f" (wanted: {found.wanted})" if found.wanted else ""
+    return None, ""
+
+
+def shown_line(line, column):
+    """A line of a file, or what stands around the column, and a mark below the column."""
+    before = len(line[:(column or 1) - 1].decode("utf-8", "replace"))
+    text = "".join(letter if letter.isprintable() else " ?"[letter != "\t"]
+                   for letter in line.decode("utf-8", "replace").rstrip("\r"))
+    start = max(0, before - WIDTH // 2) if len(text) > WIDTH else 0
+    lines = ["    " + text[start:start + WIDTH]]
+    if column:
+        lines.append("    " + " " * (before - start) + "^")
+    return lines
+
+
+def file_fault(line, words):
+    """What is said of the fault that the line names."""
+    match = re.fullmatch(r"bad (\w+): line (\d+): (\w+)", line)
+    if not match or match[1] not in FAULTS:
+        return []
+    kind, number, fault = match[1], int(match[2]), match[3]
+    name, meaning = dict(files_of(words))[kind], FAULTS[kind].get(fault, fault)
+    try:
+        text = contents(name)
+    except OSError:
+        text = None
+    lines = text.split(b"\n") if text is not None else []
+    if fault == "TooLong":
+        return [f"{name}: {meaning}, {FILES[kind].limit} bytes"]
+    if not 1 <= number <= len(lines):
+        return [f"{name}, line {number}: {meaning}"]
+    column, wanted = column_of(kind, text, number, fault)
+    place = f"line {number}, column {column}" if column else f"line {number}"
+    shown = [] if kind == "key" else shown_line(lines[number - 1], column)  # (a key is secret)
+    return [f"{name}, {place}: {meaning}{wanted}", *shown]
+
+
+def explanation(status, line, words):
+    """The lines on a run that ended so."""
+    if status == 2:
+        command = COMMANDS.get(words[0] if words else None)
+        usage = (f"usage: foldgneiss {command.usage}\n" if command else reference_texts.usages())
+        return [wrong_words(words), *usage.splitlines()]
+    if status in (3, 4):
+        return [unread_file(words)]
+    return file_fault(line, words)
+
+
+def main(arguments):
+    kind, *rest = arguments
+    if kind == "explain":
+        lines = explanation(int(rest[0]), rest[1], rest[2:])
+        for number, line in enumerate(filter(None, lines)):
+            text = line if number else f"foldgneiss: {line}"
+            sys.stderr.buffer.write(os.fsencode(text + "\n"))
+        return 0
+    names = [word for word in rest if word not in ("help", "-h", "--help")]
+    if not names:
+        print(reference_texts.help_text() + SCRIPT_HELP, end="")
+        return 0
+    if names[0] not in COMMANDS:
+        print(f"foldgneiss: {wrong_words(names)}", file=sys.stderr)
+        return 2
+    print(reference_texts.command_help(names[0]), end="")
+    return 0
+
+
+if __name__ == "__main__":
+    sys.exit(main(sys.argv[1:]))

@@ -1,0 +1,12 @@
+"""The reader of each kind of file."""
+import assembler_model
+import file_readers
+
+READERS = {
+    "key": file_readers.read_key,
+    "image": file_readers.read_image,
+    "script": file_readers.read_script,
+    "policy": file_readers.read_policy,
+    "reports": file_readers.read_reports,
+    "source": assembler_model.assemble,
+}

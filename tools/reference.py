@@ -1,0 +1,186 @@
+"""The one table of commands, files, faults, rules and exit codes.
+
+The program's --help, the messages of ./foldgneiss, the tables of README.md, docs/foldgneiss.1 and
+docs/foldgneiss.bash are written from it by tools/write-reference; tools/check-program compares them
+with it, and tries the commands that are named here.
+"""
+from typing import NamedTuple
+
+
+class Command(NamedTuple):
+    name: str
+    words: tuple  # what its arguments are, in order
+    prints: str
+    about: str
+    example: str
+
+    @property
+    def usage(self):
+        return " ".join([self.name, *map(str.upper, self.words)])
+
+    @property
+    def files(self):
+        return [word for word in self.words if word in FILES]
+
+
+class File(NamedTuple):
+    status: int  # the exit status of its first fault
+    limit: int  # bytes
+    about: str
+
+
+COMMANDS = {command.name: command for command in (
+    Command("play", ("image", "script", "key", "steps"),
+            "the bytes sent, resets and reports of a run of the firmware, and its end, a line each",
+            "Runs the firmware for STEPS bus steps. Prints `tx S HH` for a byte sent in step S, "
+            "`reset S R` where step S broke the rule R, `report S ..` where step S finished an "
+            "attestation, and `end N pc H4 exec E` after the last step.",
+            "play image.hex script.txt key.txt 5000"),
+    Command("dump", ("image", "script", "key", "steps"),
+            "the same, and then RAM, program and vectors as Intel HEX",
+            "Prints what play prints, and then RAM, program and vectors as Intel HEX.",
+            "dump image.hex script.txt key.txt 5000"),
+    Command("list", ("image",),
+            "the instructions, words and bytes of an image, one a line",
+            "Prints the instructions, words and bytes of IMAGE, one a line.",
+            "list image.hex"),
+    Command("verify", ("image", "policy", "key", "reports"),
+            "a verdict for each report",
+            "Prints `verdict I V` for each report line in REPORTS, the I-th of which has to answer "
+            "the I-th challenge of POLICY.",
+            "verify image.hex policy.txt key.txt reports.txt"),
+    Command("round", ("image", "script", "key", "policy", "steps"),
+            "what `play` prints, with a verdict after each report",
+            "Prints what play prints, and after each report its verdict; after an `accept` where "
+            "the device's own memory is not what was expected though the MACs agree, "
+            "`collision HH.. HH..` with two inputs of one SHA-256 digest.",
+            "round image.hex script.txt key.txt policy.txt 5000"),
+    Command("asm", ("source",),
+            "the image of an assembler source, as Intel HEX",
+            "Prints the image of an assembler source as Intel HEX.",
+            "asm firmware.asm > image.hex"),
+    Command("work", ("seed",),
+            "one line on a generated workload: the counts of the lines that `play` would print, "
+            "and their SHA-256",
+            "Runs a workload that is generated from SEED, 1000000 steps of attestation and "
+            "disturbance, and prints one line: how many lines of each kind `play` would print, and "
+            "the SHA-256 of that text.",
+            "work 7"),
+)}
+
+# In the order in which they are read.
+FILES = {
+    "key": File(7, 256, "the device's key: 128 hexadecimal digits"),
+    "image": File(8, 1048576, "firmware, as Intel HEX"),
+    "script": File(9, 1048576, "events from outside, each with its step; may be empty"),
+    "policy": File(10, 65536, "the regions and challenges that reports have to answer"),
+    "reports": File(11, 1048576, "report lines, or what play printed"),
+    "source": File(12, 1048576, "an assembler source"),
+}
+
+# The words that are numbers, with the least and the greatest.
+RANGES = {"steps": (1, 10000000), "seed": (0, 4294967295)}
+
+
+class Status(NamedTuple):
+    line: str  # on standard error; L is a fault's line, K its kind
+    cause: str
+    remedy: str
+
+
+STATUSES = {
+    0: Status("", "all of the text was printed", ""),
+    1: Status("rejected", "all of the text was printed, and a verdict in it is not `accept`",
+              "`docs/verifier.md` says what each verdict means"),
+    2: Status("words are no command",
+              "the arguments are no command, STEPS is no decimal in 1..10,000,000, SEED none in "
+              "0..4,294,967,295, or an argument is not UTF-8", "compare with `--help`"),
+    3: Status("file is absent", "one of the files is not there", "look for them in this order"),
+    4: Status("reading failed",
+              "a file is there and cannot be read: a folder, a path through a file, a lack of "
+              "rights, a broken disk", "likewise"),
+    5: Status("writing failed", "standard output took only a prefix of the text",
+              "free space, or keep the pipe open"),
+    6: Status("no memory",
+              "the system refused memory; nothing was printed, or in `round` a prefix that ends "
+              "before a `collision` line",
+              "the program needs a few MiB, and for the largest sources some 40"),
+    7: Status("bad key: line L: K", "the key is not 128 hexadecimal digits in one line",
+              "`--help` says what K means"),
+    8: Status("bad image: line L: K", "the image's first fault", "likewise"),
+    9: Status("bad script: line L: K", "the script's first fault", "likewise"),
+    10: Status("bad policy: line L: K", "the policy's first fault", "likewise"),
+    11: Status("bad reports: line L: K", "the first fault of the reports", "likewise"),
+    12: Status("bad source: line L: K", "the source's first fault", "likewise"),
+}
+
+# What a fault's kind means, of each file.
+TOO_LONG = {"TooLong": "the file is longer than its limit (line 0)"}
+IN_WORDS = {
+    **TOO_LONG,
+    "Utf8": "the line is not UTF-8",
+    "Missing": "a word is not there",
+    "Word": "not the keyword that is wanted here",
+    "Digit": "a character is no digit",
+    "Count": "a wrong number of hexadecimal digits",
+    "Range": "a number is out of range",
+    "Extra": "a word too many",
+}
+FAULTS = {
+    "key": {
+        **TOO_LONG,
+        "Missing": "fewer than 128 characters",
+        "Extra": "more than 128 characters",
+        "Digit": "a character is no hexadecimal digit",
+    },
+    "image": {
+        **TOO_LONG,
+        "NoColon": "the line does not begin with a colon",
+        "Digit": "a character is no hexadecimal digit",
+        "Count": "the record has not as many digits as its count or its type says",
+        "Check": "the bytes of the record do not sum to 0",
+        "RecordType": "the type is past 05",
+        "Place": "a byte's address is not in 0200..21FF or C000..FFFF",
+        "AfterEnd": "a record after the end record",
+        "NoEnd": "there is no end record",
+    },
+    "script": {**IN_WORDS, "Order": "the step is less than that of an earlier line"},
+    "policy": {
+        **IN_WORDS,
+        "Missing": "a word is not there, or the file has no `or` line",
+        "Order": "the lines are not `er`, then `or`, then `chal` lines",
+        "Bounds": "a region is at odd places, not wholly in RAM or program, or on another, the MAC "
+                  "or the metadata",
+    },
+    "reports": {**IN_WORDS, "Output": "`data` has not the size of the output region"},
+    "source": {
+        **TOO_LONG,
+        "Utf8": "the line is not UTF-8",
+        "Syntax": "the line has no reading",
+        "Mnemonic": "there is no such instruction or directive, or not with this suffix",
+        "Operand": "another number or form of operands is wanted",
+        "Twice": "the name was given before",
+        "Undefined": "a name has no value here",
+        "Range": "a value is out of range, or a jump is odd or goes too far",
+        "Place": "a byte outside 0200..21FF and C000..FFFF, or a word at an odd address",
+        "Overlap": "there is a byte at this address already",
+    },
+}
+
+# The rules in the order in which they are tried; docs/monitors.md defines them.
+RULES = {
+    "X0": "the script asked for a reset",
+    "A3": "an interrupt could be accepted in the attestation ROM",
+    "A2": "the attestation ROM was entered past its beginning",
+    "A1": "the attestation ROM was left before its end (the device never does)",
+    "A4": "the ROM's return address lay in the key or in the exclusive stack",
+    "K1": "the processor read the key",
+    "K2": "the processor touched the exclusive stack",
+    "K3": "the ROM wrote elsewhere (the device never does)",
+    "K4": "the DMA touched the key",
+    "K5": "the DMA touched the exclusive stack",
+    "K6": "the DMA was active in the attestation ROM",
+    "I1": "an illegal instruction word was fetched",
+}
+VERSION = "0.1.0"
+VERDICTS = ("accept", "no-challenge", "chal-differs", "bounds-differ", "exec-zero", "mac-differs")

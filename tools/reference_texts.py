@@ -1,0 +1,164 @@
+"""The texts that are written from the table of reference.py."""
+import textwrap
+
+from reference import COMMANDS, FAULTS, FILES, RANGES, RULES, STATUSES, VERSION
+
+WIDTH = 80
+
+
+def entry(name, text, indent):
+    """A name, and its text from the column `indent` on."""
+    return textwrap.fill(text, WIDTH, initial_indent=name.ljust(indent),
+                         subsequent_indent=" " * indent, break_on_hyphens=False) + "\n"
+
+
+def usages():
+    return "".join(f"{'usage:' if not number else '      '} foldgneiss {command.usage}\n"
+                   for number, command in enumerate(COMMANDS.values()))
+
+
+def command_entry(command):
+    return (entry(f"{command.name:8}", command.about, 8)
+            + f"          foldgneiss {command.example}\n")
+
+
+def argument_text(word):
+    if word in RANGES:
+        return "a decimal, {} to {}".format(*RANGES[word])
+    return f"{FILES[word].about}; at most {FILES[word].limit} bytes"
+
+
+def words_of(commands):
+    words = [word for command in commands for word in command.words]
+    return [word for word in [*FILES, *RANGES] if word in words]
+
+
+def arguments_of(commands):
+    return "".join(entry(f"  {word.upper()}", argument_text(word), 11)
+                   for word in words_of(commands))
+
+
+def faults_by_meaning(kinds):
+    """Pairs of a fault's kind and the files in which it has one meaning, with this meaning."""
+    meanings = {}
+    for kind in kinds:
+        for fault, meaning in FAULTS[kind].items():
+            meanings.setdefault((fault, meaning), []).append(kind)
+    return meanings.items()
+
+
+def faults_of(kinds):
+    """The faults of some files, those that several share first."""
+    groups = {}
+    for (fault, meaning), names in faults_by_meaning(kinds):
+        groups.setdefault(tuple(names), []).append((fault, meaning))
+    lines = []
+    for names, faults in sorted(groups.items(), key=lambda group: -len(group[0])):
+        lines.append(f"  of {'each file' if names == tuple(FILES) else ', '.join(names)}\n")
+        lines += [entry(f"    {fault}", meaning, 16) for fault, meaning in faults]
+    return "".join(lines)
+
+
+def rules():
+    return "".join(entry(f"  {rule}", meaning, 6) for rule, meaning in RULES.items())
+
+
+def status_text(status):
+    line = f" ({status.line})" if status.line else ""
+    return status.cause + line
+
+
+def statuses():
+    return "".join(entry(f"  {code}", status_text(status), 6) for code, status in STATUSES.items())
+
+
+def help_text():
+    commands = list(COMMANDS.values())
+    return "\n".join([
+        usages(),
+        "\n".join(map(command_entry, commands)),
+        "  --help     prints this\n  --version  prints the version\n",
+        "Arguments, files in the order in which they are read:\n" + arguments_of(commands),
+        "Rules (reset S R):\n" + rules(),
+        "Faults (bad FILE: line L: K), the first of the first faulty file:\n" + faults_of(FILES),
+        "Exit status, and the line on standard error:\n" + statuses(),
+    ])
+
+
+def command_help(name):
+    """What --help says of one command."""
+    command = COMMANDS[name]
+    parts = [f"usage: foldgneiss {command.usage}\n", command_entry(command),
+             "Arguments:\n" + arguments_of([command])]
+    if command.files:
+        parts.append("Faults:\n" + faults_of(command.files))
+    return "\n".join(parts)
+
+
+def table(*rows):
+    """A table of Markdown, its first row the heads."""
+    lines = [f"| {' | '.join(row)} |".replace("|  |", "| |") for row in rows]
+    lines.insert(1, "|" + "---|" * len(rows[0]))
+    return "".join(line + "\n" for line in lines)
+
+
+def command_table():
+    return table(("Command", "Prints"),
+                 *((f"`{command.usage}`", command.prints) for command in COMMANDS.values()))
+
+
+def status_table():
+    return table(("Code", "Line on standard error", "Cause", "Remedy"),
+                 *((str(code), f"`{status.line}`" if status.line else "none", status.cause,
+                    status.remedy) for code, status in STATUSES.items()))
+
+
+def roff(text):
+    """A text as the man macros take it."""
+    text = text.replace("\\", "\\e").replace("-", "\\-")
+    return "".join(f"\\&{line}\n" if line[:1] in (".", "'") else f"{line}\n"
+                   for line in text.splitlines())
+
+
+def man_page():
+    """docs/foldgneiss.1, for the command man."""
+    def tagged(name, *texts):
+        return f".TP\n.B {roff(name)}" + "".join(map(roff, texts))
+
+    def section(name, *parts):
+        return f".SH {name}\n" + "".join(parts)
+    commands = COMMANDS.values()
+    faults = (tagged(fault, f"{meaning} ({', '.join(kinds)})")
+              for (fault, meaning), kinds in faults_by_meaning(FILES))
+    return "".join([
+        f'.TH FOLDGNEISS 1 "" "foldgneiss {VERSION}"\n',
+        section("NAME", roff("foldgneiss - an attested MSP430 microcontroller, emulated, with its "
+                             "verifier")),
+        section("SYNOPSIS", *(f".B foldgneiss {roff(command.usage)}.br\n" for command in commands)),
+        section("COMMANDS", *(tagged(command.name, command.about, f"foldgneiss {command.example}")
+                              for command in commands)),
+        section("ARGUMENTS", *(tagged(word.upper(), argument_text(word))
+                               for word in words_of(commands))),
+        section("RULES", *(tagged(rule, meaning) for rule, meaning in RULES.items())),
+        section("FAULTS", *faults),
+        section("EXIT STATUS", *(tagged(str(code), status_text(status))
+                                 for code, status in STATUSES.items())),
+    ])
+
+
+def completion():
+    """docs/foldgneiss.bash: completion in Bash, of the commands and of the names of files."""
+    return f"""\
+# Completion in Bash: source docs/foldgneiss.bash
+_foldgneiss() {{
+    local word=${{COMP_WORDS[COMP_CWORD]}}
+    if [ "$COMP_CWORD" -eq 1 ]; then
+        mapfile -t COMPREPLY < <(compgen -W '{" ".join(COMMANDS)} build help' -- "$word")
+    elif [ "${{COMP_WORDS[1]}}" = help ]; then
+        mapfile -t COMPREPLY < <(compgen -W '{" ".join(COMMANDS)}' -- "$word")
+    else
+        mapfile -t COMPREPLY < <(compgen -f -- "$word")
+    fi
+}}
+complete -o filenames -F _foldgneiss foldgneiss ./foldgneiss
+"""
