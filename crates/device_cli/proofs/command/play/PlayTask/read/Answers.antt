@@ -1,0 +1,17 @@
+use Rattle.device_trace.specs.Text.{play_text}
+use Rattle.device_cli.specs.Play.{play_outcome}
+use Rattle.device_cli.specs.Row.{put}
+use Rattle.device_cli.proofs.LawfulRow.{steps_row_lawful}
+use Rattle.device_cli.proofs.command.play.PlayTask.read.Goals as goal
+
+pub returns-clause-reads : goal.returns-clause-reads
+returns-clause-reads g c =
+    let self = c.args.self.now in
+    c.read.ensures (λ values.
+    put (play_outcome play_text self.arguments.steps values.0.0 values.0.1 values.1))
+
+pub returns-clause-lawful : goal.returns-clause-lawful
+returns-clause-lawful g c =
+    let self = c.args.self.now in
+    steps_row_lawful play_text self.arguments.files.0.1.name.now self.arguments.files.1.name.now
+    self.arguments.files.0.0.name.now self.arguments.steps

@@ -1,0 +1,19 @@
+use Rattle.device_cli.specs.FileKind.{key_kind, image_kind, policy_kind, reports_kind}
+use Rattle.device_cli.specs.Judge.{judge_with}
+use Rattle.device_cli.specs.Row.{put}
+use Rattle.device_cli.specs.Verify.{verdicts, verdicts_outcome}
+use Rattle.device_cli.proofs.LawfulRow.{read-lawful}
+use Rattle.device_cli.proofs.command.verify.VerifyTask.read.Goals as goal
+
+pub returns-clause-reads : goal.returns-clause-reads
+returns-clause-reads g c =
+    let self = c.args.self.now in
+    c.read.ensures (λ values. put (verdicts_outcome
+    (verdicts (judge_with values.0.0 values.0.1 values.1.0) values.1.1)))
+
+pub returns-clause-lawful : goal.returns-clause-lawful
+returns-clause-lawful g c =
+    read-lawful key_kind c.args.self.now.device.0.name.now _ (λ key bytes is.
+    read-lawful image_kind c.args.self.now.device.1.name.now _ (λ image bytes is.
+    read-lawful policy_kind c.args.self.now.evidence.0.name.now _ (λ policy bytes is.
+    read-lawful reports_kind c.args.self.now.evidence.1.name.now _ (λ reports bytes is. tt))))

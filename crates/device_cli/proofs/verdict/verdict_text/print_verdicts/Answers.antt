@@ -1,0 +1,74 @@
+use Rattle.std.proofs.Common.{◌∙◌, ◌+◌, ◌++◌, [], refl, sym, arith, append-nil}
+use Rattle.std.proofs.lemmas.Result.{err_from_is_err_and}
+use Rattle.std.proofs.Math.Bool.{and-true}
+use Rattle.outside_edge.proofs.SinkLemmas.{takes_both, prefix_after, prefix_of_more}
+use Rattle.device_cli.specs.Judgement.{judge_of}
+use Rattle.device_cli.specs.VerdictLine.{verdict_line}
+use Rattle.device_cli.specs.Verify.{lines_from}
+use Rattle.device_cli.proofs.PutsLemmas.{takes-nothing}
+use Rattle.device_cli.proofs.Verdicts.{verdicts_ahead, ahead-next, ahead-end, lines-next, accept-next}
+use Rattle.device_cli.proofs.verdict.verdict_text.print_verdicts.Goals as goal
+
+pub loop-i-init : goal.loop-i-init
+loop-i-init g c = record {
+  taken = ([], takes-nothing g.W.Sink.stands c.args.sink.now, refl);
+  accepted = refl;
+  quiet = refl;
+}
+
+pub loop-i-preserved : goal.loop-i-preserved
+loop-i-preserved g c =
+    let at = c.loop-i in
+    let judge = judge_of g.D.Digest32.digest_of c.args.verifier.now in
+    let reports = c.args.reports.now in
+    let decision = c.verdict_at-decision.result in
+    let line = verdict_line (at.i + 1) decision in
+    let next = ahead-next judge reports at.i decision c.verdict_at-decision.ensures in
+    let takes = at.invariant.taken in
+    record {
+      taken = (
+        takes.0 ++ line,
+        takes_both g.W.Sink.stands c.args.sink.now at.sink c.print_verdict.new.sink takes.0 line
+            takes.1 c.in_ok-print_verdict.ensures.puts.all,
+        lines-next judge reports at.i decision takes.0 _ next takes.2,
+      );
+      accepted = rw c.is_accept-all_accept.ensures
+          (accept-next judge reports at.i decision at.all_accept _ next at.invariant.accepted);
+      quiet = c.in_ok-print_verdict.ensures.counts.quiet ∙ at.invariant.quiet;
+    }
+
+pub returns-in_err-print_verdict-clause-puts : goal.returns-in_err-print_verdict-clause-puts
+returns-in_err-print_verdict-clause-puts g c =
+    let at = c.loop-i in
+    let judge = judge_of g.D.Digest32.digest_of c.args.verifier.now in
+    let reports = c.args.reports.now in
+    let decision = c.verdict_at-decision.result in
+    let line = verdict_line (at.i + 1) decision in
+    let rest = lines_from (at.i + 1 + 1) (verdicts_ahead judge reports (at.i + 1)) in
+    let next = ahead-next judge reports at.i decision c.verdict_at-decision.ensures in
+    let takes = at.invariant.taken in
+    let p = err_from_is_err_and c.from_residual.result c.from_residual.ensures.1 in
+    rw p.1 (record {
+      all = tt;
+      prefix = rw (← lines-next judge reports at.i decision takes.0 _ next takes.2)
+          (prefix_of_more g.W.Sink.stands c.args.sink.now c.print_verdict.new.sink
+          (takes.0 ++ line) rest
+          (prefix_after g.W.Sink.stands c.args.sink.now at.sink c.print_verdict.new.sink takes.0
+          line takes.1 c.in_err-print_verdict.ensures.puts.prefix));
+    })
+
+pub returns-clause-puts : goal.returns-clause-puts
+returns-clause-puts g c =
+    let at = c.loop-i in
+    let none = ahead-end (judge_of g.D.Digest32.digest_of c.args.verifier.now) c.args.reports.now at.i (omega (arith, c.loop-i-test.false)) in
+    let takes = at.invariant.taken in
+    record {
+      all = rw (← (rw (none, append-nil) at takes.2)) takes.1;
+      prefix = tt;
+    }
+
+pub returns-clause-accepted : goal.returns-clause-accepted
+returns-clause-accepted g c =
+    let at = c.loop-i in
+    let none = ahead-end (judge_of g.D.Digest32.digest_of c.args.verifier.now) c.args.reports.now at.i (omega (arith, c.loop-i-test.false)) in
+    sym (and-true at.all_accept) ∙ rw none at at.invariant.accepted

@@ -1,0 +1,19 @@
+use Rattle.std.proofs.Common.{◌≡◌, ◌+◌, ◌&&◌, ◌++◌, List, ℕ}
+use Rattle.outside_edge.specs.Sink.{Takes}
+use Rattle.device_cli.specs.Judgement.{judge_of}
+use Rattle.device_cli.specs.Verify.{verdicts, lines_from, all_accept}
+use Rattle.device_cli.proofs.Verdicts.{verdicts_ahead}
+use Rattle.device_cli.proofs.verdict.verdict_text.print_verdicts.Given as goal
+
+-- the lines so far and those ahead are the whole text
+abbrev pub invariant-loop-i : goal.invariant-loop-i
+invariant-loop-i g l =
+    let judge = judge_of g.D.Digest32.digest_of l.verifier in
+    record {
+      taken : (before : List ℕ) × Takes g.W.Sink.stands l.fn.sink l.sink before
+          × (before ++ lines_from (l.i + 1) (verdicts_ahead judge l.reports l.i)
+          ≡ lines_from 1 (verdicts judge l.reports));
+      accepted : (l.all_accept && all_accept (verdicts_ahead judge l.reports l.i))
+          ≡ all_accept (verdicts judge l.reports);
+      quiet : g.W.Sink.faults l.sink ≡ g.W.Sink.faults l.fn.sink;
+    }

@@ -1,0 +1,53 @@
+use crate::ending::Ending;
+use crate::file::File;
+use crate::inputs::Inputs;
+use crate::kind::source::Source;
+use crate::put_fault::PutFault;
+use crate::refusal::Refusal;
+use crate::task::Task;
+use hex_loader::write_hex;
+use outside_edge::{Shelf, Sink};
+use std::alloc::Global;
+
+/// The command `asm SOURCE`.
+#[derive(Clone, Copy, Debug)]
+pub struct Asm<'a> {
+    pub source: File<'a, Source>,
+}
+
+impl<'a> Task<'a> for Asm<'a> {
+    ghost use Rattle.mem_map.specs.Image.{byte_in};
+    ghost use Rattle.hex_loader.specs.HexText.{hex_text};
+    ghost use Rattle.device_cli.specs.Asm.{asm_row, asm_row_of};
+    ghost use Rattle.device_cli.specs.Row.{plain};
+
+    type Values = mem_map::Image;
+
+    ghost row_of = { asm_row_of };
+
+    ghost command_row = { λ asm. asm_row asm.source.name.now };
+
+    ghost outcome = { λ asm image. plain (hex_text (byte_in image)) };
+
+    fn from_arguments(arguments: &'a [String]) -> Option<Asm<'a>> {
+        let [source] = arguments else {
+            return None;
+        };
+        let source = File::new(source.as_str(), Source);
+        Some(Asm { source })
+    }
+
+    fn read<S: Shelf>(&self, alloc: Global, shelf: &mut S) -> Result<mem_map::Image, Refusal> {
+        self.source.read(alloc, shelf)
+    }
+
+    fn put<W: Sink>(
+        &self,
+        _alloc: Global,
+        image: &mem_map::Image,
+        sink: &mut W,
+    ) -> Result<Ending, PutFault> {
+        write_hex(image, sink)?;
+        Ok(Ending::Done)
+    }
+}

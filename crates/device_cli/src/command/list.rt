@@ -1,0 +1,53 @@
+use crate::ending::Ending;
+use crate::file::File;
+use crate::inputs::Inputs;
+use crate::kind::image::Image;
+use crate::put_fault::PutFault;
+use crate::refusal::Refusal;
+use crate::task::Task;
+use msp_disasm::write_listing;
+use outside_edge::{Shelf, Sink};
+use std::alloc::Global;
+
+/// The command `list IMAGE`.
+#[derive(Clone, Copy, Debug)]
+pub struct List<'a> {
+    pub image: File<'a, Image>,
+}
+
+impl<'a> Task<'a> for List<'a> {
+    ghost use Rattle.mem_map.specs.Image.{byte_in};
+    ghost use Rattle.msp_disasm.specs.Listing.{listing};
+    ghost use Rattle.device_cli.specs.List.{list_row, list_row_of};
+    ghost use Rattle.device_cli.specs.Row.{plain};
+
+    type Values = mem_map::Image;
+
+    ghost row_of = { list_row_of };
+
+    ghost command_row = { λ list. list_row list.image.name.now };
+
+    ghost outcome = { λ list image. plain (listing (byte_in image)) };
+
+    fn from_arguments(arguments: &'a [String]) -> Option<List<'a>> {
+        let [image] = arguments else {
+            return None;
+        };
+        let image = File::new(image.as_str(), Image);
+        Some(List { image })
+    }
+
+    fn read<S: Shelf>(&self, alloc: Global, shelf: &mut S) -> Result<mem_map::Image, Refusal> {
+        self.image.read(alloc, shelf)
+    }
+
+    fn put<W: Sink>(
+        &self,
+        _alloc: Global,
+        image: &mem_map::Image,
+        sink: &mut W,
+    ) -> Result<Ending, PutFault> {
+        write_listing(image, sink)?;
+        Ok(Ending::Done)
+    }
+}

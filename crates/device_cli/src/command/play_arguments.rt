@@ -1,0 +1,39 @@
+ghost use Rattle.std.specs.Prelude.{◌≤◌};
+ghost use Rattle.device_cli.specs.Limit.{most_steps};
+
+use crate::command::play_files::{PlayFiles, play_files};
+use text_scan::decimal;
+
+/// The most steps that one run plays.
+pub const MOST_STEPS: u64 = 10_000_000;
+
+/// The arguments `IMAGE SCRIPT KEY STEPS`.
+#[derive(Clone, Copy, Debug)]
+pub struct PlayArguments<'a> {
+    pub files: PlayFiles<'a>,
+    pub steps: u64,
+    ghost few: { steps ≤ most_steps },
+}
+
+impl<'a> PlayArguments<'a> {
+    ghost use Rattle.std.specs.Prelude.{◌≡◌, ℕ, List, option_map};
+    ghost use Rattle.bus_signals.specs.declared.event.Event.{Event};
+    ghost use Rattle.device_trace.specs.Start.{Start};
+    ghost use Rattle.device_cli.specs.Argument.{texts};
+    ghost use Rattle.device_cli.specs.Play.{steps_row, steps_row_of};
+
+    /// Those that are spelled. STEPS is a decimal in 1..10,000,000.
+    pub fn from_arguments(arguments: &'a [String]) -> Option<PlayArguments<'a>>
+        ensures { (text : Start → List (List Event) → List ℕ)
+            → option_map (λ play. steps_row text play.files.0.1.name.now play.files.1.name.now
+            play.files.0.0.name.now play.steps) result
+            ≡ steps_row_of text (texts arguments.now) }
+    {
+        let [image, script, key, steps] = arguments else {
+            return None;
+        };
+        let steps = decimal(steps.as_bytes(), 1, MOST_STEPS).ok()?;
+        let files = play_files(image.as_str(), script.as_str(), key.as_str());
+        Some(PlayArguments { files, steps })
+    }
+}

@@ -1,0 +1,77 @@
+ghost use Rattle.std.specs.Prelude.{◌≤◌};
+ghost use Rattle.device_cli.specs.Limit.{most_steps};
+
+use crate::command::play_arguments::MOST_STEPS;
+use crate::command::play_files::{PlayFiles, PlayValues, play_files};
+use crate::ending::Ending;
+use crate::file::File;
+use crate::inputs::Inputs;
+use crate::kind::policy::Policy;
+use crate::put_fault::PutFault;
+use crate::refusal::Refusal;
+use crate::round_text::round_on;
+use crate::task::Task;
+use crate::verdict::verifier::Verifier;
+use device_core::power_on;
+use hmac_core::Sha256Digest;
+use outside_edge::{Shelf, Sink};
+use std::alloc::Global;
+use text_scan::decimal;
+
+/// The command `round IMAGE SCRIPT KEY POLICY STEPS`. The policy is read after the files of the
+/// play.
+#[derive(Clone, Copy, Debug)]
+pub struct Round<'a> {
+    pub files: (PlayFiles<'a>, File<'a, Policy>),
+    pub steps: u64,
+    ghost few: { steps ≤ most_steps },
+}
+
+/// The values of a play's files, and the policy.
+pub type RoundValues = (PlayValues, report_verifier::Policy);
+
+impl<'a> Task<'a> for Round<'a> {
+    ghost use Rattle.mem_map.specs.Image.{byte_in};
+    ghost use Rattle.device_cli.specs.Round.{round_row, round_row_of, round_outcome};
+
+    type Values = RoundValues;
+
+    ghost row_of = { round_row_of };
+
+    ghost command_row = { λ round. round_row round.files.0.0.1.name.now round.files.0.1.name.now
+        round.files.0.0.0.name.now round.files.1.name.now round.steps };
+
+    ghost outcome = { λ round values. round_outcome round.steps values.0.0.0
+        (byte_in values.0.0.1) values.0.1 values.1 };
+
+    /// STEPS is a decimal in 1..10,000,000.
+    fn from_arguments(arguments: &'a [String]) -> Option<Round<'a>> {
+        let [image, script, key, policy, steps] = arguments else {
+            return None;
+        };
+        let steps = decimal(steps.as_bytes(), 1, MOST_STEPS).ok()?;
+        let play = play_files(image.as_str(), script.as_str(), key.as_str());
+        let policy = File::new(policy.as_str(), Policy);
+        Some(Round {
+            files: (play, policy),
+            steps,
+        })
+    }
+
+    fn read<S: Shelf>(&self, alloc: Global, shelf: &mut S) -> Result<RoundValues, Refusal> {
+        self.files.read(alloc, shelf)
+    }
+
+    fn put<W: Sink>(
+        &self,
+        alloc: Global,
+        values: &RoundValues,
+        sink: &mut W,
+    ) -> Result<Ending, PutFault> {
+        let (((key, image), script), policy) = values;
+        let device = power_on::<Sha256Digest>(alloc, key, image)?;
+        let verifier = Verifier { key, image, policy };
+        let all_accept = round_on(alloc, device, script, &verifier, self.steps, sink)?;
+        Ok(Ending::of(all_accept))
+    }
+}

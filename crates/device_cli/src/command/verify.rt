@@ -1,0 +1,76 @@
+use crate::ending::Ending;
+use crate::file::File;
+use crate::inputs::Inputs;
+use crate::kind::image::Image;
+use crate::kind::key::Key;
+use crate::kind::policy::Policy;
+use crate::kind::reports::Reports;
+use crate::put_fault::PutFault;
+use crate::refusal::Refusal;
+use crate::task::Task;
+use crate::verdict::verdict_text::print_verdicts;
+use crate::verdict::verifier::Verifier;
+use hmac_core::Sha256Digest;
+use outside_edge::{Shelf, Sink};
+use report_text::Report;
+use std::alloc::Global;
+
+/// The command `verify IMAGE POLICY KEY REPORTS`. Its files are in the order in which they are
+/// read.
+#[derive(Clone, Copy, Debug)]
+pub struct Verify<'a> {
+    pub device: (File<'a, Key>, File<'a, Image>),
+    pub evidence: (File<'a, Policy>, File<'a, Reports>),
+}
+
+/// What verdicts are made of: key and image of the device, policy and reports.
+pub type VerifyValues = (
+    ([u8; 64], mem_map::Image),
+    (report_verifier::Policy, Vec<Report>),
+);
+
+impl<'a> Task<'a> for Verify<'a> {
+    ghost use Rattle.mem_map.specs.Image.{byte_in};
+    ghost use Rattle.device_cli.specs.Judge.{judge_with};
+    ghost use Rattle.device_cli.specs.Verify.{verify_row, verify_row_of, verdicts, verdicts_outcome};
+
+    type Values = VerifyValues;
+
+    ghost row_of = { verify_row_of };
+
+    ghost command_row = { λ verify. verify_row verify.device.1.name.now verify.evidence.0.name.now
+        verify.device.0.name.now verify.evidence.1.name.now };
+
+    ghost outcome = { λ verify values. verdicts_outcome
+        (verdicts (judge_with values.0.0 (byte_in values.0.1) values.1.0) values.1.1.items) };
+
+    fn from_arguments(arguments: &'a [String]) -> Option<Verify<'a>> {
+        let [image, policy, key, reports] = arguments else {
+            return None;
+        };
+        let key = File::new(key.as_str(), Key);
+        let image = File::new(image.as_str(), Image);
+        let policy = File::new(policy.as_str(), Policy);
+        let reports = File::new(reports.as_str(), Reports);
+        Some(Verify {
+            device: (key, image),
+            evidence: (policy, reports),
+        })
+    }
+
+    fn read<S: Shelf>(&self, alloc: Global, shelf: &mut S) -> Result<VerifyValues, Refusal> {
+        (self.device, self.evidence).read(alloc, shelf)
+    }
+
+    fn put<W: Sink>(
+        &self,
+        _alloc: Global,
+        values: &VerifyValues,
+        sink: &mut W,
+    ) -> Result<Ending, PutFault> {
+        let ((key, image), (policy, reports)) = values;
+        let verifier = Verifier { key, image, policy };
+        let all_accept = print_verdicts::<Sha256Digest, W>(&verifier, reports, sink)?;
+        Ok(Ending::of(all_accept))
+    }
+}

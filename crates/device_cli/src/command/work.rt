@@ -1,0 +1,77 @@
+ghost use Rattle.std.specs.Prelude.{◌≡◌, IfOk, IfErr};
+ghost use Rattle.sha2.specs.Sha256.{sha256};
+ghost use Rattle.device_cli.specs.declared.put_fault.PutFault.TheVariants.{Memory};
+ghost use Rattle.device_cli.specs.Load.{load_text};
+ghost use Rattle.device_cli.specs.TextSummary.{counts_in};
+
+use crate::ending::Ending;
+use crate::inputs::Inputs;
+use crate::load::line_tally::LineCounts;
+use crate::load::text_summary::TextSummary;
+use crate::load::work_line::print_work_line;
+use crate::load::{LOAD_STEPS, load_of};
+use crate::play_text::play_on;
+use crate::put_fault::PutFault;
+use crate::refusal::Refusal;
+use crate::task::Task;
+use device_core::power_on;
+use hmac_core::Sha256Digest;
+use outside_edge::{Shelf, Sink};
+use std::alloc::Global;
+use text_scan::decimal;
+
+// The greatest seed.
+const MOST_SEED: u64 = 4_294_967_295;
+
+/// The command `work SEED`: the seed of a load.
+#[derive(Clone, Copy, Debug)]
+pub struct Work {
+    pub seed: u64,
+}
+
+impl<'a> Task<'a> for Work {
+    ghost use Rattle.device_cli.specs.Play.{plain_of};
+    ghost use Rattle.device_cli.specs.Work.{load_play, work_line, work_row, work_row_of};
+
+    type Values = ();
+
+    ghost row_of = { work_row_of };
+
+    ghost command_row = { λ work. work_row work.seed };
+
+    ghost outcome = { λ work values. plain_of (load_play work.seed) (work_line work.seed) };
+
+    /// SEED is a decimal in 0..4,294,967,295.
+    fn from_arguments(arguments: &'a [String]) -> Option<Work> {
+        let [seed] = arguments else {
+            return None;
+        };
+        let seed = decimal(seed.as_bytes(), 0, MOST_SEED).ok()?;
+        Some(Work { seed })
+    }
+
+    fn read<S: Shelf>(&self, alloc: Global, shelf: &mut S) -> Result<(), Refusal> {
+        ().read(alloc, shelf)
+    }
+
+    fn put<W: Sink>(&self, alloc: Global, _none: &(), sink: &mut W) -> Result<Ending, PutFault> {
+        let (counts, digest) = play_load(alloc, self.seed)?;
+        print_work_line(self.seed, counts, &digest, sink)?;
+        Ok(Ending::Done)
+    }
+}
+
+// Plays the load of a seed. What is kept of its text are the counts of its lines, and its SHA-256.
+fn play_load(alloc: Global, seed: u64) -> Result<(LineCounts, [u8; 32]), PutFault>
+    ensures counts { IfOk result (λ summary. summary.0 ≡ counts_in (load_text seed)) }
+    ensures digest { IfOk result (λ summary. summary.1 ≡ sha256 (load_text seed)) }
+    ensures memory { IfErr result (λ fault. fault ≡ Memory) }
+{
+    let load = load_of(alloc, seed)?;
+    let device = power_on::<Sha256Digest>(alloc, &load.key, &load.image)?;
+    let mut summary = TextSummary::new();
+    let Ok(_) = play_on(device, &load.script, LOAD_STEPS, &mut summary) else {
+        unreachable!()
+    };
+    Ok(summary.finish())
+}

@@ -1,0 +1,63 @@
+use crate::refusal::Refusal;
+use outside_edge::Shelf;
+use std::alloc::Global;
+
+/// Files that are read one after the other. A pair reads its first and then its second, and `()`
+/// reads none.
+pub trait Inputs {
+    ghost use Rattle.device_cli.specs.Row.{Row};
+    ghost use Rattle.device_cli.specs.Reading.{Reads};
+
+    /// Their values.
+    type Values: Drop;
+
+    /// What the values stand for.
+    ghost Meaning: { Type 0 };
+
+    ghost meaning: { Self.Values → Meaning };
+
+    /// The row that reads them and goes on with what their values stand for.
+    ghost row_with: { Self → (Meaning → Row) → Row };
+
+    /// Reads them in their order, up to the first that is absent or faulty.
+    fn read<S: Shelf>(&self, alloc: Global, shelf: &mut S) -> Result<Self::Values, Refusal>
+        ensures { (onward : Meaning → Row)
+            → Reads S.files S.faults S.misses shelf.old shelf.new (row_with self.now onward)
+            (λ values. onward (meaning values)) result };
+}
+
+impl<First: Inputs, Second: Inputs> Inputs for (First, Second) {
+    type Values = (First::Values, Second::Values);
+
+    ghost Meaning = { First.Meaning × Second.Meaning };
+
+    ghost meaning = { λ values. (First.meaning values.0, Second.meaning values.1) };
+
+    ghost row_with = { λ files onward.
+        First.row_with files.0 (λ first.
+        Second.row_with files.1 (λ second. onward (first, second))) };
+
+    fn read<S: Shelf>(
+        &self,
+        alloc: Global,
+        shelf: &mut S,
+    ) -> Result<(First::Values, Second::Values), Refusal> {
+        let first = self.0.read(alloc, shelf)?;
+        let second = self.1.read(alloc, shelf)?;
+        Ok((first, second))
+    }
+}
+
+impl Inputs for () {
+    type Values = ();
+
+    ghost Meaning = { Unit {0} };
+
+    ghost meaning = { λ none. none };
+
+    ghost row_with = { λ files onward. onward tt };
+
+    fn read<S: Shelf>(&self, _alloc: Global, _shelf: &mut S) -> Result<(), Refusal> {
+        Ok(())
+    }
+}

@@ -1,0 +1,4 @@
+pub mod judgement;
+pub mod verdict_line;
+pub mod verdict_text;
+pub mod verifier;

@@ -1,0 +1,143 @@
+ghost use Rattle.std.specs.Prelude.{◌≡◌, ◌<◌, Bool, List, Some, IfOk, IfSome, IsTrue, option_map};
+ghost use Rattle.bus_signals.specs.Bounds.{are_valid};
+ghost use Rattle.bus_signals.specs.Report.{fields_of};
+ghost use Rattle.part_definitions.specs.Memory.{PowerOn, MemoryWrite, byte_at};
+ghost use Rattle.mem_map.specs.Memory.{MemoryStandsFor};
+ghost use Rattle.outside_edge.specs.Sink.{Puts, CountsFaults};
+ghost use Rattle.report_verifier.specs.Comparison.{OutputFits};
+ghost use Rattle.device_cli.specs.Judgement.{judge_of, exhibit_lines, own_bytes_collide, comparison_lines, evidence_lines, is_pair_shown, judgement_lines, judgement_has_pair, TellsOutput, tally_after};
+ghost use Rattle.device_cli.specs.Judge.{verdict_at};
+ghost use Rattle.device_cli.specs.Limit.{most_steps};
+ghost use Rattle.device_cli.specs.Verify.{is_accept};
+ghost use Rattle.device_cli.specs.RoundText.{CountsWriteFaults, StopsOnlyAtPair};
+
+use crate::put_fault::PutFault;
+use crate::verdict::verdict_line::print_verdict;
+use crate::verdict::verdict_text::is_accept;
+use crate::verdict::verifier::Verifier;
+use bus_signals::ReportView;
+use hmac_core::Digest32;
+use mem_map::Memory;
+use outside_edge::{Failed, Sink};
+use report_text::print_collision;
+use report_verifier::{Decision, Exhibit, Expect, compare};
+use std::alloc::Global;
+
+/// The verdicts so far: how many, and whether each of them is `accept`.
+#[derive(Clone, Copy)]
+pub struct Tally {
+    pub verdicts: usize,
+    pub all_accept: bool,
+}
+
+// After an accept the device's own bytes are compared with those that the report is expected to be
+// of, and a pair that collides is put.
+fn print_evidence<D: Digest32, W: Sink>(
+    alloc: Global,
+    verifier: &Verifier<'_>,
+    expect: Option<Expect>,
+    verdict: Decision,
+    report: &ReportView<'_>,
+    memory: &Memory,
+    sink: &mut W,
+) -> Result<(), PutFault>
+    requires { IfSome expect (λ expect. IsTrue (are_valid expect.bounds)) }
+    ensures puts { (start : PowerOn) (exec : Bool) (writes : List MemoryWrite)
+        → MemoryStandsFor memory.now start exec writes
+        → (IsTrue (is_accept verdict) → IfSome expect (λ expect.
+        OutputFits expect.bounds (fields_of report.now).output))
+        → Puts W.stands sink.old sink.new
+        (evidence_lines (judge_of D.digest_of verifier.now) expect verdict
+        (fields_of report.now).output (byte_at start exec writes)) result }
+    ensures memory { (start : PowerOn) (exec : Bool) (writes : List MemoryWrite)
+        → MemoryStandsFor memory.now start exec writes
+        → (IsTrue (is_accept verdict) → IfSome expect (λ expect.
+        OutputFits expect.bounds (fields_of report.now).output))
+        → StopsOnlyAtPair result
+        (is_pair_shown (judge_of D.digest_of verifier.now) expect verdict
+        (fields_of report.now).output (byte_at start exec writes)) }
+    ensures counts { CountsWriteFaults W.faults sink.old sink.new result }
+{
+    let (Some(expect), Decision::Accept) = (expect, verdict) else {
+        return Ok(());
+    };
+    let (key, image, output) = (verifier.key, verifier.image, report.output);
+    match compare::<D>(alloc, key, image, &expect, output, memory)? {
+        Exhibit::Pair(first, second) => {
+            print_collision(first.as_slice(), second.as_slice(), sink)?;
+            Ok(())
+        }
+        Exhibit::Same | Exhibit::MacsDiffer => Ok(()),
+    }
+}
+
+// The verdict on report `i`, from 0, and what it shows.
+fn judge<D: Digest32, W: Sink>(
+    alloc: Global,
+    verifier: &Verifier<'_>,
+    i: usize,
+    report: &ReportView<'_>,
+    memory: &Memory,
+    sink: &mut W,
+) -> Result<Decision, PutFault>
+    requires { i < most_steps }
+    ensures verdict { IfOk result (λ verdict.
+        verdict ≡ verdict_at (judge_of D.digest_of verifier.now) i (fields_of report.now)) }
+    ensures puts { (start : PowerOn) (exec : Bool) (writes : List MemoryWrite)
+        → MemoryStandsFor memory.now start exec writes
+        → TellsOutput (byte_at start exec writes) (Some (fields_of report.now))
+        → Puts W.stands sink.old sink.new
+        (judgement_lines (judge_of D.digest_of verifier.now) i (byte_at start exec writes)
+        (Some (fields_of report.now))) result }
+    ensures memory { (start : PowerOn) (exec : Bool) (writes : List MemoryWrite)
+        → MemoryStandsFor memory.now start exec writes
+        → TellsOutput (byte_at start exec writes) (Some (fields_of report.now))
+        → StopsOnlyAtPair result
+        (judgement_has_pair (judge_of D.digest_of verifier.now) i (byte_at start exec writes)
+        (Some (fields_of report.now))) }
+    ensures counts { CountsWriteFaults W.faults sink.old sink.new result }
+{
+    let expect = verifier.policy.expect(i);
+    let verdict = verifier.verdict::<D>(i, report);
+    print_verdict(i as u64 + 1, verdict, sink)?;
+    print_evidence::<D, W>(alloc, verifier, expect, verdict, report, memory, sink)?;
+    Ok(verdict)
+}
+
+/// Judges the report that a step made, if it made one, and puts what it says of it. `memory` is the
+/// device's after that step.
+pub fn judge_last<D: Digest32, W: Sink>(
+    alloc: Global,
+    verifier: &Verifier<'_>,
+    tally: Tally,
+    report: Option<ReportView<'_>>,
+    memory: &Memory,
+    sink: &mut W,
+) -> Result<Tally, PutFault>
+    requires { tally.verdicts < most_steps }
+    ensures tally { IfOk result (λ new.
+        new ≡ tally_after (judge_of D.digest_of verifier.now) tally
+        (option_map fields_of report.entry)) }
+    ensures puts { (start : PowerOn) (exec : Bool) (writes : List MemoryWrite)
+        → MemoryStandsFor memory.now start exec writes
+        → TellsOutput (byte_at start exec writes) (option_map fields_of report.entry)
+        → Puts W.stands sink.old sink.new
+        (judgement_lines (judge_of D.digest_of verifier.now) tally.verdicts
+        (byte_at start exec writes) (option_map fields_of report.entry)) result }
+    ensures memory { (start : PowerOn) (exec : Bool) (writes : List MemoryWrite)
+        → MemoryStandsFor memory.now start exec writes
+        → TellsOutput (byte_at start exec writes) (option_map fields_of report.entry)
+        → StopsOnlyAtPair result
+        (judgement_has_pair (judge_of D.digest_of verifier.now) tally.verdicts
+        (byte_at start exec writes) (option_map fields_of report.entry)) }
+    ensures counts { CountsWriteFaults W.faults sink.old sink.new result }
+{
+    let Some(report) = report else {
+        return Ok(tally);
+    };
+    let verdict = judge::<D, W>(alloc, verifier, tally.verdicts, &report, memory, sink)?;
+    Ok(Tally {
+        verdicts: tally.verdicts + 1,
+        all_accept: tally.all_accept && is_accept(verdict),
+    })
+}

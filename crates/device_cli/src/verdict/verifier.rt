@@ -1,0 +1,29 @@
+ghost use Rattle.std.specs.Prelude.{◌≡◌};
+
+use bus_signals::ReportView;
+use hmac_core::Digest32;
+use mem_map::Image;
+use report_verifier::{Decision, Policy, decide_by};
+
+/// What reports are judged by: the device's key, the image that it shall run, and a policy.
+#[derive(Clone, Copy)]
+pub struct Verifier<'a> {
+    pub key: &'a [u8; 64],
+    pub image: &'a Image,
+    pub policy: &'a Policy,
+}
+
+impl Verifier<'_> {
+    ghost use Rattle.bus_signals.specs.Report.{fields_of};
+    ghost use Rattle.device_cli.specs.Judge.{verdict_at};
+    ghost use Rattle.device_cli.specs.Judgement.{judge_of};
+
+    /// The verdict on a report, numbered from 0: it is expected to answer the challenge of its
+    /// number.
+    pub fn verdict<D: Digest32>(&self, i: usize, report: &ReportView<'_>) -> Decision
+        ensures { result ≡ verdict_at (judge_of D.digest_of self.now) i (fields_of report.now) }
+    {
+        let expect = self.policy.expect(i);
+        decide_by::<D>(self.key, self.image, expect.as_ref(), report)
+    }
+}
