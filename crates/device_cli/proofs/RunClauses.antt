@@ -3,8 +3,8 @@ use Rattle.std.proofs.Common.{◌≡◌, ◌≤◌, ◌⊎◌, ℕ, List, Option
 use Rattle.std.proofs.lemmas.Option.{IfSome_then}
 use Rattle.outside_edge.specs.Count.{Rose}
 use Rattle.device_cli.specs.declared.status.Status.{Status}
-use Rattle.device_cli.specs.declared.status.Status.TheVariants.{Done, Rejected, Words, Memory}
-use Rattle.device_cli.specs.Answer.{Answers, Follows, HasLawfulOutcome, HasOutcome, IsAnswer, OnMemory, OnPut, OnWriteFault, PutsAll, PutsPrefix, StopsAtPair, UnlessPut}
+use Rattle.device_cli.specs.declared.status.Status.TheVariants.{Done, Rejected, Memory}
+use Rattle.device_cli.specs.Answer.{Follows, HasLawfulOutcome, HasOutcome, IsAnswer, OnMemory, OnPut, OnWriteFault, PutsAll, PutsPrefix, StopsAtPair, UnlessPut}
 use Rattle.device_cli.specs.Reading.{Files, IsRefusal, counts_of, first_refusal}
 use Rattle.device_cli.specs.Row.{Row}
 use Rattle.device_cli.proofs.RowAnswer.{complete}
