@@ -1,4 +1,3 @@
 pub mod judgement;
-pub mod verdict_line;
 pub mod verdict_text;
 pub mod verifier;

@@ -17,9 +17,14 @@ use Rattle.text_scan.specs.WordValue.{place_of, block_of}
 use Rattle.text_scan.proofs.FirstLine.{lines-line}
 use Rattle.text_scan.proofs.PlainWords.{ArePlain, IsPlainWord, hex_bytes_of-digits, hex_word_of-digits, words_of-join, printed-join, printed_bounds, printed-ascii, plain-decimal, plain-encoded, one_byte}
 use Rattle.text_scan.proofs.TextUtf8.{utf8_of-whole}
-use Rattle.report_text.specs.ReadBack.{IsPrintable, IsReadBack}
+use Rattle.report_verifier.specs.declared.decision.Decision.{Decision}
+use Rattle.report_verifier.specs.declared.decision.Decision.TheVariants.{Accept, NoChallenge, ChalDiffers, BoundsDiffer, ExecZero, MacDiffers}
+use Rattle.report_text.specs.ReadBack.{IsPrintable, IsReadBack, IsPassedOver}
 use Rattle.report_text.specs.ReportFile.{with_report, with_line, reports_of}
-use Rattle.report_text.specs.ReportLine.{is_rule_name, name_of, tx_line_of, reset_of, end_line_of, no_report_of, line_of}
+use Rattle.report_text.specs.ReportLine.{name_of, tx_line_of, reset_of, end_line_of, verdict_of, no_report_of, line_of}
+use Rattle.report_text.specs.RuleName.{is_rule_name}
+use Rattle.report_text.specs.VerdictLine.{verdict_line}
+use Rattle.report_text.specs.VerdictName.{verdict_name, is_verdict_name}
 use Rattle.report_text.proofs.ReportWords.{report_words, report_line-words, line_of-words, count_of-decimal, exec_of-flag, plain-words, plain-flag, plain-place}
 
 -- What a text says, whatever stands before and behind it: these lines, and these reports of them.
@@ -215,6 +220,45 @@ reads-reset step rule within =
       (plain-decimal step (omega (arith, within)), (plain-rule rule, tt)),
     )
     (line_of-reset step rule (omega (arith, within)))
+
+name_of-verdict : (verdict : Decision)
+    → name_of is_verdict_name (verdict_name verdict ∷ []) ≡ Ok (tt, [])
+unfolding name_of
+name_of-verdict Accept = refl
+name_of-verdict NoChallenge = refl
+name_of-verdict ChalDiffers = refl
+name_of-verdict BoundsDiffer = refl
+name_of-verdict ExecZero = refl
+name_of-verdict MacDiffers = refl
+
+plain-verdict : (verdict : Decision) → IsPlainWord (verdict_name verdict)
+plain-verdict Accept = (omega arith, refl)
+plain-verdict NoChallenge = (omega arith, refl)
+plain-verdict ChalDiffers = (omega arith, refl)
+plain-verdict BoundsDiffer = (omega arith, refl)
+plain-verdict ExecZero = (omega arith, refl)
+plain-verdict MacDiffers = (omega arith, refl)
+
+line_of-verdict : (number : ℕ) (verdict : Decision) → number ≤ 4294967295
+    → line_of (codes "verdict" ∷ decimal number ∷ verdict_name verdict ∷ []) ≡ Ok None
+unfolding line_of no_report_of verdict_of
+line_of-verdict number verdict within =
+    rw (count_of-decimal number (verdict_name verdict ∷ []) within, name_of-verdict verdict) refl
+
+reads-verdict : (number : ℕ) (verdict : Decision) → number < 2 ^ 32
+    → ReadsAs (verdict_line number verdict) []
+reads-verdict number verdict within =
+    reads-other (codes "verdict" ∷ decimal number ∷ verdict_name verdict ∷ [])
+    (verdict_line number verdict)
+    (three-words (codes "verdict") (decimal number) (verdict_name verdict)) (omega arith) refl (
+      (omega arith, refl),
+      (plain-decimal number (omega (arith, within)), (plain-verdict verdict, tt)),
+    )
+    (line_of-verdict number verdict (omega (arith, within)))
+
+pub passed_over : IsPassedOver
+passed_over number verdict within =
+    reads-whole (verdict_line number verdict) [] (reads-verdict number verdict within)
 
 end-words : (steps pc flag : List ℕ)
     → codes "end " ++ steps ++ codes " pc " ++ pc ++ codes " exec " ++ flag ++ codes "\n"

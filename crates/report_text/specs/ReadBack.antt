@@ -1,10 +1,12 @@
--- The line of a report is read as that report.
+-- The line of a report is read as that report, and the line of a verdict as none.
 use Rattle.std.specs.Prelude.{◌≡◌, ◌<◌, ◌^◌, ℕ, List, [], ◌∷◌, length, Ok, IfSome, IsTrue}
 use Rattle.hex.specs.Hex.{IsBytes}
 use Rattle.bus_signals.specs.declared.bounds.Bounds.{Bounds}
 use Rattle.bus_signals.specs.Report.{ReportFields}
 use Rattle.printed_lines.specs.Line.{report_line}
+use Rattle.report_verifier.specs.declared.decision.Decision.{Decision}
 use Rattle.report_text.specs.ReportFile.{output_fits, reports_of}
+use Rattle.report_text.specs.VerdictLine.{verdict_line}
 
 -- 32 bytes
 pub record IsBlock (bytes : List ℕ) : Type 0 where
@@ -32,3 +34,9 @@ abbrev pub IsReadBack : Type 0
 IsReadBack =
     (report : ReportFields) → IsPrintable report
     → reports_of (report_line report) ≡ Ok (report ∷ [])
+
+-- the file of a verdict's line has no report
+abbrev pub IsPassedOver : Type 0
+IsPassedOver =
+    (number : ℕ) (verdict : Decision) → number < 2 ^ 32
+    → reports_of (verdict_line number verdict) ≡ Ok []

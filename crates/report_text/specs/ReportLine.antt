@@ -1,5 +1,5 @@
 -- The lines of a report file: what each says, and its first fault.
-use Rattle.std.specs.Prelude.{ℕ, ◌==◌, ◌||◌, Bool, List, if◌then◌else◌, Option, Some, None, Result, Ok, Err, codes}
+use Rattle.std.specs.Prelude.{ℕ, ◌==◌, Bool, List, if◌then◌else◌, Option, Some, None, Result, Ok, Err, codes}
 use Rattle.std.specs.Str.{bytes_eq}
 use Rattle.bus_signals.specs.declared.bounds.Bounds.{Bounds}
 use Rattle.bus_signals.specs.Report.{ReportFields}
@@ -10,6 +10,8 @@ use Rattle.text_scan.specs.Hexadecimal.{even_bytes_of}
 use Rattle.text_scan.specs.Reader.{◌>>=◌}
 use Rattle.text_scan.specs.Word.{word_of, keyword_of, end_of}
 use Rattle.text_scan.specs.WordValue.{number_of, place_of, block_of}
+use Rattle.report_text.specs.RuleName.{is_rule_name}
+use Rattle.report_text.specs.VerdictName.{is_verdict_name}
 
 -- a number of a step, of steps or of a report
 abbrev pub count_of : List (List ℕ) → Result (ℕ × List (List ℕ)) FaultKind
@@ -86,19 +88,6 @@ tx_line_of words = do
   step ← count_of words
   byte ← block_of 1 step.1
   Ok (tt, byte.1)
-
-abbrev pub is_rule_name : List ℕ → Bool
-is_rule_name word =
-    bytes_eq word (codes "X0") || bytes_eq word (codes "A1") || bytes_eq word (codes "A2")
-    || bytes_eq word (codes "A3") || bytes_eq word (codes "A4") || bytes_eq word (codes "K1")
-    || bytes_eq word (codes "K2") || bytes_eq word (codes "K3") || bytes_eq word (codes "K4")
-    || bytes_eq word (codes "K5") || bytes_eq word (codes "K6") || bytes_eq word (codes "I1")
-
-abbrev pub is_verdict_name : List ℕ → Bool
-is_verdict_name word =
-    bytes_eq word (codes "accept") || bytes_eq word (codes "no-challenge")
-    || bytes_eq word (codes "chal-differs") || bytes_eq word (codes "bounds-differ")
-    || bytes_eq word (codes "exec-zero") || bytes_eq word (codes "mac-differs")
 
 -- a word that is one of some names
 unfoldable pub name_of : (List ℕ → Bool) → List (List ℕ) → Result (Unit × List (List ℕ)) FaultKind

@@ -1,8 +1,10 @@
 ghost use Rattle.std.specs.Prelude.{◌≡◌};
 ghost use Rattle.text_scan.specs.Reader.{ReadsOn, ReadsWordOn};
-ghost use Rattle.report_text.specs.ReportLine.{tx_line_of, is_rule_name, is_verdict_name, reset_of, verdict_of, bytes_of, collision_of, end_line_of, other_line_of, other_or_collision_of};
+ghost use Rattle.report_text.specs.ReportLine.{tx_line_of, reset_of, verdict_of, bytes_of, collision_of, end_line_of, other_line_of, other_or_collision_of};
 
 use crate::report_entry::{read_count, read_exec};
+use crate::rule_name::is_rule_name;
+use crate::verdict_name::is_verdict_name;
 use std::alloc::Global;
 use text_scan::{Bytes, FaultKind, WordFault, Words};
 
@@ -92,35 +94,4 @@ fn pass_end(words: &mut Words<'_>) -> Result<(), FaultKind>
     words.place()?;
     read_exec(words)?;
     Ok(())
-}
-
-fn is_rule_name(word: &[u8]) -> bool
-    ensures { result ≡ is_rule_name word.now }
-{
-    matches!(
-        word,
-        b"X0"
-            | b"A1"
-            | b"A2"
-            | b"A3"
-            | b"A4"
-            | b"K1"
-            | b"K2"
-            | b"K3"
-            | b"K4"
-            | b"K5"
-            | b"K6"
-            | b"I1"
-    )
-}
-
-fn is_verdict_name(word: &[u8]) -> bool
-    ensures { result ≡ is_verdict_name word.now }
-{
-    word == b"accept".as_slice()
-        || word == b"no-challenge".as_slice()
-        || word == b"chal-differs".as_slice()
-        || word == b"bounds-differ".as_slice()
-        || word == b"exec-zero".as_slice()
-        || word == b"mac-differs".as_slice()
 }

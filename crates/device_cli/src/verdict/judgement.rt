@@ -12,14 +12,13 @@ ghost use Rattle.device_cli.specs.Verify.{is_accept};
 ghost use Rattle.device_cli.specs.RoundText.{CountsWriteFaults, StopsOnlyAtPair};
 
 use crate::put_fault::PutFault;
-use crate::verdict::verdict_line::print_verdict;
 use crate::verdict::verdict_text::is_accept;
 use crate::verdict::verifier::Verifier;
 use bus_signals::ReportView;
 use hmac_core::Digest32;
 use mem_map::Memory;
 use outside_edge::{Failed, Sink};
-use report_text::print_collision;
+use report_text::{print_collision, print_verdict};
 use report_verifier::{Decision, Exhibit, Expect, compare};
 use std::alloc::Global;
 

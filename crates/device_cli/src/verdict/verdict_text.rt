@@ -5,11 +5,10 @@ ghost use Rattle.device_cli.specs.Judge.{verdict_at};
 ghost use Rattle.device_cli.specs.Judgement.{judge_of};
 ghost use Rattle.device_cli.specs.Verify.{verdicts, lines_from, all_accept, is_accept};
 
-use crate::verdict::verdict_line::print_verdict;
 use crate::verdict::verifier::Verifier;
 use hmac_core::Digest32;
 use outside_edge::{Failed, Sink};
-use report_text::Report;
+use report_text::{Report, print_verdict};
 use report_verifier::Decision;
 
 /// Puts a line for each report, and answers whether all of them were accepted.

@@ -1,0 +1,22 @@
+ghost use Rattle.std.specs.Prelude.{◌≡◌};
+ghost use Rattle.outside_edge.specs.Sink.{Puts, CountsFaults};
+ghost use Rattle.report_text.specs.VerdictLine.{verdict_line};
+
+use crate::verdict_name::verdict_name;
+use line_buffer::LineBuffer;
+use outside_edge::{Failed, Sink, put_all};
+use report_verifier::Decision;
+
+/// Puts `verdict I V`. The number is that of the verdict's report, from 1.
+pub fn print_verdict<W: Sink>(number: u64, decision: Decision, sink: &mut W) -> Result<(), Failed>
+    ensures puts { Puts W.stands sink.old sink.new (verdict_line number decision) result }
+    ensures counts { CountsFaults W.faults sink.old sink.new result }
+{
+    let mut line = LineBuffer::new();
+    line.push(b"verdict ");
+    line.push_decimal(number);
+    line.push(b" ");
+    line.push(verdict_name(decision));
+    line.push(b"\n");
+    put_all(sink, line.as_slice())
+}
