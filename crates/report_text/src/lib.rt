@@ -1,8 +1,8 @@
-//! The lines that the program prints of a play, and reports read from such lines.
+//! The lines that the program prints of a play and of verdicts, and reports read from such lines.
 //!
-//! Each print call puts exactly one line of the play's text into any byte sink, and takes no
-//! memory; after a failure the sink took a prefix of the line. [`read_reports`] gives the reports
-//! of a file in order, or its first fault; lines of the other kinds are passed over in their form.
+//! Each print call puts exactly one line of the text into any byte sink, and takes no memory; after
+//! a failure the sink took a prefix of the line. [`read_reports`] gives the reports of a file in
+//! order, or its first fault; lines of the other kinds are passed over in their form.
 #![tactic(auto)]
 
 mod collision_line;
