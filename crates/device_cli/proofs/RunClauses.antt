@@ -10,7 +10,8 @@ use Rattle.device_cli.specs.Row.{Row}
 use Rattle.device_cli.proofs.RowAnswer.{complete}
 
 -- all was put
-pub put-text : {S W : Type 0} {files : S → Files} {faults misses : S → ℕ} {stands : W → List ℕ → Type 0}
+pub put-text : {S W : Type 0} {files : S → Files} {faults misses : S → ℕ}
+    {stands : W → List ℕ → Type 0}
     {sink_faults : W → ℕ} {shelf shelf_after : S} {sink sink_after : W} {row : Option Row}
     {status : Status}
     → IsAnswer files faults misses stands sink_faults shelf shelf_after sink sink_after row status
@@ -19,7 +20,8 @@ pub put-text : {S W : Type 0} {files : S → Files} {faults misses : S → ℕ} 
 put-text {row = row} answer = IfSome_then row answer.answers (λ row answers. answers.text)
 
 -- writing failed
-pub put-prefix : {S W : Type 0} {files : S → Files} {faults misses : S → ℕ} {stands : W → List ℕ → Type 0}
+pub put-prefix : {S W : Type 0} {files : S → Files} {faults misses : S → ℕ}
+    {stands : W → List ℕ → Type 0}
     {sink_faults : W → ℕ} {shelf shelf_after : S} {sink sink_after : W} {row : Option Row}
     {status : Status}
     → IsAnswer files faults misses stands sink_faults shelf shelf_after sink sink_after row status
@@ -28,7 +30,8 @@ pub put-prefix : {S W : Type 0} {files : S → Files} {faults misses : S → ℕ
 put-prefix {row = row} answer = IfSome_then row answer.answers (λ row answers. answers.prefix)
 
 -- memory ran out
-pub stopped : {S W : Type 0} {files : S → Files} {faults misses : S → ℕ} {stands : W → List ℕ → Type 0}
+pub stopped : {S W : Type 0} {files : S → Files} {faults misses : S → ℕ}
+    {stands : W → List ℕ → Type 0}
     {sink_faults : W → ℕ} {shelf shelf_after : S} {sink sink_after : W} {row : Option Row}
     {status : Status}
     → IsAnswer files faults misses stands sink_faults shelf shelf_after sink sink_after row status
@@ -37,7 +40,8 @@ pub stopped : {S W : Type 0} {files : S → Files} {faults misses : S → ℕ} {
 stopped {row = row} answer = IfSome_then row answer.answers (λ row answers. answers.memory)
 
 -- nothing was put
-pub refused : {S W : Type 0} {files : S → Files} {faults misses : S → ℕ} {stands : W → List ℕ → Type 0}
+pub refused : {S W : Type 0} {files : S → Files} {faults misses : S → ℕ}
+    {stands : W → List ℕ → Type 0}
     {sink_faults : W → ℕ} {shelf shelf_after : S} {sink sink_after : W} {row : Option Row}
     {status : Status}
     → IsAnswer files faults misses stands sink_faults shelf shelf_after sink sink_after row status
@@ -53,7 +57,8 @@ both-some P None row holds = tt
 both-some P (Some contents) None holds = tt
 both-some P (Some contents) (Some row) holds = holds
 
-pub followed : {S W : Type 0} {files : S → Files} {faults misses : S → ℕ} {stands : W → List ℕ → Type 0}
+pub followed : {S W : Type 0} {files : S → Files} {faults misses : S → ℕ}
+    {stands : W → List ℕ → Type 0}
     {sink_faults : W → ℕ} {shelf shelf_after : S} {sink sink_after : W} {row : Option Row}
     {status : Status}
     → IsAnswer files faults misses stands sink_faults shelf shelf_after sink sink_after row status
@@ -62,7 +67,8 @@ pub followed : {S W : Type 0} {files : S → Files} {faults misses : S → ℕ} 
 followed {files = files} {shelf = shelf} {row = row} answer =
     both-some _ (files shelf) row (IfSome_then row answer.answers (λ row answers. answers.order))
 
-pub completed : {S W : Type 0} {files : S → Files} {faults misses : S → ℕ} {stands : W → List ℕ → Type 0}
+pub completed : {S W : Type 0} {files : S → Files} {faults misses : S → ℕ}
+    {stands : W → List ℕ → Type 0}
     {sink_faults : W → ℕ} {shelf shelf_after : S} {sink sink_after : W} {row : Option Row}
     {status : Status}
     → IsAnswer files faults misses stands sink_faults shelf shelf_after sink sink_after row status
@@ -80,7 +86,8 @@ completed {files = files} {faults = faults} {misses = misses} {sink_faults = sin
     answers.refusal))
 
 -- a fault of writing was counted
-pub failed-write : {S W : Type 0} {files : S → Files} {faults misses : S → ℕ} {stands : W → List ℕ → Type 0}
+pub failed-write : {S W : Type 0} {files : S → Files} {faults misses : S → ℕ}
+    {stands : W → List ℕ → Type 0}
     {sink_faults : W → ℕ} {shelf shelf_after : S} {sink sink_after : W} {row : Option Row}
     {status : Status}
     → IsAnswer files faults misses stands sink_faults shelf shelf_after sink sink_after row status
@@ -89,7 +96,8 @@ failed-write {row = None} answer = rw (answer.words.1 refl) tt
 failed-write {row = Some row} answer = answer.answers.failed
 
 -- the sink is as before
-pub nothing-put : {S W : Type 0} {files : S → Files} {faults misses : S → ℕ} {stands : W → List ℕ → Type 0}
+pub nothing-put : {S W : Type 0} {files : S → Files} {faults misses : S → ℕ}
+    {stands : W → List ℕ → Type 0}
     {sink_faults : W → ℕ} {shelf shelf_after : S} {sink sink_after : W} {row : Option Row}
     {status : Status}
     → IsAnswer files faults misses stands sink_faults shelf shelf_after sink sink_after row status
@@ -98,7 +106,8 @@ nothing-put {row = None} answer = rw (answer.words.1 refl) (answer.unread (answe
 nothing-put {row = Some row} answer = answer.answers.silent
 
 -- no count falls
-pub faults-kept : {S W : Type 0} {files : S → Files} {faults misses : S → ℕ} {stands : W → List ℕ → Type 0}
+pub faults-kept : {S W : Type 0} {files : S → Files} {faults misses : S → ℕ}
+    {stands : W → List ℕ → Type 0}
     {sink_faults : W → ℕ} {shelf shelf_after : S} {sink sink_after : W} {row : Option Row}
     {status : Status}
     → IsAnswer files faults misses stands sink_faults shelf shelf_after sink sink_after row status
@@ -107,7 +116,8 @@ faults-kept {row = None} answer = rw (answer.unread (answer.words.1 refl)).0 (om
 faults-kept {row = Some row} answer = answer.answers.kept.faults_counted
 
 -- no count falls
-pub misses-kept : {S W : Type 0} {files : S → Files} {faults misses : S → ℕ} {stands : W → List ℕ → Type 0}
+pub misses-kept : {S W : Type 0} {files : S → Files} {faults misses : S → ℕ}
+    {stands : W → List ℕ → Type 0}
     {sink_faults : W → ℕ} {shelf shelf_after : S} {sink sink_after : W} {row : Option Row}
     {status : Status}
     → IsAnswer files faults misses stands sink_faults shelf shelf_after sink sink_after row status
@@ -116,7 +126,8 @@ misses-kept {row = None} answer = rw (answer.unread (answer.words.1 refl)).0 (om
 misses-kept {row = Some row} answer = answer.answers.kept.misses_counted
 
 -- no count falls
-pub sink_faults-kept : {S W : Type 0} {files : S → Files} {faults misses : S → ℕ} {stands : W → List ℕ → Type 0}
+pub sink_faults-kept : {S W : Type 0} {files : S → Files} {faults misses : S → ℕ}
+    {stands : W → List ℕ → Type 0}
     {sink_faults : W → ℕ} {shelf shelf_after : S} {sink sink_after : W} {row : Option Row}
     {status : Status}
     → IsAnswer files faults misses stands sink_faults shelf shelf_after sink sink_after row status

@@ -90,7 +90,8 @@ last-unfinished start [] entry byte last sent = absurd cc
 last-unfinished start (events ∷ play) entry byte last sent =
     let logs = with_events (logs_after start play) events in
     let same : record_of start logs (asks_reset events) ≡ entry = cc in
-    rw (sym same) (sent-unfinished start logs (asks_reset events) byte _ refl (rw (sym same) at sent))
+    rw (sym same)
+    (sent-unfinished start logs (asks_reset events) byte _ refl (rw (sym same) at sent))
 
 -- nor does a refused one
 refused-unfinished :

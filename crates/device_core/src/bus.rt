@@ -68,7 +68,8 @@ fn show_exec(memory: &mut Memory, was_set: bool, is_set: bool)
 fn write_in(access: Option<Access>) -> Option<Access>
     requires { IfSome access IsFormed }
     ensures formed { IfSome result IsFormed }
-    ensures writes { (writes : List MemoryWrite) → with_access result writes ≡ with_access access writes }
+    ensures writes { (writes : List MemoryWrite)
+        → with_access result writes ≡ with_access access writes }
 {
     match access {
         Some(Access::Write(..)) => access,
@@ -298,8 +299,8 @@ impl Bus {
         keep_record(&mut self.last, entry, sent, keeps);
     }
 
-    // Of a step that breaks a rule: makes no access, and resets all that is reached over the bus but
-    // memory and pins. The signals are copied, so that other steps keep none in memory.
+    // Of a step that breaks a rule: makes no access, and resets all that is reached over the bus
+    // but memory and pins. The signals are copied, so that other steps keep none in memory.
     #[inline(never)]
     #[tactic(auto, unfolding(device_trace::specs::Logs::with_record))]
     fn refuse(&mut self, regs: &[u16; 16], now: Signals)

@@ -8,7 +8,7 @@ returns-then-not-at_boundary g c = λ key image logs stands (stage, dma).
     (c.turn_in_the_middle-turn.ensures.turn _ logs stands
     (sym (c.at_boundary.ensures _ stands.same_progress.same_processor)
     ∙ c.if-not-at_boundary.true))
-    (c.known-dma.ensures ∙ dma)
+    (c.access_where-dma.ensures ∙ dma)
 
 pub returns-then-fetches : goal.returns-then-fetches
 returns-then-fetches g c = λ key image logs stands (stage, dma).
@@ -18,8 +18,8 @@ returns-then-fetches g c = λ key image logs stands (stage, dma).
     c.go-then-fetches.ensures.stands key image logs
     (c.turn_of_fetch-turn.ensures.turn _ logs stands here
     (c.fetches.ensures _ logs stands here c.if-fetches.true))
-    (c.known-dma.ensures ∙ dma)
+    (c.access_where-dma.ensures ∙ dma)
 
 pub returns-else-fetches : goal.returns-else-fetches
 returns-else-fetches g c = λ key image logs stands (stage, dma).
-    c.go_from.ensures.stands key image logs stands (stage, c.known-dma.ensures ∙ dma)
+    c.go_from.ensures.stands key image logs stands (stage, c.access_where-dma.ensures ∙ dma)

@@ -12,7 +12,8 @@ pub returns-in_err-device-clause-puts : goal.returns-in_err-device-clause-puts
 returns-in_err-device-clause-puts g c =
     let values = c.args.values.now in
     stops g.W.Sink.stands g.W.Sink.faults c.args.sink.now
-    (play_outcome dump_text c.args.self.now.arguments.steps values.0.0 (byte_in values.0.1) values.1)
+    (play_outcome dump_text c.args.self.now.arguments.steps values.0.0 (byte_in values.0.1)
+    values.1)
     c.from_residual.result c.from_residual.ensures.1
 
 pub returns-in_err-live-clause-puts : goal.returns-in_err-live-clause-puts
@@ -35,7 +36,8 @@ returns-in_err-write_memory-clause-puts g c =
     let values = c.args.values.now in
     let holds = c.in_ok-device.ensures.stands in
     fails g.W.Sink.stands g.W.Sink.faults c.args.sink.now c.write_memory.new.sink
-    (play_outcome dump_text c.args.self.now.arguments.steps values.0.0 (byte_in values.0.1) values.1)
+    (play_outcome dump_text c.args.self.now.arguments.steps values.0.0 (byte_in values.0.1)
+    values.1)
     c.from_residual-in_err-write_memory.result c.from_residual-in_err-write_memory.ensures.1
     (puts_after g.W.Sink.stands c.args.sink.now c.play_on.new.sink c.write_memory.new.sink _ _ _
     (c.in_ok-live.ensures.puts _ _ holds).all
