@@ -1,0 +1,192 @@
+-- A play whose steps are watched: what a watcher has come to, and what is still to come.
+use Rattle.std.proofs.Common.{◌≡◌, ◌<◌, ◌≤◌, ◌+◌, ◌-◌, ◌++◌, ◌∙◌, ◌∷◌, [], ℕ, zero, suc, true, List, Result, Ok, Err, IfErr, refl, sym, ap, subst, arith, append_assoc, append-nil}
+use Rattle.std.specs.Prelude.{IsErrAnd}
+use Rattle.bus_signals.specs.declared.event.Event.{Event}
+use Rattle.outside_edge.specs.Sink.{Takes, TakesPrefix}
+use Rattle.device_trace.specs.Start.{Start}
+use Rattle.device_trace.specs.Trace.{play_of}
+use Rattle.device_core.specs.Device.{LiveStandsFor, steps_made}
+use Rattle.device_core.specs.Silence.{is_silent}
+use Rattle.device_core.specs.declared.live.Live.{Live}
+use Rattle.device_cli.specs.WatchedPlay.{watched_lines, AllAreSilent}
+use Rattle.device_cli.proofs.PutsLemmas.{takes-append, takes-nothing, prefix-append}
+
+-- a tally of the first steps, and a sink that took their lines
+pub record IsWatched {S T : Type 0} (stands : S → List ℕ → Type 0)
+    (tallies : List (List Event) → T → Type 0) (last_lines : List (List Event) → ℕ → List ℕ)
+    (old new : S) (events_at : ℕ → List Event) (step : ℕ) (tally : T) : Type 0 where
+  pub counted : tallies (play_of events_at step) tally
+  pub took : Takes stands old new (watched_lines last_lines events_at step)
+
+-- there is nothing to say of a silent step
+pub record PassesSilence {T : Type 0} (start : Start) (tallies : List (List Event) → T → Type 0)
+    (last_lines : List (List Event) → ℕ → List ℕ) : Type 0 where
+  pub no_lines : (play : List (List Event)) (step : ℕ)
+      → is_silent start play ≡ true → last_lines play step ≡ []
+  pub same_tally : (events : List Event) (play : List (List Event)) (tally : T)
+      → is_silent start (events ∷ play) ≡ true
+      → tallies play tally → tallies (events ∷ play) tally
+
+watched_lines-more :
+    (last_lines : List (List Event) → ℕ → List ℕ) (events_at : ℕ → List Event) (step : ℕ)
+    → watched_lines last_lines events_at (suc step)
+    ≡ watched_lines last_lines events_at step ++ last_lines (play_of events_at (suc step)) step
+unfolding watched_lines
+watched_lines-more last_lines events_at step = refl
+
+-- before the first step
+pub watched-none :
+    {S T : Type 0} (stands : S → List ℕ → Type 0) (tallies : List (List Event) → T → Type 0)
+    (last_lines : List (List Event) → ℕ → List ℕ) (same : S) (events_at : ℕ → List Event)
+    (tally : T)
+    → tallies [] tally
+    → IsWatched stands tallies last_lines same same events_at 0 tally
+unfolding watched_lines
+watched-none stands tallies last_lines same events_at tally is =
+    record { counted = is; took = takes-nothing stands same }
+
+-- after silent steps it is as before them
+watched-silent :
+    {S T : Type 0} (stands : S → List ℕ → Type 0) (start : Start)
+    (tallies : List (List Event) → T → Type 0) (last_lines : List (List Event) → ℕ → List ℕ)
+    (old new : S) (events_at : ℕ → List Event) (more step until : ℕ) (tally : T)
+    → PassesSilence start tallies last_lines
+    → until ≡ more + step
+    → AllAreSilent start events_at step until
+    → IsWatched stands tallies last_lines old new events_at step tally
+    → IsWatched stands tallies last_lines old new events_at until tally
+watched-silent stands start tallies last_lines old new events_at zero step until tally passes sum
+    silent is =
+    let same : until ≡ step = omega arith in rw same is
+watched-silent stands start tallies last_lines old new events_at (suc more) step until tally passes
+    sum silent is =
+    let same : until ≡ suc (more + step) = omega arith in
+    let before = watched-silent stands start tallies last_lines old new events_at more step
+    (more + step) tally passes refl (λ later from below. silent later from (omega arith)) is in
+    let here : is_silent start (play_of events_at (suc (more + step))) ≡ true =
+    silent (more + step) (omega arith) (omega arith) in
+    rw same (record {
+      counted = passes.same_tally (events_at (more + step)) (play_of events_at (more + step)) tally
+          here before.counted;
+      took = rw (
+            watched_lines-more last_lines events_at (more + step),
+            passes.no_lines (play_of events_at (suc (more + step))) (more + step) here,
+            append-nil,
+          ) before.took;
+    })
+
+-- one more step that was shown
+pub watched-seen :
+    {S T : Type 0} (stands : S → List ℕ → Type 0) (tallies : List (List Event) → T → Type 0)
+    (last_lines : List (List Event) → ℕ → List ℕ) (old mid new : S) (events_at : ℕ → List Event)
+    (before count : ℕ) (tally more : T)
+    → count ≡ suc before
+    → IsWatched stands tallies last_lines old mid events_at before tally
+    → tallies (play_of events_at (suc before)) more
+    → Takes stands mid new (last_lines (play_of events_at (suc before)) before)
+    → IsWatched stands tallies last_lines old new events_at count more
+watched-seen stands tallies last_lines old mid new events_at before count tally more same is counts
+    takes =
+    rw same (record {
+      counted = counts;
+      took = takes-append stands old mid new (watched_lines last_lines events_at before) _ _
+          (watched_lines-more last_lines events_at before) is.took takes;
+    })
+
+-- the lines of more steps begin with those of fewer
+watched_lines-begins :
+    (last_lines : List (List Event) → ℕ → List ℕ) (events_at : ℕ → List Event)
+    (more fewer steps : ℕ)
+    → steps ≡ more + fewer
+    → (rest : List ℕ)
+    × (watched_lines last_lines events_at steps
+    ≡ watched_lines last_lines events_at fewer ++ rest)
+watched_lines-begins last_lines events_at zero fewer steps sum =
+    let same : steps ≡ fewer = omega arith in
+    rw same ([], sym (append-nil (watched_lines last_lines events_at fewer)))
+watched_lines-begins last_lines events_at (suc more) fewer steps sum =
+    let same : steps ≡ suc (more + fewer) = omega arith in
+    let shorter = watched_lines-begins last_lines events_at more fewer (more + fewer) refl in
+    let lines : List ℕ = last_lines (play_of events_at (suc (more + fewer))) (more + fewer) in
+    rw same (
+      shorter.0 ++ lines,
+      watched_lines-more last_lines events_at (more + fewer)
+          ∙ ap (λ (earlier : List ℕ). earlier ++ lines) shorter.1
+          ∙ append_assoc (watched_lines last_lines events_at fewer) shorter.0 lines,
+    )
+
+-- a step that was shown in part
+pub watched-prefix :
+    {S : Type 0} (stands : S → List ℕ → Type 0) (last_lines : List (List Event) → ℕ → List ℕ)
+    (old mid new : S) (events_at : ℕ → List Event) (before steps : ℕ)
+    → before + 1 ≤ steps
+    → Takes stands old mid (watched_lines last_lines events_at before)
+    → TakesPrefix stands mid new (last_lines (play_of events_at (suc before)) before)
+    → TakesPrefix stands old new (watched_lines last_lines events_at steps)
+watched-prefix stands last_lines old mid new events_at before steps within takes prefix =
+    let sum : steps ≡ (steps - suc before) + suc before = omega arith in
+    let begins = watched_lines-begins last_lines events_at (steps - suc before) (suc before) steps
+    sum in
+    let lines : List ℕ = last_lines (play_of events_at (suc before)) before in
+    prefix-append stands old mid new (watched_lines last_lines events_at before) lines begins.0 _
+    (begins.1
+    ∙ ap (λ (earlier : List ℕ). earlier ++ begins.0)
+    (watched_lines-more last_lines events_at before)
+    ∙ append_assoc (watched_lines last_lines events_at before) lines begins.0)
+    takes prefix
+
+-- the same number of steps
+pub at-count :
+    {D : Type 0} (has_taken : D → List ℕ → Type 0) (digest : List ℕ → List ℕ) (live : Live D)
+    (start : Start) (events_at : ℕ → List Event) (one other : ℕ)
+    → one ≡ other → LiveStandsFor has_taken digest live start (play_of events_at one)
+    → LiveStandsFor has_taken digest live start (play_of events_at other)
+at-count has_taken digest live start events_at one other same stands =
+    subst (λ play. LiveStandsFor has_taken digest live start play) (ap (play_of events_at) same)
+    stands
+
+-- a device that has gone on from one number of steps to another, and a watcher before the last of
+-- these steps
+pub watched-played :
+    {D S T : Type 0} (has_taken : D → List ℕ → Type 0) (digest : List ℕ → List ℕ)
+    (earlier later : Live D) (start : Start) (stands : S → List ℕ → Type 0)
+    (tallies : List (List Event) → T → Type 0) (last_lines : List (List Event) → ℕ → List ℕ)
+    (old new : S) (events_at : ℕ → List Event) (step before : ℕ) (tally : T)
+    → PassesSilence start tallies last_lines
+    → steps_made earlier ≡ step → steps_made later ≡ suc before → step ≤ before
+    → (LiveStandsFor has_taken digest earlier start (play_of events_at (steps_made earlier))
+    → AllAreSilent start events_at (steps_made earlier) (steps_made later - 1))
+    → LiveStandsFor has_taken digest earlier start (play_of events_at step)
+    → IsWatched stands tallies last_lines old new events_at step tally
+    → IsWatched stands tallies last_lines old new events_at before tally
+watched-played has_taken digest earlier later start stands tallies last_lines old new events_at step
+    before tally passes made more within silent here is =
+    let same : suc before - 1 ≡ before = omega arith in
+    watched-silent stands start tallies last_lines old new events_at (before - step) step before
+    tally passes (omega arith)
+    (rw (more, made, same) at (silent
+    (at-count has_taken digest earlier start events_at step (steps_made earlier) (sym made) here)))
+    is
+
+-- and the device after the last of them
+pub live-played :
+    {D : Type 0} (has_taken : D → List ℕ → Type 0) (digest : List ℕ → List ℕ)
+    (earlier later : Live D) (start : Start) (events_at : ℕ → List Event) (step before : ℕ)
+    → steps_made earlier ≡ step → steps_made later ≡ suc before
+    → (LiveStandsFor has_taken digest earlier start (play_of events_at (steps_made earlier))
+    → LiveStandsFor has_taken digest later start (play_of events_at (steps_made later)))
+    → LiveStandsFor has_taken digest earlier start (play_of events_at step)
+    → LiveStandsFor has_taken digest later start (play_of events_at (suc before))
+live-played has_taken digest earlier later start events_at step before made more stands here =
+    at-count has_taken digest later start events_at (steps_made later) (suc before) more
+    (stands
+    (at-count has_taken digest earlier start events_at step (steps_made earlier) (sym made) here))
+
+-- a fault that was handed on
+pub fault-passed :
+    {V E : Type 0} (result : Result V E) (fault : E) (says : E → Type 0)
+    → IsErrAnd result (λ error. error ≡ fault)
+    → says fault
+    → IfErr result says
+fault-passed (Ok value) fault says is so = absurd is
+fault-passed (Err error) fault says is so = rw is so

@@ -1,0 +1,14 @@
+use Rattle.std.proofs.Common.{◌∷◌}
+use Rattle.device_cli.specs.Judgement.{judge_of}
+use Rattle.device_cli.proofs.Tallies.{tally-answered}
+use Rattle.device_cli.proofs.round_text.JudgingStepWatcher.see.Goals as goal
+
+pub returns-clause-tally : goal.returns-clause-tally
+returns-clause-tally g c = λ start events play live is.
+    tally-answered (judge_of g.D.Digest32.digest_of c.args.self.now.verifier.now) start events play
+    c.args.tally c.print_judged_step.result is
+    (c.print_judged_step.ensures.tally start (events ∷ play) live)
+
+pub returns-clause-puts : goal.returns-clause-puts
+returns-clause-puts g c = λ start events play live is.
+    rw is.verdicts at (c.print_judged_step.ensures.puts start (events ∷ play) live)
