@@ -69,10 +69,10 @@ watched-silent stands start tallies last_lines old new events_at (suc more) step
       counted = passes.same_tally (events_at (more + step)) (play_of events_at (more + step)) tally
           here before.counted;
       took = rw (
-            watched_lines-more last_lines events_at (more + step),
-            passes.no_lines (play_of events_at (suc (more + step))) (more + step) here,
-            append-nil,
-          ) before.took;
+        watched_lines-more last_lines events_at (more + step),
+        passes.no_lines (play_of events_at (suc (more + step))) (more + step) here,
+        append-nil,
+      ) before.took;
     })
 
 -- one more step that was shown

@@ -56,8 +56,7 @@ loop-step-preserved g c =
           c.args.watcher.now (with_key digest key image) events play tally silent is;
     }) first last between
     (c.play_more-live.ensures.silent key image events_at leaves)
-    (c.loop-step.invariant.5 key image holds) (c.loop-step.invariant.6 key image holds begins) in
-    (
+    (c.loop-step.invariant.5 key image holds) (c.loop-step.invariant.6 key image holds begins) in (
       omega (arith, c.steps-step.ensures.made),
       omega (arith, c.steps-step.ensures.made),
       omega (arith, c.in_ok-tally.ensures.count, c.loop-step.invariant.2),
