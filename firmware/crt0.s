@@ -28,19 +28,40 @@ ended:  bis     #0x10, r2               ; sleeps after main
         .globl  attest
 attest: push    r2
         dint
-        mov     #0x0240, r13            ; the metadata begins with the challenge
-byte:   mov.b   @r12, 0(r13)
-        inc     r12
-        inc     r13
-        cmp     #0x0260, r13
-        jne     byte
-        mov     #er_min, &0x0260
+        mov     #0x0240, r13            ; the metadata: challenge,
+        mov     #0x0260, r14
+        call    #store
+        mov     #er_min, &0x0260        ; bounds,
         mov     #er_max, &0x0262
         mov     #or_min, &0x0264
         mov     #or_max, &0x0266
-        call    #er_min
-        call    #0xa000                 ; the attestation ROM makes the report
+        mov     #0x026c, r13            ; counter and token
+        mov     #0x0290, r14
+        call    #store
+        call    #er_min                 ; a write to the metadata after this would clear EXEC
+        mov     #0x0202, r13            ; the MAC behind its first word
+clear:  clr     0(r13)
+        incd    r13
+        cmp     #0x0220, r13
+        jne     clear
+        call    #0xa000                 ; the attestation ROM
+        mov     #1, r12                 ; it attested where it wrote more than the first word
+        mov     #0x0220, r13
+search: decd    r13
+        tst     0(r13)
+        jne     decided
+        cmp     #0x0202, r13
+        jne     search
+        mov     &0x0200, r12            ; else that word is its decision
+decided:
         pop     r2
+        ret
+
+store:  mov.b   @r12, 0(r13)            ; bytes of the request, to r13 and up to r14
+        inc     r12
+        inc     r13
+        cmp     r14, r13
+        jne     store
         ret
 
 ; The executable region is entered at its first instruction alone, and left at its last. It has a

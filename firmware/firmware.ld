@@ -1,5 +1,6 @@
-/* RAM from 0300 on is the firmware's: below stand MAC and metadata. The stack grows down from the
-   end of RAM. clang names the vector of an interrupt function of number N __interrupt_vector_N. */
+/* RAM from 0300 on is the firmware's: below stand MAC (0200 to 021F) and metadata (0240 to 028F).
+   The stack grows down from the end of RAM. clang names the vector of an interrupt function of
+   number N __interrupt_vector_N. */
 ENTRY(start)
 MEMORY
 {

@@ -20,8 +20,13 @@
 #define DDST FOLDGNEISS_WORD(0x01E4)
 #define DLEN FOLDGNEISS_WORD(0x01E6)
 
-#define EXEC FOLDGNEISS_WORD(0x0268)             // the EXEC flag
-#define MAC ((const volatile uint8_t *)0x0200)  // 32 bytes: the last report's MAC
+// In the metadata, 0240 to 028F, where every write clears the EXEC flag.
+#define EXEC FOLDGNEISS_WORD(0x0268)            // the EXEC flag, which no write sets
+#define AUX FOLDGNEISS_WORD(0x026A)             // a second flag; it is always 0
+#define COUNTER (*(volatile uint32_t *)0x026C)  // the counter of the request
+#define TOKEN ((volatile uint8_t *)0x0270)      // 32 bytes: its token
+
+#define MAC ((const volatile uint8_t *)0x0200)  // 32 bytes: the last call's MAC, or its decision
 
 // A handler: INTERRUPT(SERIAL) void on_byte(void) { .. }
 #define INTERRUPT(source) __attribute__((interrupt(source##_VECTOR)))
@@ -42,8 +47,19 @@ static inline void sleep(void) { __asm__ volatile("bis #0x18, r2" ::: "memory");
 #define OUTPUT volatile __attribute__((section(".or")))
 void region(void);
 
-// Answers a challenge of 32 bytes: writes the metadata, runs `region` and calls the attestation
-// ROM, with interrupts off meanwhile.
-void attest(const uint8_t *challenge);
+// A request as it comes from a verifier: a challenge of 32 bytes, a counter of 4, the low one
+// first, and a token of 32.
+#define REQUEST_BYTES 68
+
+// What the attestation ROM decides on a request. It makes a report for the first alone.
+enum decision { ATTESTS = 1, COUNTER_IS_OLD = 2, TOKEN_DIFFERS = 3 };
+
+// Writes request and bounds into the metadata, runs `region` and calls the ROM, with interrupts off
+// meanwhile, and tells what the ROM decided. No DMA transfer may be active.
+//
+// The ROM writes its decision to the first word of MAC, and then, if it attests, the MAC to all 16.
+// So `attest` sets the others to 0 before the call, and takes the first for the decision where they
+// still are. That is wrong only where a MAC ends in 30 zero bytes, one in 2^240.
+enum decision attest(const uint8_t request[REQUEST_BYTES]);
 
 #endif

@@ -6,6 +6,7 @@ can with its column, from 1 and in bytes, and with what is wanted there.
 """
 import re
 import string
+from typing import NamedTuple, Optional
 
 import reference
 
@@ -13,6 +14,8 @@ HEX = set(string.hexdigits.encode())
 RULES = [name.encode() for name in reference.RULES]
 VERDICTS = [name.encode() for name in reference.VERDICTS]
 COUNTS = {1: 0, 2: 2, 3: 4, 4: 2, 5: 4}
+# The first and the last place of the metadata, by versions. Policies and reports are of version 1.
+METADATA = {1: (0x0240, 0x0269), 2: (0x0240, 0x028F)}
 
 
 class Fault(Exception):
@@ -114,9 +117,6 @@ class Words:
     def fault(self, kind, wanted=None):
         raise Fault(self.number, kind, self.column, wanted)
 
-    def is_next(self, word):
-        return bool(self.matches) and self.matches[0].group() == word
-
     def take(self, wanted=None):
         if not self.matches:
             self.column = self.length + 1
@@ -155,6 +155,13 @@ class Words:
     def any_bytes(self):
         return self.digits(lambda length: length % 2 == 0)
 
+    def bytes_or_none(self):
+        """The bytes of a word, None for `-`."""
+        if self.matches and self.matches[0].group() == b"-":
+            self.take()
+            return None
+        return self.any_bytes()
+
     def end(self):
         if self.matches:
             self.take()
@@ -192,18 +199,19 @@ def read_script(text):
         last = step
 
 
-def is_valid(bounds):
-    """Even, in order, each region wholly in RAM or in the program, and apart from each other, MAC
-    and metadata.
+def is_valid(bounds, version):
+    """Even, in order, each region wholly in RAM or in the program, and apart from each other, the
+    MAC and the metadata of this version.
     """
     er_min, er_max, or_min, or_max = bounds
+    metadata = METADATA[version]
     if any(bound % 2 for bound in bounds) or er_min > er_max or or_min > or_max:
         return False
     regions = [(er_min, er_max + 1), (or_min, or_max + 1)]
     for first, last in regions:
         if not (0x0200 <= first and last <= 0x21FF or 0xC000 <= first and last <= 0xFFDF):
             return False
-        if first <= 0x021F or first <= 0x0269 and last >= 0x0240:
+        if first <= 0x021F or first <= metadata[1] and last >= metadata[0]:
             return False
     return regions[0][1] < regions[1][0] or regions[1][1] < regions[0][0]
 
@@ -222,33 +230,42 @@ def read_policy(text):
             challenges.append(value)
         else:
             bounds.extend(value)
-        if kind == b"or" and not is_valid(bounds):
+        if kind == b"or" and not is_valid(bounds, 1):
             words.fault("Bounds")
     if len(bounds) < 4:
         raise Fault(count, "Missing")
     return bounds, challenges
 
 
+class Report(NamedTuple):
+    """A report of version 1."""
+    step: int
+    exec: int
+    challenge: bytes
+    bounds: list
+    output: Optional[bytes]  # None where the bounds are not valid
+    mac: bytes
+
+
 def read_report(words):
     step = words.decimal(4294967295)
     words.keyword(b"exec")
-    is_set = words.decimal(1)
+    flag = words.decimal(1)
     words.keyword(b"chal")
-    chal = words.bytes(32)
+    challenge = words.bytes(32)
     words.keyword(b"er")
     bounds = [words.word(), words.word()]
     words.keyword(b"or")
     bounds += [words.word(), words.word()]
     words.keyword(b"data")
-    has_none = words.is_next(b"-")
-    data = words.take() if has_none else words.any_bytes()
+    output = words.bytes_or_none()
     words.keyword(b"mac")
     mac = words.bytes(32)
     words.end()
-    size = bounds[3] + 2 - bounds[2] if is_valid(bounds) else None
-    if size != (None if has_none else len(data)):
+    size = bounds[3] + 2 - bounds[2] if is_valid(bounds, 1) else None
+    if size != (None if output is None else len(output)):
         words.fault("Output")
-    return step, is_set, chal, bounds, data, mac
+    return Report(step, flag, challenge, bounds, output, mac)
 
 
 def read_reports(text):

@@ -48,12 +48,13 @@ class Picture:
 
 def device():
     """docs/device.svg: the bus, its masters, what watches it, and the memory map."""
-    picture = Picture(820, 400, "The device: bus masters, monitors, memory map")
+    picture = Picture(820, 416, "The device: bus masters, monitors, memory map")
     for x, *lines in ((180, "processor", "MSP430, 16 bits"),
-                      (350, "attestation ROM", "in the processor's place"),
+                      (350, "attestation ROM", "in the processor's place,",
+                       "for requests with a token"),
                       (560, "DMA engine", "its own access a step")):
-        picture.box(x, 20, 150, 50, *lines)
-        picture.arrow(x + 75, 70, x + 75, 108)
+        picture.box(x, 20, 150, 60, *lines)
+        picture.arrow(x + 75, 80, x + 75, 108)
     picture.box(180, 110, 530, 46, "monitors",
                 "a step that breaks one of the rules is not made, and the device resets",
                 fill="#fef3c7", stroke=ACCENT)
@@ -62,41 +63,47 @@ def device():
     picture.text(410, 207, "bus: in a step one access of processor or ROM, then one of the DMA",
                  fill=PAPER)
     for x, width, *lines in ((20, 140, "0000", "timer, serial port,", "pins, DMA registers"),
-                             (170, 130, "0200 RAM", "MAC, metadata,", "globals, stack"),
-                             (310, 100, "4000", "exclusive", "stack"),
-                             (420, 80, "6A00", "device", "key"),
+                             (170, 130, "0200 RAM", "0200 decision, MAC", "0240 metadata",
+                              "globals, stack"),
+                             (310, 116, "4000", "exclusive stack", "4060 kept counter"),
+                             (436, 64, "6A00", "device", "key"),
                              (510, 100, "A000", "attestation", "ROM"),
                              (620, 100, "C000", "program"),
                              (730, 70, "FFE0", "vectors")):
         picture.arrow(x + width / 2, 214, x + width / 2, 248, both=True)
-        picture.box(x, 250, width, 66, *lines)
+        picture.box(x, 250, width, 82, *lines)
     picture.box(20, 20, 130, 136, "outside", "the script:", "bytes, pins,", "DMA starts,", "resets",
                 fill=PAPER)
-    picture.add("path", d="M20 88H8V283H18", fill="none", stroke=INK, stroke_width=1.5,
+    picture.add("path", d="M20 88H8V291H18", fill="none", stroke=INK, stroke_width=1.5,
                 marker_end="url(#head)")
-    picture.box(170, 346, 630, 40, "EXEC flag, shown in the metadata",
+    picture.box(170, 362, 630, 40, "EXEC flag, shown in the metadata",
                 "1 where the named region ran whole and undisturbed, and nothing touched it since",
                 fill="#dcfce7", stroke="#166534")
-    picture.arrow(235, 346, 235, 318)
+    picture.arrow(235, 362, 235, 334)
     return picture.svg()
 
 
 def attested_round():
-    """docs/round.svg: a challenge, a run, a report and a verdict."""
-    picture = Picture(820, 350, "A round: challenge, run, report, verdict")
+    """docs/round.svg: a request, a run, a report and a verdict."""
+    picture = Picture(820, 402, "A round: request, run, report, verdict")
     picture.box(20, 20, 300, 56, "verifier", "has the key, the image and a policy")
     picture.box(500, 20, 300, 56, "device", "has the key, and runs the image")
     for x in (170, 650):
-        picture.add("line", x1=x, y1=76, x2=x, y2=306, stroke=INK, stroke_dasharray="4 4")
+        picture.add("line", x1=x, y1=76, x2=x, y2=358, stroke=INK, stroke_dasharray="4 4")
     picture.arrow(170, 104, 648, 104)
-    picture.text(410, 97, "challenge: 32 fresh bytes")
-    for y, *lines in ((118, "1  writes challenge and bounds", "to the metadata"),
+    picture.text(410, 97, "request: challenge, counter, token")
+    picture.box(20, 118, 300, 60, "request", "32 fresh bytes, a counter above the last one,",
+                "and the HMAC of both under the key", fill=PAPER)
+    picture.box(20, 190, 300, 44, "policy", "bounds of region and output, requests", fill=PAPER)
+    for y, *lines in ((118, "1  writes request and bounds", "to the metadata"),
                       (170, "2  runs the region", "which writes the output; EXEC is 1"),
-                      (222, "3  calls the attestation ROM", "MAC of metadata, region, output")):
+                      (222, "3  calls the attestation ROM",
+                       "another token, or an old counter, is denied"),
+                      (274, "4  the ROM keeps the counter and attests",
+                       "MAC of metadata, region, output")):
         picture.box(500, y, 300, 44, *lines, fill=PAPER)
-    picture.arrow(648, 296, 172, 296)
-    picture.text(410, 289, "report: challenge, bounds, EXEC, output, MAC")
-    picture.box(20, 118, 300, 60, "policy", "bounds of region and output, challenges", fill=PAPER)
-    picture.box(20, 306, 300, 34, "verdict: accept, or what differs", fill="#dcfce7",
+    picture.arrow(648, 348, 172, 348)
+    picture.text(410, 341, "report: challenge, counter, bounds, EXEC, output, MAC")
+    picture.box(20, 358, 300, 34, "verdict: accept, or what differs", fill="#dcfce7",
                 stroke="#166534")
     return picture.svg()

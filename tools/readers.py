@@ -10,3 +10,12 @@ READERS = {
     "reports": file_readers.read_reports,
     "source": assembler_model.assemble,
 }
+
+
+def first_fault(kind, text):
+    """What the program says of a file's first fault; None where it has none."""
+    try:
+        READERS[kind](text)
+    except file_readers.Fault as fault:
+        return f"bad {kind}: {fault}"
+    return None

@@ -31,10 +31,12 @@ class File(NamedTuple):
 
 COMMANDS = {command.name: command for command in (
     Command("play", ("image", "script", "key", "steps"),
-            "the bytes sent, resets and reports of a run of the firmware, and its end, a line each",
+            "the bytes sent, resets, reports and denials of a run of the firmware, and its end, a "
+            "line each",
             "Runs the firmware for STEPS bus steps. Prints `tx S HH` for a byte sent in step S, "
-            "`reset S R` where step S broke the rule R, `report S ..` where step S finished an "
-            "attestation, and `end N pc H4 exec E` after the last step.",
+            "`reset S R` where step S broke the rule R, `report2 S ..` where step S finished an "
+            "attestation, `denied S D` where it denied a request (D is 2 for a counter that is not "
+            "new, 3 for another token), and `end N pc H4 exec E` after the last step.",
             "play image.hex script.txt key.txt 5000"),
     Command("dump", ("image", "script", "key", "steps"),
             "the same, and then RAM, program and vectors as Intel HEX",
@@ -47,24 +49,26 @@ COMMANDS = {command.name: command for command in (
     Command("verify", ("image", "policy", "key", "reports"),
             "a verdict for each report",
             "Prints `verdict I V` for each report line in REPORTS, the I-th of which has to answer "
-            "the I-th challenge of POLICY.",
+            "the I-th challenge of POLICY. These are reports of version 1; a line of version 2, as "
+            "play prints it, is a fault.",
             "verify image.hex policy.txt key.txt reports.txt"),
     Command("round", ("image", "script", "key", "policy", "steps"),
             "what `play` prints, with a verdict after each report",
-            "Prints what play prints, and after each report its verdict; after an `accept` where "
-            "the device's own memory is not what was expected though the MACs agree, "
-            "`collision HH.. HH..` with two inputs of one SHA-256 digest.",
+            "Prints what play prints, and after each report its verdict, which is "
+            "`version-differs`: the device attests by version 2, and POLICY is of version 1. After "
+            "an `accept` where the device's own memory is not what was expected though the MACs "
+            "agree, `collision HH.. HH..` with two inputs of one SHA-256 digest.",
             "round image.hex script.txt key.txt policy.txt 5000"),
     Command("asm", ("source",),
             "the image of an assembler source, as Intel HEX",
             "Prints the image of an assembler source as Intel HEX.",
             "asm firmware.asm > image.hex"),
     Command("work", ("seed",),
-            "one line on a generated workload: the counts of the lines that `play` would print, "
-            "and their SHA-256",
-            "Runs a workload that is generated from SEED, 1000000 steps of attestation and "
-            "disturbance, and prints one line: how many lines of each kind `play` would print, and "
-            "the SHA-256 of that text.",
+            "one line on a generated workload: how many bytes sent, resets and reports `play` "
+            "would print, and the SHA-256 of its text",
+            "Runs a workload that is generated from SEED, 1000000 steps of requests without a "
+            "token, which are denied, and of disturbance. Prints one line: how many `tx`, `reset` "
+            "and `report2` lines `play` would print, and the SHA-256 of that text.",
             "work 7"),
 )}
 
@@ -74,7 +78,7 @@ FILES = {
     "image": File(8, 1048576, "firmware, as Intel HEX"),
     "script": File(9, 1048576, "events from outside, each with its step; may be empty"),
     "policy": File(10, 65536, "the regions and challenges that reports have to answer"),
-    "reports": File(11, 1048576, "report lines, or what play printed"),
+    "reports": File(11, 1048576, "report lines of version 1"),
     "source": File(12, 1048576, "an assembler source"),
 }
 
@@ -183,4 +187,5 @@ RULES = {
     "I1": "an illegal instruction word was fetched",
 }
 VERSION = "0.1.0"
-VERDICTS = ("accept", "no-challenge", "chal-differs", "bounds-differ", "exec-zero", "mac-differs")
+VERDICTS = ("accept", "no-challenge", "version-differs", "chal-differs", "bounds-differ",
+            "exec-zero", "mac-differs")

@@ -3,7 +3,9 @@ import os
 import re
 import tempfile
 
+import verifier_model
 from assembler_model import hex_record, hex_text
+from readers import READERS, first_fault
 from reference import COMMANDS, FILES
 from trial import ROOT
 
@@ -19,6 +21,29 @@ def write(name, text):
     with open(name, "wb") as file:
         file.write(text)
     return name
+
+
+def steps_of(text):
+    """The steps of the play that printed this text, as its end line has them."""
+    return re.search(rb"^end (\d+) ", text, re.M)[1].decode()
+
+
+class Example:
+    """A folder of examples/ with an image, and what a run of it prints."""
+
+    def __init__(self, name):
+        self.folder = f"{EXAMPLES}/{name}"
+        self.text = read(f"{self.folder}/expected.txt")
+        self.steps = steps_of(self.text)
+
+    def file(self, kind):
+        return f"{self.folder}/{kind}.{'hex' if kind == 'image' else 'txt'}"
+
+    def words(self, command, **others):
+        """A command with the example's files, some of them others, and the steps that it has."""
+        files = {kind: self.file(kind) for kind in COMMANDS[command].files}
+        words = {**files, "steps": self.steps, **others}
+        return command, *(words[word] for word in COMMANDS[command].words)
 
 
 def lengthened(text, length):
@@ -41,10 +66,7 @@ class SampleFiles:
         self.script = f"{EXAMPLES}/letter-a/script.txt"
         self.key = f"{EXAMPLES}/letter-a/key.txt"
         self.letter = [self.image, self.script, self.key]
-        self.attest = [f"{EXAMPLES}/attest/{name}" for name in ("image.hex", "key.txt")]
-        self.round = {kind: f"{EXAMPLES}/round/{kind}.{'hex' if kind == 'image' else 'txt'}"
-                      for kind in ("image", "script", "key", "policy")}
-        self.round["reports"] = f"{EXAMPLES}/round/expected.txt"
+        self.round = Example("round")
         self.texts = {
             "letter": read(f"{EXAMPLES}/letter-a/expected.txt"),
             "memory": self.letter_memory(),
@@ -52,9 +74,8 @@ class SampleFiles:
             "image": b":08C00000B24041007600FF3F51\n:02FFFE0000C041\n:00000001FF\n",
             # The line of the workload 7, which a generator in another language drew and a play of
             # its script gave by grep and sha256sum.
-            "work": b"work 7 steps 1000000 tx 0 resets 297 reports 815 exec 812 text "
-                    b"0e0227346372ea9396931b1d190a9d935dee96206362576a2316e63d549d39e3\n",
-            "round": read(self.round["reports"]),
+            "work": b"work 7 steps 1000000 tx 0 resets 288 reports 0 exec 0 text "
+                    b"6776cfcffa0c3445ca420a1ed96f75c21fca1171cb1d4ab70c8d6234217b9614\n",
         }
         self.texts["dump"] = self.texts["letter"] + self.texts["memory"]
         self.add_sources()
@@ -68,19 +89,21 @@ class SampleFiles:
     def __getitem__(self, name):
         return os.path.join(self.folder, name)
 
-    def of_round(self, *kinds, **others):
-        """The files of the round, in this order, some of them others."""
-        return [others.get(kind, self.round[kind]) for kind in kinds]
+    def words_of_round(self, command, **others):
+        """A command with the files of the example `round`, some of them others, and with a policy
+        and reports of version 1.
+        """
+        return self.round.words(
+            command, **{"policy": self["policy"], "reports": self["reports"], **others})
 
     def each_command(self):
         """Each command with files that it takes, and what it prints."""
-        image, key = self.attest
         return {
             ("play", *self.letter, "5"): self.texts["letter"],
             ("dump", *self.letter, "5"): self.texts["dump"],
             ("list", self.image): self.texts["listing"],
-            ("verify", image, self["policy"], key, self["reports"]): b"verdict 1 accept\n",
-            ("round", *self.of_round(*COMMANDS["round"].files), "560"): self.texts["round"],
+            self.words_of_round("verify"): b"verdict 1 accept\n",
+            self.round.words("round"): self.round.text,
             ("asm", self["letter.asm"]): self.texts["image"],
             ("work", "7"): self.texts["work"],
         }
@@ -105,19 +128,37 @@ class SampleFiles:
         self.add("mvo.asm", b"mvo r4,r5\n")
 
     def add_verifier_files(self):
-        """What a verifier has: the example's report, and policies that it meets and does not."""
-        reports = b"".join(line for line in
-                           read(f"{EXAMPLES}/attest/expected.txt").splitlines(keepends=True)
-                           if not line.startswith(b"end"))
-        form = rb" chal ([0-9a-f]+) er (.{4} .{4}) or (.{4} .{4}) "
-        challenge, code, output = re.search(form, reports).groups()
-        bare = b"er " + code + b"\nor " + output + b"\n"
-        self.add("reports", reports)
+        """Reports of version 1 that say what the example's report says, and policies that they meet
+        and do not.
+        """
+        form = rb"^report2 .* chal (\S+) er (\S+) (\S+) or (\S+) (\S+) data (\S+) .*\n"
+        printed = re.search(form, self.round.text, re.M)
+        challenge, *bounds, output = map(bytes.decode, printed.groups())
+        image, key = (READERS[kind](read(self.round.file(kind))) for kind in ("image", "key"))
+
+        def report(flag):
+            return verifier_model.report_line(verifier_model.right_report(
+                image, key, 557, flag, bytes.fromhex(challenge), [int(each, 16) for each in bounds],
+                bytes.fromhex(output)))
+        accepted = report(1)
+        self.add("reports", accepted)
+        self.add("reports-among", b"tx 4 41\nreset 5 K4\nverdict 1 version-differs\n"
+                                  b"collision 00 0102\n" + accepted + b"end 6 pc c000 exec 0\n")
+        self.add("reports-exec", report(0))
+        self.add("reports-mac", other_last_digit(accepted[:-1]) + b"\n")
+        self.add("reports-cut", re.sub(rb" mac (.{10}).*", rb" mac \1", accepted))
+        self.add("reports-two", accepted + printed[0])
+        self.add("reports-denied", accepted + b"denied 84 3\n")
+        bare = "er {} {}\nor {} {}\n".format(*bounds).encode()
+        asked = f"chal {challenge}\n".encode()
+        self.add("policy", bare + asked)
         self.add("policy-bare", bare)
-        self.add("policy", bare + b"chal " + challenge + b"\n")
         self.add("policy-other", bare + b"chal " + b"f" * 64 + b"\n")
-        self.add("reports-mac", other_last_digit(reports[:-1]) + b"\n")
-        self.add("reports-cut", re.sub(rb" mac (.{10}).*", rb" mac \1", reports))
+        # (behind the metadata of version 1, and in them)
+        code = bare.splitlines(keepends=True)[0]
+        self.add("policy-moved", code + b"or 026A 028E\n" + asked)
+        self.add("policy-bounds", code + b"or 0268 0268\n" + asked)
+        self.add("policy-two", b"version 2\n" + bare + b"flag exec\n")
         self.add("policy-short", b"er C000 C002\n")
         self.add("policy-utf8", b"# \xff\n")
 
@@ -146,11 +187,16 @@ class SampleFiles:
         self.add("script-utf8", b"# \xff\n")
 
     def add_cut_files(self):
-        """Real files cut in the middle."""
-        for kind, length in {"image": 100, "script": 9, "key": 64, "policy": 20,
-                             "reports": 99}.items():
-            self.add(f"{kind}-middle", read(self.round[kind])[:length])
-        self.add("source-middle", read(self["letter.asm"])[:30])
+        """Real files cut in the middle, where that is a fault; the faults by their kinds."""
+        own = {"policy": self["policy"], "reports": self["reports"], "source": self["letter.asm"]}
+        self.cut_faults = {}
+        for kind in FILES:
+            text = read(own.get(kind) or self.round.file(kind))
+            text = text[:len(text) // 2]
+            while not first_fault(kind, text):
+                text = text[:-1]
+            self.add(f"{kind}-middle", text)
+            self.cut_faults[kind] = first_fault(kind, text)
 
     def add_long_files(self):
         """Images of some 19,000 bytes, in which no record is like another: the firmware of letter

@@ -1,26 +1,22 @@
-; Receives a challenge, copies the pins to the output, attests, and stops.
+; Receives the metadata of an attestation, copies the pins to the output, attests, and stops.
 
 .equ status, 0x0072     ; SSTAT: bit 0 says that a byte waits
 .equ receive, 0x0074    ; SRXD
 .equ pins, 0x0020       ; P1IN
-.equ challenge, 0x0240  ; the first 32 bytes of the metadata
-.equ bounds, 0x0260     ; behind it ERmin, ERmax, ORmin and ORmax
+.equ metadata, 0x0240   ; challenge, bounds, the words of the flags, counter and token
+.equ behind, 0x0290     ; the first place behind them
 .equ output, 0x0300
 .equ attest, 0xA000     ; where a call of the attestation ROM begins
 
 start:  mov #0x2200, sp
         dint
-        mov #challenge, r5
+        mov #metadata, r5
 wait:   bit #1, &status
         jz wait
         mov.b &receive, 0(r5)
         inc r5
-        cmp #bounds, r5
+        cmp #behind, r5
         jnz wait
-        mov #measure, &bounds
-        mov #last, &bounds+2
-        mov #output, &bounds+4
-        mov #output, &bounds+6
         call #measure
         call #attest
 stop:   jmp stop

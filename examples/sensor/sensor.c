@@ -1,14 +1,15 @@
-// Answers each challenge of 32 bytes with a measurement that a verifier can believe.
+// Answers each request with a measurement that a verifier can believe, and sends what the
+// attestation ROM decided on it.
 #include "foldgneiss.h"
 
-static uint8_t challenge[32];
-static uint8_t *volatile next = challenge;  // where the next byte goes
+static uint8_t request[REQUEST_BYTES];
+static uint8_t *volatile next = request;  // where the next byte goes
 
 OUTPUT static uint16_t measurement;
 
 INTERRUPT(SERIAL) void on_byte(void) {
     uint8_t byte = SRXD;
-    if (next < challenge + sizeof challenge) {
+    if (next < request + sizeof request) {
         *next++ = byte;
     }
 }
@@ -21,9 +22,9 @@ int main(void) {
     SCTL = 1;
     enable_interrupts();
     for (;;) {
-        while (next < challenge + sizeof challenge) {
+        while (next < request + sizeof request) {
         }
-        attest(challenge);
-        next = challenge;
+        STXD = attest(request);
+        next = request;
     }
 }

@@ -1,5 +1,5 @@
 ghost use Rattle.std.specs.Prelude.{◌≡◌, Bool, List};
-ghost use Rattle.part_definitions.specs.Memory.{PowerOn, MemoryWrite, byte_at, with_access};
+ghost use Rattle.part_definitions.specs.Memory.{PowerOn, ShownFlags, MemoryWrite, byte_at, with_access};
 ghost use Rattle.mem_map.specs.Memory.{MemoryStandsFor};
 ghost use Rattle.device_trace.specs.Step.{memory_read};
 
@@ -17,25 +17,25 @@ pub struct Values {
 /// Asks two masters for their accesses, and makes the first's and then the second's.
 #[inline(always)]
 pub fn exchange<A: BusMaster, B: BusMaster>(memory: &mut Memory, first: &A, second: &B) -> Values
-    ensures first { (one : A.Meaning) (start : PowerOn) (exec : Bool)
+    ensures first { (one : A.Meaning) (start : PowerOn) (flags : ShownFlags)
         (writes : List MemoryWrite)
         → A.stands first.now one
-        → MemoryStandsFor memory.old start exec writes
-        → result.first ≡ memory_read (byte_at start exec writes) (A.asks one) }
-    ensures second { (one : A.Meaning) (other : B.Meaning) (start : PowerOn) (exec : Bool)
+        → MemoryStandsFor memory.old start flags writes
+        → result.first ≡ memory_read (byte_at start flags writes) (A.asks one) }
+    ensures second { (one : A.Meaning) (other : B.Meaning) (start : PowerOn) (flags : ShownFlags)
         (writes : List MemoryWrite)
         → A.stands first.now one
         → B.stands second.now other
-        → MemoryStandsFor memory.old start exec writes
+        → MemoryStandsFor memory.old start flags writes
         → result.second
-        ≡ memory_read (byte_at start exec (with_access (A.asks one) writes))
+        ≡ memory_read (byte_at start flags (with_access (A.asks one) writes))
         (B.asks other) }
-    ensures memory { (one : A.Meaning) (other : B.Meaning) (start : PowerOn) (exec : Bool)
+    ensures memory { (one : A.Meaning) (other : B.Meaning) (start : PowerOn) (flags : ShownFlags)
         (writes : List MemoryWrite)
         → A.stands first.now one
         → B.stands second.now other
-        → MemoryStandsFor memory.old start exec writes
-        → MemoryStandsFor memory.new start exec
+        → MemoryStandsFor memory.old start flags writes
+        → MemoryStandsFor memory.new start flags
         (with_access (B.asks other) (with_access (A.asks one) writes)) }
 {
     let first_value = serve(memory, first.ask());
@@ -49,12 +49,12 @@ pub fn exchange<A: BusMaster, B: BusMaster>(memory: &mut Memory, first: &A, seco
 // Makes an access. What it read, 0 for a write and for none.
 #[inline(always)]
 fn serve(memory: &mut Memory, access: Option<Access>) -> u16
-    ensures value { (start : PowerOn) (exec : Bool) (writes : List MemoryWrite)
-        → MemoryStandsFor memory.old start exec writes
-        → result ≡ memory_read (byte_at start exec writes) access }
-    ensures memory { (start : PowerOn) (exec : Bool) (writes : List MemoryWrite)
-        → MemoryStandsFor memory.old start exec writes
-        → MemoryStandsFor memory.new start exec (with_access access writes) }
+    ensures value { (start : PowerOn) (flags : ShownFlags) (writes : List MemoryWrite)
+        → MemoryStandsFor memory.old start flags writes
+        → result ≡ memory_read (byte_at start flags writes) access }
+    ensures memory { (start : PowerOn) (flags : ShownFlags) (writes : List MemoryWrite)
+        → MemoryStandsFor memory.old start flags writes
+        → MemoryStandsFor memory.new start flags (with_access access writes) }
 {
     match access {
         None => 0,

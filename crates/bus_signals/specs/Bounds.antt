@@ -2,7 +2,7 @@
 use Rattle.std.specs.Prelude.{◌+◌, ◌==◌, ◌&&◌, ◌||◌, ◌%◌, ◌^◌, ℕ, Bool, nat_le, nat_lt}
 use Rattle.bus_signals.specs.declared.region.Region.{Region}
 use Rattle.bus_signals.specs.declared.bounds.Bounds.{Bounds}
-use Rattle.bus_signals.specs.Map.{ram_region, program_region, mac_region, metadata_region}
+use Rattle.bus_signals.specs.Map.{ram_region, program_region, mac_region, metadata_region, version_one_metadata}
 
 -- from one word to another, the second byte of the last among them; an end past FFFF wraps
 abbrev pub words_region : ℕ → ℕ → Region
@@ -25,26 +25,34 @@ is_part_of inner outer = nat_le outer.first inner.first && nat_le inner.last out
 abbrev pub is_disjoint : Region → Region → Bool
 is_disjoint left right = nat_lt left.last right.first || nat_lt right.last left.first
 
--- a region in RAM or in the program that has no byte of the MAC and none of the metadata
-abbrev pub is_free_region : Region → Bool
-is_free_region region =
+-- a region in RAM or in the program that has no byte of the MAC and none of these metadata
+abbrev pub is_free_region : Region → Region → Bool
+is_free_region metadata region =
     (is_part_of region ram_region || is_part_of region program_region)
     && is_disjoint region mac_region
-    && is_disjoint region metadata_region
+    && is_disjoint region metadata
 
 -- the same without a wrap, as validity sees it
 abbrev pub unwrapped_region : ℕ → ℕ → Region
 unwrapped_region first last = record { first = first; last = last + 1 }
 
 -- two even places in order, of such a region
-abbrev pub is_valid_region : ℕ → ℕ → Bool
-is_valid_region first last =
+abbrev pub is_valid_region : Region → ℕ → ℕ → Bool
+is_valid_region metadata first last =
     is_even first && is_even last && nat_le first last
-    && is_free_region (unwrapped_region first last)
+    && is_free_region metadata (unwrapped_region first last)
 
--- both regions are valid, and disjoint
-abbrev pub are_valid : Bounds → Bool
-are_valid bounds =
-    is_valid_region bounds.er_min bounds.er_max && is_valid_region bounds.or_min bounds.or_max
+-- both regions are valid beside these metadata, and disjoint
+abbrev pub are_valid_beside : Region → Bounds → Bool
+are_valid_beside metadata bounds =
+    is_valid_region metadata bounds.er_min bounds.er_max
+    && is_valid_region metadata bounds.or_min bounds.or_max
     && is_disjoint (unwrapped_region bounds.er_min bounds.er_max)
     (unwrapped_region bounds.or_min bounds.or_max)
+
+abbrev pub are_valid : Bounds → Bool
+are_valid bounds = are_valid_beside metadata_region bounds
+
+-- as version 1 has it
+abbrev pub are_valid_one : Bounds → Bool
+are_valid_one bounds = are_valid_beside version_one_metadata bounds

@@ -30,9 +30,9 @@ ram_region = record { first = 0x0200; last = 0x21FF }
 abbrev pub mac_region : Region
 mac_region = record { first = 0x0200; last = 0x021F }
 
--- challenge, bounds and EXEC word (APEX's METADATA)
+-- challenge, bounds, the words of the flags, counter and token (APEX's METADATA)
 abbrev pub metadata_region : Region
-metadata_region = record { first = 0x0240; last = 0x0269 }
+metadata_region = record { first = 0x0240; last = 0x028F }
 
 -- the words of the metadata: the challenge is its first 32 bytes
 abbrev pub ER_MIN : ℕ
@@ -50,6 +50,20 @@ OR_MAX = OR_MIN + 2
 abbrev pub EXEC_WORD : ℕ
 EXEC_WORD = OR_MAX + 2
 
+abbrev pub AUX_WORD : ℕ
+AUX_WORD = EXEC_WORD + 2
+
+-- the counter of a request has four bytes, and its token stands behind it
+abbrev pub COUNTER : ℕ
+COUNTER = AUX_WORD + 2
+
+abbrev pub TOKEN : ℕ
+TOKEN = COUNTER + 4
+
+-- in version 1 the metadata end with the EXEC word
+abbrev pub version_one_metadata : Region
+version_one_metadata = record { first = metadata_region.first; last = EXEC_WORD + 1 }
+
 -- the exclusive stack of the attestation (VRASED's XS)
 abbrev pub stack_region : Region
 stack_region = record { first = 0x4000; last = 0x43FF }
@@ -60,6 +74,10 @@ DERIVED_KEY = stack_region.first
 
 abbrev pub INNER_DIGEST : ℕ
 INNER_DIGEST = DERIVED_KEY + 32
+
+-- where the counter of the last request that was attested is kept, four bytes
+abbrev pub KEPT_COUNTER : ℕ
+KEPT_COUNTER = stack_region.first + 0x60
 
 -- the device key (VRASED's KR)
 abbrev pub key_region : Region

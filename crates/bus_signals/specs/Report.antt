@@ -2,12 +2,17 @@
 use Rattle.std.specs.Prelude.{ℕ, Bool, List, Option, option_map}
 use Rattle.bus_signals.specs.declared.bounds.Bounds.{Bounds}
 use Rattle.bus_signals.specs.declared.report_view.ReportView.{ReportView}
+use Rattle.bus_signals.specs.declared.version.Version.{Version}
 
--- the step that finished the call, the EXEC flag, the challenge, the bounds, the bytes of the
--- output region where the bounds are valid, and the MAC
+-- the version, the step that finished the call, the EXEC flag, the second flag and the counter of
+-- the request (false and 0 in version 1), the challenge, the bounds, the bytes of the output region
+-- where the bounds are valid, and the MAC
 pub record ReportFields : Type 0 where
+  pub version : Version
   pub step : ℕ
   pub exec : Bool
+  pub aux : Bool
+  pub count : ℕ
   pub chal : List ℕ
   pub bounds : Bounds
   pub output : Option (List ℕ)
@@ -17,8 +22,11 @@ pub record ReportFields : Type 0 where
 abbrev pub fields_of : ReportView → ReportFields
 fields_of view =
     record {
+      version = view.version;
       step = view.step;
       exec = view.exec;
+      aux = view.aux;
+      count = view.count;
       chal = view.chal;
       bounds = view.bounds;
       output = option_map (λ bytes. bytes.now) view.output;

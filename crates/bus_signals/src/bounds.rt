@@ -1,7 +1,7 @@
 ghost use Rattle.std.specs.Prelude.{◌≡◌};
-ghost use Rattle.bus_signals.specs.Bounds.{words_region, executable_region, output_region, is_part_of, is_free_region, is_valid_region, are_valid, is_disjoint};
+ghost use Rattle.bus_signals.specs.Bounds.{words_region, executable_region, output_region, is_part_of, is_free_region, is_valid_region, are_valid_beside, are_valid, are_valid_one, is_disjoint};
 
-use crate::region::{META, MR, RAM, Region};
+use crate::region::{META, META_ONE, MR, RAM, Region};
 
 /// The bounds of the executable region and the output region (APEX's ERmin, ERmax, ORmin, ORmax):
 /// addresses of their first and last words.
@@ -58,18 +58,18 @@ impl Region {
         self.last < other.first || other.last < self.first
     }
 
-    fn is_free(self) -> bool
-        ensures { result ≡ is_free_region self }
+    fn is_free(self, metadata: Region) -> bool
+        ensures { result ≡ is_free_region metadata self }
     {
         (self.is_part_of(RAM) || self.is_part_of(PROGRAM))
             && self.is_disjoint(MR)
-            && self.is_disjoint(META)
+            && self.is_disjoint(metadata)
     }
 }
 
-// Whether a region may run from the word at `first` to the word at `last`.
-fn is_valid_region(first: u16, last: u16) -> bool
-    ensures { result ≡ is_valid_region first last }
+// Whether a region may run from the word at `first` to the word at `last` beside these metadata.
+fn is_valid_region(metadata: Region, first: u16, last: u16) -> bool
+    ensures { result ≡ is_valid_region metadata first last }
 {
     first % 2 == 0
         && last % 2 == 0
@@ -78,7 +78,7 @@ fn is_valid_region(first: u16, last: u16) -> bool
             first,
             last: last + 1,
         }
-        .is_free()
+        .is_free(metadata)
 }
 
 /// Whether the bounds are valid: even and in order, both regions wholly in RAM or wholly in the
@@ -86,7 +86,20 @@ fn is_valid_region(first: u16, last: u16) -> bool
 pub fn valid(bounds: &Bounds) -> bool
     ensures { result ≡ are_valid bounds.now }
 {
-    is_valid_region(bounds.er_min, bounds.er_max)
-        && is_valid_region(bounds.or_min, bounds.or_max)
+    is_valid_beside(META, bounds)
+}
+
+/// Whether the bounds are valid as version 1 has it, whose metadata end with the EXEC word.
+pub fn valid_one(bounds: &Bounds) -> bool
+    ensures { result ≡ are_valid_one bounds.now }
+{
+    is_valid_beside(META_ONE, bounds)
+}
+
+fn is_valid_beside(metadata: Region, bounds: &Bounds) -> bool
+    ensures { result ≡ are_valid_beside metadata bounds.now }
+{
+    is_valid_region(metadata, bounds.er_min, bounds.er_max)
+        && is_valid_region(metadata, bounds.or_min, bounds.or_max)
         && (bounds.er_max + 1 < bounds.or_min || bounds.or_max + 1 < bounds.er_min)
 }

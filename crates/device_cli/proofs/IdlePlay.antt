@@ -1,5 +1,5 @@
 -- A play whose next steps have no events.
-use Rattle.std.proofs.Common.{◌≡◌, ◌≤◌, ◌<◌, ◌+◌, ◌-◌, ◌++◌, ◌∙◌, ℕ, Bool, false, subst, ltb-true, ltb-false, zero, suc, true, List, [], ◌∷◌, refl, sym, ap, arith, append-nil}
+use Rattle.std.proofs.Common.{◌≡◌, ◌≤◌, ◌<◌, ◌+◌, ◌∙◌, ℕ, Bool, false, subst, ltb-true, ltb-false, zero, suc, true, List, [], refl, sym, ap, arith}
 use Rattle.std.specs.Prelude.{nat_lt}
 use Rattle.bus_signals.specs.declared.event.Event.{Event}
 use Rattle.device_trace.specs.Start.{Start}
@@ -9,7 +9,8 @@ use Rattle.device_cli.specs.WatchedPlay.{AllAreSilent}
 
 -- no event comes in so many steps from this one
 abbrev pub NoneComes : (ℕ → List Event) → ℕ → ℕ → Type 0
-NoneComes events_at step steps = (later : ℕ) → step ≤ later → later < step + steps → events_at later ≡ []
+NoneComes events_at step steps =
+    (later : ℕ) → step ≤ later → later < step + steps → events_at later ≡ []
 
 pub idle-play :
     (events_at : ℕ → List Event) (steps step : ℕ)
@@ -18,7 +19,8 @@ pub idle-play :
 idle-play events_at zero step none = ap (play_of events_at) (omega arith)
 idle-play events_at (suc steps) step none =
     let same : suc steps + step ≡ suc (steps + step) = omega arith in
-    let earlier = idle-play events_at steps step (λ later from below. none later from (omega arith)) in
+    let earlier = idle-play events_at steps step (λ later from below. none later from (omega
+    arith)) in
     let here : events_at (steps + step) ≡ [] = none (steps + step) (omega arith) (omega arith) in
     rw (same, earlier, here) refl
 

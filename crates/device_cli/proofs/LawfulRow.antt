@@ -4,7 +4,7 @@ use Rattle.std.specs.Prelude.{if◌then◌else◌, nat_lt}
 use Rattle.std.proofs.lemmas.List.Elements.{All-from_get_or}
 use Rattle.std.proofs.lemmas.List.FromFn.{get_or-range_with_len}
 use Rattle.bus_signals.specs.declared.event.Event.{Event}
-use Rattle.bus_signals.specs.Bounds.{are_valid}
+use Rattle.bus_signals.specs.SeenRecord.{no_flag}
 use Rattle.text_scan.specs.Key.{key_of}
 use Rattle.text_scan.specs.declared.fault_at.FaultAt.{FaultAt}
 use Rattle.text_scan.proofs.HexBytes.{key_of-ok}
@@ -16,9 +16,7 @@ use Rattle.sha2.specs.Sha256.{sha256}
 use Rattle.device_trace.specs.Start.{Start}
 use Rattle.mac_coverage.specs.Coverage.{Gives32Bytes, IsDeviceKey, IsOfBytes}
 use Rattle.play_script.specs.Script.{TimedEvent}
-use Rattle.report_verifier.specs.PolicyGrammar.{policy_of}
 use Rattle.report_verifier.specs.Policy.{PolicyFields}
-use Rattle.report_verifier.proofs.PolicyBounds.{policy_of-valid}
 use Rattle.device_cli.specs.Row.{DevicePlay, FileKind, Outcome, Row, Ends, Reads, go_on, read_file, value_of}
 use Rattle.device_cli.specs.Reading.{Files, Reaches}
 use Rattle.device_cli.specs.FileKind.{key_kind, image_kind, script_kind, policy_kind}
@@ -83,7 +81,8 @@ no_judge : (device_play : DevicePlay) → IsDeviceKey device_play.key → IsOfBy
 no_judge device_play device_key bytes none =
     record {
       gives = sha256_gives;
-      laws = obeys_laws sha256 device_play.key device_play.image device_play.play device_key bytes;
+      laws = obeys_laws no_flag sha256 device_play.key device_play.image device_play.play
+          device_key bytes;
       accepts = rw none tt;
     }
 
@@ -100,26 +99,19 @@ steps_row_lawful text image script key steps =
     no_judge (play_with steps key_read image_read script_read)
     (device_key key_bytes key_read key_is) (image_bytes bytes image_read image_is) refl)))
 
-valid_bounds : (bytes : List ℕ) (policy : PolicyFields) → policy_of bytes ≡ Ok policy
-    → are_valid policy.bounds ≡ true
-valid_bounds bytes policy is = rw is at (policy_of-valid bytes)
-
 -- with a judge
 judged : (steps : ℕ) (key : List ℕ) (image : ℕ → Option ℕ) (script : List TimedEvent)
     (policy : PolicyFields)
     → IsDeviceKey key → IsOfBytes (λ place. unwrap_or (image place) 0)
-    → are_valid policy.bounds ≡ true
     → IsLawful (record (play_with steps key image script) {
       judge = Some (judge_with key image policy);
     })
-judged steps key image script policy device_key bytes valid =
+judged steps key image script policy device_key bytes =
     record {
       gives = sha256_gives;
-      laws = obeys_laws sha256 key (λ place. unwrap_or (image place) 0)
+      laws = obeys_laws no_flag sha256 key (λ place. unwrap_or (image place) 0)
           (steps_of steps script) device_key bytes;
-      accepts = each_accept-has_grounds (judge_with key image policy)
-          (λ place. unwrap_or (image place) 0) (steps_of steps script) device_key bytes
-          sha256_gives valid;
+      accepts = each_accept-has_grounds (judge_with key image policy) _ _;
     }
 
 pub round_row_lawful : (image script key policy : List ℕ) (steps : ℕ)
@@ -130,10 +122,9 @@ round_row_lawful image script key policy steps =
     read-lawful script_kind script _ (λ script_read script_bytes script_is.
     read-lawful policy_kind policy _ (λ policy_read policy_bytes policy_is.
     judged steps key_read image_read script_read policy_read
-    (device_key key_bytes key_read key_is) (image_bytes bytes image_read image_is)
-    (valid_bounds policy_bytes policy_read policy_is)))))
+    (device_key key_bytes key_read key_is) (image_bytes bytes image_read image_is)))))
 
-load_device_key : IsDeviceKey load_key
+pub load_device_key : IsDeviceKey load_key
 load_device_key =
     record {
       size = refl;

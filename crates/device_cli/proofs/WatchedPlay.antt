@@ -1,13 +1,16 @@
 -- A play whose steps are watched: what a watcher has come to, and what is still to come.
-use Rattle.std.proofs.Common.{◌≡◌, ◌<◌, ◌≤◌, ◌+◌, ◌-◌, ◌++◌, ◌∙◌, ◌∷◌, [], ℕ, zero, suc, true, List, Result, Ok, Err, IfErr, refl, sym, ap, subst, arith, append_assoc, append-nil}
+use Rattle.std.proofs.Common.{◌≡◌, ◌≤◌, ◌+◌, ◌-◌, ◌++◌, ◌∙◌, ◌∷◌, [], ℕ, zero, suc, true, List, Result, Ok, Err, IfErr, refl, sym, ap, subst, arith, append_assoc, append-nil}
 use Rattle.std.specs.Prelude.{IsErrAnd}
 use Rattle.bus_signals.specs.declared.event.Event.{Event}
+use Rattle.bus_signals.specs.Flag.{Flag}
 use Rattle.outside_edge.specs.Sink.{Takes, TakesPrefix}
 use Rattle.device_trace.specs.Start.{Start}
 use Rattle.device_trace.specs.Trace.{play_of}
+use Rattle.play_script.specs.declared.playback.Playback.{Playback}
 use Rattle.device_core.specs.Device.{LiveStandsFor, steps_made}
 use Rattle.device_core.specs.Silence.{is_silent}
 use Rattle.device_core.specs.declared.live.Live.{Live}
+use Rattle.device_cli.specs.Midway.{HasGoneOn}
 use Rattle.device_cli.specs.WatchedPlay.{watched_lines, AllAreSilent}
 use Rattle.device_cli.proofs.PutsLemmas.{takes-append, takes-nothing, prefix-append}
 
@@ -36,14 +39,15 @@ watched_lines-more last_lines events_at step = refl
 
 -- before the first step
 pub watched-none :
-    {S T : Type 0} (stands : S → List ℕ → Type 0) (tallies : List (List Event) → T → Type 0)
-    (last_lines : List (List Event) → ℕ → List ℕ) (same : S) (events_at : ℕ → List Event)
-    (tally : T)
+    {S T : Type 0} {stands : S → List ℕ → Type 0} {tallies : List (List Event) → T → Type 0}
+    {last_lines : List (List Event) → ℕ → List ℕ} {same : S} {events_at : ℕ → List Event}
+    {step : ℕ} {tally : T}
+    → step ≡ 0
     → tallies [] tally
-    → IsWatched stands tallies last_lines same same events_at 0 tally
+    → IsWatched stands tallies last_lines same same events_at step tally
 unfolding watched_lines
-watched-none stands tallies last_lines same events_at tally is =
-    record { counted = is; took = takes-nothing stands same }
+watched-none {stands} {same} first is =
+    rw first (record { counted = is; took = takes-nothing stands same })
 
 -- after silent steps it is as before them
 watched-silent :
@@ -77,16 +81,15 @@ watched-silent stands start tallies last_lines old new events_at (suc more) step
 
 -- one more step that was shown
 pub watched-seen :
-    {S T : Type 0} (stands : S → List ℕ → Type 0) (tallies : List (List Event) → T → Type 0)
-    (last_lines : List (List Event) → ℕ → List ℕ) (old mid new : S) (events_at : ℕ → List Event)
-    (before count : ℕ) (tally more : T)
-    → count ≡ suc before
+    {S T : Type 0} {stands : S → List ℕ → Type 0} {tallies : List (List Event) → T → Type 0}
+    {last_lines : List (List Event) → ℕ → List ℕ} {old mid new : S} {events_at : ℕ → List Event}
+    {before step : ℕ} {tally more : T}
+    → step ≡ suc before
     → IsWatched stands tallies last_lines old mid events_at before tally
     → tallies (play_of events_at (suc before)) more
     → Takes stands mid new (last_lines (play_of events_at (suc before)) before)
-    → IsWatched stands tallies last_lines old new events_at count more
-watched-seen stands tallies last_lines old mid new events_at before count tally more same is counts
-    takes =
+    → IsWatched stands tallies last_lines old new events_at step more
+watched-seen {stands} {last_lines} {old} {mid} {new} {events_at} {before} same is counts takes =
     rw same (record {
       counted = counts;
       took = takes-append stands old mid new (watched_lines last_lines events_at before) _ _
@@ -117,13 +120,15 @@ watched_lines-begins last_lines events_at (suc more) fewer steps sum =
 
 -- a step that was shown in part
 pub watched-prefix :
-    {S : Type 0} (stands : S → List ℕ → Type 0) (last_lines : List (List Event) → ℕ → List ℕ)
-    (old mid new : S) (events_at : ℕ → List Event) (before steps : ℕ)
+    {S T : Type 0} {stands : S → List ℕ → Type 0} {tallies : List (List Event) → T → Type 0}
+    {last_lines : List (List Event) → ℕ → List ℕ} {old mid new : S} {events_at : ℕ → List Event}
+    {before : ℕ} {tally : T} (steps : ℕ)
     → before + 1 ≤ steps
-    → Takes stands old mid (watched_lines last_lines events_at before)
+    → IsWatched stands tallies last_lines old mid events_at before tally
     → TakesPrefix stands mid new (last_lines (play_of events_at (suc before)) before)
     → TakesPrefix stands old new (watched_lines last_lines events_at steps)
-watched-prefix stands last_lines old mid new events_at before steps within takes prefix =
+watched-prefix {stands} {last_lines} {old} {mid} {new} {events_at} {before} steps within is
+    prefix =
     let sum : steps ≡ (steps - suc before) + suc before = omega arith in
     let begins = watched_lines-begins last_lines events_at (steps - suc before) (suc before) steps
     sum in
@@ -133,54 +138,50 @@ watched-prefix stands last_lines old mid new events_at before steps within takes
     ∙ ap (λ (earlier : List ℕ). earlier ++ begins.0)
     (watched_lines-more last_lines events_at before)
     ∙ append_assoc (watched_lines last_lines events_at before) lines begins.0)
-    takes prefix
+    is.took prefix
 
 -- the same number of steps
 pub at-count :
-    {D : Type 0} (has_taken : D → List ℕ → Type 0) (digest : List ℕ → List ℕ) (live : Live D)
-    (start : Start) (events_at : ℕ → List Event) (one other : ℕ)
-    → one ≡ other → LiveStandsFor has_taken digest live start (play_of events_at one)
-    → LiveStandsFor has_taken digest live start (play_of events_at other)
-at-count has_taken digest live start events_at one other same stands =
-    subst (λ play. LiveStandsFor has_taken digest live start play) (ap (play_of events_at) same)
-    stands
+    {D G : Type 0} {has_taken : D → List ℕ → Type 0} {digest : List ℕ → List ℕ} {flag : Flag G}
+    {start : Start} {one other : ℕ} (live : Live D G) (events_at : ℕ → List Event)
+    → one ≡ other → LiveStandsFor has_taken digest flag live start (play_of events_at one)
+    → LiveStandsFor has_taken digest flag live start (play_of events_at other)
+at-count {has_taken} {digest} {flag} {start} live events_at same stands =
+    subst (λ play. LiveStandsFor has_taken digest flag live start play)
+    (ap (play_of events_at) same) stands
 
--- a device that has gone on from one number of steps to another, and a watcher before the last of
--- these steps
-pub watched-played :
-    {D S T : Type 0} (has_taken : D → List ℕ → Type 0) (digest : List ℕ → List ℕ)
-    (earlier later : Live D) (start : Start) (stands : S → List ℕ → Type 0)
+-- a device after a step, and a watcher before that step
+pub record IsToSee {D G S T : Type 0} (has_taken : D → List ℕ → Type 0)
+    (digest : List ℕ → List ℕ) (flag : Flag G) (start : Start) (stands : S → List ℕ → Type 0)
     (tallies : List (List Event) → T → Type 0) (last_lines : List (List Event) → ℕ → List ℕ)
-    (old new : S) (events_at : ℕ → List Event) (step before : ℕ) (tally : T)
-    → PassesSilence start tallies last_lines
-    → steps_made earlier ≡ step → steps_made later ≡ suc before → step ≤ before
-    → (LiveStandsFor has_taken digest earlier start (play_of events_at (steps_made earlier))
-    → AllAreSilent start events_at (steps_made earlier) (steps_made later - 1))
-    → LiveStandsFor has_taken digest earlier start (play_of events_at step)
-    → IsWatched stands tallies last_lines old new events_at step tally
-    → IsWatched stands tallies last_lines old new events_at before tally
-watched-played has_taken digest earlier later start stands tallies last_lines old new events_at step
-    before tally passes made more within silent here is =
-    let same : suc before - 1 ≡ before = omega arith in
-    watched-silent stands start tallies last_lines old new events_at (before - step) step before
-    tally passes (omega arith)
-    (rw (more, made, same) at (silent
-    (at-count has_taken digest earlier start events_at step (steps_made earlier) (sym made) here)))
-    is
+    (old new : S) (events_at : ℕ → List Event) (step : ℕ) (live : Live D G) (tally : T) : Type 0
+  where
+    pub made : steps_made live ≡ suc step
+    pub device : LiveStandsFor has_taken digest flag live start (play_of events_at (suc step))
+    pub watched : IsWatched stands tallies last_lines old new events_at step tally
 
--- and the device after the last of them
-pub live-played :
-    {D : Type 0} (has_taken : D → List ℕ → Type 0) (digest : List ℕ → List ℕ)
-    (earlier later : Live D) (start : Start) (events_at : ℕ → List Event) (step before : ℕ)
-    → steps_made earlier ≡ step → steps_made later ≡ suc before
-    → (LiveStandsFor has_taken digest earlier start (play_of events_at (steps_made earlier))
-    → LiveStandsFor has_taken digest later start (play_of events_at (steps_made later)))
-    → LiveStandsFor has_taken digest earlier start (play_of events_at step)
-    → LiveStandsFor has_taken digest later start (play_of events_at (suc before))
-live-played has_taken digest earlier later start events_at step before made more stands here =
-    at-count has_taken digest later start events_at (steps_made later) (suc before) more
-    (stands
-    (at-count has_taken digest earlier start events_at step (steps_made earlier) (sym made) here))
+-- so it is where the device has gone on from the steps that were watched
+pub gone-to-see :
+    {D G S T : Type 0} {has_taken : D → List ℕ → Type 0} {digest : List ℕ → List ℕ}
+    {flag : Flag G} {start : Start} {stands : S → List ℕ → Type 0}
+    {tallies : List (List Event) → T → Type 0} {last_lines : List (List Event) → ℕ → List ℕ}
+    {old new : S} {events_at : ℕ → List Event} {from step : ℕ} {live : Live D G}
+    {playback : Playback} {tally : T}
+    → PassesSilence start tallies last_lines
+    → steps_made live ≡ suc step → from ≤ step
+    → HasGoneOn has_taken digest flag start events_at from live playback
+    → IsWatched stands tallies last_lines old new events_at from tally
+    → IsToSee has_taken digest flag start stands tallies last_lines old new events_at step live
+    tally
+gone-to-see {start} {stands} {tallies} {last_lines} {old} {new} {events_at} {from} {step} {live}
+    {tally} passes made within gone is =
+    record {
+      made = made;
+      device = at-count live events_at made gone.midway.stands;
+      watched = watched-silent stands start tallies last_lines old new events_at (step - from) from
+          step tally passes (omega arith)
+          (λ later after below. gone.silent later after (omega arith)) is;
+    }
 
 -- a fault that was handed on
 pub fault-passed :

@@ -5,9 +5,10 @@ use Rattle.std.proofs.lemmas.Bool.{false≢true}
 use Rattle.bus_signals.specs.declared.event.Event.{Event}
 use Rattle.bus_signals.specs.declared.rule.Rule.{Rule}
 use Rattle.bus_signals.specs.Report.{ReportFields}
+use Rattle.device_trace.specs.Logs.{Logs}
 use Rattle.device_trace.specs.Start.{Start}
-use Rattle.device_trace.specs.Text.{last_byte_sent, last_report, sent_lines, reset_lines, report_lines}
-use Rattle.device_trace.specs.Trace.{trace, byte_after}
+use Rattle.device_trace.specs.Text.{last_byte_sent, last_decision, last_report, report_where, denial_where, sent_lines, reset_lines, report_lines, denied_lines}
+use Rattle.device_trace.specs.Trace.{trace, byte_after, logs_after}
 use Rattle.device_core.specs.Silence.{last_rule, is_silent}
 use Rattle.device_cli.specs.declared.verdict.judgement.Tally.{Tally}
 use Rattle.device_cli.specs.Judge.{Judge}
@@ -18,22 +19,39 @@ use Rattle.device_cli.specs.RoundText.{reports_in, with_last}
 use Rattle.device_cli.specs.Verify.{all_accept, verdicts}
 
 no-pieces :
-    (step : ℕ) (tx : Option ℕ) (rule : Option Rule) (report : Option ReportFields)
-    → (is_none tx && is_none rule && is_none report) ≡ true
-    → sent_lines step tx ++ reset_lines step rule ++ report_lines report ≡ []
-no-pieces step None None None silent = refl
-no-pieces step None None (Some report) silent = absurd (false≢true silent)
-no-pieces step None (Some rule) report silent = absurd (false≢true silent)
-no-pieces step (Some byte) rule report silent = absurd (false≢true silent)
+    (step : ℕ) (tx : Option ℕ) (rule : Option Rule) (decision : Option ℕ)
+    (report : Option ReportFields)
+    → (is_none decision ≡ true → report ≡ None)
+    → (is_none tx && is_none rule && is_none decision) ≡ true
+    → sent_lines step tx ++ reset_lines step rule ++ report_lines report
+    ++ denied_lines step (denial_where decision) ≡ []
+no-pieces step None None None report none silent =
+    ap (λ (made : Option ReportFields). report_lines made ++ []) (none refl)
+no-pieces step None None (Some word) report none silent = absurd (false≢true silent)
+no-pieces step None (Some rule) decision report none silent = absurd (false≢true silent)
+no-pieces step (Some byte) rule decision report none silent = absurd (false≢true silent)
+
+no-decision :
+    (tx : Option ℕ) (rule : Option Rule) (decision : Option ℕ)
+    → (is_none tx && is_none rule && is_none decision) ≡ true
+    → is_none decision ≡ true
+no-decision None None decision silent = silent
+no-decision None (Some rule) decision silent = absurd (false≢true silent)
+no-decision (Some byte) rule decision silent = absurd (false≢true silent)
 
 no-report :
-    (tx : Option ℕ) (rule : Option Rule) (report : Option ReportFields)
-    → (is_none tx && is_none rule && is_none report) ≡ true
-    → report ≡ None
-no-report None None None silent = refl
-no-report None None (Some report) silent = absurd (false≢true silent)
-no-report None (Some rule) report silent = absurd (false≢true silent)
-no-report (Some byte) rule report silent = absurd (false≢true silent)
+    (start : Start) (logs : Logs) (step : ℕ) (decision : Option ℕ)
+    → is_none decision ≡ true → report_where start logs step decision ≡ None
+no-report start logs step None none = refl
+no-report start logs step (Some word) none = absurd (false≢true none)
+
+undecided-report :
+    (start : Start) (play : List (List Event))
+    → is_none (last_decision start play) ≡ true → last_report start play ≡ None
+undecided-report start [] none = refl
+undecided-report start (events ∷ play) none =
+    no-report start (logs_after start (events ∷ play)) (length play)
+    (last_decision start (events ∷ play)) none
 
 -- it has no lines
 pub silent-lines :
@@ -42,7 +60,7 @@ pub silent-lines :
     → last_step_lines start play step ≡ []
 silent-lines start play step silent =
     no-pieces step (last_byte_sent (trace start play)) (last_rule (trace start play))
-    (last_report start play) silent
+    (last_decision start play) (last_report start play) (undecided-report start play) silent
 
 -- and makes no report
 pub silent-report :
@@ -50,8 +68,9 @@ pub silent-report :
     → is_silent start play ≡ true
     → last_report start play ≡ None
 silent-report start play silent =
-    no-report (last_byte_sent (trace start play)) (last_rule (trace start play))
-    (last_report start play) silent
+    undecided-report start play
+    (no-decision (last_byte_sent (trace start play)) (last_rule (trace start play))
+    (last_decision start play) silent)
 
 -- so nothing is said of one
 pub silent-judgement :

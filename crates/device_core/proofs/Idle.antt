@@ -1,20 +1,22 @@
 -- Steps without events, and those that have no line.
-use Rattle.std.proofs.Common.{◌≡◌, ◌∙◌, ◌-◌, ◌&&◌, ◌||◌, ℕ, Bool, true, false, not, List, [], ◌∷◌, Option, None, Some, is_none, is_some, refl, sym, arith, add-one, ap, subst, length, ◌+◌, zero, suc}
-use Rattle.bus_signals.specs.declared.bus_record.BusRecord.{BusRecord}
+use Rattle.std.proofs.Common.{◌≡◌, ◌∙◌, ◌-◌, ◌&&◌, ◌||◌, ℕ, Bool, true, false, not, List, [], ◌∷◌, Option, None, Some, is_none, is_some, IfSome, option_map, refl, sym, arith, add-one, ap, subst, length, ◌+◌, zero, suc}
 use Rattle.bus_signals.specs.declared.event.Event.{Event}
 use Rattle.bus_signals.specs.declared.rule.Rule.{Rule}
 use Rattle.bus_signals.specs.SeenRecord.{SeenRecord}
-use Rattle.device_trace.specs.Logs.{with_events}
+use Rattle.device_trace.specs.Logs.{finishes_call, with_events}
 use Rattle.device_trace.specs.Start.{Start}
-use Rattle.device_trace.specs.Step.{next_record}
-use Rattle.device_trace.specs.Text.{byte_sent_in, finishes_call, last_byte_sent, last_report}
-use Rattle.device_trace.specs.Trace.{trace, last_record, logs_after}
-use Rattle.device_core.specs.Machine.{StandsAt}
+use Rattle.device_trace.specs.Step.{next_record, next_signals}
+use Rattle.device_trace.specs.Text.{byte_sent_in, last_byte_sent, last_decision, last_denial, last_report}
+use Rattle.device_trace.specs.Trace.{trace, last_record, last_signals, logs_after}
+use Rattle.bus_signals.specs.Flag.{Flag}
+use Rattle.device_trace.specs.Signals.{signals_of}
+use Rattle.device_core.specs.Machine.{PlaysAt, StandsAfter, StandsAt}
+use Rattle.device_core.specs.declared.last_step.LastStep.{LastStep}
 use Rattle.device_core.specs.declared.machine.Machine.{Machine}
 use Rattle.device_core.specs.declared.stage.Stage.{Stage}
-use Rattle.device_core.specs.Bus.{last_seen, LastStandsFor, logs_after_step}
+use Rattle.device_core.specs.Bus.{last_seen, KeepsSignals, LastStandsFor, logs_after_step}
 use Rattle.device_core.specs.Silence.{is_silent, last_rule, with_idle, AreSilent}
-use Rattle.device_core.proofs.Histories.{last_seen-last_record, length-records, silent-Some, silent-None}
+use Rattle.device_core.proofs.Histories.{last_report-where, last_seen-last_record, silent-Some, silent-None}
 
 pub idle-logs :
     (start : Start) (play : List (List Event))
@@ -33,7 +35,7 @@ quiet (Some byte) rule finishes line = absurd cc
 
 silent-records :
     (start : Start) (play : List (List Event)) (records : List SeenRecord)
-    → last_seen records ≡ last_record (trace start play)
+    → option_map (λ now. now.entry) (last_seen records) ≡ last_record (trace start play)
     → LastStandsFor None records → is_silent start play ≡ true
 silent-records start play [] same last = silent-None start play (sym same)
 silent-records start play (now ∷ before) same last =
@@ -42,13 +44,13 @@ silent-records start play (now ∷ before) same last =
 
 -- a step whose record was not kept
 pub silent-unkept :
-    (start : Start) (play : List (List Event)) (last : Option BusRecord)
+    (start : Start) (play : List (List Event)) (last : Option LastStep)
     → LastStandsFor last (logs_after start play).records → is_some last ≡ false
     → is_silent start play ≡ true
 silent-unkept start play None stands none =
     silent-records start play (logs_after start play).records (last_seen-last_record start play)
     stands
-silent-unkept start play (Some entry) stands none = absurd cc
+silent-unkept start play (Some step) stands none = absurd cc
 
 pub fewer-silent :
     (start : Start) (steps : ℕ) (play : List (List Event))
@@ -63,17 +65,50 @@ idle-more :
     → with_idle (steps + 1) play ≡ [] ∷ with_idle steps play
 idle-more steps play = rw add-one refl
 
+-- what the last step was about to do, where it was kept
+pub kept-signals :
+    (start : Start) (play : List (List Event)) (events : List Event) (last : Option LastStep)
+    → KeepsSignals last (next_signals start (logs_after start play) events)
+    → IfSome last (λ step. last_signals start (events ∷ play) ≡ Some step.signals)
+kept-signals start play events None keeps = tt
+kept-signals start play events (Some step) keeps = ap Some (sym keeps)
+
+pub first-signals :
+    (start : Start) (last : Option LastStep)
+    → LastStandsFor last [] → IfSome last (λ step. last_signals start [] ≡ Some step.signals)
+first-signals start None stands = tt
+first-signals start (Some step) stands = absurd cc
+
+idle-signals :
+    (start : Start) (play : List (List Event))
+    → next_signals start (logs_after start play) []
+    ≡ signals_of start (logs_after start play) false
+unfolding with_events
+idle-signals start play = refl
+
+kept-idle :
+    (start : Start) (play : List (List Event)) (last : Option LastStep)
+    → KeepsSignals last (signals_of start (logs_after start play) false)
+    → IfSome last (λ step. last_signals start ([] ∷ play) ≡ Some step.signals)
+kept-idle start play last keeps =
+    kept-signals start play [] last
+    (subst (λ now. KeepsSignals last now) (sym (idle-signals start play)) keeps)
+
 pub goes-idle :
-    {D : Type 0} (has_taken : D → List ℕ → Type 0) (digest : List ℕ → List ℕ)
-    (stage : Stage) (machine : Machine D) (start : Start) (steps : ℕ) (play : List (List Event))
-    → StandsAt has_taken digest stage machine start
-    (logs_after_step start (logs_after start (with_idle steps play)) false)
-    → StandsAt has_taken digest stage machine start
-    (logs_after start (with_idle (steps + 1) play))
-goes-idle has_taken digest stage machine start steps play stands =
-    subst (λ logs. StandsAt has_taken digest stage machine start logs)
-    (sym (ap (logs_after start) (idle-more steps play) ∙ idle-logs start (with_idle steps play)))
-    stands
+    {D G : Type 0} (has_taken : D → List ℕ → Type 0) (digest : List ℕ → List ℕ) (flag : Flag G)
+    (stage : Stage) (machine : Machine D G) (start : Start) (steps : ℕ) (play : List (List Event))
+    → StandsAfter has_taken digest flag stage machine start
+    (logs_after start (with_idle steps play)) false
+    → PlaysAt has_taken digest flag stage machine start (with_idle (steps + 1) play)
+goes-idle has_taken digest flag stage machine start steps play stands =
+    let before = with_idle steps play in
+    subst (λ here. PlaysAt has_taken digest flag stage machine start here)
+    (sym (idle-more steps play))
+    (record {
+      same = subst (λ logs. StandsAt has_taken digest flag stage machine start logs)
+          (sym (idle-logs start before)) stands.same;
+      same_signals = kept-idle start before machine.bus.last stands.same_signals;
+    })
 
 pub silent-more :
     (start : Start) (steps : ℕ) (play : List (List Event))
@@ -93,37 +128,30 @@ length-idle zero play = omega arith
 length-idle (suc steps) play =
     let before = length-idle steps play in omega arith
 
--- how many records there are
-pub more-steps :
-    (start : Start) (play : List (List Event)) (events : List Event) (count : ℕ)
-    → count ≡ length (logs_after start play).records
-    → count + 1 ≡ length (logs_after start (events ∷ play)).records
-more-steps start play events count same =
-    let one : length play + 1 ≡ length (events ∷ play) = omega arith in
-    ap (λ n. n + 1) (same ∙ length-records start play)
-    ∙ (one ∙ sym (length-records start (events ∷ play)))
-
-pub more-idle :
-    (start : Start) (play : List (List Event)) (steps count : ℕ)
-    → count ≡ length (logs_after start play).records
-    → count + steps ≡ length (logs_after start (with_idle steps play)).records
-more-idle start play steps count same =
-    ap (λ n. n + steps) (same ∙ length-records start play)
-    ∙ (sym (length-idle steps play) ∙ sym (length-records start (with_idle steps play)))
-
 -- a step that has no line sent nothing, broke no rule and finished no call
 none-of :
-    {A B C : Type 0} (byte : Option A) (rule : Option B) (report : Option C)
-    → (is_none byte && is_none rule && is_none report) ≡ true
-    → (byte ≡ None) × (rule ≡ None) × (report ≡ None)
+    {A B C : Type 0} (byte : Option A) (rule : Option B) (decision : Option C)
+    → (is_none byte && is_none rule && is_none decision) ≡ true
+    → (byte ≡ None) × (rule ≡ None) × (decision ≡ None)
 none-of None None None none = (refl, refl, refl)
-none-of None None (Some report) none = absurd cc
-none-of None (Some rule) report none = absurd cc
-none-of (Some byte) rule report none = absurd cc
+none-of None None (Some decision) none = absurd cc
+none-of None (Some rule) decision none = absurd cc
+none-of (Some byte) rule decision none = absurd cc
 
 pub silent-parts :
     (start : Start) (play : List (List Event))
     → is_silent start play ≡ true
     → (last_byte_sent (trace start play) ≡ None) × (last_rule (trace start play) ≡ None)
-    × (last_report start play ≡ None)
+    × (last_decision start play ≡ None)
 silent-parts start play silent = none-of _ _ _ silent
+
+-- without a decision there is no report and no denial
+pub undecided-report :
+    (start : Start) (play : List (List Event))
+    → last_decision start play ≡ None → last_report start play ≡ None
+undecided-report start play none = last_report-where start play ∙ rw none refl
+
+pub undecided-denial :
+    (start : Start) (play : List (List Event))
+    → last_decision start play ≡ None → last_denial start play ≡ None
+undecided-denial start play none = rw none refl

@@ -1,5 +1,5 @@
 -- A step has at most one line.
-use Rattle.std.proofs.Common.{◌≡◌, ◌∙◌, ◌&&◌, ◌||◌, ◌==◌, ℕ, Bool, true, false, List, [], ◌∷◌, Option, Some, None, is_some, refl, sym}
+use Rattle.std.proofs.Common.{◌≡◌, ◌∙◌, ◌-◌, ◌&&◌, ◌||◌, ◌==◌, ◌⊎◌, inl, inr, if◌then◌else◌, length, ℕ, Bool, true, false, List, [], ◌∷◌, Option, Some, None, is_some, refl, sym}
 use Rattle.std.proofs.lemmas.Bool.Decides.{nat_tests}
 use Rattle.std.proofs.Common.{arith}
 use Rattle.word_arith.specs.declared.size.Size.{Size}
@@ -15,16 +15,18 @@ use Rattle.bus_signals.specs.Map.{ROM_EXIT}
 use Rattle.part_definitions.specs.Flag.{last_pc}
 use Rattle.part_definitions.specs.MonitorRule.{in_rom, is_written_by_rom, leaves_stack_and_mac}
 use Rattle.part_definitions.specs.PeripheralRegister.{covers}
+use Rattle.part_definitions.specs.Request.{ATTESTS}
 use Rattle.part_definitions.specs.Serial.{SERIAL_SEND}
-use Rattle.device_trace.specs.FirstRule.{first_rule}
-use Rattle.device_trace.specs.Logs.{Logs, with_events}
+use Rattle.part_definitions.specs.FirstRule.{first_rule}
+use Rattle.device_trace.specs.Logs.{Logs, finishes_call, with_events}
 use Rattle.device_trace.specs.Signals.{signals_of}
 use Rattle.device_trace.specs.Start.{Start}
 use Rattle.device_trace.specs.Step.{asks_reset, next_record, record_of}
-use Rattle.device_trace.specs.Text.{byte_sent_by, byte_sent_in, finishes_call, last_report}
+use Rattle.device_trace.specs.Text.{byte_sent_by, byte_sent_in, denial_where, last_decision, last_denial, last_report, report_of, report_where}
 use Rattle.device_trace.specs.Trace.{trace, last_record, logs_after}
 use Rattle.trace_facts.proofs.BreaksNoRule.{first_rule-none}
-use Rattle.device_core.proofs.Histories.{last_report-Some}
+use Rattle.device_core.proofs.Decisions.{last_decision-Some, no_decision}
+use Rattle.device_core.proofs.Histories.{last_report-where}
 
 -- the register that sends lies where no call writes
 sends-elsewhere :
@@ -99,28 +101,64 @@ refused-unfinished :
 refused-unfinished entry rule refused =
     rw refused (last-false (is_rom entry.kind) (entry.pc == ROM_EXIT))
 
-no-report :
-    (start : Start) (play : List (List Event)) (entry : BusRecord)
-    → last_record (trace start play) ≡ Some entry → finishes_call entry ≡ false
-    → last_report start play ≡ None
-no-report start play entry last unfinished =
-    last_report-Some start play entry last ∙ rw unfinished refl
-
-other-line :
+unfinished :
     (start : Start) (play : List (List Event)) (entry : BusRecord) (rule : Option Rule)
     (sent : Option ℕ)
     → last_record (trace start play) ≡ Some entry
     → entry.reset ≡ rule → byte_sent_in entry ≡ sent
-    → (is_some rule || is_some sent) ≡ true → last_report start play ≡ None
-other-line start play entry (Some rule) sent last refused same has =
-    no-report start play entry last (refused-unfinished entry rule refused)
-other-line start play entry None (Some byte) last unrefused same has =
-    no-report start play entry last (last-unfinished start play entry byte last same)
-other-line start play entry None None last unrefused same has = absurd cc
+    → (is_some rule || is_some sent) ≡ true → finishes_call entry ≡ false
+unfinished start play entry (Some rule) sent last refused same has =
+    refused-unfinished entry rule refused
+unfinished start play entry None (Some byte) last unrefused same has =
+    last-unfinished start play entry byte last same
+unfinished start play entry None None last unrefused same has = absurd cc
 
+-- so a step that sends or is refused has no decision
 pub one-line :
     (start : Start) (play : List (List Event)) (entry : BusRecord)
     → last_record (trace start play) ≡ Some entry
-    → (is_some entry.reset || is_some (byte_sent_in entry)) ≡ true → last_report start play ≡ None
+    → (is_some entry.reset || is_some (byte_sent_in entry)) ≡ true
+    → last_decision start play ≡ None
 one-line start play entry last has =
-    other-line start play entry entry.reset (byte_sent_in entry) last refl refl has
+    no_decision (last_decision start play)
+    (last_decision-Some start play entry last
+    ∙ unfinished start play entry entry.reset (byte_sent_in entry) last refl refl has)
+
+-- and one whose call attests is not denied
+report-or-denial :
+    (start : Start) (logs : Logs) (step : ℕ) (decision : Option ℕ)
+    → is_some (report_where start logs step decision) ≡ true → denial_where decision ≡ None
+report-or-denial start logs step None some = refl
+report-or-denial start logs step (Some decision) some =
+    by-attesting (decision == ATTESTS) some
+  where
+    by-attesting : (attests : Bool)
+        → is_some (if attests then Some (report_of start logs step) else None) ≡ true
+        → (if attests then None else Some decision) ≡ None
+    by-attesting true some = refl
+    by-attesting false some = absurd cc
+
+first-of : (first second third : Bool) → (first || second || third) ≡ true
+    → ((first || second) ≡ true) ⊎ (third ≡ true)
+first-of true second third has = inl refl
+first-of false true third has = inl refl
+first-of false false third has = inr has
+
+pub one-denial :
+    (start : Start) (play : List (List Event)) (entry : BusRecord)
+    → last_record (trace start play) ≡ Some entry
+    → (is_some entry.reset || is_some (byte_sent_in entry) || is_some (last_report start play))
+    ≡ true
+    → last_denial start play ≡ None
+one-denial start play entry last has =
+    by-line
+    (first-of (is_some entry.reset) (is_some (byte_sent_in entry))
+    (is_some (last_report start play)) has)
+  where
+    by-line : ((is_some entry.reset || is_some (byte_sent_in entry)) ≡ true)
+        ⊎ (is_some (last_report start play) ≡ true)
+        → last_denial start play ≡ None
+    by-line (inl one) = rw (one-line start play entry last one) refl
+    by-line (inr reports) =
+        report-or-denial start (logs_after start play) (length play - 1)
+        (last_decision start play) (rw (last_report-where start play) at reports)

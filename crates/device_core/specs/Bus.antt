@@ -1,40 +1,48 @@
 -- What the bus stands for, between two steps and within one.
-use Rattle.std.specs.Prelude.{Bool, false, ◌≡◌, ◌&&◌, ℕ, List, [], ◌∷◌, Option, Some, None, is_some}
+use Rattle.std.specs.Prelude.{Bool, false, ◌≡◌, ◌&&◌, ℕ, List, [], ◌∷◌, Option, Some, None, is_some, IfSome}
 use Rattle.bus_signals.specs.declared.access.Access.{Access}
 use Rattle.bus_signals.specs.declared.bus_record.BusRecord.{BusRecord}
 use Rattle.bus_signals.specs.declared.rule.Rule.{Rule}
 use Rattle.bus_signals.specs.declared.signals.Signals.{Signals}
+use Rattle.bus_signals.specs.Flag.{Flag}
 use Rattle.bus_signals.specs.SeenRecord.{SeenRecord}
 use Rattle.part_definitions.specs.Dma.{dma_access}
-use Rattle.part_definitions.specs.Flag.{exec}
 use Rattle.mem_map.specs.Memory.{MemoryStandsFor}
-use Rattle.device_trace.specs.Logs.{Logs, exec_of, logged_bounds, vector_of, step_progress, accepts_timer, with_record}
+use Rattle.device_trace.specs.Logs.{Logs, flags_of, vector_of, step_progress, accepts_timer, with_record}
 use Rattle.device_trace.specs.Progress.{next_pc_of, last_registers, tells_irq, fetches_opcode}
-use Rattle.device_trace.specs.Signals.{step_kind, proposed_access, value_read}
+use Rattle.device_trace.specs.Signals.{signals_of, step_kind, proposed_access, value_read}
 use Rattle.device_trace.specs.Start.{Start}
 use Rattle.device_trace.specs.Step.{record_of, record_from, dma_value_read}
 use Rattle.device_core.specs.Monitors.{MonitorsStandFor}
 use Rattle.device_core.specs.Peripherals.{PeripheralsStandFor}
 use Rattle.device_core.specs.declared.bus.Bus.{Bus}
+use Rattle.device_core.specs.declared.last_step.LastStep.{LastStep}
 use Rattle.device_core.specs.Silence.{has_line}
 use Rattle.device_core.specs.declared.turn.Turn.{Turn}
 
--- the newest record
-abbrev pub last_seen : List SeenRecord → Option BusRecord
+-- the newest record, with the bounds before it
+abbrev pub last_seen : List SeenRecord → Option SeenRecord
 last_seen [] = None
-last_seen (now ∷ before) = Some now.entry
+last_seen (now ∷ before) = Some now
 
--- the record of the last step, where it was kept; where it was not, that step has no line
-abbrev pub LastStandsFor : Option BusRecord → List SeenRecord → Type 0
-LastStandsFor (Some entry) records = last_seen records ≡ Some entry
+-- the last step, where it was kept; one that was not has no line
+abbrev pub LastStandsFor : Option LastStep → List SeenRecord → Type 0
+LastStandsFor (Some step) records =
+    last_seen records ≡ Some (record { entry = step.entry; bounds = step.bounds })
 LastStandsFor None [] = Unit {0}
 LastStandsFor None (now ∷ before) = has_line now.entry ≡ false
 
-pub record BusStandsFor (bus : Bus) (start : Start) (logs : Logs) : Type 0 where
-  pub same_memory : MemoryStandsFor bus.memory start.power (exec_of logs) logs.memory
+pub record BusStandsFor {G : Type 0} (flag : Flag G) (bus : Bus G) (start : Start) (logs : Logs)
+    : Type 0 where
+  pub same_memory : MemoryStandsFor bus.memory start.power (flags_of start logs) logs.memory
   pub same_peripherals : PeripheralsStandFor bus.peripherals logs.peripherals
-  pub same_monitors : MonitorsStandFor bus.monitors logs.records
+  pub same_monitors : MonitorsStandFor flag bus.monitors logs.records
+  pub same_flag : start.second_flag ≡ flag.value
   pub same_last : LastStandsFor bus.last logs.records
+
+-- where the last step was kept, this is what it was about to do
+abbrev pub KeepsSignals : Option LastStep → Signals → Type 0
+KeepsSignals last now = IfSome last (λ step. step.signals ≡ now)
 
 -- it is the turn of the step that comes next, from these registers
 pub record TurnStandsFor (regs : List ℕ) (turn : Turn) (start : Start) (logs : Logs) : Type 0 where
@@ -60,22 +68,30 @@ abbrev pub logs_after_step : Start → Logs → Bool → Logs
 logs_after_step start logs reset = with_record start logs (record_of start logs reset)
 
 -- what the bus answers to this turn, in which the DMA asks for this access
-abbrev pub AnswersTurn : Bus → List ℕ → Turn → Option Access → Bool → Option ℕ → Type 0
-AnswersTurn bus regs turn dma script_reset answer =
+abbrev pub AnswersTurn :
+    {G : Type 0} → Flag G → Bus G → List ℕ → Turn → Option Access → Bool → Option ℕ → Type 0
+AnswersTurn flag bus regs turn dma script_reset answer =
     (start : Start) (logs : Logs)
-    → BusStandsFor bus start logs
+    → BusStandsFor flag bus start logs
     → TurnStandsFor regs turn start logs
     → dma ≡ dma_access logs.peripherals.dma
     → answer ≡ answer_in (record_of start logs script_reset)
 
+-- the bus after a step from these logs, in which the script asks for a reset or not
+pub record BusStandsAfter {G : Type 0} (flag : Flag G) (bus : Bus G) (start : Start) (logs : Logs)
+    (script_reset : Bool) : Type 0 where
+  pub same : BusStandsFor flag bus start (logs_after_step start logs script_reset)
+  pub same_signals : KeepsSignals bus.last (signals_of start logs script_reset)
+
 -- the bus makes the step of this turn, or refuses it
-abbrev pub MakesTurn : Bus → List ℕ → Turn → Option Access → Bool → Bus → Type 0
-MakesTurn old regs turn dma script_reset new =
+abbrev pub MakesTurn :
+    {G : Type 0} → Flag G → Bus G → List ℕ → Turn → Option Access → Bool → Bus G → Type 0
+MakesTurn flag old regs turn dma script_reset new =
     (start : Start) (logs : Logs)
-    → BusStandsFor old start logs
+    → BusStandsFor flag old start logs
     → TurnStandsFor regs turn start logs
     → dma ≡ dma_access logs.peripherals.dma
-    → BusStandsFor new start (logs_after_step start logs script_reset)
+    → BusStandsAfter flag new start logs script_reset
 
 -- the record of a step with these signals that breaks no rule, and the logs after it
 abbrev pub record_performed : Start → Logs → List ℕ → Signals → BusRecord
@@ -87,19 +103,25 @@ logs_performed start logs regs now =
     with_record start logs (record_performed start logs regs now)
 
 -- the bus makes such a step, in which the processor's access read this value
-abbrev pub Performs : Bus → List ℕ → Bool → Signals → ℕ → Bus → Type 0
-Performs old regs is_accepted now value new =
-    (start : Start) (logs : Logs)
-    → BusStandsFor old start logs
+abbrev pub PerformsFrom :
+    {G : Type 0} → Start → Logs → Flag G → Bus G → List ℕ → Bool → Signals → ℕ → Bus G → Type 0
+PerformsFrom start logs flag old regs is_accepted now value new =
+    BusStandsFor flag old start logs
     → value ≡ value_read start logs now.cpu
     → now.dma ≡ dma_access logs.peripherals.dma
     → is_accepted ≡ accepts_timer logs.progress now.kind (vector_of logs)
-    → BusStandsFor new start (logs_performed start logs regs now)
+    → BusStandsFor flag new start (logs_performed start logs regs now)
 
--- the EXEC flag is not set, and a record with this `pc` does not set it
-abbrev pub StaysClear : Start → Logs → ℕ → Type 0
-StaysClear start logs pc =
-    (entry : BusRecord)
-    → entry.pc ≡ pc
-    → (exec_of logs ≡ false)
-    × (exec (record { entry = entry; bounds = logged_bounds start logs } ∷ logs.records) ≡ false)
+abbrev pub Performs :
+    {G : Type 0} → Flag G → Bus G → List ℕ → Bool → Signals → ℕ → Bus G → Type 0
+Performs flag old regs is_accepted now value new =
+    (start : Start) (logs : Logs)
+    → PerformsFrom start logs flag old regs is_accepted now value new
+
+-- likewise, where a step with a line is kept
+abbrev pub PerformsKept :
+    {G : Type 0} → Bool → Flag G → Bus G → List ℕ → Bool → Signals → ℕ → Bus G → Type 0
+PerformsKept keeps flag old regs is_accepted now value new =
+    (start : Start) (logs : Logs)
+    → (keeps ≡ false → has_line (record_performed start logs regs now) ≡ false)
+    → PerformsFrom start logs flag old regs is_accepted now value new

@@ -3,9 +3,11 @@ pub mod Device
 pub mod Step
 pub mod StepLine
 pub mod Silence
+pub mod KeptCounter
 pub mod Outside
 -- What the parts within stand for, and how they make a step.
 pub mod Bus
+pub mod FlagsClear
 pub mod Machine
 pub mod Monitors
 pub mod Peripherals

@@ -3,7 +3,7 @@ use Rattle.std.specs.Prelude.{ℕ, Option, Some, None}
 use Rattle.bus_signals.specs.declared.rule.Rule.{Rule}
 use Rattle.bus_signals.specs.Report.{ReportFields, fields_of}
 use Rattle.device_core.specs.declared.step_line.StepLine.{StepLine}
-use Rattle.device_core.specs.declared.step_line.StepLine.TheVariants.{Sent, Reset, Report}
+use Rattle.device_core.specs.declared.step_line.StepLine.TheVariants.{Sent, Reset, Report, Denied}
 
 -- the byte that was sent
 abbrev pub byte_in_line : Option StepLine → Option ℕ
@@ -19,3 +19,8 @@ rule_in_line line = None
 abbrev pub report_in_line : Option StepLine → Option ReportFields
 report_in_line (Some (Report view)) = Some (fields_of view)
 report_in_line line = None
+
+-- the decision of a finished call that does not attest
+abbrev pub denied_in_line : Option StepLine → Option ℕ
+denied_in_line (Some (Denied decision)) = Some decision
+denied_in_line line = None

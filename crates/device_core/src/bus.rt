@@ -1,42 +1,40 @@
-ghost use Rattle.std.specs.Prelude.{◌≡◌, ◌∷◌, ℕ, Bool, true, false, List, Option, IfSome, IfOk, IsSome, None, is_none};
+ghost use Rattle.std.specs.Prelude.{◌≡◌, ◌∷◌, [], ℕ, Bool, true, false, List, Option, IfSome, IfOk, IsSome, None, Some, is_none, if◌then◌else◌};
 ghost use Rattle.bus_signals.specs.Access.{IsFormed};
-ghost use Rattle.bus_signals.specs.declared.access.Access.{Access as AccessValue};
-ghost use Rattle.bus_signals.specs.declared.bounds.Bounds.{Bounds as BoundsBefore};
 ghost use Rattle.bus_signals.specs.declared.event.Event.{Event};
-ghost use Rattle.bus_signals.specs.declared.rule.Rule.{Rule};
-ghost use Rattle.bus_signals.specs.declared.signals.Signals.{Signals};
 ghost use Rattle.bus_signals.specs.SeenRecord.{SeenRecord};
 ghost use Rattle.part_definitions.specs.Dma.{dma_access};
+ghost use Rattle.part_definitions.specs.FirstRule.{first_rule};
 ghost use Rattle.part_definitions.specs.Flag.{exec, last_pc};
-ghost use Rattle.part_definitions.specs.Memory.{PowerOn, MemoryWrite, with_access};
+ghost use Rattle.part_definitions.specs.Memory.{PowerOn, ShownFlags, MemoryWrite, with_access};
 ghost use Rattle.part_definitions.specs.Part.{Takes};
 ghost use Rattle.mem_map.specs.Memory.{MemoryStandsFor};
 ghost use Rattle.mem_map.specs.Image.{power_on_of};
-ghost use Rattle.device_trace.specs.FirstRule.{first_rule};
 ghost use Rattle.device_trace.specs.Start.{Start};
-ghost use Rattle.device_core.specs.Bus.{TurnStandsFor};
-ghost use Rattle.device_trace.specs.Logs.{Logs, power_on_logs, accepts_timer, memory_after, with_events, with_record, exec_of, vector_of};
+ghost use Rattle.device_trace.specs.Logs.{Logs, power_on_logs, accepts_timer, goes_on_in_call, memory_after, with_events, with_record, flags_of, vector_of};
 ghost use Rattle.device_trace.specs.Signals.{signals_of, word_fetched, value_read};
 ghost use Rattle.device_trace.specs.Step.{is_reset, asks_reset, dma_value_read, record_from};
+ghost use Rattle.device_core.specs.Bus.{TurnStandsFor};
+ghost use Rattle.device_core.specs.Silence.{has_line};
 
 use crate::access::{value_read, word_fetched};
+use crate::last_step::{LastStep, keep, keep_none};
 use crate::monitors::Monitors;
 use crate::peripherals::Peripherals;
-use crate::record::{keep_record, record_of_refusal, record_of_step};
+use crate::record::{goes_on_in_call, is_kept, record_of_refusal, record_of_step};
 use crate::turn::Turn;
 use bus_arbiter::{Proposal, exchange};
-use bus_signals::{Access, Bounds, BusMaster, BusRecord, CR, Event, Rule, Signals};
+use bus_signals::{Access, Bounds, BusMaster, BusRecord, CR, Event, Signals, TraceFlag};
 use mem_map::{Image, Memory};
 use std::alloc::{AllocError, Global};
 
 /// The bus, with what is reached over it and what watches it.
 #[derive(Drop)]
-pub struct Bus {
+pub struct Bus<G: TraceFlag> {
     pub memory: Memory,
     pub peripherals: Peripherals,
-    pub monitors: Monitors,
-    /// The record of the last step, where it was kept. A step whose record is not has no line.
-    pub last: Option<BusRecord>,
+    pub monitors: Monitors<G>,
+    /// The last step, where it was kept. One that was not has no line.
+    pub last: Option<LastStep>,
 }
 
 fn is_reset(event: &Event) -> bool
@@ -55,12 +53,26 @@ fn asks_reset(events: &[Event]) -> bool
 // Shows the EXEC flag in memory, which showed what it was.
 #[inline(always)]
 fn show_exec(memory: &mut Memory, was_set: bool, is_set: bool)
-    ensures { (start : PowerOn) (writes : List MemoryWrite)
-        → MemoryStandsFor memory.old start was_set writes
-        → MemoryStandsFor memory.new start is_set writes }
+    ensures { (start : PowerOn) (flags : ShownFlags) (writes : List MemoryWrite)
+        → MemoryStandsFor memory.old start flags writes
+        → was_set ≡ flags.exec
+        → MemoryStandsFor memory.new start (record flags { exec = is_set }) writes }
 {
     if is_set != was_set {
         memory.set_exec(is_set);
+    }
+}
+
+// Shows the second flag in memory, but for a step after which it stays as it is shown.
+#[inline(always)]
+fn show_aux(memory: &mut Memory, stays: bool, is_set: bool)
+    ensures { (start : PowerOn) (flags : ShownFlags) (writes : List MemoryWrite)
+        → MemoryStandsFor memory.old start flags writes
+        → MemoryStandsFor memory.new start
+        (record flags { aux = if stays then flags.aux else is_set }) writes }
+{
+    if !stays {
+        memory.set_aux(is_set);
     }
 }
 
@@ -84,11 +96,12 @@ fn exchange_with(memory: &mut Memory, now: &Signals) -> u16
     requires cpu { IfSome now.now.cpu IsFormed }
     requires dma { IfSome now.now.dma IsFormed }
     ensures value { (start : Start) (logs : Logs)
-        → MemoryStandsFor memory.old start.power (exec_of logs) logs.memory
+        → MemoryStandsFor memory.old start.power (flags_of start logs) logs.memory
         → result ≡ dma_value_read start logs now.now }
-    ensures memory { (start : PowerOn) (flag : Bool) (writes : List MemoryWrite)
-        → MemoryStandsFor memory.old start flag writes
-        → MemoryStandsFor memory.new start flag (memory_after None now.now.cpu now.now.dma writes) }
+    ensures memory { (start : PowerOn) (flags : ShownFlags) (writes : List MemoryWrite)
+        → MemoryStandsFor memory.old start flags writes
+        → MemoryStandsFor memory.new start flags
+        (memory_after None now.now.cpu now.now.dma writes) }
 {
     let written = write_in(now.cpu);
     exchange(memory, &Proposal::new(written), &Proposal::new(now.dma)).second
@@ -122,21 +135,27 @@ fn signals(turn: &Turn, value: u16, dma: Option<Access>, script_reset: bool) -> 
     }
 }
 
-impl Bus {
-    ghost use Rattle.device_core.specs.Bus.{BusStandsFor, LastStandsFor, AnswersTurn, MakesTurn, Performs, StaysClear, logs_performed, record_performed};
+impl<G: TraceFlag> Bus<G> {
+    ghost use Rattle.device_trace.specs.Logs.{flags_shown};
+    ghost use Rattle.device_core.specs.Bus.{BusStandsFor, LastStandsFor, KeepsSignals, AnswersTurn, MakesTurn, Performs, PerformsFrom, PerformsKept, record_performed};
+    ghost use Rattle.device_core.specs.FlagsClear.{StaysClear};
     ghost use Rattle.device_core.specs.Monitors.{MonitorsStandFor};
 
-    /// The bus at power-on.
+    /// The bus at power-on. The flag has seen no record.
     #[tactic(auto, unfolding(part_definitions::specs::Flag::exec))]
-    pub fn new(alloc: Global, key: &[u8; 64], image: &Image) -> Result<Bus, AllocError>
+    pub fn new(alloc: Global, key: &[u8; 64], image: &Image, flag: G) -> Result<Bus<G>, AllocError>
+        requires { G.flag.has_seen flag [] }
         ensures stands { (start : Start)
             → start.power ≡ power_on_of key.now image.now
-            → IfOk result (λ bus. BusStandsFor bus start power_on_logs) }
+            → start.second_flag ≡ G.flag.value
+            → IfOk result (λ bus. BusStandsFor G.flag bus start power_on_logs) }
     {
+        let mut memory = Memory::new(alloc, key, image)?;
+        memory.set_aux(flag.value());
         Ok(Bus {
-            memory: Memory::new(alloc, key, image)?,
+            memory,
             peripherals: Peripherals::new(alloc)?,
-            monitors: Monitors::new(),
+            monitors: Monitors::new(flag),
             last: None,
         })
     }
@@ -147,8 +166,8 @@ impl Bus {
         ensures last { self.new.last ≡ self.old.last }
         ensures reset { result ≡ asks_reset events.now }
         ensures stands { (start : Start) (logs : Logs)
-            → BusStandsFor self.old start logs
-            → BusStandsFor self.new start (with_events logs events.now) }
+            → BusStandsFor G.flag self.old start logs
+            → BusStandsFor G.flag self.new start (with_events logs events.now) }
     {
         self.peripherals.take_events(events);
         asks_reset(events)
@@ -159,31 +178,37 @@ impl Bus {
     pub fn dma_access(&self) -> Option<Access>
         ensures formed { IfSome result IsFormed }
         ensures access { (start : Start) (logs : Logs)
-            → BusStandsFor self.now start logs
+            → BusStandsFor G.flag self.now start logs
             → result ≡ dma_access logs.peripherals.dma }
     {
         self.peripherals.dma.ask()
     }
 
-    // The monitors see the record of a step, with the bounds before it, and memory shows the EXEC
-    // flag.
+    // The monitors see the record of a step, with the bounds before it, and memory shows the flags.
     #[inline(always)]
     fn watch(&mut self, entry: &BusRecord, bounds: &Bounds)
         requires cpu { IfSome entry.now.cpu IsFormed }
         requires dma { IfSome entry.now.dma IsFormed }
         ensures last { self.new.last ≡ self.old.last }
         ensures peripherals { self.new.peripherals ≡ self.old.peripherals }
-        ensures memory { (start : PowerOn) (writes : List MemoryWrite) (records : List SeenRecord)
-            → MemoryStandsFor self.old.memory start (exec records) writes
-            → MonitorsStandFor self.old.monitors records
-            → MemoryStandsFor self.new.memory start
-            (exec (record { entry = entry.now; bounds = bounds.now } ∷ records)) writes }
-        ensures monitors { Takes MonitorsStandFor self.old.monitors
+        ensures memory { (start : Start) (writes : List MemoryWrite) (records : List SeenRecord)
+            → start.second_flag ≡ G.flag.value
+            → MemoryStandsFor self.old.memory start.power (flags_shown start records) writes
+            → MonitorsStandFor G.flag self.old.monitors records
+            → MemoryStandsFor self.new.memory start.power
+            (flags_shown start (record { entry = entry.now; bounds = bounds.now } ∷ records))
+            writes }
+        ensures monitors { Takes (MonitorsStandFor G.flag) self.old.monitors
             (record { entry = entry.now; bounds = bounds.now }) self.new.monitors }
     {
         let was_set = self.monitors.exec();
         self.monitors.see(entry, bounds);
         show_exec(&mut self.memory, was_set, self.monitors.exec());
+        show_aux(
+            &mut self.memory,
+            goes_on_in_call(entry),
+            self.monitors.aux(),
+        );
     }
 
     // Makes the writes of a step that breaks no rule, whose access read this value, and the DMA's
@@ -201,12 +226,12 @@ impl Bus {
         ensures pc { result.pc ≡ now.now.pc }
         ensures reset { result.reset ≡ None }
         ensures value { (start : Start) (logs : Logs)
-            → BusStandsFor self.old start logs
+            → BusStandsFor G.flag self.old start logs
             → value ≡ value_read start logs now.now.cpu
             → result ≡ record_performed start logs regs.now now.now }
-        ensures memory { (start : PowerOn) (flag : Bool) (writes : List MemoryWrite)
-            → MemoryStandsFor self.old.memory start flag writes
-            → MemoryStandsFor self.new.memory start flag
+        ensures memory { (start : PowerOn) (flags : ShownFlags) (writes : List MemoryWrite)
+            → MemoryStandsFor self.old.memory start flags writes
+            → MemoryStandsFor self.new.memory start flags
             (memory_after None now.now.cpu now.now.dma writes) }
     {
         let dma_value = exchange_with(&mut self.memory, now);
@@ -226,77 +251,75 @@ impl Bus {
         requires cpu { IfSome now.now.cpu IsFormed }
         requires dma { IfSome now.now.dma IsFormed }
         ensures kept { keeps ≡ true → IsSome self.new.last }
-        ensures stands { Performs self.old regs.now is_accepted now.now value self.new }
+        ensures signals { KeepsSignals self.new.last now.now }
+        ensures stands { Performs G.flag self.old regs.now is_accepted now.now value self.new }
     {
-        if self.stays_clear(now.pc) {
-            self.perform_alone(regs, is_accepted, now, value, keeps);
+        if is_kept(keeps, now) {
+            self.perform_watched::<true>(regs, is_accepted, *now, value);
+        } else if self.stays_clear(now.pc) {
+            self.perform_alone(regs, is_accepted, now, value);
         } else {
-            self.perform_watched(regs, is_accepted, *now, value, keeps);
+            self.perform_watched::<false>(regs, is_accepted, *now, value);
         }
     }
 
-    // Whether the EXEC flag is not set, and a step with this `pc` does not set it.
+    // Whether neither flag is set or shown, and a step with this `pc` sets none.
     #[inline(always)]
     fn stays_clear(&self, pc: u16) -> bool
         ensures { (start : Start) (logs : Logs)
-            → BusStandsFor self.now start logs
+            → BusStandsFor G.flag self.now start logs
             → result ≡ true
-            → StaysClear start logs pc }
+            → StaysClear G.flag start logs pc }
     {
-        self.monitors.exec.stays_clear(pc, self.memory.er_min())
+        self.monitors.stay_clear(pc, self.memory.er_min()) && !self.memory.shows_aux()
     }
 
-    // Makes a step that breaks no rule, in which the EXEC flag is not set and stays so: nothing
-    // looks at the bounds.
+    // Makes a step that breaks no rule and has no line, in which neither flag is set and both stay
+    // so. It is not kept, and nothing looks at the bounds.
     #[inline(always)]
     #[tactic(auto, unfolding(device_trace::specs::Logs::with_record))]
-    fn perform_alone(
-        &mut self,
-        regs: &[u16; 16],
-        is_accepted: bool,
-        now: &Signals,
-        value: u16,
-        keeps: bool,
-    )
+    fn perform_alone(&mut self, regs: &[u16; 16], is_accepted: bool, now: &Signals, value: u16)
         requires cpu { IfSome now.now.cpu IsFormed }
         requires dma { IfSome now.now.dma IsFormed }
-        ensures kept { keeps ≡ true → IsSome self.new.last }
+        ensures signals { KeepsSignals self.new.last now.now }
         ensures stands { (start : Start) (logs : Logs)
-            → StaysClear start logs now.now.pc
-            → BusStandsFor self.old start logs
-            → value ≡ value_read start logs now.now.cpu
-            → now.now.dma ≡ dma_access logs.peripherals.dma
-            → is_accepted ≡ accepts_timer logs.progress now.now.kind (vector_of logs)
-            → BusStandsFor self.new start (logs_performed start logs regs.now now.now) }
+            → has_line (record_performed start logs regs.now now.now) ≡ false
+            → StaysClear G.flag start logs now.now.pc
+            → PerformsFrom start logs G.flag self.old regs.now is_accepted now.now value self.new }
     {
         let entry = self.make(regs, now, value);
-        let sent = self.peripherals.finish_step(&entry, is_accepted);
+        self.peripherals.finish_step(&entry, is_accepted);
         self.monitors.pass(&entry);
-        keep_record(&mut self.last, entry, sent, keeps);
+        keep_none(&mut self.last);
     }
 
-    // Makes any step that breaks no rule. The signals are copied, so that other steps keep none in
-    // memory.
+    // Makes any step that breaks no rule. The compiler makes one for steps that are kept, and one for
+    // those that are not. The signals are copied, so that other steps keep none in memory.
     #[inline(never)]
     #[tactic(auto, unfolding(device_trace::specs::Logs::with_record))]
-    fn perform_watched(
+    fn perform_watched<const KEEPS: bool>(
         &mut self,
         regs: &[u16; 16],
         is_accepted: bool,
         now: Signals,
         value: u16,
-        keeps: bool,
     )
         requires cpu { IfSome now.cpu IsFormed }
         requires dma { IfSome now.dma IsFormed }
-        ensures kept { keeps ≡ true → IsSome self.new.last }
-        ensures stands { Performs self.old regs.now is_accepted now value self.new }
+        ensures kept { KEEPS ≡ true → IsSome self.new.last }
+        ensures signals { KeepsSignals self.new.last now }
+        ensures stands { PerformsKept KEEPS G.flag self.old regs.now is_accepted now value self.new }
     {
         let bounds = self.memory.bounds();
         let entry = self.make(regs, &now, value);
-        let sent = self.peripherals.finish_step(&entry, is_accepted);
+        self.peripherals.finish_step(&entry, is_accepted);
         self.watch(&entry, &bounds);
-        keep_record(&mut self.last, entry, sent, keeps);
+        let step = LastStep {
+            signals: now,
+            bounds,
+            entry,
+        };
+        keep(&mut self.last, step, KEEPS);
     }
 
     // Of a step that breaks a rule: makes no access, and resets all that is reached over the bus
@@ -307,10 +330,11 @@ impl Bus {
         requires cpu { IfSome now.cpu IsFormed }
         requires dma { IfSome now.dma IsFormed }
         ensures kept { IsSome self.new.last }
+        ensures signals { KeepsSignals self.new.last now }
         ensures stands { (start : Start) (logs : Logs) (value dma_value : ℕ)
-            → BusStandsFor self.old start logs
+            → BusStandsFor G.flag self.old start logs
             → is_none (first_rule (last_pc logs.records) now) ≡ false
-            → BusStandsFor self.new start (with_record start logs
+            → BusStandsFor G.flag self.new start (with_record start logs
             (record_from regs.now now (first_rule (last_pc logs.records) now) value dma_value)) }
     {
         let rule = self.monitors.broken_rule(&now);
@@ -318,12 +342,16 @@ impl Bus {
         self.peripherals.clear();
         let entry = record_of_refusal(regs, &now, rule);
         self.watch(&entry, &bounds);
-        self.last = Some(entry);
+        self.last = Some(LastStep {
+            signals: now,
+            bounds,
+            entry,
+        });
     }
 
     /// Tries the rules, and makes the step of this turn where none is broken, in which the DMA asks
     /// for this access. What the access of processor or ROM read, `None` where the step is refused.
-    /// The record is kept where that is asked for and where the step has a line.
+    /// The step is kept where that is asked for and where it has a line.
     #[inline(always)]
     pub fn act(
         &mut self,
@@ -336,8 +364,8 @@ impl Bus {
         requires formed { IfSome turn.now.access IsFormed }
         requires dma_formed { IfSome dma IsFormed }
         ensures kept { keeps ≡ true → IsSome self.new.last }
-        ensures answer { AnswersTurn self.old regs.now turn.now dma script_reset result }
-        ensures stands { MakesTurn self.old regs.now turn.now dma script_reset self.new }
+        ensures answer { AnswersTurn G.flag self.old regs.now turn.now dma script_reset result }
+        ensures stands { MakesTurn G.flag self.old regs.now turn.now dma script_reset self.new }
     {
         if CR.contains(turn.pc) {
             self.act_in_rom(regs, *turn, dma, script_reset, keeps)
@@ -359,8 +387,8 @@ impl Bus {
         requires formed { IfSome turn.access IsFormed }
         requires dma_formed { IfSome dma IsFormed }
         ensures kept { keeps ≡ true → IsSome self.new.last }
-        ensures answer { AnswersTurn self.old regs.now turn dma script_reset result }
-        ensures stands { MakesTurn self.old regs.now turn dma script_reset self.new }
+        ensures answer { AnswersTurn G.flag self.old regs.now turn dma script_reset result }
+        ensures stands { MakesTurn G.flag self.old regs.now turn dma script_reset self.new }
     {
         self.act_anywhere(regs, &turn, dma, script_reset, keeps)
     }
@@ -378,8 +406,8 @@ impl Bus {
         requires formed { IfSome turn.now.access IsFormed }
         requires dma_formed { IfSome dma IsFormed }
         ensures kept { keeps ≡ true → IsSome self.new.last }
-        ensures answer { AnswersTurn self.old regs.now turn.now dma script_reset result }
-        ensures stands { MakesTurn self.old regs.now turn.now dma script_reset self.new }
+        ensures answer { AnswersTurn G.flag self.old regs.now turn.now dma script_reset result }
+        ensures stands { MakesTurn G.flag self.old regs.now turn.now dma script_reset self.new }
     {
         let value = value_read(&self.memory, &self.peripherals, turn.access);
         let now = signals(turn, value, dma, script_reset);

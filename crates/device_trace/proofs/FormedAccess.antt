@@ -15,9 +15,9 @@ use Rattle.bus_signals.specs.declared.bounds.Bounds.{Bounds}
 use Rattle.bus_signals.specs.declared.kind.Kind.{Kind}
 use Rattle.bus_signals.specs.declared.kind.Kind.TheVariants.{Boot, Cpu, Idle, Irq, Rom}
 use Rattle.bus_signals.specs.declared.rule.Rule.{Rule}
-use Rattle.bus_signals.specs.Map.{RESET_VECTOR}
+use Rattle.bus_signals.specs.Map.{RESET_VECTOR, mac_region}
 use Rattle.part_definitions.specs.BusAccess.{fetch_at, read_at, write_at}
-use Rattle.part_definitions.specs.Attestation.{CallItem, KeyRead, MetadataRead, DerivedKeyWrite, RegionRead, InnerDigestWrite, MacWrite, ReturnRead, item_access, bounds_read, call_item}
+use Rattle.part_definitions.specs.Attestation.{CallItem, KeyRead, MetadataRead, KeptRead, KeptWrite, DecisionWrite, DerivedKeyWrite, RegionRead, InnerDigestWrite, MacWrite, ReturnRead, item_access, bounds_read, call_item}
 use Rattle.part_definitions.specs.declared.cpu_access.CpuAccess.{CpuAccess}
 use Rattle.part_definitions.specs.declared.cpu_access.CpuAccess.TheVariants.{FetchImmediate, FetchSourceIndex, ReadSource, ReadIncrementing, FetchDestinationIndex, ReadDestination, WriteResult, PushSource, PushPc, PopSr, PopPc}
 use Rattle.part_definitions.specs.declared.working_state.WorkingState.{WorkingState}
@@ -110,6 +110,9 @@ item_access-formed :
     → IsFormed (item_access sp bounds item number)
 item_access-formed sp bounds (KeyRead i) number = read_at-formed Word _
 item_access-formed sp bounds (MetadataRead i) number = read_at-formed Word _
+item_access-formed sp bounds (KeptRead i) number = read_at-formed Word _
+item_access-formed sp bounds (KeptWrite i) number = write_at-formed Word _ 0
+item_access-formed sp bounds DecisionWrite number = write_at-formed Word mac_region.first 0
 item_access-formed sp bounds (DerivedKeyWrite i) number = write_at-formed Word _ 0
 item_access-formed sp bounds (RegionRead i) number = read_at-formed Word _
 item_access-formed sp bounds (InnerDigestWrite i) number = write_at-formed Word _ 0

@@ -3,6 +3,7 @@ use Rattle.std.specs.Prelude.{◌||◌, ℕ, Bool, List, map, Option, Some, None
 use Rattle.bus_signals.specs.declared.access.Access.{Access}
 use Rattle.bus_signals.specs.declared.access.Access.TheVariants.{Write}
 use Rattle.bus_signals.specs.declared.bus_record.BusRecord.{BusRecord}
+use Rattle.bus_signals.specs.SeenRecord.{SeenRecord}
 use Rattle.bus_signals.specs.Map.{lies_in, touches, key_region, stack_region}
 
 abbrev pub touches_secrets : Access → Bool
@@ -30,6 +31,10 @@ blank_record entry =
 
 abbrev pub blank : List BusRecord → List BusRecord
 blank history = map blank_record history
+
+-- a record that a flag sees, blanked
+abbrev pub blank_seen : SeenRecord → SeenRecord
+blank_seen now = record { entry = blank_record now.entry; bounds = now.bounds }
 
 -- the places of the secrets
 abbrev pub is_secret : ℕ → Bool

@@ -1,8 +1,10 @@
 -- Images and plays that the definitions are tried against.
-use Rattle.std.specs.Prelude.{◌&&◌, ◌+◌, ◌-◌, ◌*◌, ℕ, zero, suc, List, [], ◌∷◌, length, map, replicate, if◌then◌else◌, nat_le, nat_lt, slice_index}
+use Rattle.std.specs.Prelude.{◌&&◌, ◌++◌, ◌+◌, ◌-◌, ◌*◌, ℕ, zero, suc, List, [], ◌∷◌, length, map, if◌then◌else◌, nat_le, nat_lt, slice_index}
 use Rattle.bus_signals.specs.declared.event.Event.{Event}
 use Rattle.bus_signals.specs.declared.event.Event.TheVariants.{Rx}
 use Rattle.part_definitions.specs.Attestation.{bytes_of_words}
+use Rattle.bus_signals.specs.Map.{COUNTER}
+use Rattle.bus_signals.specs.SeenRecord.{no_flag}
 use Rattle.device_trace.specs.Start.{Start, with_key}
 
 -- numbers from one upwards, so many
@@ -10,13 +12,13 @@ abbrev pub upwards : ℕ → ℕ → List ℕ
 upwards first zero = []
 upwards first (suc count) = first ∷ upwards (first + 1) count
 
--- a digest that can be computed here: always 32 bytes 0
-abbrev pub no_digest : List ℕ → List ℕ
-no_digest bytes = replicate 32 0
+-- a digest that can be computed here: always the bytes 01 to 20
+abbrev pub counting_digest : List ℕ → List ℕ
+counting_digest bytes = upwards 1 32
 
--- a device with the key 00 to 3F
+-- a device with the key 00 to 3F and no second flag
 abbrev pub start_with : (ℕ → ℕ) → Start
-start_with image = with_key no_digest (upwards 0 64) image
+start_with image = with_key no_flag counting_digest (upwards 0 64) image
 
 -- an image of words, from a place upwards each; 0 elsewhere
 abbrev pub image_of : List (ℕ × List ℕ) → ℕ → ℕ
@@ -25,10 +27,6 @@ image_of (part ∷ parts) place =
     if nat_le part.0 place && nat_lt place (part.0 + 2 * length part.1)
     then slice_index (bytes_of_words part.1) (place - part.0)
     else image_of parts place
-
--- what is printed of 32 bytes 0
-abbrev pub zeros : List ℕ
-zeros = replicate 64 48
 
 abbrev pub no_image : ℕ → ℕ
 no_image place = 0
@@ -54,6 +52,16 @@ program_of words parts = image_of ((0xC000, words) ∷ (0xFFFE, 0xC000 ∷ []) �
 abbrev pub bounds_part : List ℕ → ℕ × List ℕ
 bounds_part words = (0x0260, words)
 
+-- the words of the bytes 01 to 20
+abbrev pub counting_words : List ℕ
+counting_words =
+    0x0201 ∷ 0x0403 ∷ 0x0605 ∷ 0x0807 ∷ 0x0A09 ∷ 0x0C0B ∷ 0x0E0D ∷ 0x100F ∷
+    0x1211 ∷ 0x1413 ∷ 0x1615 ∷ 0x1817 ∷ 0x1A19 ∷ 0x1C1B ∷ 0x1E1D ∷ 0x201F ∷ []
+
+-- a request with this counter and the right token, as words of the metadata
+abbrev pub request_part : ℕ → ℕ × List ℕ
+request_part count = (COUNTER, count ∷ 0 ∷ counting_words)
+
 -- ER from C020 to C022, OR of one word at 0300
 abbrev pub two_word_bounds : List ℕ
 two_word_bounds = 0xC020 ∷ 0xC022 ∷ 0x0300 ∷ 0x0300 ∷ []
@@ -74,11 +82,15 @@ key_reader = program_of (0x4215 ∷ 0x6A00 ∷ 0x3FFF ∷ []) []
 abbrev pub key_runner : ℕ → ℕ
 key_runner = program_of (0x4030 ∷ 0x6A00 ∷ []) []
 
--- MOV #2200,SP; DINT; CALL #A000; a jump to itself; bounds C000 to C00A and 0300
-abbrev pub attestation : ℕ → ℕ
-attestation =
+-- MOV #2200,SP; DINT; CALL #A000; a jump to itself; bounds C000 to C00A and 0300; with these parts
+-- of a request
+abbrev pub attestation_of : List (ℕ × List ℕ) → ℕ → ℕ
+attestation_of request =
     program_of (0x4031 ∷ 0x2200 ∷ 0xC232 ∷ 0x12B0 ∷ 0xA000 ∷ 0x3FFF ∷ [])
-    (bounds_part (0xC000 ∷ 0xC00A ∷ 0x0300 ∷ 0x0300 ∷ []) ∷ [])
+    (bounds_part (0xC000 ∷ 0xC00A ∷ 0x0300 ∷ 0x0300 ∷ []) ∷ request)
+
+abbrev pub attestation : ℕ → ℕ
+attestation = attestation_of (request_part 1 ∷ [])
 
 -- MOV #6A00,SP; BR #A000
 abbrev pub return_through_key : ℕ → ℕ
@@ -89,32 +101,38 @@ abbrev pub return_into_rom : ℕ → ℕ
 return_into_rom =
     program_of (0x4031 ∷ 0x2200 ∷ 0x1230 ∷ 0xA002 ∷ 0x4030 ∷ 0xA000 ∷ []) []
 
--- MOV #2200,SP; MOV #5F,&TCMP; MOV #3,&TCTL; EINT; CALL #A000
+-- MOV #2200,SP; MOV #50,&TCMP; MOV #3,&TCTL; EINT; CALL #A000
 abbrev pub interrupted_call : ℕ → ℕ
 interrupted_call =
     program_of
-    (0x4031 ∷ 0x2200 ∷ 0x40B2 ∷ 0x005F ∷ 0x0164 ∷ 0x40B2 ∷ 0x0003 ∷ 0x0160 ∷ 0xD232 ∷ 0x12B0 ∷
+    (0x4031 ∷ 0x2200 ∷ 0x40B2 ∷ 0x0050 ∷ 0x0164 ∷ 0x40B2 ∷ 0x0003 ∷ 0x0160 ∷ 0xD232 ∷ 0x12B0 ∷
     0xA000 ∷ 0x3FFF ∷ [])
     []
 
--- receives a challenge, sets the bounds, calls the region at C040, which copies the pins to 0300,
--- and attests
+-- receives the metadata, calls the region at C040, which copies the pins to 0300, and attests
 abbrev pub ordinary_run : ℕ → ℕ
 ordinary_run =
     program_of
     (0x4031 ∷ 0x2200 ∷ 0xC232 ∷ 0x4035 ∷ 0x0240 ∷ 0xB392 ∷ 0x0072 ∷ 0x27FD ∷ 0x42D5 ∷ 0x0074 ∷
-    0x0000 ∷ 0x5315 ∷ 0x9035 ∷ 0x0260 ∷ 0x23F6 ∷ 0x40B2 ∷ 0xC040 ∷ 0x0260 ∷ 0x40B2 ∷ 0xC046 ∷
-    0x0262 ∷ 0x40B2 ∷ 0x0300 ∷ 0x0264 ∷ 0x40B2 ∷ 0x0300 ∷ 0x0266 ∷ 0x12B0 ∷ 0xC040 ∷ 0x12B0 ∷
-    0xA000 ∷ 0x3FFF ∷ 0x4292 ∷ 0x0020 ∷ 0x0300 ∷ 0x4130 ∷ [])
-    []
+    0x0000 ∷ 0x5315 ∷ 0x9035 ∷ 0x0290 ∷ 0x23F6 ∷ 0x12B0 ∷ 0xC040 ∷ 0x12B0 ∷ 0xA000 ∷ 0x3FFF ∷ [])
+    ((0xC040, 0x4292 ∷ 0x0020 ∷ 0x0300 ∷ 0x4130 ∷ []) ∷ [])
+
+-- the metadata of a request for it: the challenge 00 to 1F, the bounds, the flags, the counter 1,
+-- and the right token
+abbrev pub ordinary_request : List ℕ
+ordinary_request =
+    upwards 0 32
+    ++ bytes_of_words (0xC040 ∷ 0xC046 ∷ 0x0300 ∷ 0x0300 ∷ 0 ∷ 0 ∷ 1 ∷ 0 ∷ counting_words)
 
 -- MOV #2200,SP; MOV #1,&SCTL; EINT; CALL #C020; CALL #A000: enables the serial interrupt, calls the
--- region at C020 and attests; the handler at C030 reads the byte; with these bounds and this region
+-- region at C020 and attests on a request; the handler at C030 reads the byte; with these bounds
+-- and this region
 abbrev pub guarded_program : List ℕ → List ℕ → ℕ → ℕ
 guarded_program bounds region =
     program_of
     (0x4031 ∷ 0x2200 ∷ 0x4392 ∷ 0x0070 ∷ 0xD232 ∷ 0x12B0 ∷ 0xC020 ∷ 0x12B0 ∷ 0xA000 ∷ 0x3FFF ∷ [])
-    (bounds_part bounds ∷ (0xC020, region) ∷ (0xC030, 0x4256 ∷ 0x0074 ∷ 0x1300 ∷ []) ∷
+    (bounds_part bounds ∷ request_part 1 ∷ (0xC020, region) ∷
+    (0xC030, 0x4256 ∷ 0x0074 ∷ 0x1300 ∷ []) ∷
     (0xFFF4, 0xC030 ∷ []) ∷ [])
 
 abbrev pub guarded_region : ℕ → ℕ
@@ -128,25 +146,26 @@ reach_outside = guarded_program two_word_bounds (0x4303 ∷ 0x4030 ∷ 0xC00E �
 abbrev pub region_over_mac : ℕ → ℕ
 region_over_mac = guarded_program (0x0200 ∷ 0x0202 ∷ 0x0300 ∷ 0x0300 ∷ []) two_word_region
 
--- MOV #2200,SP; CALL #C020; MOV #4303,&C020; CALL #A000
+-- MOV #2200,SP; CALL #C020; MOV #4303,&C020; CALL #A000, on a request
 abbrev pub overwrite : ℕ → ℕ
 overwrite =
     program_of
     (0x4031 ∷ 0x2200 ∷ 0x12B0 ∷ 0xC020 ∷ 0x40B2 ∷ 0x4303 ∷ 0xC020 ∷ 0x12B0 ∷ 0xA000 ∷ 0x3FFF ∷ [])
-    (bounds_part two_word_bounds ∷ (0xC020, two_word_region) ∷ [])
+    (bounds_part two_word_bounds ∷ request_part 1 ∷ (0xC020, two_word_region) ∷ [])
 
 -- MOV #2200,SP; CALL #C020; CALL #C022; CALL #A000
 abbrev pub inner_entry : ℕ → ℕ
 inner_entry =
     program_of
     (0x4031 ∷ 0x2200 ∷ 0x12B0 ∷ 0xC020 ∷ 0x12B0 ∷ 0xC022 ∷ 0x12B0 ∷ 0xA000 ∷ 0x3FFF ∷ [])
-    (bounds_part two_word_bounds ∷ (0xC020, two_word_region) ∷ [])
+    (bounds_part two_word_bounds ∷ request_part 1 ∷ (0xC020, two_word_region) ∷ [])
 
 -- MOV #2200,SP; CALL #C020; CALL #A000, with the output region at the end of the region
 abbrev pub region_overlap : ℕ → ℕ
 region_overlap =
     program_of (0x4031 ∷ 0x2200 ∷ 0x12B0 ∷ 0xC020 ∷ 0x12B0 ∷ 0xA000 ∷ 0x3FFF ∷ [])
-    (bounds_part (0xC020 ∷ 0xC022 ∷ 0xC022 ∷ 0xC022 ∷ []) ∷ (0xC020, two_word_region) ∷ [])
+    (bounds_part (0xC020 ∷ 0xC022 ∷ 0xC022 ∷ 0xC022 ∷ []) ∷ request_part 1 ∷
+    (0xC020, two_word_region) ∷ [])
 
 -- sleeps; the handler at C030 sends the byte that arrived back
 abbrev pub echo : ℕ → ℕ

@@ -3,12 +3,12 @@ pub mod Progress
 pub mod Peripherals
 pub mod Logs
 pub mod Signals
-pub mod FirstRule
 pub mod Step
 pub mod Trace
 pub mod AccessesAreFormed
 pub mod Blank
 pub mod WholeRun
+pub mod TrustedRun
 pub mod Text
 pub mod Report
 pub mod Example

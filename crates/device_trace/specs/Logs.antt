@@ -1,5 +1,5 @@
 -- What happened to each part of the device, made from events and records by one projection a part.
-use Rattle.std.specs.Prelude.{◌==◌, ◌&&◌, ◌++◌, ℕ, Bool, false, List, [], ◌∷◌, Option, Some, None, if◌then◌else◌}
+use Rattle.std.specs.Prelude.{◌==◌, ◌&&◌, ◌++◌, ℕ, Bool, false, not, List, [], ◌∷◌, map, Option, Some, None, is_none, if◌then◌else◌}
 use Rattle.bus_signals.specs.declared.access.Access.{Access}
 use Rattle.bus_signals.specs.declared.access.Access.TheVariants.{Write}
 use Rattle.bus_signals.specs.declared.bus_record.BusRecord.{BusRecord}
@@ -8,19 +8,21 @@ use Rattle.bus_signals.specs.declared.kind.Kind.{Kind}
 use Rattle.bus_signals.specs.declared.kind.Kind.TheVariants.{Rom}
 use Rattle.bus_signals.specs.declared.rule.Rule.{Rule}
 use Rattle.bus_signals.specs.declared.bounds.Bounds.{Bounds}
-use Rattle.bus_signals.specs.Kind.{is_irq}
-use Rattle.bus_signals.specs.Map.{lies_in, mac_region}
+use Rattle.bus_signals.specs.Kind.{is_irq, is_rom}
+use Rattle.bus_signals.specs.Map.{lies_in, mac_region, ROM_ENTRY, ROM_EXIT}
 use Rattle.bus_signals.specs.SeenRecord.{SeenRecord}
+use Rattle.part_definitions.specs.Attestation.{decision_read}
 use Rattle.part_definitions.specs.CpuRegister.{allows_interrupts}
 use Rattle.part_definitions.specs.CpuState.{Boundary}
 use Rattle.part_definitions.specs.Flag.{exec}
 use Rattle.part_definitions.specs.Interrupt.{TIMER_VECTOR, accepted_vector}
-use Rattle.part_definitions.specs.Memory.{MemoryWrite, with_access, byte_at}
+use Rattle.part_definitions.specs.Memory.{MemoryWrite, ShownFlags, with_access, byte_at}
 use Rattle.part_definitions.specs.Metadata.{bounds_in}
 use Rattle.part_definitions.specs.Serial.{serial_requests}
 use Rattle.part_definitions.specs.Timer.{timer_requests}
+use Rattle.device_trace.specs.Blank.{blank_seen}
 use Rattle.device_trace.specs.Peripherals.{Peripherals, power_on_peripherals, with_all_events, timer_after, serial_after, dma_after}
-use Rattle.device_trace.specs.Progress.{Progress, Held, Runs, last_registers, progress_within, next_progress}
+use Rattle.device_trace.specs.Progress.{Progress, Held, Runs, InCall, last_registers, progress_within, next_progress}
 use Rattle.device_trace.specs.Start.{Start}
 
 pub record Logs : Type 0 where
@@ -31,6 +33,8 @@ pub record Logs : Type 0 where
   pub records : List SeenRecord
   -- the words that calls wrote to the MAC, oldest first
   pub released_words : List ℕ
+  -- the decision of the call that the last step finished
+  pub decision : Option ℕ
 
 abbrev pub power_on_logs : Logs
 power_on_logs =
@@ -40,15 +44,42 @@ power_on_logs =
       peripherals = power_on_peripherals;
       records = [];
       released_words = [];
+      decision = None;
     }
 
 -- the EXEC flag
 abbrev pub exec_of : Logs → Bool
 exec_of logs = exec logs.records
 
+-- a step of a call after its first, which is not refused
+abbrev pub goes_on_in_call : BusRecord → Bool
+goes_on_in_call entry =
+    is_rom entry.kind && not (entry.pc == ROM_ENTRY) && is_none entry.reset
+
+-- the records but for the steps of a call that is under way, or has just been finished, after its
+-- first step
+abbrev pub records_until_call : List SeenRecord → List SeenRecord
+records_until_call [] = []
+records_until_call (now ∷ before) =
+    if goes_on_in_call now.entry then records_until_call before else now ∷ before
+
+-- the second flag as the memory shows it: it sees no secret, and stays as it is from a call's first
+-- step to its end
+abbrev pub aux_shown : Start → List SeenRecord → Bool
+aux_shown start records = start.second_flag (map blank_seen (records_until_call records))
+
+abbrev pub flags_shown : Start → List SeenRecord → ShownFlags
+flags_shown start records = record { exec = exec records; aux = aux_shown start records }
+
+abbrev pub aux_of : Start → Logs → Bool
+aux_of start logs = aux_shown start logs.records
+
+abbrev pub flags_of : Start → Logs → ShownFlags
+flags_of start logs = flags_shown start logs.records
+
 -- the byte at a place of the memory
 abbrev pub logged_byte : Start → Logs → ℕ → ℕ
-logged_byte start logs place = byte_at start.power (exec_of logs) logs.memory place
+logged_byte start logs place = byte_at start.power (flags_of start logs) logs.memory place
 
 abbrev pub logged_bounds : Start → Logs → Bounds
 logged_bounds start logs = bounds_in (logged_byte start logs)
@@ -94,6 +125,18 @@ abbrev pub released_words_after : Option Rule → Kind → Option Access → Lis
 released_words_after None Rom access words = with_released_word access words
 released_words_after rule kind access words = words
 
+-- the return read of a call that was not refused finishes the call
+abbrev pub finishes_call : BusRecord → Bool
+finishes_call entry = is_rom entry.kind && (entry.pc == ROM_EXIT) && is_none entry.reset
+
+-- the decision of the call that is under way
+abbrev pub decision_in : Progress → Option ℕ
+decision_in (InCall regs words) = Some (decision_read words)
+decision_in progress = None
+
+abbrev pub decision_after : Progress → BusRecord → Option ℕ
+decision_after progress entry = if finishes_call entry then decision_in progress else None
+
 abbrev pub peripherals_after : Logs → BusRecord → Peripherals
 peripherals_after logs entry =
     let accepts : Bool = accepts_timer logs.progress entry.kind (vector_of logs) in
@@ -118,4 +161,5 @@ with_record start logs entry =
       peripherals = peripherals_after logs entry;
       records = record { entry = entry; bounds = logged_bounds start logs } ∷ logs.records;
       released_words = released_words_after entry.reset entry.kind entry.cpu logs.released_words;
+      decision = decision_after before entry;
     }

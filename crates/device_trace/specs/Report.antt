@@ -5,6 +5,7 @@ use Rattle.bus_signals.specs.declared.event.Event.{Event}
 use Rattle.device_trace.specs.Start.{Start}
 use Rattle.device_trace.specs.Text.{last_report}
 use Rattle.device_trace.specs.Trace.{trace}
+use Rattle.device_trace.specs.TrustedRun.{TrustedRun}
 use Rattle.device_trace.specs.WholeRun.{WholeRun}
 
 -- this holds of every report that a play makes, and of the play up to it
@@ -17,3 +18,9 @@ EachReport start play holds =
 -- a report whose EXEC is 1 comes after a whole run of the region that it names
 abbrev pub ExecMeansWholeRun : Start → ReportFields → List (List Event) → Type 0
 ExecMeansWholeRun start report play = IsTrue report.exec → WholeRun report.bounds (trace start play)
+
+-- and one whose AUX is 1 after a trusted run of it, where the second flag is that of trusted
+-- interrupts
+abbrev pub AuxMeansTrustedRun : Start → ReportFields → List (List Event) → Type 0
+AuxMeansTrustedRun start report play =
+    IsTrue report.aux → TrustedRun report.bounds (trace start play)

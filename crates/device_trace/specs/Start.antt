@@ -1,31 +1,40 @@
--- What a trace is of: what the device is powered on with, and the words that its calls write.
-use Rattle.std.specs.Prelude.{ℕ, List, slice_index}
-use Rattle.part_definitions.specs.Attestation.{CallItem, MacWrite, written_word}
+-- What a trace is of: what the device is powered on with, its second flag, and the words that its
+-- calls write.
+use Rattle.std.specs.Prelude.{ℕ, Bool, List, slice_index}
+use Rattle.bus_signals.specs.SeenRecord.{SeenRecord}
+use Rattle.part_definitions.specs.Attestation.{CallItem, DecisionWrite, MacWrite, written_word}
 use Rattle.part_definitions.specs.Memory.{PowerOn}
 
 pub record Start : Type 0 where
   pub power : PowerOn
+  -- what the second flag is after these records, which are blanked
+  pub second_flag : List SeenRecord → Bool
   -- what a call writes as an item, after so many words that the play released and these words that
   -- passed in the call
   pub call_word : ℕ → CallItem → List ℕ → ℕ
 
 -- with the device key, the calls write what the digest gives
-abbrev pub with_key : (List ℕ → List ℕ) → List ℕ → (ℕ → ℕ) → Start
-with_key digest key image =
+abbrev pub with_key :
+    (List SeenRecord → Bool) → (List ℕ → List ℕ) → List ℕ → (ℕ → ℕ) → Start
+with_key flag digest key image =
     record {
       power = record { key = λ i. slice_index key i; image = image };
+      second_flag = flag;
       call_word = λ releases item words. written_word digest words item;
     }
 
--- the next of these words at each write of the MAC, 0 past their end; 0 is written to the stack
+-- the next of these words at each write of the decision or the MAC, 0 past their end; 0 is written
+-- to the stack
 abbrev pub mac_word : List ℕ → ℕ → CallItem → ℕ
+mac_word words releases DecisionWrite = slice_index words releases
 mac_word words releases (MacWrite i) = slice_index words releases
 mac_word words releases item = 0
 
 -- without a key: its bytes read as 0, and these are the words that the calls release
-abbrev pub without_key : List ℕ → (ℕ → ℕ) → Start
-without_key words image =
+abbrev pub without_key : (List SeenRecord → Bool) → List ℕ → (ℕ → ℕ) → Start
+without_key flag words image =
     record {
       power = record { key = λ i. 0; image = image };
+      second_flag = flag;
       call_word = λ releases item _. mac_word words releases item;
     }

@@ -9,11 +9,11 @@ use Rattle.bus_signals.specs.declared.event.Event.{Event}
 use Rattle.bus_signals.specs.declared.event.Event.TheVariants.{Reset}
 use Rattle.bus_signals.specs.declared.rule.Rule.{Rule}
 use Rattle.bus_signals.specs.declared.signals.Signals.{Signals}
+use Rattle.part_definitions.specs.FirstRule.{first_rule}
 use Rattle.part_definitions.specs.Flag.{last_pc}
 use Rattle.part_definitions.specs.Memory.{byte_at, number_at, with_access}
-use Rattle.device_trace.specs.Logs.{Logs, exec_of, with_events}
+use Rattle.device_trace.specs.Logs.{Logs, flags_of, with_events}
 use Rattle.device_trace.specs.Progress.{last_registers}
-use Rattle.device_trace.specs.FirstRule.{first_rule}
 use Rattle.device_trace.specs.Signals.{value_read, signals_of}
 use Rattle.device_trace.specs.Start.{Start}
 
@@ -48,7 +48,8 @@ memory_read bytes (Some (Write place size number)) = 0
 -- it sees the processor's write of the same step
 abbrev pub dma_value_read : Start → Logs → Signals → ℕ
 dma_value_read start logs now =
-    memory_read (byte_at start.power (exec_of logs) (with_access now.cpu logs.memory)) now.dma
+    memory_read
+    (byte_at start.power (flags_of start logs) (with_access now.cpu logs.memory)) now.dma
 
 -- the record of a step with these signals, from these registers, that read these values
 abbrev pub record_from : List ℕ → Signals → Option Rule → ℕ → ℕ → BusRecord
@@ -75,6 +76,10 @@ record_with start logs now =
 -- the record of the next step, after its events
 unfoldable pub record_of : Start → Logs → Bool → BusRecord
 record_of start logs reset = record_with start logs (signals_of start logs reset)
+
+-- what the next step is about to do, with its events
+abbrev pub next_signals : Start → Logs → List Event → Signals
+next_signals start logs events = signals_of start (with_events logs events) (asks_reset events)
 
 -- the record of the next step, with its events
 unfoldable pub next_record : Start → Logs → List Event → BusRecord

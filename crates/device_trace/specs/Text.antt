@@ -1,20 +1,21 @@
 -- The text of a play: a line for each step that sent a byte, reset the device or finished a call,
 -- and an end line.
-use Rattle.std.specs.Prelude.{◌==◌, ◌&&◌, ◌++◌, ℕ, Bool, List, [], ◌∷◌, Option, Some, None, length, is_none, if◌then◌else◌}
+use Rattle.std.specs.Prelude.{◌==◌, ◌++◌, ℕ, List, [], ◌∷◌, Option, Some, None, length, if◌then◌else◌}
 use Rattle.bus_signals.specs.declared.access.Access.{Access}
 use Rattle.bus_signals.specs.declared.access.Access.TheVariants.{Write}
 use Rattle.bus_signals.specs.declared.bus_record.BusRecord.{BusRecord}
 use Rattle.bus_signals.specs.declared.event.Event.{Event}
 use Rattle.bus_signals.specs.declared.rule.Rule.{Rule}
 use Rattle.bus_signals.specs.declared.bounds.Bounds.{Bounds}
+use Rattle.bus_signals.specs.declared.version.Version.TheVariants.{Two}
 use Rattle.bus_signals.specs.Report.{ReportFields}
-use Rattle.bus_signals.specs.Kind.{is_rom}
-use Rattle.bus_signals.specs.Map.{ROM_EXIT}
 use Rattle.bus_signals.specs.Bounds.{are_valid}
+use Rattle.part_definitions.specs.Metadata.{counter_bytes, little_endian}
+use Rattle.part_definitions.specs.Request.{ATTESTS}
 use Rattle.part_definitions.specs.Region.{challenge_bytes, mac_bytes, output_bytes}
 use Rattle.part_definitions.specs.Serial.{byte_sent}
-use Rattle.printed_lines.specs.Line.{sent_line, reset_line, report_line, end_line}
-use Rattle.device_trace.specs.Logs.{Logs, exec_of, logged_byte, logged_bounds}
+use Rattle.printed_lines.specs.Line.{sent_line, reset_line, report_line, denied_line, end_line}
+use Rattle.device_trace.specs.Logs.{Logs, exec_of, aux_of, logged_byte, logged_bounds}
 use Rattle.device_trace.specs.Progress.{next_pc_of}
 use Rattle.device_trace.specs.Start.{Start}
 use Rattle.device_trace.specs.Step.{next_record}
@@ -33,10 +34,6 @@ abbrev pub last_byte_sent : List BusRecord → Option ℕ
 last_byte_sent [] = None
 last_byte_sent (entry ∷ history) = byte_sent_in entry
 
--- the return read of a call that was not refused finishes the call
-abbrev pub finishes_call : BusRecord → Bool
-finishes_call entry = is_rom entry.kind && (entry.pc == ROM_EXIT) && is_none entry.reset
-
 -- the bytes of OR, where the bounds are valid
 abbrev pub reported_output : (ℕ → ℕ) → Bounds → Option (List ℕ)
 reported_output bytes bounds =
@@ -46,24 +43,45 @@ reported_output bytes bounds =
 abbrev pub report_of : Start → Logs → ℕ → ReportFields
 report_of start logs step =
     record {
+      version = Two;
       step = step;
       exec = exec_of logs;
+      aux = aux_of start logs;
+      count = little_endian (counter_bytes (logged_byte start logs));
       chal = challenge_bytes (logged_byte start logs);
       bounds = logged_bounds start logs;
       output = reported_output (logged_byte start logs) (logged_bounds start logs);
       mac = mac_bytes (logged_byte start logs);
     }
 
-abbrev pub report_in : Start → Logs → ℕ → BusRecord → Option ReportFields
-report_in start logs step entry =
-    if finishes_call entry then Some (report_of start logs step) else None
+-- a call that attests makes a report, and any other is denied
+abbrev pub report_where : Start → Logs → ℕ → Option ℕ → Option ReportFields
+report_where start logs step None = None
+report_where start logs step (Some decision) =
+    if decision == ATTESTS then Some (report_of start logs step) else None
 
--- the report that the last step of a play made
+abbrev pub denial_where : Option ℕ → Option ℕ
+denial_where None = None
+denial_where (Some decision) = if decision == ATTESTS then None else Some decision
+
+-- the report that the last step made, whose number is given, and the decision with which it denied
+abbrev pub report_in : Start → Logs → ℕ → Option ReportFields
+report_in start logs step = report_where start logs step logs.decision
+
+abbrev pub denial_in : Logs → Option ℕ
+denial_in logs = denial_where logs.decision
+
+-- of the last step of a play
 abbrev pub last_report : Start → List (List Event) → Option ReportFields
 last_report start [] = None
 last_report start (events ∷ play) =
     report_in start (logs_after start (events ∷ play)) (length play)
-    (next_record start (logs_after start play) events)
+
+abbrev pub last_decision : Start → List (List Event) → Option ℕ
+last_decision start play = (logs_after start play).decision
+
+abbrev pub last_denial : Start → List (List Event) → Option ℕ
+last_denial start play = denial_in (logs_after start play)
 
 -- the lines of one step
 abbrev pub sent_lines : ℕ → Option ℕ → List ℕ
@@ -78,11 +96,15 @@ abbrev pub report_lines : Option ReportFields → List ℕ
 report_lines None = []
 report_lines (Some report) = report_line report
 
+abbrev pub denied_lines : ℕ → Option ℕ → List ℕ
+denied_lines step None = []
+denied_lines step (Some decision) = denied_line step decision
+
 -- of a step's number, its record and the logs after it
 abbrev pub step_lines : Start → ℕ → BusRecord → Logs → List ℕ
 step_lines start step entry logs =
     sent_lines step (byte_sent_in entry) ++ reset_lines step entry.reset
-    ++ report_lines (report_in start logs step entry)
+    ++ report_lines (report_in start logs step) ++ denied_lines step (denial_in logs)
 
 -- the lines of a play in the order of its steps, which are numbered from 0
 unfoldable pub lines_of : Start → List (List Event) → List ℕ

@@ -1,10 +1,13 @@
 -- The trace of a play: the list of the records of its steps, newest first.
-use Rattle.std.specs.Prelude.{ℕ, zero, suc, List, [], ◌∷◌, Option, Some, None}
+use Rattle.std.specs.Prelude.{ℕ, Bool, zero, suc, List, [], ◌∷◌, Option, Some, None}
 use Rattle.bus_signals.specs.declared.bus_record.BusRecord.{BusRecord}
 use Rattle.bus_signals.specs.declared.event.Event.{Event}
-use Rattle.device_trace.specs.Logs.{Logs, power_on_logs, logged_byte, with_events, with_record}
+use Rattle.bus_signals.specs.declared.signals.Signals.{Signals}
+use Rattle.bus_signals.specs.declared.bounds.Bounds.{Bounds}
+use Rattle.bus_signals.specs.SeenRecord.{SeenRecord}
+use Rattle.device_trace.specs.Logs.{Logs, power_on_logs, logged_byte, logged_bounds, with_events, with_record}
 use Rattle.device_trace.specs.Start.{Start, without_key}
-use Rattle.device_trace.specs.Step.{next_record}
+use Rattle.device_trace.specs.Step.{next_record, next_signals}
 
 -- the logs after a step with these events
 abbrev pub next_logs : Start → Logs → List Event → Logs
@@ -25,8 +28,9 @@ trace start [] = []
 trace start (events ∷ play) = next_record start (logs_after start play) events ∷ trace start play
 
 -- the trace without a key, where the calls release these words
-abbrev pub open_trace : List ℕ → (ℕ → ℕ) → List (List Event) → List BusRecord
-open_trace words image play = trace (without_key words image) play
+abbrev pub open_trace :
+    (List SeenRecord → Bool) → List ℕ → (ℕ → ℕ) → List (List Event) → List BusRecord
+open_trace flag words image play = trace (without_key flag words image) play
 
 -- the words that the calls of a play wrote to the MAC
 abbrev pub released_words : Start → List (List Event) → List ℕ
@@ -40,6 +44,15 @@ byte_after start play place = logged_byte start (logs_after start play) place
 abbrev pub last_record : List BusRecord → Option BusRecord
 last_record [] = None
 last_record (entry ∷ history) = Some entry
+
+-- what the last step of a play was about to do, and the bounds before it
+abbrev pub last_signals : Start → List (List Event) → Option Signals
+last_signals start [] = None
+last_signals start (events ∷ play) = Some (next_signals start (logs_after start play) events)
+
+abbrev pub last_bounds : Start → List (List Event) → Option Bounds
+last_bounds start [] = None
+last_bounds start (events ∷ play) = Some (logged_bounds start (logs_after start play))
 
 -- the first steps of a script, which has a list of events for each step
 abbrev pub play_of : (ℕ → List Event) → ℕ → List (List Event)

@@ -5,16 +5,20 @@ use Rattle.bus_signals.specs.Map.{lies_in, some_touches, metadata_region}
 use Rattle.bus_signals.specs.declared.bus_record.BusRecord.{BusRecord}
 use Rattle.bus_signals.specs.declared.bounds.Bounds.{Bounds}
 use Rattle.bus_signals.specs.Bounds.{are_valid, executable_region, output_region}
-use Rattle.part_definitions.specs.Flag.{accesses_in, writes_to, fetches_outside, is_opcode_fetch}
+use Rattle.part_definitions.specs.Flag.{accesses_in, writes_to, fetches_outside, fetches_first}
 
 abbrev pub is_inside : Bounds → BusRecord → Bool
 is_inside bounds entry = lies_in (executable_region bounds) entry.pc
 
--- inside ER: no interrupt could be accepted, no DMA access, no fetch that is not wholly in ER
-abbrev pub runs_undisturbed : Bounds → BusRecord → Bool
-runs_undisturbed bounds entry =
-    is_inside bounds entry && not entry.irq && is_none entry.dma
+-- inside ER: no DMA access, no fetch that is not wholly in ER
+abbrev pub runs_alone : Bounds → BusRecord → Bool
+runs_alone bounds entry =
+    is_inside bounds entry && is_none entry.dma
     && not (list_any (fetches_outside (executable_region bounds)) (accesses_in entry))
+
+-- and no interrupt could be accepted
+abbrev pub runs_undisturbed : Bounds → BusRecord → Bool
+runs_undisturbed bounds entry = runs_alone bounds entry && not entry.irq
 
 -- no write and no DMA access touches ER, no write touches the metadata, no rule is broken
 abbrev pub keeps_code : Bounds → BusRecord → Bool
@@ -33,7 +37,7 @@ keeps_output bounds entry =
 -- the oldest of these records is the opcode fetch at ERmin, the newest is at ERmax
 abbrev pub begins_run : Bounds → List BusRecord → Bool
 begins_run bounds [] = false
-begins_run bounds (entry ∷ []) = is_opcode_fetch entry && (entry.pc == bounds.er_min)
+begins_run bounds (entry ∷ []) = fetches_first bounds entry
 begins_run bounds (entry ∷ older ∷ oldest) = begins_run bounds (older ∷ oldest)
 
 abbrev pub ends_run : Bounds → List BusRecord → Bool

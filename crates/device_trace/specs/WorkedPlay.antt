@@ -1,9 +1,9 @@
 -- Worked plays: what each image prints.
-use Rattle.std.specs.Prelude.{◌≡◌, ◌++◌, ℕ, List, [], ◌∷◌, map, replicate, codes}
+use Rattle.std.specs.Prelude.{◌≡◌, ◌++◌, ℕ, List, [], ◌∷◌, map, replicate, take, drop, codes}
 use Rattle.hex.specs.Hex.{encode_lower}
 use Rattle.bus_signals.specs.declared.event.Event.{Event}
 use Rattle.bus_signals.specs.declared.event.Event.TheVariants.{Rx, Pins, Dma, Reset}
-use Rattle.device_trace.specs.Example.{start_with, quiet_steps, event_after, arrivals, upwards, zeros, letter_a, no_image, key_reader, key_runner, attestation, return_through_key, return_into_rom, interrupted_call, ordinary_run, guarded_region, reach_outside, overwrite, inner_entry, region_overlap, region_over_mac, echo, ticker, rewritten_program, store, kept_word, jump_into_rom}
+use Rattle.device_trace.specs.Example.{start_with, quiet_steps, event_after, arrivals, upwards, letter_a, no_image, key_reader, key_runner, attestation, attestation_of, request_part, return_through_key, return_into_rom, interrupted_call, ordinary_run, ordinary_request, guarded_region, reach_outside, overwrite, inner_entry, region_overlap, region_over_mac, echo, ticker, rewritten_program, store, kept_word, jump_into_rom}
 use Rattle.device_trace.specs.Text.{play_text}
 
 -- an image, its play, and what is printed
@@ -20,11 +20,11 @@ abbrev pub PrintTheirTexts : List WorkedPlay → Type 0
 PrintTheirTexts rows =
     map (λ one. play_text (start_with one.image) one.play) rows ≡ map (λ one. one.text) rows
 
--- a report: step and EXEC, the challenge, bounds and output
+-- a report on the first request: step and EXEC, the challenge, bounds and output
 abbrev pub report : List ℕ → List ℕ → List ℕ → List ℕ
 report step challenge region =
-    codes "report " ++ step ++ codes " chal " ++ encode_lower challenge ++ codes " er " ++ region
-    ++ codes " mac " ++ zeros ++ codes "\n"
+    codes "report2 " ++ step ++ codes " aux 0 count 1 chal " ++ encode_lower challenge
+    ++ codes " er " ++ region ++ codes " mac " ++ encode_lower (upwards 1 32) ++ codes "\n"
 
 -- a report of the challenge 0
 abbrev pub plain_report : List ℕ → List ℕ → List ℕ
@@ -82,31 +82,38 @@ refused_plays =
     row attestation (quiet_steps 1 (event_after (Dma 0x0300 0x0302 1) (quiet_steps 10 [])))
     (codes "reset 10 K6\nend 12 pc c000 exec 0\n") ∷
     -- a call whose stack pointer names the key, at its return read
-    row return_through_key (quiet_steps 107 []) (codes "reset 106 A4\nend 107 pc 0000 exec 0\n")
+    row return_through_key (quiet_steps 83 []) (codes "reset 82 A4\nend 83 pc 0000 exec 0\n")
     ∷
     -- the timer interrupts a call
-    row interrupted_call (quiet_steps 108 []) (codes "reset 107 A3\nend 108 pc 0000 exec 0\n") ∷
+    row interrupted_call (quiet_steps 93 []) (codes "reset 92 A3\nend 93 pc 0000 exec 0\n") ∷
     []
 
--- attestations and their reports
+-- attestations, their reports and denials
 abbrev pub attested_plays : List WorkedPlay
 attested_plays =
     -- a whole attestation of a region that holds the running program
-    row attestation (quiet_steps 117 [])
-    (plain_report (codes "115 exec 0") (codes "c000 c00a or 0300 0300 data 0000") ++
-    codes "end 117 pc c00a exec 0\n") ∷
-    -- a call that returns into the middle of the ROM makes its report, and then resets the device
-    row return_into_rom (quiet_steps 111 [])
-    (plain_report (codes "109 exec 0") (codes "0000 0000 or 0000 0000 data -") ++
-    codes "reset 110 A2\nend 111 pc 0000 exec 0\n") ∷
+    row attestation (quiet_steps 141 [])
+    (plain_report (codes "139 exec 0") (codes "c000 c00a or 0300 0300 data 0000") ++
+    codes "end 141 pc c00a exec 0\n") ∷
+    -- without a token there is no attestation
+    row (attestation_of []) (quiet_steps 117 [])
+    (codes "denied 84 3\nend 117 pc c00a exec 0\n") ∷
+    -- nor with the right token and a counter that is not new
+    row (attestation_of (request_part 0 ∷ [])) (quiet_steps 117 [])
+    (codes "denied 84 2\nend 117 pc c00a exec 0\n") ∷
+    -- a call that returns into the middle of the ROM is finished, and then resets the device
+    row return_into_rom (quiet_steps 87 [])
+    (codes "denied 85 3\nreset 86 A2\nend 87 pc 0000 exec 0\n") ∷
     -- bounds that meet the MAC are invalid: the metadata alone is attested
-    row region_over_mac (quiet_steps 119 [])
-    (plain_report (codes "117 exec 0") (codes "0200 0202 or 0300 0300 data -") ++
-    codes "end 119 pc c012 exec 0\n") ∷
-    -- a challenge arrives, the region runs, and the attestation proves that it did
-    row ordinary_run (quiet_steps 559 ((Pins 0x1234 ∷ arrivals (upwards 0 32)) ∷ []))
-    (report (codes "557 exec 1") (upwards 0 32) (codes "c040 c046 or 0300 0300 data 3412") ++
-    codes "end 560 pc c03e exec 1\n") ∷
+    row region_over_mac (quiet_steps 143 [])
+    (plain_report (codes "141 exec 0") (codes "0200 0202 or 0300 0300 data -") ++
+    codes "end 143 pc c012 exec 0\n") ∷
+    -- a request arrives, the region runs, and the attestation proves that it did
+    row ordinary_run
+    (quiet_steps 791 (arrivals (drop 64 ordinary_request) ∷
+    (quiet_steps 399 ((Pins 0x1234 ∷ arrivals (take 64 ordinary_request)) ∷ []))))
+    (report (codes "1189 exec 1") (upwards 0 32) (codes "c040 c046 or 0300 0300 data 3412") ++
+    codes "end 1192 pc c026 exec 1\n") ∷
     []
 
 -- the region C020 to C022 with the output at 0300, reported with this step and EXEC
@@ -117,22 +124,22 @@ two_word_report step = plain_report step (codes "c020 c022 or 0300 0300 data 000
 abbrev pub flag_plays : List WorkedPlay
 flag_plays =
     -- the executable region runs, and then it is attested
-    row guarded_region (quiet_steps 122 [])
-    (two_word_report (codes "120 exec 1") ++ codes "end 122 pc c012 exec 1\n") ∷
+    row guarded_region (quiet_steps 146 [])
+    (two_word_report (codes "144 exec 1") ++ codes "end 146 pc c012 exec 1\n") ∷
     -- an interrupt in the region
-    row guarded_region (quiet_steps 119 (event_after (Rx 0x55) (quiet_steps 11 [])))
-    (two_word_report (codes "129 exec 0") ++ codes "end 131 pc c012 exec 0\n") ∷
+    row guarded_region (quiet_steps 143 (event_after (Rx 0x55) (quiet_steps 11 [])))
+    (two_word_report (codes "153 exec 0") ++ codes "end 155 pc c012 exec 0\n") ∷
     -- the last instruction of the region has a word outside it
-    row reach_outside (quiet_steps 122 [])
-    (two_word_report (codes "120 exec 0") ++ codes "end 122 pc c012 exec 0\n") ∷
+    row reach_outside (quiet_steps 146 [])
+    (two_word_report (codes "144 exec 0") ++ codes "end 146 pc c012 exec 0\n") ∷
     -- a write to the region after its run
-    row overwrite (quiet_steps 130 [])
-    (two_word_report (codes "120 exec 0") ++ codes "end 130 pc c012 exec 0\n") ∷
+    row overwrite (quiet_steps 154 [])
+    (two_word_report (codes "144 exec 0") ++ codes "end 154 pc c012 exec 0\n") ∷
     -- a call into the middle of the region
-    row inner_entry (quiet_steps 140 [])
-    (two_word_report (codes "121 exec 0") ++ codes "end 140 pc c010 exec 0\n") ∷
+    row inner_entry (quiet_steps 164 [])
+    (two_word_report (codes "145 exec 0") ++ codes "end 164 pc c010 exec 0\n") ∷
     -- a run of a region that the output region meets
-    row region_overlap (quiet_steps 120 [])
-    (plain_report (codes "113 exec 0") (codes "c020 c022 or c022 c022 data -") ++
-    codes "end 120 pc c00c exec 0\n") ∷
+    row region_overlap (quiet_steps 144 [])
+    (plain_report (codes "137 exec 0") (codes "c020 c022 or c022 c022 data -") ++
+    codes "end 144 pc c00c exec 0\n") ∷
     []

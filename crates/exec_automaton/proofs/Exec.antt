@@ -1,36 +1,16 @@
 -- How the flag changes at a record.
-use Rattle.std.proofs.Common.{◌≡◌, ◌==◌, ◌&&◌, ◌||◌, Bool, true, false, not, List, [], ◌∷◌, sym, ◌∙◌, ap, refl, if◌then◌else◌}
-use Rattle.std.proofs.Math.Bool.{and-true, and-false, or_comm}
-use Rattle.std.specs.List.{list_any}
+use Rattle.std.proofs.Common.{◌≡◌, ◌==◌, ◌&&◌, ◌||◌, ℕ, Bool, true, false, not, List, ◌∷◌, Option, is_some, sym, ◌∙◌, ap}
 use Rattle.bus_signals.specs.SeenRecord.{SeenRecord}
-use Rattle.bus_signals.specs.Bounds.{are_valid}
-use Rattle.part_definitions.specs.Flag.{exec, clears, starts_run, is_opcode_fetch, last_pc, records_since_clear}
+use Rattle.bus_signals.specs.Bounds.{executable_region}
+use Rattle.std.proofs.lemmas.Bool.{and_parts}
+use Rattle.part_definitions.specs.Flag.{exec, clears, clears_both, clears_e3, clears_e4, starts_run, is_opcode_fetch, runs_inside, ran_inside, last_pc}
+use Rattle.exec_automaton.proofs.UnclearedRun.{uncleared_run-cons, starts_run-elsewhere, StartsAlike, both-start, start-first, not_entered, uncleared_run-next}
 
 -- it is set where it was set before or the record starts a run, and the record does not clear it
 pub exec_cons : (now : SeenRecord) (before : List SeenRecord)
     → exec (now ∷ before) ≡ ((exec before || starts_run now) && not (clears (last_pc before) now))
 unfolding exec
-exec_cons now before =
-    let was_set : Bool = list_any starts_run (records_since_clear before) in
-    elim (clears (last_pc before) now) as
-    (λ is_clear.
-    list_any starts_run (if is_clear then [] else now ∷ records_since_clear before)
-    ≡ ((was_set || starts_run now) && not is_clear)) [
-      | true ↦ sym (and-false (was_set || starts_run now))
-      | false ↦ or_comm (starts_run now) was_set ∙ sym (and-true (was_set || starts_run now))
-    ]
-
--- a record at another place than ERmin starts no run
-starts_run-elsewhere : (now : SeenRecord)
-    → (now.entry.pc == now.bounds.er_min) ≡ false → starts_run now ≡ false
-starts_run-elsewhere now elsewhere =
-    let fetches : Bool = is_opcode_fetch now.entry in
-    let valid : Bool = are_valid now.bounds in
-    ap (λ here. fetches && here && valid) elsewhere
-    ∙ elim fetches as (λ fetches. (fetches && false && valid) ≡ false) [
-      | true ↦ refl
-      | false ↦ refl
-    ]
+exec_cons now before = uncleared_run-cons clears now before
 
 -- a flag that is not set stays so at a record at another place than ERmin
 pub exec_elsewhere : (now : SeenRecord) (before : List SeenRecord)
@@ -42,3 +22,21 @@ exec_elsewhere now before unset elsewhere =
     exec_cons now before
     ∙ ap (λ was_set. (was_set || starts_run now) && keeps) unset
     ∙ ap (λ starts. starts && keeps) (starts_run-elsewhere now elsewhere)
+
+start-clears : StartsAlike clears
+start-clears last other now starts =
+    let first = start-first now starts in
+    let at_min : (now.entry.pc == now.bounds.er_min) ≡ true =
+    (and_parts (is_opcode_fetch now.entry) (now.entry.pc == now.bounds.er_min) first).1 in
+    let entered : (pc : Option ℕ) → clears_e3 pc now ≡ false =
+    λ pc. not_entered (runs_inside now) (ran_inside pc (executable_region now.bounds))
+    (now.entry.pc == now.bounds.er_min) at_min in
+    ap (λ both. both || clears_e3 last now || clears_e4 now) (both-start last other now starts)
+    ∙ ap (λ e3. clears_both other now || e3 || clears_e4 now) (entered last ∙ sym (entered other))
+
+pub exec_next : (now : SeenRecord) (before : List SeenRecord) (last : Option ℕ)
+    → is_some last ≡ exec before
+    → (exec before ≡ true → last ≡ last_pc before)
+    → exec (now ∷ before) ≡ ((is_some last || starts_run now) && not (clears last now))
+unfolding exec
+exec_next now before last = uncleared_run-next clears start-clears now before last

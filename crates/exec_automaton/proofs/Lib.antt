@@ -1,2 +1,3 @@
+pub mod UnclearedRun
 pub mod Exec
 pub mod UnclearedStarts

@@ -1,10 +1,11 @@
 -- The flag is set exactly where there is an uncleared start: by induction on the records seen.
-use Rattle.std.proofs.Common.{◌≡◌, ◌≤◌, ◌+◌, ◌||◌, ◌++◌, ℕ, Bool, true, false, not, List, [], ◌∷◌, length, IsTrue, ◌↔◌, sym, ◌∙◌, ap, inl, inr, refl, arith}
+use Rattle.std.proofs.Common.{◌≡◌, ◌≤◌, ◌+◌, ◌||◌, ◌++◌, ℕ, Bool, true, false, not, List, [], ◌∷◌, Option, length, IsTrue, ◌↔◌, sym, ◌∙◌, ap, inl, inr, refl, arith}
 use Rattle.std.proofs.lemmas.Bool.{and_parts, or_cases, and_from, or_left, or_right, not-true, not_from_false, false_from_ne_true, both_ways}
 use Rattle.bus_signals.specs.SeenRecord.{SeenRecord}
-use Rattle.part_definitions.specs.Flag.{exec, clears, starts_run, last_pc}
+use Rattle.part_definitions.specs.Flag.{exec, clears, starts_run, last_pc, records_since}
+use Rattle.std.specs.List.{list_any}
 use Rattle.exec_automaton.specs.UnclearedStart.{Moment, UnclearedStart}
-use Rattle.exec_automaton.proofs.Exec.{exec_cons}
+use Rattle.exec_automaton.proofs.UnclearedRun.{uncleared_run-cons}
 
 -- the record at which the records seen end
 abbrev newest : (now : SeenRecord) (before : List SeenRecord) → Moment (now ∷ before)
@@ -27,20 +28,21 @@ newest_starts [] = false
 newest_starts (now ∷ before) = starts_run now
 
 -- the newest record clears the flag
-abbrev newest_clears : List SeenRecord → Bool
-newest_clears [] = false
-newest_clears (now ∷ before) = clears (last_pc before) now
+abbrev newest_clears : (Option ℕ → SeenRecord → Bool) → List SeenRecord → Bool
+newest_clears clears [] = false
+newest_clears clears (now ∷ before) = clears (last_pc before) now
 
 -- no moment of these clears the flag, of those with at most so many records after it
-abbrev NoneClears : List SeenRecord → ℕ → Type 0
-NoneClears records most =
+abbrev NoneClears : (Option ℕ → SeenRecord → Bool) → List SeenRecord → ℕ → Type 0
+NoneClears clears records most =
     (moment : Moment records)
     → length moment.after ≤ most
     → clears (last_pc moment.before) moment.now ≡ true
     → ⊥
 
 -- the newest record keeps the flag, and so do those before it
-none_clears-cons : (now : SeenRecord) (before : List SeenRecord) (most : ℕ)
+none_clears-cons :
+    (clears : Option ℕ → SeenRecord → Bool) (now : SeenRecord) (before : List SeenRecord) (most : ℕ)
     → clears (last_pc before) now ≡ false
     → ((moment : Moment before)
     → length moment.after + 1 ≤ most
@@ -51,91 +53,105 @@ none_clears-cons : (now : SeenRecord) (before : List SeenRecord) (most : ℕ)
     → length after ≤ most
     → clears (last_pc rest) this ≡ true
     → ⊥
-none_clears-cons now before most keeps others [] this rest whole near is_clear =
-    both_ways (clears (last_pc rest) this) (sym (ap newest_clears whole) ∙ keeps) is_clear
-none_clears-cons now before most keeps others (x ∷ after) this rest whole near is_clear =
+none_clears-cons clears now before most keeps others [] this rest whole near is_clear =
+    both_ways (clears (last_pc rest) this) (sym (ap (newest_clears clears) whole) ∙ keeps) is_clear
+none_clears-cons clears now before most keeps others (x ∷ after) this rest whole near is_clear =
     others (record { after = after; now = this; before = rest; whole = cc }) (omega arith) is_clear
 
 -- a start since which nothing cleared, and one more record that keeps the flag
-start-cons : (now : SeenRecord) (before : List SeenRecord)
-    → clears (last_pc before) now ≡ false → UnclearedStart before → UnclearedStart (now ∷ before)
-start-cons now before keeps run =
+start-cons : (clears : Option ℕ → SeenRecord → Bool) (now : SeenRecord) (before : List SeenRecord)
+    → clears (last_pc before) now ≡ false → UnclearedStart clears before
+    → UnclearedStart clears (now ∷ before)
+start-cons clears now before keeps run =
     record {
       start = earlier now before run.start;
       starts = run.starts;
       kept = λ moment near.
-          none_clears-cons now before (length run.start.after + 1) keeps
+          none_clears-cons clears now before (length run.start.after + 1) keeps
           (λ moment near. run.kept moment (omega (arith, near)))
           moment.after moment.now moment.before moment.whole (omega (arith, near));
     }
 
 -- the newest record is a start that keeps the flag
-start-newest : (now : SeenRecord) (before : List SeenRecord)
-    → starts_run now ≡ true → clears (last_pc before) now ≡ false → UnclearedStart (now ∷ before)
-start-newest now before starts keeps =
+start-newest : (clears : Option ℕ → SeenRecord → Bool) (now : SeenRecord) (before : List SeenRecord)
+    → starts_run now ≡ true → clears (last_pc before) now ≡ false
+    → UnclearedStart clears (now ∷ before)
+start-newest clears now before starts keeps =
     record {
       start = newest now before;
       starts = starts;
       kept = λ moment near.
-          none_clears-cons now before 0 keeps
+          none_clears-cons clears now before 0 keeps
           (λ moment near. absurd (omega (arith, near)))
           moment.after moment.now moment.before moment.whole near;
     }
 
+-- the flag over such records
+abbrev is_set : (Option ℕ → SeenRecord → Bool) → List SeenRecord → Bool
+is_set clears records = list_any starts_run (records_since clears records)
+
 -- the flag is set after a record: it could be set, and the record keeps it
-set_parts : (now : SeenRecord) (before : List SeenRecord)
-    → exec (now ∷ before) ≡ true
-    → ((exec before || starts_run now) ≡ true) × (not (clears (last_pc before) now) ≡ true)
-set_parts now before is_set =
-    and_parts (exec before || starts_run now) (not (clears (last_pc before) now))
-    (sym (exec_cons now before) ∙ is_set)
+set_parts : (clears : Option ℕ → SeenRecord → Bool) (now : SeenRecord) (before : List SeenRecord)
+    → is_set clears (now ∷ before) ≡ true
+    → ((is_set clears before || starts_run now) ≡ true)
+    × (not (clears (last_pc before) now) ≡ true)
+set_parts clears now before set =
+    and_parts (is_set clears before || starts_run now) (not (clears (last_pc before) now))
+    (sym (uncleared_run-cons clears now before) ∙ set)
 
 -- where the flag is set, there is such a start
-start_from_exec : (records : List SeenRecord) → exec records ≡ true → UnclearedStart records
-unfolding exec
-start_from_exec [] is_set = absurd (cc)
-start_from_exec (now ∷ before) is_set =
+start_from_set : (clears : Option ℕ → SeenRecord → Bool) (records : List SeenRecord)
+    → is_set clears records ≡ true → UnclearedStart clears records
+start_from_set clears [] set = absurd (cc)
+start_from_set clears (now ∷ before) set =
     let keeps : clears (last_pc before) now ≡ false =
-    not-true (clears (last_pc before) now) (set_parts now before is_set).1
+    not-true (clears (last_pc before) now) (set_parts clears now before set).1
     in
-    elim (or_cases (exec before) (starts_run now) (set_parts now before is_set).0) [
-      | inl was_set ↦ start-cons now before keeps (start_from_exec before was_set)
-      | inr starts ↦ start-newest now before starts keeps
+    elim (or_cases (is_set clears before) (starts_run now) (set_parts clears now before set).0) [
+      | inl was_set ↦ start-cons clears now before keeps (start_from_set clears before was_set)
+      | inr starts ↦ start-newest clears now before starts keeps
     ]
 
 -- the newest record keeps the flag
-newest_keeps : (now : SeenRecord) (before : List SeenRecord) (most : ℕ)
-    → NoneClears (now ∷ before) most → not (clears (last_pc before) now) ≡ true
-newest_keeps now before most none =
+newest_keeps : (clears : Option ℕ → SeenRecord → Bool) (now : SeenRecord)
+    (before : List SeenRecord) (most : ℕ)
+    → NoneClears clears (now ∷ before) most → not (clears (last_pc before) now) ≡ true
+newest_keeps clears now before most none =
     not_from_false (clears (last_pc before) now)
     (false_from_ne_true (clears (last_pc before) now) (none (newest now before) (omega arith)))
 
 -- where there is such a start, the flag is set
-exec_from_start : (records after : List SeenRecord) (this : SeenRecord) (rest : List SeenRecord)
+set_from_start : (clears : Option ℕ → SeenRecord → Bool)
+    (records after : List SeenRecord) (this : SeenRecord) (rest : List SeenRecord)
     → records ≡ after ++ this ∷ rest
     → starts_run this ≡ true
-    → NoneClears records (length after)
-    → exec records ≡ true
-exec_from_start [] [] this rest whole starts none = absurd (cc)
-exec_from_start [] (x ∷ after) this rest whole starts none = absurd (cc)
-exec_from_start (now ∷ before) [] this rest whole starts none =
-    exec_cons now before
-    ∙ and_from (exec before || starts_run now) (not (clears (last_pc before) now))
-    (or_right (exec before) (starts_run now) (ap newest_starts whole ∙ starts))
-    (newest_keeps now before 0 none)
-exec_from_start (now ∷ before) (x ∷ after) this rest whole starts none =
-    exec_cons now before
-    ∙ and_from (exec before || starts_run now) (not (clears (last_pc before) now))
-    (or_left (exec before) (starts_run now)
-    (exec_from_start before after this rest (cc) starts
+    → NoneClears clears records (length after)
+    → is_set clears records ≡ true
+set_from_start clears [] [] this rest whole starts none = absurd (cc)
+set_from_start clears [] (x ∷ after) this rest whole starts none = absurd (cc)
+set_from_start clears (now ∷ before) [] this rest whole starts none =
+    uncleared_run-cons clears now before
+    ∙ and_from (is_set clears before || starts_run now) (not (clears (last_pc before) now))
+    (or_right (is_set clears before) (starts_run now) (ap newest_starts whole ∙ starts))
+    (newest_keeps clears now before 0 none)
+set_from_start clears (now ∷ before) (x ∷ after) this rest whole starts none =
+    uncleared_run-cons clears now before
+    ∙ and_from (is_set clears before || starts_run now) (not (clears (last_pc before) now))
+    (or_left (is_set clears before) (starts_run now)
+    (set_from_start clears before after this rest (cc) starts
     (λ moment near. none (earlier now before moment) (omega (arith, near)))))
-    (newest_keeps now before (length (x ∷ after)) none)
+    (newest_keeps clears now before (length (x ∷ after)) none)
 
--- the flag is set exactly where there is such a start
-pub exec_iff : (records : List SeenRecord) → IsTrue (exec records) ↔ UnclearedStart records
-exec_iff records = (
-  start_from_exec records,
-  λ (run : UnclearedStart records).
-      exec_from_start records run.start.after run.start.now run.start.before run.start.whole
+-- a flag is set exactly where there is such a start
+pub uncleared_run-iff : (clears : Option ℕ → SeenRecord → Bool) (records : List SeenRecord)
+    → IsTrue (list_any starts_run (records_since clears records)) ↔ UnclearedStart clears records
+uncleared_run-iff clears records = (
+  start_from_set clears records,
+  λ (run : UnclearedStart clears records).
+      set_from_start clears records run.start.after run.start.now run.start.before run.start.whole
       run.starts run.kept,
 )
+
+pub exec-iff : (records : List SeenRecord) → IsTrue (exec records) ↔ UnclearedStart clears records
+unfolding exec
+exec-iff records = uncleared_run-iff clears records

@@ -1,7 +1,7 @@
 ghost use Rattle.std.specs.Prelude.{◌≡◌, IfSome, option_to_list};
 ghost use Rattle.std.specs.List.{list_any};
 ghost use Rattle.bus_signals.specs.Access.{IsFormed};
-ghost use Rattle.part_definitions.specs.Flag.{accesses_in, writes_to, fetches_outside, runs_inside, ran_inside, clears};
+ghost use Rattle.part_definitions.specs.Flag.{accesses_in, writes_to, fetches_outside, runs_inside, ran_inside, enters_region, clears, clears_both};
 ghost use Rattle.part_definitions.specs.Flag.{clears_e1, clears_e2, clears_e3, clears_e4, clears_e5, clears_e6, clears_e7, clears_e8, clears_e9};
 
 use bus_signals::{Access, Bounds, BusRecord, META, Region, some_touches, some_writes};
@@ -15,10 +15,17 @@ pub fn clears(last: Option<u16>, entry: &BusRecord, bounds: Bounds) -> bool
     ensures { result ≡ clears last (record { entry = entry.now; bounds = bounds }) }
 {
     let bounds = &bounds;
+    clears_both(last, entry, bounds) || clears_e3(last, entry, bounds) || clears_e4(entry, bounds)
+}
+
+/// Whether a record clears the EXEC flag and the second flag: E1, E2 and E5 to E9.
+pub fn clears_both(last: Option<u16>, entry: &BusRecord, bounds: &Bounds) -> bool
+    requires cpu { IfSome entry.now.cpu IsFormed }
+    requires dma { IfSome entry.now.dma IsFormed }
+    ensures { result ≡ clears_both last (record { entry = entry.now; bounds = bounds.now }) }
+{
     clears_e1(entry, bounds)
         || clears_e2(last, entry, bounds)
-        || clears_e3(last, entry, bounds)
-        || clears_e4(entry, bounds)
         || clears_e5(entry, bounds)
         || clears_e6(entry, bounds)
         || clears_e7(entry, bounds)
@@ -44,13 +51,18 @@ fn clears_e2(last: Option<u16>, entry: &BusRecord, bounds: &Bounds) -> bool
         && !runs_inside(entry, bounds)
 }
 
+/// Whether ER is entered: the record is in it, and the one before it was not, or there is none.
+pub fn enters_region(last: Option<u16>, entry: &BusRecord, bounds: &Bounds) -> bool
+    ensures { result ≡ enters_region last (record { entry = entry.now; bounds = bounds.now }) }
+{
+    runs_inside(entry, bounds) && !ran_inside(last, bounds.executable_region())
+}
+
 // E3: ER is entered at another place than its first instruction.
 fn clears_e3(last: Option<u16>, entry: &BusRecord, bounds: &Bounds) -> bool
     ensures { result ≡ clears_e3 last (record { entry = entry.now; bounds = bounds.now }) }
 {
-    runs_inside(entry, bounds)
-        && !ran_inside(last, bounds.executable_region())
-        && entry.pc != bounds.er_min
+    enters_region(last, entry, bounds) && entry.pc != bounds.er_min
 }
 
 // E4: an interrupt could be accepted in ER.
@@ -104,8 +116,8 @@ fn clears_e9(entry: &BusRecord, bounds: &Bounds) -> bool
     has_write_to(META, entry) || entry.reset.is_some()
 }
 
-// One of the record's accesses writes to the region.
-fn has_write_to(region: Region, entry: &BusRecord) -> bool
+/// Whether one of the record's accesses writes to the region.
+pub fn has_write_to(region: Region, entry: &BusRecord) -> bool
     requires cpu { IfSome entry.now.cpu IsFormed }
     requires dma { IfSome entry.now.dma IsFormed }
     ensures { result ≡ list_any (writes_to region) (accesses_in entry.now) }
@@ -130,8 +142,8 @@ fn fetches_outside(region: Region, access: Option<Access>) -> bool
     }
 }
 
-// The record is in the executable region.
-fn runs_inside(entry: &BusRecord, bounds: &Bounds) -> bool
+/// Whether the record is in the executable region.
+pub fn runs_inside(entry: &BusRecord, bounds: &Bounds) -> bool
     ensures { result ≡ runs_inside (record { entry = entry.now; bounds = bounds.now }) }
 {
     bounds.executable_region().contains(entry.pc)

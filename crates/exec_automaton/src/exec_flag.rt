@@ -1,9 +1,8 @@
-ghost use Rattle.std.specs.Prelude.{◌≡◌, ◌==◌, ◌&&◌, ◌||◌, [], ◌∷◌, true, false, not, List, IfSome};
-ghost use Rattle.bus_signals.specs.declared.bounds.Bounds.{Bounds};
+ghost use Rattle.std.specs.Prelude.{◌≡◌, ◌==◌, ◌&&◌, ◌||◌, [], ◌∷◌, true, false, not, List, IfSome, is_some};
 ghost use Rattle.bus_signals.specs.Access.{IsFormed};
 ghost use Rattle.bus_signals.specs.SeenRecord.{SeenRecord};
-ghost use Rattle.part_definitions.specs.Flag.{exec, starts_run};
 ghost use Rattle.part_definitions.specs.Part.{Answers};
+ghost use Rattle.part_definitions.specs.Flag.{exec, starts_run};
 
 use crate::clearing::clears;
 use crate::start::starts_run;
@@ -12,8 +11,8 @@ use bus_signals::{Bounds, BusRecord, TraceFlag};
 /// The EXEC flag after the records seen.
 #[derive(Clone, Copy, Debug)]
 pub struct ExecFlag {
-    is_set: bool,
-    // The `pc` of the last record.
+    // The `pc` of the last record, while the flag is set. A record that starts a run clears nothing
+    // by what came before it, so nothing is kept while the flag is not set.
     last_pc: Option<u16>,
 }
 
@@ -25,15 +24,12 @@ impl ExecFlag {
     pub fn new() -> ExecFlag
         ensures { ExecFlagStandsFor result [] }
     {
-        ExecFlag {
-            is_set: false,
-            last_pc: None,
-        }
+        ExecFlag { last_pc: None }
     }
 
     // The flag after the next record.
     #[inline(always)]
-    #[tactic(auto, using(crate::proofs::Exec::exec_cons))]
+    #[tactic(auto, using(crate::proofs::Exec::exec_next))]
     fn is_set_after(&self, entry: &BusRecord, bounds: &Bounds) -> bool
         requires cpu { IfSome entry.now.cpu IsFormed }
         requires dma { IfSome entry.now.dma IsFormed }
@@ -43,58 +39,41 @@ impl ExecFlag {
         self.may_be_set(entry, bounds) && !clears(self.last_pc, entry, *bounds)
     }
 
-    /// Whether the flag is not set, and no record with this `pc` sets it where ERmin is this.
-    #[inline(always)]
-    #[tactic(auto, using(crate::proofs::Exec::exec_elsewhere))]
-    pub fn stays_clear(&self, pc: u16, er_min: u16) -> bool
-        ensures answer { Answers ExecFlagStandsFor self.now
-            (λ before. not (exec before) && not (pc == er_min)) result }
-        ensures clear { (now : SeenRecord) (before : List SeenRecord)
-            → ExecFlagStandsFor self.now before
-            → now.entry.pc ≡ pc
-            → now.bounds.er_min ≡ er_min
-            → result ≡ true
-            → (exec before ≡ false) × (exec (now ∷ before) ≡ false) }
-    {
-        !self.is_set && pc != er_min
-    }
-
-    /// The next record, which leaves the flag as it is.
-    #[inline(always)]
-    pub fn pass(&mut self, entry: &BusRecord)
-        ensures { (bounds : Bounds) (before : List SeenRecord)
-            → ExecFlagStandsFor self.old before
-            → exec (record { entry = entry.now; bounds = bounds } ∷ before) ≡ exec before
-            → ExecFlagStandsFor self.new (record { entry = entry.now; bounds = bounds } ∷ before) }
-    {
-        self.last_pc = Some(entry.pc);
-    }
-
-    // The flag was set, or the next record starts a run.
+    // The flag is set, or the next record starts a run.
     #[inline(always)]
     fn may_be_set(&self, entry: &BusRecord, bounds: &Bounds) -> bool
-        ensures { Answers ExecFlagStandsFor self.now
-            (λ records. exec records
-            || starts_run (record { entry = entry.now; bounds = bounds.now })) result }
+        ensures { result
+            ≡ (is_some self.now.last_pc
+            || starts_run (record { entry = entry.now; bounds = bounds.now })) }
     {
-        self.is_set || starts_run(entry, bounds)
+        self.last_pc.is_some() || starts_run(entry, bounds)
     }
 }
 
 impl TraceFlag for ExecFlag {
     ghost use Rattle.exec_automaton.specs.ExecFlag.{ExecFlagStandsFor};
 
-    ghost flag_of = { exec };
-
-    ghost has_seen = { ExecFlagStandsFor };
+    ghost flag = { record { value = exec; has_seen = ExecFlagStandsFor } };
 
     #[inline(always)]
     fn see(&mut self, entry: &BusRecord, bounds: &Bounds) {
-        self.is_set = self.is_set_after(entry, bounds);
-        self.last_pc = Some(entry.pc);
+        self.last_pc = if self.is_set_after(entry, bounds) {
+            Some(entry.pc)
+        } else {
+            None
+        };
     }
 
     fn value(&self) -> bool {
-        self.is_set
+        self.last_pc.is_some()
     }
+
+    #[inline(always)]
+    #[tactic(auto, using(crate::proofs::Exec::exec_elsewhere))]
+    fn stays_clear(&self, pc: u16, er_min: u16) -> bool {
+        self.last_pc.is_none() && pc != er_min
+    }
+
+    #[inline(always)]
+    fn pass(&mut self) {}
 }

@@ -10,5 +10,7 @@ mod exec_flag;
 mod law;
 mod start;
 
+pub use clearing::{clears_both, enters_region, has_write_to, runs_inside};
 pub use exec_flag::ExecFlag;
 pub use law::flag_is_set_by_an_uncleared_start;
+pub use start::{fetches_first, starts_run};

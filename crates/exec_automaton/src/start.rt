@@ -1,6 +1,6 @@
 ghost use Rattle.std.specs.Prelude.{◌≡◌, ◌&&◌};
 ghost use Rattle.bus_signals.specs.Bounds.{are_valid};
-ghost use Rattle.part_definitions.specs.Flag.{is_opcode_fetch, starts_run};
+ghost use Rattle.part_definitions.specs.Flag.{is_opcode_fetch, fetches_first, starts_run};
 
 use bus_signals::{Access, Bounds, BusRecord, Kind, valid};
 
@@ -10,6 +10,13 @@ pub fn starts_run(entry: &BusRecord, bounds: &Bounds) -> bool
     ensures { result ≡ starts_run (record { entry = entry.now; bounds = bounds.now }) }
 {
     entry.pc == bounds.er_min && is_valid_start(entry, *bounds)
+}
+
+/// Whether a record is the opcode fetch at ERmin.
+pub fn fetches_first(entry: &BusRecord, bounds: &Bounds) -> bool
+    ensures { result ≡ fetches_first bounds.now entry.now }
+{
+    entry.pc == bounds.er_min && is_opcode_fetch(entry)
 }
 
 // An opcode fetch, with valid bounds.

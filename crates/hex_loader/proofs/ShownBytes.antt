@@ -1,7 +1,7 @@
 -- The byte of a memory at a place.
 use Rattle.std.proofs.Common.{◌≡◌, ◌+◌, ◌-◌, ℕ, suc, zero, Bool, true, false, List, Some, None, cond, refl, arith}
 use Rattle.std.specs.Prelude.{◌&&◌, ◌||◌, nat_le, slice_get}
-use Rattle.part_definitions.specs.Memory.{PowerOn, MemoryWrite, byte_at, bytes_from, is_ram, is_program, is_image_place}
+use Rattle.part_definitions.specs.Memory.{PowerOn, ShownFlags, MemoryWrite, byte_at, bytes_from, is_ram, is_program, is_image_place}
 use Rattle.hex_loader.specs.MemoryImage.{image_of}
 
 either : (a ram program : Bool) → (a && ((ram && ram) || (program && program))) ≡ true
@@ -19,13 +19,13 @@ choice true byte h = refl
 choice false byte h = absurd cc
 
 -- the span of one place is the byte there
-pub span-one : (start : PowerOn) (exec : Bool) (writes : List MemoryWrite) (place : ℕ)
+pub span-one : (start : PowerOn) (flags : ShownFlags) (writes : List MemoryWrite) (place : ℕ)
     (bytes : List ℕ)
     → (nat_le place place && ((is_ram place && is_ram place) ||
     (is_program place && is_program place))) ≡ true
-    → bytes ≡ bytes_from (byte_at start exec writes) place (place + 1 - place)
-    → slice_get bytes 0 ≡ image_of start exec writes place
-span-one start exec writes place bytes within is =
+    → bytes ≡ bytes_from (byte_at start flags writes) place (place + 1 - place)
+    → slice_get bytes 0 ≡ image_of start flags writes place
+span-one start flags writes place bytes within is =
     let one : place + 1 - place ≡ suc zero = omega arith in
     let holds = either (nat_le place place) (is_ram place) (is_program place) within in
-    rw (is, one) (choice (is_image_place place) (byte_at start exec writes place) holds)
+    rw (is, one) (choice (is_image_place place) (byte_at start flags writes place) holds)

@@ -1,5 +1,5 @@
 ghost use Rattle.std.specs.Prelude.{ℕ, Bool, List, Option};
-ghost use Rattle.part_definitions.specs.Memory.{PowerOn, MemoryWrite};
+ghost use Rattle.part_definitions.specs.Memory.{PowerOn, ShownFlags, MemoryWrite};
 ghost use Rattle.mem_map.specs.Image.{byte_in};
 ghost use Rattle.mem_map.specs.Memory.{MemoryStandsFor};
 ghost use Rattle.outside_edge.specs.Sink.{Puts, CountsFaults};
@@ -27,9 +27,9 @@ pub fn write_hex<W: Sink>(image: &Image, sink: &mut W) -> Result<(), Failed>
 /// Puts the bytes of RAM, program and vectors as the text of an image. After `Failed` the sink took
 /// a prefix of it.
 pub fn write_memory<W: Sink>(memory: &Memory, sink: &mut W) -> Result<(), Failed>
-    ensures puts { (start : PowerOn) (exec : Bool) (writes : List MemoryWrite)
-        → MemoryStandsFor memory.now start exec writes
-        → Puts W.stands sink.old sink.new (hex_text (image_of start exec writes)) result }
+    ensures puts { (start : PowerOn) (flags : ShownFlags) (writes : List MemoryWrite)
+        → MemoryStandsFor memory.now start flags writes
+        → Puts W.stands sink.old sink.new (hex_text (image_of start flags writes)) result }
     ensures counts { CountsFaults W.faults sink.old sink.new result }
 {
     write_places(memory, sink)

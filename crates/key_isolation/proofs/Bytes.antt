@@ -4,7 +4,7 @@ use Rattle.std.specs.Prelude.{◌==◌, if◌then◌else◌}
 use Rattle.std.proofs.lemmas.Bool.{cond-true, cond-false, or_parts, eqb-true}
 use Rattle.std.proofs.lemmas.Bool.Decides.{nat_tests}
 use Rattle.bus_signals.specs.Map.{lies_in, key_region, stack_region}
-use Rattle.part_definitions.specs.Memory.{PowerOn, MemoryWrite, takes_write, first_byte, fixed_byte, last_written, byte_at}
+use Rattle.part_definitions.specs.Memory.{PowerOn, ShownFlags, MemoryWrite, is_image_place, takes_write, first_byte, fixed_byte, last_written, byte_at}
 use Rattle.device_trace.specs.Blank.{is_secret}
 
 -- two choices by one test
@@ -45,15 +45,15 @@ last_written-hide (write ∷ writes) place before off =
     (λ there. last_written-hide writes place before off)
 
 -- outside the secrets
-pub byte_at-hide : (power : PowerOn) (exec : Bool) (writes : List MemoryWrite) (place : ℕ)
+pub byte_at-hide : (power : PowerOn) (flags : ShownFlags) (writes : List MemoryWrite) (place : ℕ)
     → is_secret place ≡ false
-    → byte_at (keyless power) exec (map hide_write writes) place ≡ byte_at power exec writes place
-byte_at-hide power exec writes place off =
+    → byte_at (keyless power) flags (map hide_write writes) place ≡ byte_at power flags writes place
+byte_at-hide power flags writes place off =
     let parts = or_parts (lies_in key_region place) (lies_in stack_region place) off in
     same_if (takes_write place)
     (last_written (map hide_write writes) place (first_byte power place))
-    (last_written writes place (first_byte power place)) (fixed_byte (keyless power) exec place)
-    (fixed_byte power exec place)
+    (last_written writes place (first_byte power place)) (fixed_byte (keyless power) flags place)
+    (fixed_byte power flags place)
     (λ takes. last_written-hide writes place (first_byte power place) parts.1)
     (λ is_fixed.
     same_if (lies_in key_region place) 0 (power.key (place - key_region.first)) _ _
@@ -64,8 +64,43 @@ byte_at-hide power exec writes place off =
 key_takes_no_write : (place : ℕ) → lies_in key_region place ≡ true → takes_write place ≡ false
 key_takes_no_write place within = grind (arith, nat_tests)
 
-pub key_byte-hide : (power : PowerOn) (exec : Bool) (writes : List MemoryWrite) (place : ℕ)
-    → lies_in key_region place ≡ true → byte_at (keyless power) exec writes place ≡ 0
-key_byte-hide power exec writes place within =
+pub key_byte-hide : (power : PowerOn) (flags : ShownFlags) (writes : List MemoryWrite) (place : ℕ)
+    → lies_in key_region place ≡ true → byte_at (keyless power) flags writes place ≡ 0
+key_byte-hide power flags writes place within =
     cond-false (takes_write place) _ _ (key_takes_no_write place within)
     ∙ cond-true (lies_in key_region place) _ _ within
+
+-- and so does the exclusive stack
+stack_takes_write : (place : ℕ) → lies_in stack_region place ≡ true → takes_write place ≡ true
+stack_takes_write place within = grind (arith, nat_tests)
+
+stack_off_image : (place : ℕ) → lies_in stack_region place ≡ true → is_image_place place ≡ false
+stack_off_image place within = grind (arith, nat_tests)
+
+stack_begins_zero : (power : PowerOn) (place : ℕ) → lies_in stack_region place ≡ true
+    → first_byte power place ≡ 0
+stack_begins_zero power place within =
+    cond-false (is_image_place place) _ _ (stack_off_image place within)
+
+last_written-stack : (writes : List MemoryWrite) (place before : ℕ)
+    → lies_in stack_region place ≡ true → before ≡ 0
+    → last_written (map hide_write writes) place before ≡ 0
+last_written-stack [] place before within begins = begins
+last_written-stack (write ∷ writes) place before within begins =
+    same_if (write.place == place)
+    (if lies_in stack_region write.place then 0 else write.byte) 0
+    (last_written (map hide_write writes) place before) 0
+    (λ here.
+    cond-true (lies_in stack_region write.place) 0 write.byte
+    (ap (lies_in stack_region) (eqb-true write.place place here) ∙ within))
+    (λ there. last_written-stack writes place before within begins)
+    ∙ zero_either (write.place == place)
+
+pub stack_byte-hide : (power : PowerOn) (flags : ShownFlags) (writes : List MemoryWrite)
+    (place : ℕ)
+    → lies_in stack_region place ≡ true
+    → byte_at (keyless power) flags (map hide_write writes) place ≡ 0
+stack_byte-hide power flags writes place within =
+    cond-true (takes_write place) _ _ (stack_takes_write place within)
+    ∙ last_written-stack writes place (first_byte (keyless power) place) within
+    (stack_begins_zero (keyless power) place within)

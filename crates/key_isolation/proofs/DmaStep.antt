@@ -1,19 +1,18 @@
 -- What the DMA reads in a step that is not refused: no secret, so the same without the key.
-use Rattle.std.proofs.Common.{◌≡◌, ℕ, Bool, false, List, Option, Some, None, IfSome, map, refl, ap, sym, ◌∙◌}
+use Rattle.std.proofs.Common.{◌≡◌, ℕ, false, List, Option, Some, None, IfSome, map, refl, ap, sym, ◌∙◌}
 use Rattle.std.proofs.lemmas.Bool.{cond-false, or_from}
 use Rattle.word_arith.specs.declared.size.Size.TheVariants.{Word}
 use Rattle.bus_signals.specs.Access.{IsFormed}
 use Rattle.bus_signals.specs.declared.access.Access.{Access}
 use Rattle.bus_signals.specs.declared.access.Access.TheVariants.{Fetch, Read, Write}
 use Rattle.bus_signals.specs.Map.{touches, some_touches, key_region, stack_region}
-use Rattle.part_definitions.specs.Memory.{MemoryWrite, byte_at, with_access}
+use Rattle.part_definitions.specs.Memory.{MemoryWrite, ShownFlags, byte_at, with_access}
 use Rattle.device_trace.specs.Blank.{touches_secrets, SameOutside, blank_access, blank_value}
-use Rattle.device_trace.specs.Logs.{Logs, exec_of}
+use Rattle.device_trace.specs.Logs.{Logs, flags_of}
 use Rattle.device_trace.specs.Start.{Start}
 use Rattle.device_trace.specs.Step.{memory_read}
 use Rattle.key_isolation.proofs.Bytes.{hide_write, keyless, byte_at-hide, zero_either}
-use Rattle.key_isolation.proofs.FlagBlank.{exec-blank}
-use Rattle.key_isolation.proofs.Hiding.{hide}
+use Rattle.key_isolation.proofs.Hiding.{open_start, hide, flags_of-hide}
 use Rattle.key_isolation.proofs.Numbers.{number_at-outside}
 use Rattle.key_isolation.proofs.WrittenBytes.{with_access-hide}
 
@@ -54,17 +53,18 @@ dma_same left right same (Some (Write place size number)) key stack =
     }
 
 -- memory with the processor's write of the step
-pub written-outside : (start : Start) (logs : Logs) (real view : Option Access)
+pub written-outside : (start : Start) (free : List ℕ) (logs : Logs) (real view : Option Access)
     → IfSome real IsFormed → blank_access real ≡ view
     → SameOutside
-    (byte_at (keyless start.power) (exec_of (hide logs))
+    (byte_at (keyless start.power) (flags_of (open_start free start) (hide logs))
     (with_access view (map hide_write logs.memory)))
-    (byte_at start.power (exec_of logs) (with_access real logs.memory))
-written-outside start logs real view is_formed same place off =
-    ap (λ (exec : Bool). byte_at (keyless start.power) exec
+    (byte_at start.power (flags_of start logs) (with_access real logs.memory))
+written-outside start free logs real view is_formed same place off =
+    ap (λ (flags : ShownFlags). byte_at (keyless start.power) flags
     (with_access view (map hide_write logs.memory)) place)
-    (exec-blank logs.records)
-    ∙ (ap (λ (writes : List MemoryWrite). byte_at (keyless start.power) (exec_of logs) writes place)
+    (flags_of-hide start free logs)
+    ∙ (ap (λ (writes : List MemoryWrite).
+    byte_at (keyless start.power) (flags_of start logs) writes place)
     (ap (λ (access : Option Access). with_access access (map hide_write logs.memory)) (sym same)
     ∙ with_access-hide real logs.memory is_formed)
-    ∙ byte_at-hide start.power (exec_of logs) (with_access real logs.memory) place off)
+    ∙ byte_at-hide start.power (flags_of start logs) (with_access real logs.memory) place off)

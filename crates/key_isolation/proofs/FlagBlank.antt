@@ -1,14 +1,13 @@
--- The EXEC flag does not look at what is blanked.
-use Rattle.std.proofs.Common.{arith, ◌≡◌, ℕ, Bool, List, [], ◌∷◌, Option, map, refl, ap, ◌∙◌}
-use Rattle.std.specs.Prelude.{◌||◌, if◌then◌else◌}
-use Rattle.std.specs.List.{list_any}
+-- The EXEC flag does not look at what is blanked, and the second flag is given it alone.
+use Rattle.std.proofs.Common.{arith, ◌≡◌, ℕ, Bool, true, false, List, [], ◌∷◌, Option, map, refl, ap, ◌∙◌}
+use Rattle.std.specs.Prelude.{if◌then◌else◌}
+use Rattle.std.proofs.lemmas.Bool.Decides.{nat_tests}
+use Rattle.bus_signals.specs.declared.access.Access.{Access}
 use Rattle.bus_signals.specs.SeenRecord.{SeenRecord}
-use Rattle.part_definitions.specs.Flag.{clears, starts_run, last_pc, records_since_clear, exec}
-use Rattle.device_trace.specs.Blank.{blank_record}
-
--- a record that the flag has seen, blanked
-abbrev pub blank_seen : SeenRecord → SeenRecord
-blank_seen now = record { entry = blank_record now.entry; bounds = now.bounds }
+use Rattle.part_definitions.specs.Flag.{clears, starts_run, last_pc, exec}
+use Rattle.device_trace.specs.Blank.{blank_access, blank_value, blank_seen}
+use Rattle.device_trace.specs.Logs.{goes_on_in_call, records_until_call}
+use Rattle.key_isolation.proofs.SameFlag.{exec-same}
 
 clears-blank : (last : Option ℕ) (now : SeenRecord) → clears last (blank_seen now) ≡ clears last now
 clears-blank last now = grind arith
@@ -20,33 +19,62 @@ pub last_pc-blank : (records : List SeenRecord) → last_pc (map blank_seen reco
 last_pc-blank [] = refl
 last_pc-blank (now ∷ before) = refl
 
-goes_on : (test test' : Bool) (now : SeenRecord) (older older' : List SeenRecord)
-    → test' ≡ test → older' ≡ map blank_seen older
-    → (if test' then [] else blank_seen now ∷ older')
-    ≡ map blank_seen (if test then [] else now ∷ older)
-goes_on test test' now older older' same rest = grind arith
-
-records_since_clear-blank : (records : List SeenRecord)
-    → records_since_clear (map blank_seen records) ≡ map blank_seen (records_since_clear records)
-records_since_clear-blank [] = refl
-records_since_clear-blank (now ∷ before) =
-    goes_on (clears (last_pc before) now)
-    (clears (last_pc (map blank_seen before)) (blank_seen now)) now
-    (records_since_clear before) (records_since_clear (map blank_seen before))
-    (clears-blank (last_pc (map blank_seen before)) now
-    ∙ ap (λ (last : Option ℕ). clears last now) (last_pc-blank before))
-    (records_since_clear-blank before)
-
-any_start-blank : (records : List SeenRecord)
-    → list_any starts_run (map blank_seen records) ≡ list_any starts_run records
-any_start-blank [] = refl
-any_start-blank (now ∷ before) =
-    ap (λ (first : Bool). first || list_any starts_run (map blank_seen before))
-    (starts_run-blank now)
-    ∙ ap (λ (rest : Bool). starts_run now || rest) (any_start-blank before)
-
 pub exec-blank : (records : List SeenRecord) → exec (map blank_seen records) ≡ exec records
-unfolding exec
-exec-blank records =
-    ap (list_any starts_run) (records_since_clear-blank records)
-    ∙ any_start-blank (records_since_clear records)
+exec-blank records = exec-same blank_seen clears-blank starts_run-blank last_pc-blank records
+
+-- the records that the second flag sees
+choice : (test : Bool) (now : SeenRecord) (before older' older : List SeenRecord)
+    → older' ≡ map blank_seen older
+    → (if test then older' else map blank_seen (now ∷ before))
+    ≡ map blank_seen (if test then older else now ∷ before)
+choice true now before older' older rest = rest
+choice false now before older' older rest = refl
+
+until_call-blank : (records : List SeenRecord)
+    → records_until_call (map blank_seen records) ≡ map blank_seen (records_until_call records)
+until_call-blank [] = refl
+until_call-blank (now ∷ before) =
+    choice (goes_on_in_call now.entry) now before
+    (records_until_call (map blank_seen before)) (records_until_call before)
+    (until_call-blank before)
+
+-- what is blanked once is blanked
+pub blank_access-twice : (access : Option Access)
+    → blank_access (blank_access access) ≡ blank_access access
+blank_access-twice access = grind (arith, nat_tests)
+
+pub blank_value-twice : (access : Option Access) (value : ℕ)
+    → blank_value (blank_access access) (blank_value access value) ≡ blank_value access value
+blank_value-twice access value = grind (arith, nat_tests)
+
+blank_seen-twice : (now : SeenRecord) → blank_seen (blank_seen now) ≡ blank_seen now
+blank_seen-twice now =
+    λ i. record {
+      entry =
+          record {
+            kind = now.entry.kind;
+            pc = now.entry.pc;
+            regs = now.entry.regs;
+            cpu = blank_access-twice now.entry.cpu i;
+            value = blank_value-twice now.entry.cpu now.entry.value i;
+            dma = blank_access-twice now.entry.dma i;
+            dma_value = blank_value-twice now.entry.dma now.entry.dma_value i;
+            irq = now.entry.irq;
+            reset = now.entry.reset;
+          };
+      bounds = now.bounds;
+    }
+
+blanked-twice : (records : List SeenRecord)
+    → map blank_seen (map blank_seen records) ≡ map blank_seen records
+blanked-twice [] = refl
+blanked-twice (now ∷ before) =
+    ap (λ (first : SeenRecord). first ∷ map blank_seen (map blank_seen before))
+    (blank_seen-twice now)
+    ∙ ap (λ (rest : List SeenRecord). blank_seen now ∷ rest) (blanked-twice before)
+
+pub seen_by_flag-blank : (records : List SeenRecord)
+    → map blank_seen (records_until_call (map blank_seen records))
+    ≡ map blank_seen (records_until_call records)
+seen_by_flag-blank records =
+    ap (map blank_seen) (until_call-blank records) ∙ blanked-twice (records_until_call records)

@@ -1,69 +1,115 @@
--- The words of a call with the key's among them hidden: they are the first 32.
-use Rattle.std.proofs.Common.{◌≡◌, ℕ, zero, suc, ◌<◌, ◌≤◌, List, [], ◌∷◌, ◌++◌, length, refl, ap, ◌∙◌, arith, lit≤}
-use Rattle.std.specs.Prelude.{slice_index}
+-- The words of a call with the key's and those of the kept counter among them hidden.
+use Rattle.std.proofs.Common.{◌≡◌, ℕ, zero, suc, ◌+◌, ◌<◌, ◌≤◌, Bool, true, false, List, [], ◌∷◌, ◌++◌, length, refl, ap, ◌∙◌, arith}
+use Rattle.std.specs.Prelude.{◌||◌, ◌&&◌, nat_le, nat_lt, slice_index, if◌then◌else◌}
+use Rattle.std.proofs.lemmas.Bool.Decides.{nat_tests}
 use Rattle.bus_signals.specs.declared.bounds.Bounds.{Bounds}
-use Rattle.part_definitions.specs.Attestation.{bounds_read, region_words, item_after, call_item}
+use Rattle.part_definitions.specs.Attestation.{BEFORE_METADATA, BEFORE_KEPT, BEFORE_KEPT_WRITE, bounds_read, region_words, decision_read, item_after, call_item}
 
--- 0 in place of the first words, so many
-pub hide_first : ℕ → List ℕ → List ℕ
-hide_first zero words = words
-hide_first (suc count) [] = []
-hide_first (suc count) (word ∷ words) = 0 ∷ hide_first count words
+-- which words are hidden
+abbrev pub hides_word : ℕ → Bool
+hides_word place =
+    nat_lt place BEFORE_METADATA || (nat_le BEFORE_KEPT place && nat_lt place BEFORE_KEPT_WRITE)
 
-pub hide_first-none : (count : ℕ) → hide_first count [] ≡ []
-unfolding hide_first
-hide_first-none zero = refl
-hide_first-none (suc count) = refl
+abbrev pub hidden_word : ℕ → ℕ → ℕ
+hidden_word place word = if hides_word place then 0 else word
 
-pub length-hide_first : (count : ℕ) (words : List ℕ)
-    → length (hide_first count words) ≡ length words
-unfolding hide_first
-length-hide_first zero words = refl
-length-hide_first (suc count) [] = refl
-length-hide_first (suc count) (word ∷ words) = ap (λ (n : ℕ). suc n) (length-hide_first count words)
+pub key_hidden : (place : ℕ) → place < 32 → hides_word place ≡ true
+key_hidden place below = grind (arith, nat_tests)
 
--- the words past them stay
-pub word-hide_first : (count : ℕ) (words : List ℕ) (place : ℕ)
-    → count ≤ place → slice_index (hide_first count words) place ≡ slice_index words place
-unfolding hide_first
-word-hide_first zero words place past = refl
-word-hide_first (suc count) [] place past = refl
-word-hide_first (suc count) (word ∷ words) zero past = absurd (omega (arith, past))
-word-hide_first (suc count) (word ∷ words) (suc place) past =
-    word-hide_first count words place (omega (arith, past))
+pub kept_hidden : (place : ℕ) → 72 ≤ place → place < 74 → hides_word place ≡ true
+kept_hidden place above below = grind (arith, nat_tests)
 
--- a word more: hidden while there are fewer
-pub hide_first-hidden : (count : ℕ) (words : List ℕ) (word : ℕ)
-    → length words < count
-    → hide_first count (words ++ word ∷ []) ≡ hide_first count words ++ 0 ∷ []
-unfolding hide_first
-hide_first-hidden zero words word fewer = absurd (omega (arith, fewer))
-hide_first-hidden (suc count) [] word fewer = ap (λ (ws : List ℕ). 0 ∷ ws) (hide_first-none count)
-hide_first-hidden (suc count) (first ∷ words) word fewer =
-    ap (λ (ws : List ℕ). 0 ∷ ws) (hide_first-hidden count words word (omega (arith, fewer)))
+pub metadata_shown : (place : ℕ) → 32 ≤ place → place < 72 → hides_word place ≡ false
+metadata_shown place above below = grind (arith, nat_tests)
 
-pub hide_first-kept : (count : ℕ) (words : List ℕ) (word : ℕ)
-    → count ≤ length words
-    → hide_first count (words ++ word ∷ []) ≡ hide_first count words ++ word ∷ []
-unfolding hide_first
-hide_first-kept zero words word past = refl
-hide_first-kept (suc count) [] word past = absurd (omega (arith, past))
-hide_first-kept (suc count) (first ∷ words) word past =
-    ap (λ (ws : List ℕ). 0 ∷ ws) (hide_first-kept count words word (omega (arith, past)))
+pub rest_shown : (place : ℕ) → 74 ≤ place → hides_word place ≡ false
+rest_shown place above = grind (arith, nat_tests)
 
--- so bounds and item of a call stay
-pub bounds_read-hide : (words : List ℕ) → bounds_read (hide_first 32 words) ≡ bounds_read words
+either_zero : (test : Bool) → ◌≡◌ {A = ℕ} (if test then 0 else 0) 0
+either_zero true = refl
+either_zero false = refl
+
+pub zero_hidden : (place : ℕ) → hidden_word place 0 ≡ 0
+zero_hidden place = either_zero (hides_word place)
+
+-- of words that begin at a place
+pub hide_from : ℕ → List ℕ → List ℕ
+hide_from place [] = []
+hide_from place (word ∷ words) = hidden_word place word ∷ hide_from (suc place) words
+
+abbrev pub hide_words : List ℕ → List ℕ
+hide_words words = hide_from 0 words
+
+pub hide_words-none : hide_words [] ≡ []
+unfolding hide_from
+hide_words-none = refl
+
+length-hide_from : (place : ℕ) (words : List ℕ) → length (hide_from place words) ≡ length words
+unfolding hide_from
+length-hide_from place [] = refl
+length-hide_from place (word ∷ words) =
+    ap (λ (n : ℕ). suc n) (length-hide_from (suc place) words)
+
+pub length-hide_words : (words : List ℕ) → length (hide_words words) ≡ length words
+length-hide_words words = length-hide_from 0 words
+
+-- a word that is shown stays
+shown : (test : Bool) (word : ℕ) → test ≡ false → (if test then 0 else word) ≡ word
+shown true word off = absurd (cc)
+shown false word off = refl
+
+word-hide_from : (first : ℕ) (words : List ℕ) (i : ℕ)
+    → hides_word (first + i) ≡ false → slice_index (hide_from first words) i ≡ slice_index words i
+unfolding hide_from
+word-hide_from first [] i off = refl
+word-hide_from first (word ∷ words) zero off =
+    let same : first ≡ first + 0 = omega arith in
+    shown (hides_word first) word (ap hides_word same ∙ off)
+word-hide_from first (word ∷ words) (suc i) off =
+    let same : suc first + i ≡ first + suc i = omega arith in
+    word-hide_from (suc first) words i (ap hides_word same ∙ off)
+
+-- a word more
+more-hide_from : (first : ℕ) (words : List ℕ) (word : ℕ)
+    → hide_from first (words ++ word ∷ [])
+    ≡ hide_from first words ++ hidden_word (first + length words) word ∷ []
+unfolding hide_from
+more-hide_from first [] word =
+    let same : first ≡ first + 0 = omega arith in
+    ap (λ (place : ℕ). hidden_word place word ∷ []) same
+more-hide_from first (other ∷ words) word =
+    let same : suc first + length words ≡ first + suc (length words) = omega arith in
+    ap (λ (rest : List ℕ). hidden_word first other ∷ rest)
+    (more-hide_from (suc first) words word
+    ∙ ap (λ (place : ℕ). hide_from (suc first) words ++ hidden_word place word ∷ []) same)
+
+pub hide_words-more : (words : List ℕ) (word : ℕ)
+    → hide_words (words ++ word ∷ []) ≡ hide_words words ++ hidden_word (length words) word ∷ []
+hide_words-more words word =
+    let same : 0 + length words ≡ length words = omega arith in
+    more-hide_from 0 words word
+    ∙ ap (λ (place : ℕ). hide_words words ++ hidden_word place word ∷ []) same
+
+-- so bounds, decision and item of a call stay
+pub bounds_read-hide : (words : List ℕ) → bounds_read (hide_words words) ≡ bounds_read words
 bounds_read-hide words =
     λ i. record {
-      er_min = word-hide_first 32 words 48 (lit≤ tt) i;
-      er_max = word-hide_first 32 words 49 (lit≤ tt) i;
-      or_min = word-hide_first 32 words 50 (lit≤ tt) i;
-      or_max = word-hide_first 32 words 51 (lit≤ tt) i;
+      er_min = word-hide_from 0 words 48 refl i;
+      er_max = word-hide_from 0 words 49 refl i;
+      or_min = word-hide_from 0 words 50 refl i;
+      or_max = word-hide_from 0 words 51 refl i;
     }
 
-pub call_item-hide : (words : List ℕ) → call_item (hide_first 32 words) ≡ call_item words
+pub decision_read-hide : (words : List ℕ) → decision_read (hide_words words) ≡ decision_read words
+decision_read-hide words = word-hide_from 0 words 76 refl
+
+pub call_item-hide : (words : List ℕ) → call_item (hide_words words) ≡ call_item words
 call_item-hide words =
-    ap (λ (bounds : Bounds). item_after (region_words bounds) (length (hide_first 32 words)))
+    ap (λ (bounds : Bounds). item_after (region_words bounds) (decision_read (hide_words words))
+    (length (hide_words words)))
     (bounds_read-hide words)
-    ∙ ap (λ (count : ℕ). item_after (region_words (bounds_read words)) count)
-    (length-hide_first 32 words)
+    ∙ (ap (λ (decision : ℕ). item_after (region_words (bounds_read words)) decision
+    (length (hide_words words)))
+    (decision_read-hide words)
+    ∙ ap (λ (count : ℕ). item_after (region_words (bounds_read words)) (decision_read words) count)
+    (length-hide_words words))

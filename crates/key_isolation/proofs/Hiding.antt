@@ -1,30 +1,32 @@
 -- The logs of a play with the secrets hidden, and what stays of them.
-use Rattle.std.proofs.Common.{arith, ◌≡◌, ℕ, Bool, false, List, Option, map, refl, ap, ◌∙◌}
+use Rattle.std.proofs.Common.{arith, ◌≡◌, ℕ, false, List, Option, Some, None, map, refl, ap, ◌∙◌}
+use Rattle.std.specs.Prelude.{if◌then◌else◌}
+use Rattle.bus_signals.specs.declared.bus_record.BusRecord.{BusRecord}
 use Rattle.bus_signals.specs.declared.kind.Kind.{Kind}
 use Rattle.part_definitions.specs.Attestation.{item_pc}
 use Rattle.part_definitions.specs.CpuRegister.{allows_interrupts}
 use Rattle.part_definitions.specs.Interrupt.{accepted_vector}
-use Rattle.part_definitions.specs.Memory.{byte_at}
+use Rattle.part_definitions.specs.Memory.{ShownFlags, byte_at}
 use Rattle.part_definitions.specs.Serial.{serial_requests}
 use Rattle.part_definitions.specs.Timer.{timer_requests}
-use Rattle.device_trace.specs.Blank.{is_secret}
-use Rattle.device_trace.specs.Logs.{Logs, exec_of, logged_byte, logged_bounds, vector_of, step_progress, accepts_timer}
+use Rattle.device_trace.specs.Blank.{is_secret, blank_record, blank_seen}
+use Rattle.device_trace.specs.Logs.{Logs, flags_of, logged_byte, logged_bounds, vector_of, step_progress, accepts_timer, finishes_call, decision_in, decision_after}
 use Rattle.device_trace.specs.Progress.{Progress, Held, Runs, InCall, last_registers, next_pc_of, kind_of, progress_from_boundary, progress_within, tells_irq, fetches_opcode}
 use Rattle.device_trace.specs.Signals.{step_kind}
 use Rattle.device_trace.specs.Start.{Start, without_key}
-use Rattle.key_isolation.proofs.HiddenWords.{hide_first, hide_first-none, call_item-hide}
+use Rattle.key_isolation.proofs.HiddenWords.{hide_words, hide_words-none, decision_read-hide, call_item-hide}
 use Rattle.key_isolation.proofs.Bytes.{hide_write, keyless, byte_at-hide}
 use Rattle.key_isolation.proofs.Numbers.{bounds_in-outside}
-use Rattle.key_isolation.proofs.FlagBlank.{blank_seen, exec-blank}
+use Rattle.key_isolation.proofs.FlagBlank.{exec-blank, seen_by_flag-blank}
 
 -- the same start without its key, where the calls release these words
 abbrev pub open_start : List ℕ → Start → Start
-open_start words start = without_key words start.power.image
+open_start words start = without_key start.second_flag words start.power.image
 
 abbrev pub hide_progress : Progress → Progress
 hide_progress Held = Held
 hide_progress (Runs cpu) = Runs cpu
-hide_progress (InCall regs words) = InCall regs (hide_first 32 words)
+hide_progress (InCall regs words) = InCall regs (hide_words words)
 
 abbrev pub hide : Logs → Logs
 hide logs =
@@ -34,6 +36,7 @@ hide logs =
       peripherals = logs.peripherals;
       records = map blank_seen logs.records;
       released_words = logs.released_words;
+      decision = logs.decision;
     }
 
 -- readers of the progress
@@ -65,12 +68,19 @@ accepts_timer-hide progress kind vector = grind arith
 from_boundary-hide : (regs : List ℕ) (kind : Kind) (vector : Option ℕ)
     → progress_from_boundary regs kind vector
     ≡ hide_progress (progress_from_boundary regs kind vector)
-from_boundary-hide regs kind vector = grind (arith, hide_first-none)
+from_boundary-hide regs kind vector = grind (arith, hide_words-none)
 
 progress_within-hide : (progress : Progress) (kind : Kind) (vector : Option ℕ)
     → progress_within (hide_progress progress) kind vector
     ≡ hide_progress (progress_within progress kind vector)
 progress_within-hide progress kind vector = grind (arith, from_boundary-hide)
+
+-- the decision of a call is no secret
+decision_in-hide : (progress : Progress)
+    → decision_in (hide_progress progress) ≡ decision_in progress
+decision_in-hide Held = refl
+decision_in-hide (Runs cpu) = refl
+decision_in-hide (InCall regs words) = ap (λ (n : ℕ). Some n) (decision_read-hide words)
 
 -- readers of the logs
 pub vector_of-hide : (logs : Logs) → vector_of (hide logs) ≡ vector_of logs
@@ -93,17 +103,35 @@ step_progress-hide logs kind =
     (vector_of-hide logs)
     ∙ progress_within-hide logs.progress kind (vector_of logs)
 
+-- the flags
+pub flags_of-hide : (start : Start) (words : List ℕ) (logs : Logs)
+    → flags_of (open_start words start) (hide logs) ≡ flags_of start logs
+flags_of-hide start words logs =
+    λ i. record {
+      exec = exec-blank logs.records i;
+      aux = start.second_flag (seen_by_flag-blank logs.records i);
+    }
+
 -- bytes
 pub logged_byte-hide : (start : Start) (words : List ℕ) (logs : Logs) (place : ℕ)
     → is_secret place ≡ false
     → logged_byte (open_start words start) (hide logs) place ≡ logged_byte start logs place
 logged_byte-hide start words logs place off =
-    ap (λ (exec : Bool). byte_at (keyless start.power) exec (map hide_write logs.memory) place)
-    (exec-blank logs.records)
-    ∙ byte_at-hide start.power (exec_of logs) logs.memory place off
+    ap (λ (flags : ShownFlags).
+    byte_at (keyless start.power) flags (map hide_write logs.memory) place)
+    (flags_of-hide start words logs)
+    ∙ byte_at-hide start.power (flags_of start logs) logs.memory place off
 
 pub logged_bounds-hide : (start : Start) (words : List ℕ) (logs : Logs)
     → logged_bounds (open_start words start) (hide logs) ≡ logged_bounds start logs
 logged_bounds-hide start words logs =
     bounds_in-outside (logged_byte (open_start words start) (hide logs)) (logged_byte start logs)
     (logged_byte-hide start words logs)
+
+pub decision_after-hide : (logs : Logs) (entry : BusRecord)
+    → decision_after (step_progress (hide logs) entry.kind) (blank_record entry)
+    ≡ decision_after (step_progress logs entry.kind) entry
+decision_after-hide logs entry =
+    ap (λ (decision : Option ℕ). if finishes_call entry then decision else None)
+    (ap decision_in (step_progress-hide logs entry.kind)
+    ∙ decision_in-hide (step_progress logs entry.kind))

@@ -1,6 +1,7 @@
 pub mod HiddenWords
 pub mod Bytes
 pub mod Numbers
+pub mod SameFlag
 pub mod FlagBlank
 pub mod Hiding
 pub mod SameRule

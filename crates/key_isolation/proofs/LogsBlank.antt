@@ -4,9 +4,9 @@ use Rattle.bus_signals.specs.declared.access.Access.{Access}
 use Rattle.bus_signals.specs.declared.bus_record.BusRecord.{BusRecord}
 use Rattle.bus_signals.specs.declared.event.Event.{Event}
 use Rattle.bus_signals.specs.declared.rule.Rule.{Rule}
+use Rattle.part_definitions.specs.FirstRule.{first_rule}
 use Rattle.part_definitions.specs.Flag.{last_pc}
-use Rattle.device_trace.specs.Blank.{blank_access, blank_value, blank_record}
-use Rattle.device_trace.specs.FirstRule.{first_rule}
+use Rattle.device_trace.specs.Blank.{blank_access, blank_value, blank_record, blank_seen}
 use Rattle.device_trace.specs.AccessesAreFormed.{AccessesAreFormed}
 use Rattle.device_trace.specs.Logs.{Logs, vector_of, step_progress, accepts_timer, progress_after, released_words_after, with_events, with_record}
 use Rattle.device_trace.specs.Peripherals.{timer_after}
@@ -18,8 +18,7 @@ use Rattle.device_trace.specs.Trace.{next_logs}
 use Rattle.device_trace.proofs.FormedAccess.{record_of-formed}
 use Rattle.trace_facts.proofs.Sound.{IsSound}
 use Rattle.trace_facts.proofs.SoundPlay.{with_events-sound}
-use Rattle.key_isolation.proofs.Hiding.{open_start, hide_progress, hide, vector_of-hide, step_progress-hide, accepts_timer-hide, logged_bounds-hide}
-use Rattle.key_isolation.proofs.FlagBlank.{blank_seen}
+use Rattle.key_isolation.proofs.Hiding.{open_start, hide_progress, hide, vector_of-hide, step_progress-hide, accepts_timer-hide, logged_bounds-hide, decision_after-hide}
 use Rattle.key_isolation.proofs.WrittenBytes.{memory_after-hide}
 use Rattle.key_isolation.proofs.Projections.{timer_after-blank, serial_after-blank, dma_after-blank, released_words_after-blank}
 use Rattle.key_isolation.proofs.RecordBlank.{SameWithoutRule, unrefused_same, record_of-hide}
@@ -78,6 +77,7 @@ with_record-blank start free logs entry forms follows =
           ∷ map blank_seen logs.records;
       released_words =
           released_words_after-blank entry.reset entry.kind entry.cpu logs.released_words i;
+      decision = decision_after-hide logs entry i;
     }
 
 -- the record of a step has it

@@ -4,7 +4,7 @@ use Rattle.std.proofs.lemmas.Bool.Decides.{nat_tests}
 use Rattle.word_arith.specs.declared.size.Size.{Size}
 use Rattle.word_arith.specs.declared.size.Size.TheVariants.{Byte, Word}
 use Rattle.bus_signals.specs.declared.access.Access.TheVariants.{Read}
-use Rattle.bus_signals.specs.Map.{lies_in, key_region, ER_MIN, ER_MAX, OR_MIN, OR_MAX}
+use Rattle.bus_signals.specs.Map.{lies_in, key_region, stack_region, ER_MIN, ER_MAX, OR_MIN, OR_MAX}
 use Rattle.part_definitions.specs.Memory.{number_from, number_at}
 use Rattle.part_definitions.specs.Metadata.{bounds_in}
 use Rattle.device_trace.specs.Blank.{touches_secrets, is_secret, SameOutside}
@@ -63,3 +63,19 @@ key_word-zero bytes zero_key i within =
     ap (λ (low : ℕ). low + 256 * bytes ((0x6A00 + 2 * i) / 2 * 2 / 2 * 2 + 1))
     (zero_key _ (key_place i within))
     ∙ ap (λ (high : ℕ). 0 + 256 * high) (zero_key _ (key_place_next i within))
+
+-- and so do those of the kept counter
+kept_place : (i : ℕ) → i < 2 → lies_in stack_region ((0x4060 + 2 * i) / 2 * 2 / 2 * 2) ≡ true
+kept_place i within = grind (arith, nat_tests)
+
+kept_place_next : (i : ℕ) → i < 2
+    → lies_in stack_region ((0x4060 + 2 * i) / 2 * 2 / 2 * 2 + 1) ≡ true
+kept_place_next i within = grind (arith, nat_tests)
+
+pub kept_word-zero : (bytes : ℕ → ℕ)
+    → ((place : ℕ) → lies_in stack_region place ≡ true → bytes place ≡ 0)
+    → (i : ℕ) → i < 2 → number_at bytes ((0x4060 + 2 * i) / 2 * 2) Word ≡ 0
+kept_word-zero bytes zero_stack i within =
+    ap (λ (low : ℕ). low + 256 * bytes ((0x4060 + 2 * i) / 2 * 2 / 2 * 2 + 1))
+    (zero_stack _ (kept_place i within))
+    ∙ ap (λ (high : ℕ). 0 + 256 * high) (zero_stack _ (kept_place_next i within))

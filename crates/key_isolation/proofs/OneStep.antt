@@ -1,9 +1,8 @@
 -- A step that is not refused, with and without the key: its access, its value, and what it leads
 -- to.
-use Rattle.std.proofs.Common.{◌≡◌, ℕ, ◌<◌, ◌≤◌, Bool, true, false, List, [], ◌∷◌, ◌++◌, length, Option, Some, None, refl, ap, sym, ◌∙◌, subst, not}
-use Rattle.std.specs.Prelude.{◌==◌, ◌&&◌, ◌||◌, nat_lt, if◌then◌else◌}
-use Rattle.std.proofs.lemmas.Bool.{cond-false, cond-true, cases_lt, lt-ltb}
-use Rattle.std.proofs.Common.{inl, inr}
+use Rattle.std.proofs.Common.{◌≡◌, ℕ, Bool, true, false, List, [], ◌∷◌, ◌++◌, length, Option, Some, None, refl, ap, sym, ◌∙◌, subst, not}
+use Rattle.std.specs.Prelude.{◌==◌, ◌&&◌, ◌||◌, if◌then◌else◌}
+use Rattle.std.proofs.lemmas.Bool.{cond-false}
 use Rattle.word_arith.specs.declared.size.Size.TheVariants.{Word}
 use Rattle.bus_signals.specs.declared.access.Access.{Access}
 use Rattle.bus_signals.specs.declared.access.Access.TheVariants.{Fetch, Read, Write}
@@ -11,7 +10,7 @@ use Rattle.bus_signals.specs.declared.kind.Kind.{Kind}
 use Rattle.bus_signals.specs.declared.kind.Kind.TheVariants.{Rom}
 use Rattle.bus_signals.specs.Access.{some_writes, some_reads}
 use Rattle.bus_signals.specs.Map.{touches, some_touches, key_region, stack_region, ROM_EXIT}
-use Rattle.part_definitions.specs.Attestation.{CallItem, KeyRead, region_words, item_after, call_item, item_access, item_pc, is_return, bounds_read}
+use Rattle.part_definitions.specs.Attestation.{CallItem, KeyRead, MetadataRead, KeptRead, KeptWrite, DecisionWrite, DerivedKeyWrite, RegionRead, InnerDigestWrite, MacWrite, ReturnRead, region_words, decision_read, call_item, item_access, item_pc, is_return, bounds_read}
 use Rattle.part_definitions.specs.CpuRegister.{sp_of}
 use Rattle.part_definitions.specs.CpuState.{CpuState, cpu_pc}
 use Rattle.part_definitions.specs.MonitorRule.{in_rom}
@@ -23,11 +22,11 @@ use Rattle.device_trace.specs.Start.{Start, mac_word}
 use Rattle.key_isolation.proofs.Bytes.{zero_either}
 use Rattle.trace_facts.proofs.Choices.{first_false}
 use Rattle.trace_facts.proofs.Sound.{IsWithin}
-use Rattle.key_isolation.proofs.HiddenWords.{hide_first, call_item-hide, hide_first-hidden, hide_first-kept}
+use Rattle.key_isolation.proofs.HiddenWords.{hides_word, hidden_word, rest_shown, hide_words, call_item-hide, hide_words-more}
 use Rattle.key_isolation.proofs.Hiding.{open_start, hide_progress, hide}
 use Rattle.key_isolation.proofs.Reading.{value_read-hide}
 use Rattle.key_isolation.proofs.SignalShape.{item_access-hide}
-use Rattle.trace_facts.proofs.CallPlaces.{item_after-fits}
+use Rattle.trace_facts.proofs.CallPlaces.{ItemFits, item_after-fits}
 use Rattle.key_isolation.proofs.CallStep.{same_item}
 
 -- the rules K1, K2 and A4, of an access and its `pc`
@@ -110,41 +109,43 @@ runs_same start free logs kind cpu outside keeps =
       next = ap (λ (value : ℕ). next_progress kind (Runs cpu) access value) same.value;
     }
 
--- what a call goes on with
-call_item-first : (region count : ℕ) → count < 32 → is_return (item_after region count) ≡ false
-call_item-first region count fewer =
-    ap is_return (cond-true (nat_lt count 32) (KeyRead count) _ (lt-ltb count 32 fewer))
+-- what a call goes on with: the word of its return read is shown
+return_shown : (region count : ℕ) (item : CallItem) → ItemFits region count item
+    → is_return item ≡ true → hides_word count ≡ false
+return_shown region count (KeyRead i) fits returns = absurd (cc)
+return_shown region count (MetadataRead i) fits returns = absurd (cc)
+return_shown region count (KeptRead i) fits returns = absurd (cc)
+return_shown region count (KeptWrite i) fits returns = absurd (cc)
+return_shown region count DecisionWrite fits returns = absurd (cc)
+return_shown region count (DerivedKeyWrite i) fits returns = absurd (cc)
+return_shown region count (RegionRead i) fits returns = absurd (cc)
+return_shown region count (InnerDigestWrite i) fits returns = absurd (cc)
+return_shown region count (MacWrite i) fits returns = absurd (cc)
+return_shown region count ReturnRead fits returns = rest_shown count fits
 
 goes_either : (returns : Bool) (regs words blanks : List ℕ) (word word' : ℕ)
     → (returns ≡ true → word' ≡ word)
-    → blanks ++ word' ∷ [] ≡ hide_first 32 (words ++ word ∷ [])
+    → blanks ++ word' ∷ [] ≡ hide_words (words ++ word ∷ [])
     → (if returns then after_return regs word' else InCall regs (blanks ++ word' ∷ []))
     ≡ hide_progress (if returns then after_return regs word else InCall regs (words ++ word ∷ []))
 goes_either true regs words blanks word word' same more = ap (after_return regs) (same refl)
 goes_either false regs words blanks word word' same more = ap (λ (ws : List ℕ). InCall regs ws) more
 
 call_after-hide : (regs words : List ℕ) (word word' : ℕ)
-    → (length words < 32 → word' ≡ 0) → (32 ≤ length words → word' ≡ word)
-    → call_after regs (hide_first 32 words) word' ≡ hide_progress (call_after regs words word)
-call_after-hide regs words word word' blanks stays =
+    → word' ≡ hidden_word (length words) word
+    → call_after regs (hide_words words) word' ≡ hide_progress (call_after regs words word)
+call_after-hide regs words word word' passed =
     ap
     (λ (item : CallItem). if is_return item then after_return regs word'
-    else InCall regs (hide_first 32 words ++ word' ∷ []))
+    else InCall regs (hide_words words ++ word' ∷ []))
     (call_item-hide words)
-    ∙ (elim (cases_lt (length words) 32) [
-      | inl fewer ↦
-          goes_either (is_return (call_item words)) regs words (hide_first 32 words) word word'
-          (λ returns. absurd
-          (let no = call_item-first (region_words (bounds_read words))
-          (length words) fewer in let clash : true ≡ false = sym returns ∙ no in cc))
-          (ap (λ (w : ℕ). hide_first 32 words ++ w ∷ []) (blanks fewer)
-          ∙ sym (hide_first-hidden 32 words word fewer))
-      | inr past ↦
-          goes_either (is_return (call_item words)) regs words (hide_first 32 words) word word'
-          (λ returns. stays past)
-          (ap (λ (w : ℕ). hide_first 32 words ++ w ∷ []) (stays past)
-          ∙ sym (hide_first-kept 32 words word past))
-    ])
+    ∙ goes_either (is_return (call_item words)) regs words (hide_words words) word word'
+    (λ returns.
+    passed ∙ cond-false (hides_word (length words)) 0 word
+    (return_shown (region_words (bounds_read words)) (length words) (call_item words)
+    (item_after-fits (region_words (bounds_read words)) (decision_read words) (length words))
+    returns))
+    (ap (λ (w : ℕ). hide_words words ++ w ∷ []) passed ∙ sym (hide_words-more words word))
 
 call_same : (start : Start) (free more : List ℕ) (logs : Logs) (regs words : List ℕ)
     → KeepsSecrets (access_of start (length logs.released_words) Rom (InCall regs words))
@@ -171,7 +172,8 @@ call_same start free more logs regs words keeps split =
     same_item start free more logs (sp_of regs) (length words)
     (start.call_word (length logs.released_words) (call_item words) words) (bounds_read words)
     (call_item words)
-    (item_after-fits (region_words (bounds_read words)) (length words)) keeps.a4 split in
+    (item_after-fits (region_words (bounds_read words)) (decision_read words) (length words))
+    keeps.a4 split in
     let claim : Option Access → Type 0 =
     λ access. SameStep start free logs Rom (InCall regs words)
     (access_of start (length logs.released_words) Rom (InCall regs words)) access in
@@ -179,7 +181,7 @@ call_same start free more logs regs words keeps split =
     record {
       access = same.access;
       value = same.value;
-      next = call_after-hide regs words _ _ same.hidden same.kept;
+      next = call_after-hide regs words _ _ same.passed;
     } in
     subst claim (sym view) at_access
 

@@ -7,9 +7,9 @@ use Rattle.bus_signals.specs.declared.rule.Rule.{Rule}
 use Rattle.bus_signals.specs.declared.signals.Signals.{Signals}
 use Rattle.bus_signals.specs.Map.{touches, stack_region}
 use Rattle.part_definitions.specs.Dma.{dma_access}
+use Rattle.part_definitions.specs.FirstRule.{first_rule}
 use Rattle.part_definitions.specs.Flag.{last_pc}
 use Rattle.device_trace.specs.Blank.{touches_secrets, blank_access, blank_value, blank_record}
-use Rattle.device_trace.specs.FirstRule.{first_rule}
 use Rattle.device_trace.specs.Logs.{Logs, step_progress, vector_of, released_words_after}
 use Rattle.device_trace.specs.Progress.{Progress, last_registers, next_pc_of, access_of, next_progress}
 use Rattle.device_trace.specs.Signals.{value_read, step_kind, proposed_access, signals_at, signals_of}
@@ -140,7 +140,7 @@ unrefused_same start free more logs reset sound none split =
     (last_pc logs.records) sound breaks_none.atomicity.a2) keeps split) in
     let dma =
     dma_same _ _
-    (written-outside start logs real view
+    (written-outside start free logs real view
     (access_of-formed start (length logs.released_words) kind progress) step.access)
     (dma_access logs.peripherals.dma) breaks_none.key.k4 breaks_none.key.k5 in
     record {

@@ -20,7 +20,7 @@ use Rattle.device_trace.specs.Signals.{word_fetched, step_kind, proposed_access,
 use Rattle.device_trace.specs.Start.{Start}
 use Rattle.device_trace.specs.Step.{without_number}
 use Rattle.trace_facts.proofs.BreaksNoRule.{BreaksNoKeyRule, key_rule-none}
-use Rattle.key_isolation.proofs.HiddenWords.{hide_first, bounds_read-hide, call_item-hide}
+use Rattle.key_isolation.proofs.HiddenWords.{hide_words, bounds_read-hide, call_item-hide}
 use Rattle.key_isolation.proofs.Hiding.{open_start, hide_progress, hide, next_pc_of-hide, tells_irq-hide, fetches_opcode-hide, vector_of-hide, step_kind-hide, step_progress-hide}
 use Rattle.key_isolation.proofs.Reading.{fetch_off, word_fetched-hide}
 use Rattle.key_isolation.proofs.SameRule.{SameSignals}
@@ -33,10 +33,10 @@ item_access-shape sp bounds item number number' = grind arith
 
 -- the access of a call with the key's words hidden, with any number
 pub item_access-hide : (sp : ℕ) (words : List ℕ) (number : ℕ)
-    → item_access sp (bounds_read (hide_first 32 words)) (call_item (hide_first 32 words)) number
+    → item_access sp (bounds_read (hide_words words)) (call_item (hide_words words)) number
     ≡ item_access sp (bounds_read words) (call_item words) number
 item_access-hide sp words number =
-    ap (λ (bounds : Bounds). item_access sp bounds (call_item (hide_first 32 words)) number)
+    ap (λ (bounds : Bounds). item_access sp bounds (call_item (hide_words words)) number)
     (bounds_read-hide words)
     ∙ ap (λ (item : CallItem). item_access sp (bounds_read words) item number)
     (call_item-hide words)

@@ -1,27 +1,31 @@
 -- The text of a play is the same without the key.
 use Rattle.std.proofs.Common.{◌≡◌, ℕ, zero, suc, ◌+◌, ◌-◌, ◌<◌, ◌≤◌, Bool, false, List, [], ◌∷◌, ◌++◌, length, Option, Some, None, inl, inr, refl, ap, sym, ◌∙◌, arith, lit≤}
-use Rattle.std.specs.Prelude.{if◌then◌else◌}
+use Rattle.std.specs.Prelude.{◌==◌, if◌then◌else◌}
 use Rattle.std.proofs.lemmas.Bool.Decides.{nat_tests}
 use Rattle.bus_signals.specs.declared.bounds.Bounds.{Bounds}
 use Rattle.bus_signals.specs.declared.bus_record.BusRecord.{BusRecord}
 use Rattle.bus_signals.specs.declared.event.Event.{Event}
 use Rattle.bus_signals.specs.Bounds.{are_valid}
+use Rattle.bus_signals.specs.declared.version.Version.TheVariants.{Two}
+use Rattle.bus_signals.specs.Map.{metadata_region}
 use Rattle.bus_signals.specs.Report.{ReportFields}
 use Rattle.bus_signals.proofs.ValidRange.{IsValidRange, are_valid-ranges}
 use Rattle.part_definitions.specs.Memory.{bytes_from}
+use Rattle.part_definitions.specs.Metadata.{little_endian}
 use Rattle.part_definitions.specs.Region.{output_bytes}
+use Rattle.part_definitions.specs.Request.{ATTESTS}
 use Rattle.printed_lines.specs.Line.{end_line}
 use Rattle.device_trace.specs.Blank.{is_secret, SameOutside, blank_record}
 use Rattle.device_trace.specs.Logs.{Logs, exec_of, logged_byte, logged_bounds}
 use Rattle.device_trace.specs.Progress.{next_pc_of}
 use Rattle.device_trace.specs.Start.{Start}
 use Rattle.device_trace.specs.Step.{next_record}
-use Rattle.device_trace.specs.Text.{finishes_call, byte_sent_in, reported_output, report_of, report_in, sent_lines, reset_lines, report_lines, step_lines, lines_of, end_of, play_text}
+use Rattle.device_trace.specs.Text.{byte_sent_in, reported_output, report_of, report_where, report_in, denial_in, sent_lines, reset_lines, report_lines, denied_lines, step_lines, lines_of, end_of, play_text}
 use Rattle.device_trace.specs.Trace.{next_logs, logs_after}
 use Rattle.trace_facts.proofs.SoundPlay.{logs_after-sound}
 use Rattle.key_isolation.proofs.Bytes.{same_if}
 use Rattle.key_isolation.proofs.FlagBlank.{exec-blank}
-use Rattle.key_isolation.proofs.Hiding.{open_start, hide, next_pc_of-hide, logged_byte-hide, logged_bounds-hide}
+use Rattle.key_isolation.proofs.Hiding.{open_start, hide, next_pc_of-hide, flags_of-hide, logged_byte-hide, logged_bounds-hide}
 use Rattle.key_isolation.proofs.Induction.{play_hides, releases_before}
 use Rattle.key_isolation.proofs.LogsBlank.{step_hides}
 use Rattle.key_isolation.proofs.Projections.{byte_sent_by-blank}
@@ -59,7 +63,7 @@ program_bytes left right same place count low high =
     (λ p above below. program_open p (omega (arith, low, above)) (omega (arith, high, below)))
 
 valid_bytes : (left right : ℕ → ℕ) → SameOutside left right → (first last : ℕ)
-    → IsValidRange first last
+    → IsValidRange metadata_region first last
     → bytes_from left first (last + 2 - first) ≡ bytes_from right first (last + 2 - first)
 valid_bytes left right same first last range =
     let in_order : first ≤ last = range.ordered in
@@ -82,7 +86,7 @@ output-outside left right same bounds =
     (λ valid.
     ap (λ (bytes : List ℕ). Some bytes)
     (valid_bytes left right same bounds.or_min bounds.or_max
-    (are_valid-ranges bounds valid).output))
+    (are_valid-ranges metadata_region bounds valid).output))
     (λ invalid. refl)
 
 -- the report
@@ -93,8 +97,11 @@ report_of-hide start free logs step =
     let right : ℕ → ℕ = logged_byte start logs in
     let same : SameOutside left right = logged_byte-hide start free logs in
     λ i. record {
+      version = Two;
       step = step;
       exec = exec-blank logs.records i;
+      aux = (flags_of-hide start free logs i).aux;
+      count = little_endian (ram_bytes left right same 0x26C 4 (lit≤ tt) (lit≤ tt) i);
       chal = ram_bytes left right same 0x240 32 (lit≤ tt) (lit≤ tt) i;
       bounds = logged_bounds-hide start free logs i;
       output =
@@ -103,6 +110,15 @@ report_of-hide start free logs step =
       mac = ram_bytes left right same 0x200 32 (lit≤ tt) (lit≤ tt) i;
     }
 
+report_where-hide : (start : Start) (free : List ℕ) (logs : Logs) (step : ℕ)
+    (decision : Option ℕ)
+    → report_where (open_start free start) (hide logs) step decision
+    ≡ report_where start logs step decision
+report_where-hide start free logs step None = refl
+report_where-hide start free logs step (Some decision) =
+    ap (λ (report : ReportFields). if decision == ATTESTS then Some report else None)
+    (report_of-hide start free logs step)
+
 -- the lines of a step
 step_lines-hide : (start : Start) (free : List ℕ) (step : ℕ) (entry : BusRecord) (logs : Logs)
     → step_lines (open_start free start) step (blank_record entry) (hide logs)
@@ -110,12 +126,13 @@ step_lines-hide : (start : Start) (free : List ℕ) (step : ℕ) (entry : BusRec
 step_lines-hide start free step entry logs =
     ap
     (λ (byte : Option ℕ). sent_lines step byte ++ reset_lines step entry.reset
-    ++ report_lines (report_in (open_start free start) (hide logs) step entry))
+    ++ report_lines (report_in (open_start free start) (hide logs) step)
+    ++ denied_lines step (denial_in logs))
     (byte_sent_by-blank entry.reset entry.cpu)
     ∙ ap
-    (λ (report : ReportFields). sent_lines step (byte_sent_in entry) ++ reset_lines step entry.reset
-    ++ report_lines (if finishes_call entry then Some report else None))
-    (report_of-hide start free logs step)
+    (λ (report : Option ReportFields). sent_lines step (byte_sent_in entry)
+    ++ reset_lines step entry.reset ++ report_lines report ++ denied_lines step (denial_in logs))
+    (report_where-hide start free logs step logs.decision)
 
 end_of-hide : (steps : ℕ) (logs : Logs) → end_of steps (hide logs) ≡ end_of steps logs
 end_of-hide steps logs =

@@ -12,12 +12,12 @@ use Rattle.key_isolation.proofs.Induction.{play_hides}
 use Rattle.key_isolation.proofs.TextBlank.{play_text-hide}
 
 -- lists that agree are both beginnings of one list
-pub record BeginsWithBoth (left right : List ℕ) : Type 0 where
-  pub whole : List ℕ
-  pub after_left : List ℕ
-  pub after_right : List ℕ
-  pub is_left : whole ≡ left ++ after_left
-  pub is_right : whole ≡ right ++ after_right
+record BeginsWithBoth (left right : List ℕ) : Type 0 where
+  whole : List ℕ
+  after_left : List ℕ
+  after_right : List ℕ
+  is_left : whole ≡ left ++ after_left
+  is_right : whole ≡ right ++ after_right
 
 agree_begin : (left right : List ℕ) → Agree left right → BeginsWithBoth left right
 agree_begin [] right agree =
@@ -51,21 +51,29 @@ agree_begin (word ∷ left) (word' ∷ right) agree =
           ∙ ap (λ (words : List ℕ). word' ∷ words) rest.is_right;
     }
 
--- of two starts with one image
-abbrev SameImage : Start → Start → Type 0
-SameImage left right = left.power.image ≡ right.power.image
+-- of two starts with one image and one second flag
+abbrev pub SameButKey : Start → Start → Type 0
+SameButKey left right =
+    (left.power.image ≡ right.power.image) × (left.second_flag ≡ right.second_flag)
 
-opened-same : (words : List ℕ) (left right : Start) → SameImage left right
+opened-same : (words : List ℕ) (left right : Start) → SameButKey left right
     → open_start words left ≡ open_start words right
-opened-same words left right same = ap (λ (image : ℕ → ℕ). without_key words image) same
+opened-same words left right same = λ i. without_key (same.1 i) words (same.0 i)
 
-text_of_two : (left right : Start) (play : List (List Event)) → SameImage left right
-    → BeginsWithBoth (released_words left play) (released_words right play)
-    → play_text left play ≡ play_text right play
-text_of_two left right play image both =
-    play_text-hide left both.whole play both.after_left both.is_left
-    ∙ (ap (λ (start : Start). play_text start play) (opened-same both.whole left right image)
-    ∙ sym (play_text-hide right both.whole play both.after_right both.is_right))
+-- a device shows what one without a key does that is given the words which it releases, and so two
+-- devices whose released words agree show the same
+pub same_seen : {X : Type 0} (seen without : Start → X) (left right : Start)
+    (play : List (List Event))
+    → ((start : Start) (free more : List ℕ) → free ≡ released_words start play ++ more
+    → seen start ≡ without (open_start free start))
+    → SameButKey left right
+    → Agree (released_words left play) (released_words right play)
+    → seen left ≡ seen right
+same_seen seen without left right play hides same agree =
+    let both = agree_begin (released_words left play) (released_words right play) agree in
+    hides left both.whole both.after_left both.is_left
+    ∙ (ap without (opened-same both.whole left right same)
+    ∙ sym (hides right both.whole both.after_right both.is_right))
 
 byte-hide : (start : Start) (free : List ℕ) (play : List (List Event)) (more : List ℕ)
     → free ≡ released_words start play ++ more
@@ -75,39 +83,24 @@ byte-hide start free play more split place off =
     ∙ ap (λ (logs : Logs). logged_byte (open_start free start) logs place)
     (play_hides start free play more split).logs
 
-memory_of_two : (left right : Start) (play : List (List Event)) → SameImage left right
-    → BeginsWithBoth (released_words left play) (released_words right play)
-    → SameOutside (byte_after left play) (byte_after right play)
-memory_of_two left right play image both place off =
-    byte-hide left both.whole play both.after_left both.is_left place off
-    ∙ (ap (λ (start : Start). byte_after start play place) (opened-same both.whole left right image)
-    ∙ sym (byte-hide right both.whole play both.after_right both.is_right place off))
-
-history_of_two : (left right : Start) (play : List (List Event)) → SameImage left right
-    → BeginsWithBoth (released_words left play) (released_words right play)
-    → blank (trace left play) ≡ blank (trace right play)
-history_of_two left right play image both =
-    (play_hides left both.whole play both.after_left both.is_left).history
-    ∙ (ap (λ (start : Start). trace start play) (opened-same both.whole left right image)
-    ∙ sym (play_hides right both.whole play both.after_right both.is_right).history)
-
-pub same_history : (left right : Start) (play : List (List Event)) → SameImage left right
+pub same_history : (left right : Start) (play : List (List Event)) → SameButKey left right
     → Agree (released_words left play) (released_words right play)
     → blank (trace left play) ≡ blank (trace right play)
-same_history left right play image agree =
-    history_of_two left right play image
-    (agree_begin (released_words left play) (released_words right play) agree)
+same_history left right play same agree =
+    same_seen (λ start. blank (trace start play)) (λ start. trace start play) left right play
+    (λ start free more split. (play_hides start free play more split).history) same agree
 
-pub same_text : (left right : Start) (play : List (List Event)) → SameImage left right
+pub same_text : (left right : Start) (play : List (List Event)) → SameButKey left right
     → Agree (released_words left play) (released_words right play)
     → play_text left play ≡ play_text right play
-same_text left right play image agree =
-    text_of_two left right play image
-    (agree_begin (released_words left play) (released_words right play) agree)
+same_text left right play same agree =
+    same_seen (λ start. play_text start play) (λ start. play_text start play) left right play
+    (λ start free more split. play_text-hide start free play more split) same agree
 
-pub same_memory : (left right : Start) (play : List (List Event)) → SameImage left right
+pub same_memory : (left right : Start) (play : List (List Event)) → SameButKey left right
     → Agree (released_words left play) (released_words right play)
     → SameOutside (byte_after left play) (byte_after right play)
-same_memory left right play image agree =
-    memory_of_two left right play image
-    (agree_begin (released_words left play) (released_words right play) agree)
+same_memory left right play same agree place off =
+    same_seen (λ start. byte_after start play place) (λ start. byte_after start play place)
+    left right play
+    (λ start free more split. byte-hide start free play more split place off) same agree

@@ -8,7 +8,7 @@ use itoa::Buffer;
 use std::marker::Model;
 
 /// How many bytes a line has room for.
-pub const ROOM: usize = 160;
+pub const ROOM: usize = 192;
 
 /// A line that is being built, seen as its bytes.
 #[derive(Drop)]

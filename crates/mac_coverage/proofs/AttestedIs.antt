@@ -5,6 +5,7 @@ use Rattle.std.proofs.lemmas.Bool.{cases_lt, cond-true, cond-false, lt-ltb, le-l
 use Rattle.std.proofs.lemmas.List.{length-append, get_or_append_left, get_or-append_right}
 use Rattle.bus_signals.specs.declared.bounds.Bounds.{Bounds}
 use Rattle.bus_signals.specs.Bounds.{are_valid}
+use Rattle.bus_signals.specs.Map.{metadata_region}
 use Rattle.part_definitions.specs.Attestation.{executable_words, region_place, region_words, word_of_bytes, words_between}
 use Rattle.part_definitions.specs.Metadata.{bounds_in}
 use Rattle.part_definitions.specs.Region.{bounded_bytes, bytes_between, output_bytes}
@@ -16,7 +17,7 @@ use Rattle.mac_coverage.proofs.ValidPlaces.{IsFreePlace, range-free}
 use Rattle.mac_coverage.proofs.Words.{AreBytes, bytes_from-are, word-bytes_from}
 
 -- how many bytes and words there are from one word to another
-range-size : (first last : ℕ) → IsValidRange first last
+range-size : (first last : ℕ) → IsValidRange metadata_region first last
     → last + 2 - first ≡ 2 * words_between first last
 range-size first last range =
     let first_even = range.first_even in
@@ -41,7 +42,7 @@ pub record IsWordAt (bytes : ℕ → ℕ) (word place : ℕ) : Type 0 where
   pub even : place % 2 ≡ 0
   pub above : 0x200 ≤ place
 
-range-word : (bytes : ℕ → ℕ) (first last i : ℕ) → IsValidRange first last
+range-word : (bytes : ℕ → ℕ) (first last i : ℕ) → IsValidRange metadata_region first last
     → i < words_between first last
     → IsWordAt bytes (word_of_bytes (bytes_between bytes first last) i) (first + 2 * i)
 range-word bytes first last i range within =
@@ -74,7 +75,7 @@ right_word left right n i size past =
     ∙ ap (slice_index right) high_place in
     λ j. low j + 256 * high j
 
-both-word : (bytes : ℕ → ℕ) (bounds : Bounds) (i : ℕ) → AreValidRanges bounds
+both-word : (bytes : ℕ → ℕ) (bounds : Bounds) (i : ℕ) → AreValidRanges metadata_region bounds
     → i < executable_words bounds + words_between bounds.or_min bounds.or_max
     → IsWordAt bytes
     (word_of_bytes (bytes_between bytes bounds.er_min bounds.er_max
@@ -129,7 +130,8 @@ rest-word bytes bounds i within =
         then bytes_between bytes bounds.er_min bounds.er_max ++ output_bytes bytes bounds
         else []) i)
         (region_place bounds i)
-    by_case true valid within = both-word bytes bounds i (are_valid-ranges bounds valid) within
+    by_case true valid within =
+        both-word bytes bounds i (are_valid-ranges metadata_region bounds valid) within
     by_case false invalid within = absurd (omega (arith, within))
 
 adds : (m n : ℕ) {a b c : ℕ} → a ≡ 2 * m → b ≡ 2 * n → c ≡ a + b → c ≡ 2 * (m + n)
@@ -146,7 +148,8 @@ rest-size bytes bounds = by_case (are_valid bounds) refl
         then executable_words bounds + words_between bounds.or_min bounds.or_max
         else 0)
     by_case true valid =
-        let ranges : AreValidRanges bounds = are_valid-ranges bounds valid in
+        let ranges : AreValidRanges metadata_region bounds =
+        are_valid-ranges metadata_region bounds valid in
         let code = length-bytes_from bytes bounds.er_min (bounds.er_max + 2 - bounds.er_min)
         ∙ range-size bounds.er_min bounds.er_max ranges.executable in
         let output = length-bytes_from bytes bounds.or_min (bounds.or_max + 2 - bounds.or_min)
@@ -176,8 +179,8 @@ pub attested_bytes_in-is : (bytes : ℕ → ℕ) → ((p : ℕ) → bytes p < 25
     → IsAttested (attested_bytes_in bytes)
 attested_bytes_in-is bytes small =
     record {
-      metadata_size = length-bytes_from bytes 0x240 42;
+      metadata_size = length-bytes_from bytes 0x240 80;
       rest_size = rest-size bytes (bounds_in bytes);
-      metadata_bytes = bytes_from-are bytes 0x240 42 small;
+      metadata_bytes = bytes_from-are bytes 0x240 80 small;
       rest_bytes = rest-are bytes (bounds_in bytes) small;
     }

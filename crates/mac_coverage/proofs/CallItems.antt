@@ -4,35 +4,48 @@ use Rattle.std.specs.Prelude.{◌==◌}
 use Rattle.std.proofs.lemmas.Bool.{cond_both, cond-false, ne_eqb}
 use Rattle.std.proofs.lemmas.Bool.Decides.{nat_tests}
 use Rattle.bus_signals.specs.Map.{ROM_ENTRY, ROM_BODY, ROM_EXIT}
-use Rattle.part_definitions.specs.Attestation.{CallItem, KeyRead, MetadataRead, DerivedKeyWrite, RegionRead, InnerDigestWrite, MacWrite, ReturnRead, item_after, item_pc, is_return}
+use Rattle.part_definitions.specs.Attestation.{CallItem, KeyRead, MetadataRead, KeptRead, KeptWrite, DecisionWrite, DerivedKeyWrite, RegionRead, InnerDigestWrite, MacWrite, ReturnRead, item_after, item_pc, is_return}
+use Rattle.part_definitions.specs.Request.{ATTESTS}
 use Rattle.trace_facts.proofs.ItemNumbers.{IsItemAt, item_after-at}
 
 -- the reads, from their numbers
-pub key_item : (region i : ℕ) → i < 32 → item_after region i ≡ KeyRead i
-key_item region i within = grind (arith, nat_tests)
+pub key_item : (region decision i : ℕ) → i < 32 → item_after region decision i ≡ KeyRead i
+key_item region decision i within = grind (arith, nat_tests)
 
-pub metadata_item : (region i : ℕ) → i < 21 → item_after region (32 + i) ≡ MetadataRead i
-metadata_item region i within = grind (arith, nat_tests)
+pub metadata_item : (region decision i : ℕ) → i < 40
+    → item_after region decision (32 + i) ≡ MetadataRead i
+metadata_item region decision i within = grind (arith, nat_tests)
 
-pub region_item : (region i : ℕ) → i < region → item_after region (69 + i) ≡ RegionRead i
+pub kept_item : (region decision i : ℕ) → i < 2
+    → item_after region decision (72 + i) ≡ KeptRead i
+kept_item region decision i within = grind (arith, nat_tests)
+
+pub decision_item : (region decision : ℕ) → item_after region decision 76 ≡ DecisionWrite
+decision_item region decision = refl
+
+pub region_item : (region i : ℕ) → i < region → item_after region ATTESTS (93 + i) ≡ RegionRead i
 region_item region i within = grind (arith, nat_tests)
 
--- before the region is read its size does not matter
-pub item_after-early : (region other count : ℕ) → count < 69
-    → item_after region count ≡ item_after other count
-item_after-early region other count early = grind (arith, nat_tests)
+-- before the decision is written neither it nor the size of the region matters
+pub item_after-early : (region other decision second count : ℕ) → count < 77
+    → item_after region decision count ≡ item_after other second count
+item_after-early region other decision second count early = grind (arith, nat_tests)
 
 -- the ROM is entered with the first word alone, and left with the return read alone
-pub only_first_enters : (region count : ℕ) → 1 ≤ count
-    → (item_pc (item_after region count) == ROM_ENTRY) ≡ false
-only_first_enters region count later =
-    enters (item_after region count) (item_after-at region count)
+pub only_first_enters : (region decision count : ℕ) → 1 ≤ count
+    → (item_pc (item_after region decision count) == ROM_ENTRY) ≡ false
+only_first_enters region decision count later =
+    enters (item_after region decision count) (item_after-at region decision count)
   where
-    enters : (item : CallItem) → IsItemAt region count item → (item_pc item == ROM_ENTRY) ≡ false
+    enters : (item : CallItem) → IsItemAt region decision count item
+        → (item_pc item == ROM_ENTRY) ≡ false
     enters (KeyRead i) at =
         let other : (i == 0) ≡ false = ne_eqb i 0 (λ zero_word. omega (arith, at.0, zero_word)) in
         ap (λ (pc : ℕ). pc == ROM_ENTRY) (cond-false (i == 0) ROM_ENTRY ROM_BODY other)
     enters (MetadataRead i) at = refl
+    enters (KeptRead i) at = refl
+    enters (KeptWrite i) at = refl
+    enters DecisionWrite at = refl
     enters (DerivedKeyWrite i) at = refl
     enters (RegionRead i) at = refl
     enters (InnerDigestWrite i) at = refl
@@ -44,6 +57,9 @@ exit_returns (KeyRead i) exit =
     absurd (cond_both (i == 0) ROM_ENTRY ROM_BODY (λ (pc : ℕ). (pc == ROM_EXIT) ≡ true → ⊥)
     (λ first wrong. absurd (cc)) (λ other wrong. absurd (cc)) exit)
 exit_returns (MetadataRead i) exit = absurd (cc)
+exit_returns (KeptRead i) exit = absurd (cc)
+exit_returns (KeptWrite i) exit = absurd (cc)
+exit_returns DecisionWrite exit = absurd (cc)
 exit_returns (DerivedKeyWrite i) exit = absurd (cc)
 exit_returns (RegionRead i) exit = absurd (cc)
 exit_returns (InnerDigestWrite i) exit = absurd (cc)
@@ -51,28 +67,56 @@ exit_returns (MacWrite i) exit = absurd (cc)
 exit_returns ReturnRead exit = refl
 
 -- before the return there are fewer words, and at the return all have passed
-pub not_last : (region count : ℕ) (item : CallItem) → IsItemAt region count item
-    → is_return item ≡ false → count < 101 + region
-not_last region count (KeyRead i) at goes_on =
+pub not_last : (region decision count : ℕ) (item : CallItem) → IsItemAt region decision count item
+    → is_return item ≡ false → count < 125 + region
+not_last region decision count (KeyRead i) at goes_on =
     let first = at.0 in let below = at.1 in omega (arith, first, below)
-not_last region count (MetadataRead i) at goes_on =
+not_last region decision count (MetadataRead i) at goes_on =
     let first = at.0 in let below = at.1 in omega (arith, first, below)
-not_last region count (DerivedKeyWrite i) at goes_on =
+not_last region decision count (KeptRead i) at goes_on =
     let first = at.0 in let below = at.1 in omega (arith, first, below)
-not_last region count (RegionRead i) at goes_on =
+not_last region decision count (KeptWrite i) at goes_on =
     let first = at.0 in let below = at.1 in omega (arith, first, below)
-not_last region count (InnerDigestWrite i) at goes_on =
+not_last region decision count DecisionWrite at goes_on = omega (arith, at)
+not_last region decision count (DerivedKeyWrite i) at goes_on =
     let first = at.0 in let below = at.1 in omega (arith, first, below)
-not_last region count (MacWrite i) at goes_on =
+not_last region decision count (RegionRead i) at goes_on =
     let first = at.0 in let below = at.1 in omega (arith, first, below)
-not_last region count ReturnRead at goes_on = absurd (cc)
+not_last region decision count (InnerDigestWrite i) at goes_on =
+    let first = at.0 in let below = at.1 in omega (arith, first, below)
+not_last region decision count (MacWrite i) at goes_on =
+    let first = at.0 in let below = at.1 in omega (arith, first, below)
+not_last region decision count ReturnRead at goes_on = absurd (cc)
 
-pub is_last : (region count : ℕ) (item : CallItem) → IsItemAt region count item
-    → is_return item ≡ true → 101 + region ≤ count
-is_last region count (KeyRead i) at returns = absurd (cc)
-is_last region count (MetadataRead i) at returns = absurd (cc)
-is_last region count (DerivedKeyWrite i) at returns = absurd (cc)
-is_last region count (RegionRead i) at returns = absurd (cc)
-is_last region count (InnerDigestWrite i) at returns = absurd (cc)
-is_last region count (MacWrite i) at returns = absurd (cc)
-is_last region count ReturnRead at returns = at
+pub is_last : (region decision count : ℕ) (item : CallItem) → IsItemAt region decision count item
+    → is_return item ≡ true → (77 ≤ count) × ((decision ≡ ATTESTS) → 125 + region ≤ count)
+is_last region decision count (KeyRead i) at returns = absurd (cc)
+is_last region decision count (MetadataRead i) at returns = absurd (cc)
+is_last region decision count (KeptRead i) at returns = absurd (cc)
+is_last region decision count (KeptWrite i) at returns = absurd (cc)
+is_last region decision count DecisionWrite at returns = absurd (cc)
+is_last region decision count (DerivedKeyWrite i) at returns = absurd (cc)
+is_last region decision count (RegionRead i) at returns = absurd (cc)
+is_last region decision count (InnerDigestWrite i) at returns = absurd (cc)
+is_last region decision count (MacWrite i) at returns = absurd (cc)
+is_last region decision count ReturnRead at returns = at
+
+-- after the decision only a call that attests goes on
+pub goes_on-attests : (region decision count : ℕ) (item : CallItem)
+    → IsItemAt region decision count item → is_return item ≡ false → 77 ≤ count
+    → decision ≡ ATTESTS
+goes_on-attests region decision count (KeyRead i) at goes_on past =
+    absurd (let first = at.0 in let below = at.1 in omega (arith, first, below, past))
+goes_on-attests region decision count (MetadataRead i) at goes_on past =
+    absurd (let first = at.0 in let below = at.1 in omega (arith, first, below, past))
+goes_on-attests region decision count (KeptRead i) at goes_on past =
+    absurd (let first = at.0 in let below = at.1 in omega (arith, first, below, past))
+goes_on-attests region decision count (KeptWrite i) at goes_on past =
+    absurd (let first = at.0 in let below = at.1 in omega (arith, first, below, past))
+goes_on-attests region decision count DecisionWrite at goes_on past =
+    absurd (omega (arith, at, past))
+goes_on-attests region decision count (DerivedKeyWrite i) at goes_on past = at.2
+goes_on-attests region decision count (RegionRead i) at goes_on past = at.2
+goes_on-attests region decision count (InnerDigestWrite i) at goes_on past = at.2
+goes_on-attests region decision count (MacWrite i) at goes_on past = at.2
+goes_on-attests region decision count ReturnRead at goes_on past = absurd (cc)

@@ -1,10 +1,11 @@
 -- A device with a key of 64 bytes and an image of bytes, and what a call reads in it.
 use Rattle.std.proofs.Common.{◌≡◌, ℕ, ◌+◌, ◌-◌, ◌*◌, ◌/◌, ◌%◌, ◌<◌, ◌≤◌, true, false, List, Some, length, ap, ◌∙◌, arith}
-use Rattle.std.specs.Prelude.{nat_le, slice_index}
+use Rattle.std.specs.Prelude.{Bool, nat_le, slice_index}
 use Rattle.std.proofs.lemmas.Bool.{and_right, cond-true, cond-false, lt-leb}
 use Rattle.std.proofs.lemmas.Bool.Decides.{nat_tests}
 use Rattle.word_arith.specs.declared.size.Size.TheVariants.{Word}
 use Rattle.bus_signals.specs.Map.{lies_in, key_region, peripheral_region}
+use Rattle.bus_signals.specs.SeenRecord.{SeenRecord}
 use Rattle.part_definitions.specs.BusAccess.{read_at}
 use Rattle.part_definitions.specs.Attestation.{word_of_bytes}
 use Rattle.part_definitions.specs.Memory.{takes_write}
@@ -15,6 +16,7 @@ use Rattle.mac_coverage.proofs.MemoryBytes.{PowerOnBytes}
 use Rattle.mac_coverage.proofs.Words.{AreBytes}
 
 pub record Device : Type 0 where
+  pub flag : List SeenRecord → Bool
   pub digest : List ℕ → List ℕ
   pub key : List ℕ
   pub image : ℕ → ℕ
@@ -23,7 +25,7 @@ pub record Device : Type 0 where
   pub image_bytes : (place : ℕ) → image place < 256
 
 abbrev pub start_of : Device → Start
-start_of device = with_key device.digest device.key device.image
+start_of device = with_key device.flag device.digest device.key device.image
 
 pub start_of-bytes : (device : Device) → PowerOnBytes (start_of device).power
 start_of-bytes device = record { key = device.key_bytes; image = device.image_bytes }

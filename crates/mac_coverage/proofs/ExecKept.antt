@@ -13,7 +13,7 @@ use Rattle.bus_signals.specs.Bounds.{are_valid, executable_region, output_region
 use Rattle.bus_signals.specs.Kind.{is_cpu}
 use Rattle.bus_signals.specs.Map.{some_touches, touches, metadata_region}
 use Rattle.bus_signals.specs.SeenRecord.{SeenRecord}
-use Rattle.part_definitions.specs.Flag.{accesses_in, writes_to, runs_inside, ran_inside, fetches_at, clears_e1, clears_e2, clears_e3, clears_e4, clears_e5, clears_e6, clears_e7, clears_e8, clears_e9, clears, starts_run, last_pc, records_since_clear, exec}
+use Rattle.part_definitions.specs.Flag.{accesses_in, writes_to, runs_inside, ran_inside, fetches_at, clears_e1, clears_e2, clears_e3, clears_e4, clears_e5, clears_e6, clears_e7, clears_e8, clears_e9, clears_both, clears, starts_run, last_pc, records_since, exec}
 use Rattle.part_definitions.specs.MonitorRule.{in_rom, leaves_stack_and_mac}
 use Rattle.bus_signals.proofs.ValidRange.{AreValidRanges, are_valid-ranges}
 use Rattle.trace_facts.proofs.MissedPlace.{writes_nowhere}
@@ -43,24 +43,34 @@ touches_nowhere region (Some access) apart within =
     off true leaves hits none apart = apart none
     off false leaves hits none apart = refl
 
--- after a record in the ROM it clears no flag
-rom_step-keeps : (last : ℕ) (now : SeenRecord) → IsRomStep now.entry → in_rom last ≡ true
-    → are_valid now.bounds ≡ true → clears (Some last) now ≡ false
-rom_step-keeps last now step rom valid =
-    let ranges : AreValidRanges now.bounds = are_valid-ranges now.bounds valid in
-    let stays_out : runs_inside now ≡ false =
-    rom_outside now.bounds.er_min now.bounds.er_max now.entry.pc ranges.executable step.code in
+-- it runs outside ER
+pub rom_step-outside : (now : SeenRecord) → IsRomStep now.entry → are_valid now.bounds ≡ true
+    → runs_inside now ≡ false
+rom_step-outside now step valid =
+    rom_outside now.bounds.er_min now.bounds.er_max now.entry.pc
+    (are_valid-ranges metadata_region now.bounds valid).executable step.code
+
+-- and writes to no region that is apart
+pub rom_step-apart : (now : SeenRecord) (region : Region) → IsRomStep now.entry
+    → ((one : Access) → leaves_stack_and_mac (Some one) ≡ false → touches one region ≡ false)
+    → list_any (writes_to region) (accesses_in now.entry) ≡ false
+rom_step-apart now region step apart =
+    ap (list_any (writes_to region))
+    (ap (λ (dma : Option Access). option_to_list now.entry.cpu ++ option_to_list dma) step.no_dma
+    ∙ append-nil (option_to_list now.entry.cpu))
+    ∙ writes_nowhere now.entry.cpu region
+    (touches_nowhere region now.entry.cpu apart step.within)
+
+-- after a record in the ROM it clears neither flag
+pub rom_step-keeps_both : (last : ℕ) (now : SeenRecord) → IsRomStep now.entry → in_rom last ≡ true
+    → are_valid now.bounds ≡ true → clears_both (Some last) now ≡ false
+rom_step-keeps_both last now step rom valid =
+    let ranges : AreValidRanges metadata_region now.bounds =
+    are_valid-ranges metadata_region now.bounds valid in
+    let stays_out : runs_inside now ≡ false = rom_step-outside now step valid in
     let was_out : ran_inside (Some last) (executable_region now.bounds) ≡ false =
     rom_outside now.bounds.er_min now.bounds.er_max last ranges.executable rom in
-    let only_cpu : accesses_in now.entry ≡ option_to_list now.entry.cpu =
-    ap (λ (dma : Option Access). option_to_list now.entry.cpu ++ option_to_list dma) step.no_dma
-    ∙ append-nil (option_to_list now.entry.cpu) in
-    let no_write : (region : Region)
-    → ((one : Access) → leaves_stack_and_mac (Some one) ≡ false → touches one region ≡ false)
-    → list_any (writes_to region) (accesses_in now.entry) ≡ false =
-    λ region apart. ap (list_any (writes_to region)) only_cpu
-    ∙ writes_nowhere now.entry.cpu region
-    (touches_nowhere region now.entry.cpu apart step.within) in
+    let no_write = λ (region : Region). rom_step-apart now region step in
     let off_code = λ (one : Access). writes_outside now.bounds.er_min now.bounds.er_max one
     ranges.executable in
     let off_output = λ (one : Access). writes_outside now.bounds.or_min now.bounds.or_max one
@@ -71,9 +81,6 @@ rom_step-keeps last now step rom valid =
     let e2 : clears_e2 (Some last) now ≡ false =
     and_left _ (not (runs_inside now))
     (and_left (ran_inside (Some last) (executable_region now.bounds)) _ was_out) in
-    let e3 : clears_e3 (Some last) now ≡ false =
-    and_left _ _ (and_left (runs_inside now) _ stays_out) in
-    let e4 : clears_e4 now ≡ false = and_right now.entry.irq (runs_inside now) stays_out in
     let e5 : clears_e5 now ≡ false =
     and_left _ (not (runs_inside now))
     (touches_nowhere (output_region now.bounds) now.entry.cpu off_output step.within) in
@@ -85,17 +92,26 @@ rom_step-keeps last now step rom valid =
     let e9 : clears_e9 now ≡ false =
     or_from _ _ (no_write metadata_region writes_off_metadata)
     (ap (λ (rule : Option Rule). is_some rule) step.none) in
-    or_from _ _ (or_from _ _ (or_from _ _ (or_from _ _ (or_from _ _ (or_from _ _ (or_from _ _
-    (or_from _ _ e1 e2) e3) e4) e5) e6) e7) e8) e9
+    or_from _ _ (or_from _ _ (or_from _ _ (or_from _ _ (or_from _ _ (or_from _ _ e1 e2) e5) e6) e7)
+    e8) e9
+
+rom_step-keeps : (last : ℕ) (now : SeenRecord) → IsRomStep now.entry → in_rom last ≡ true
+    → are_valid now.bounds ≡ true → clears (Some last) now ≡ false
+rom_step-keeps last now step rom valid =
+    let stays_out = rom_step-outside now step valid in
+    let e3 : clears_e3 (Some last) now ≡ false =
+    and_left _ _ (and_left (runs_inside now) _ stays_out) in
+    let e4 : clears_e4 now ≡ false = and_right now.entry.irq (runs_inside now) stays_out in
+    or_from _ _ (or_from _ _ (rom_step-keeps_both last now step rom valid) e3) e4
 
 -- nor does it start a run
-rom_step-starts_none : (now : SeenRecord) → IsRomStep now.entry → starts_run now ≡ false
+pub rom_step-starts_none : (now : SeenRecord) → IsRomStep now.entry → starts_run now ≡ false
 rom_step-starts_none now step =
     let not_cpu : is_cpu now.entry.kind ≡ false = ap is_cpu step.kind in
     and_left _ (are_valid now.bounds) (and_left _ (now.entry.pc == now.bounds.er_min)
     (and_left (is_cpu now.entry.kind) (fetches_at now.entry.cpu now.entry.pc) not_cpu))
 
-kept_flag : (falls : Bool) (now : SeenRecord) (older : List SeenRecord) → starts_run now ≡ false
+pub kept_flag : (falls : Bool) (now : SeenRecord) (older : List SeenRecord) → starts_run now ≡ false
     → (list_any starts_run older ≡ true → falls ≡ false)
     → list_any starts_run (if falls then [] else now ∷ older) ≡ list_any starts_run older
 kept_flag true now older starts keeps =
@@ -109,7 +125,7 @@ pub exec-rom_step : (last : ℕ) (now : SeenRecord) (before : List SeenRecord)
     → exec (now ∷ before) ≡ exec before
 unfolding exec
 exec-rom_step last now before is_last step rom valid =
-    kept_flag (clears (last_pc before) now) now (records_since_clear before)
+    kept_flag (clears (last_pc before) now) now (records_since clears before)
     (rom_step-starts_none now step)
     (λ set. ap (λ (pc : Option ℕ). clears pc now) is_last
     ∙ rom_step-keeps last now step rom (valid set))

@@ -6,6 +6,7 @@ pub mod MemoryBytes
 pub mod ExecKept
 pub mod WordPlan
 pub mod AttestedIs
+pub mod KeptStored
 pub mod Device
 pub mod MacStored
 pub mod Passes

@@ -1,30 +1,30 @@
 -- The words that a call wrote to the MAC stand in memory.
-use Rattle.std.proofs.Common.{◌≡◌, ℕ, zero, suc, ◌+◌, ◌*◌, ◌/◌, ◌%◌, ◌<◌, ◌≤◌, Bool, true, false, List, [], ◌∷◌, inl, inr, Some, length, refl, ap, sym, ◌∙◌, arith}
+use Rattle.std.proofs.Common.{◌≡◌, ℕ, zero, suc, ◌+◌, ◌*◌, ◌/◌, ◌%◌, ◌<◌, ◌≤◌, true, false, List, [], ◌∷◌, inl, inr, Some, length, refl, ap, sym, ◌∙◌, arith}
 use Rattle.std.specs.Prelude.{◌==◌, slice_index, if◌then◌else◌}
 use Rattle.std.proofs.lemmas.Bool.{cases_eq, cases_lt, cond-true, cond-false, eq-eqb, ne_eqb}
 use Rattle.std.proofs.lemmas.Bool.Decides.{nat_tests}
 use Rattle.word_arith.specs.declared.size.Size.TheVariants.{Word}
 use Rattle.part_definitions.specs.BusAccess.{write_at}
 use Rattle.part_definitions.specs.Attestation.{word_of_bytes}
-use Rattle.part_definitions.specs.Memory.{MemoryWrite, PowerOn, byte_at, bytes_from, first_byte, is_exec_word, last_written, takes_write, with_access, with_bytes}
+use Rattle.part_definitions.specs.Memory.{MemoryWrite, PowerOn, ShownFlags, byte_at, bytes_from, first_byte, is_flag_word, last_written, takes_write, with_access, with_bytes}
 use Rattle.mac_coverage.proofs.Words.{AreBytes}
 
 -- the first words of these bytes stand there, so many
 abbrev pub MacStands : (ℕ → ℕ) → List ℕ → ℕ → Type 0
 MacStands bytes tag count = (i : ℕ) → i < 2 * count → bytes (0x200 + i) ≡ slice_index tag i
 
-off_exec : (i : ℕ) → i < 32 → is_exec_word (0x200 + i) ≡ false
-off_exec i within = grind (arith, nat_tests)
+off_flags : (i : ℕ) → i < 32 → is_flag_word (0x200 + i) ≡ false
+off_flags i within = grind (arith, nat_tests)
 
 takes : (i : ℕ) → i < 32 → takes_write (0x200 + i) ≡ true
 takes i within = grind (arith, nat_tests)
 
--- in memories that are equal where EXEC does not show
+-- in memories that are equal where no flag shows
 pub mac-alike : (left right : ℕ → ℕ) (tag : List ℕ) (count : ℕ) → count ≤ 16
-    → ((p : ℕ) → is_exec_word p ≡ false → left p ≡ right p)
+    → ((p : ℕ) → is_flag_word p ≡ false → left p ≡ right p)
     → MacStands right tag count → MacStands left tag count
 mac-alike left right tag count few alike stands i within =
-    alike (0x200 + i) (off_exec i (omega (arith, few, within))) ∙ stands i within
+    alike (0x200 + i) (off_flags i (omega (arith, few, within))) ∙ stands i within
 
 -- a byte after a word was written to the MAC
 written_word-last : (j number place before : ℕ) (writes : List MemoryWrite)
@@ -88,25 +88,25 @@ byte_put j i number before writes tag small is within earlier =
               ]
         ]
 
-stored_byte : (power : PowerOn) (exec : Bool) (writes : List MemoryWrite) (i : ℕ) → i < 32
-    → byte_at power exec writes (0x200 + i)
+stored_byte : (power : PowerOn) (flags : ShownFlags) (writes : List MemoryWrite) (i : ℕ) → i < 32
+    → byte_at power flags writes (0x200 + i)
     ≡ last_written writes (0x200 + i) (first_byte power (0x200 + i))
-stored_byte power exec writes i within = cond-true (takes_write (0x200 + i)) _ _ (takes i within)
+stored_byte power flags writes i within = cond-true (takes_write (0x200 + i)) _ _ (takes i within)
 
 -- one word more
-pub mac-more : (power : PowerOn) (exec : Bool) (writes : List MemoryWrite) (tag : List ℕ)
+pub mac-more : (power : PowerOn) (flags : ShownFlags) (writes : List MemoryWrite) (tag : List ℕ)
     (j number : ℕ)
     → j < 16 → AreBytes tag → number ≡ word_of_bytes tag j
-    → MacStands (byte_at power exec writes) tag j
+    → MacStands (byte_at power flags writes) tag j
     → MacStands
-    (byte_at power exec (with_access (Some (write_at Word (0x200 + 2 * j) number)) writes)) tag
+    (byte_at power flags (with_access (Some (write_at Word (0x200 + 2 * j) number)) writes)) tag
     (j + 1)
-mac-more power exec writes tag j number few small is stands i within =
+mac-more power flags writes tag j number few small is stands i within =
     let in_mac : i < 32 = omega (arith, few, within) in
-    stored_byte power exec (with_access (Some (write_at Word (0x200 + 2 * j) number)) writes) i
+    stored_byte power flags (with_access (Some (write_at Word (0x200 + 2 * j) number)) writes) i
     in_mac
     ∙ byte_put j i number (first_byte power (0x200 + i)) writes tag small is within
-    (λ earlier. sym (stored_byte power exec writes i in_mac) ∙ stands i earlier)
+    (λ earlier. sym (stored_byte power flags writes i in_mac) ∙ stands i earlier)
 
 -- all of them
 bytes_from-is : (bytes : ℕ → ℕ) (place count : ℕ) (list : List ℕ) → length list ≡ count

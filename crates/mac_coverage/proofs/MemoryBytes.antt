@@ -7,9 +7,9 @@ use Rattle.bus_signals.specs.declared.access.Access.{Access}
 use Rattle.bus_signals.specs.declared.access.Access.TheVariants.{Fetch, Read, Write}
 use Rattle.bus_signals.specs.declared.event.Event.{Event}
 use Rattle.bus_signals.specs.declared.rule.Rule.{Rule}
-use Rattle.bus_signals.specs.Map.{lies_in, key_region, rom_region, EXEC_WORD, ROM_EXIT}
-use Rattle.part_definitions.specs.Memory.{MemoryWrite, PowerOn, first_byte, fixed_byte, is_image_place, last_written, rom_byte, takes_write, with_access}
-use Rattle.device_trace.specs.Logs.{exec_of, logged_byte, memory_after, with_events, with_record}
+use Rattle.bus_signals.specs.Map.{lies_in, key_region, rom_region, AUX_WORD, EXEC_WORD, ROM_EXIT}
+use Rattle.part_definitions.specs.Memory.{MemoryWrite, PowerOn, ShownFlags, first_byte, fixed_byte, is_image_place, last_written, rom_byte, takes_write, with_access}
+use Rattle.device_trace.specs.Logs.{flags_of, logged_byte, memory_after, with_events, with_record}
 use Rattle.device_trace.specs.Start.{Start}
 use Rattle.device_trace.specs.Step.{next_record}
 use Rattle.device_trace.specs.Trace.{logs_after}
@@ -64,13 +64,14 @@ rom_byte-byte place =
     (written_byte (place == ROM_EXIT + 1) 0x41 _ (omega arith)
     (written_byte (place % 2 == 0) 0x03 0x43 (omega arith) (omega arith)))
 
-fixed_byte-byte : (power : PowerOn) (exec : Bool) (place : ℕ) → PowerOnBytes power
-    → fixed_byte power exec place < 256
-fixed_byte-byte power exec place bytes =
+fixed_byte-byte : (power : PowerOn) (flags : ShownFlags) (place : ℕ) → PowerOnBytes power
+    → fixed_byte power flags place < 256
+fixed_byte-byte power flags place bytes =
     written_byte (lies_in key_region place) (power.key (place - key_region.first)) _
     (bytes.key (place - key_region.first))
     (written_byte (lies_in rom_region place) (rom_byte place) _ (rom_byte-byte place)
-    (written_byte ((place == EXEC_WORD) && exec) 1 0 (omega arith) (omega arith)))
+    (written_byte ((place == EXEC_WORD) && flags.exec) 1 _ (omega arith)
+    (written_byte ((place == AUX_WORD) && flags.aux) 1 0 (omega arith) (omega arith))))
 
 first_byte-byte : (power : PowerOn) (place : ℕ) → PowerOnBytes power → first_byte power place < 256
 first_byte-byte power place bytes =
@@ -80,7 +81,7 @@ pub byte_after-byte : (start : Start) (play : List (List Event)) (place : ℕ)
     → PowerOnBytes start.power → logged_byte start (logs_after start play) place < 256
 byte_after-byte start play place bytes =
     written_byte (takes_write place) _
-    (fixed_byte start.power (exec_of (logs_after start play)) place)
+    (fixed_byte start.power (flags_of start (logs_after start play)) place)
     (logs_after-bytes start play place (first_byte start.power place)
     (first_byte-byte start.power place bytes))
-    (fixed_byte-byte start.power (exec_of (logs_after start play)) place bytes)
+    (fixed_byte-byte start.power (flags_of start (logs_after start play)) place bytes)

@@ -1,5 +1,5 @@
 -- A step that writes to the exclusive stack and to the MAC alone leaves what is attested.
-use Rattle.std.proofs.Common.{◌≡◌, ℕ, ◌+◌, ◌-◌, ◌*◌, ◌/◌, ◌<◌, Bool, true, false, not, List, [], ◌++◌, take, inl, inr, Option, Some, None, refl, ap, sym, ◌∙◌, arith}
+use Rattle.std.proofs.Common.{◌≡◌, ℕ, ◌+◌, ◌-◌, ◌*◌, ◌/◌, ◌<◌, Bool, true, false, not, List, [], ◌++◌, take, drop, inl, inr, Option, Some, None, refl, ap, sym, ◌∙◌, arith}
 use Rattle.std.specs.Prelude.{◌==◌, ◌&&◌, ◌||◌, if◌then◌else◌}
 use Rattle.std.proofs.lemmas.Bool.{cases_Bool, cond-false, eqb-true, false_from_ne_true}
 use Rattle.std.proofs.lemmas.Bool.Decides.{nat_tests}
@@ -9,13 +9,13 @@ use Rattle.bus_signals.specs.declared.access.Access.TheVariants.{Fetch, Read, Wr
 use Rattle.bus_signals.specs.declared.bounds.Bounds.{Bounds}
 use Rattle.bus_signals.specs.Access.{some_writes}
 use Rattle.bus_signals.specs.Bounds.{are_valid}
-use Rattle.bus_signals.specs.Map.{lies_in, key_region, rom_region, EXEC_WORD}
-use Rattle.part_definitions.specs.Memory.{MemoryWrite, PowerOn, byte_at, first_byte, fixed_byte, is_exec_word, last_written, rom_byte, takes_write, with_access, bytes_from}
+use Rattle.bus_signals.specs.Map.{lies_in, key_region, metadata_region, rom_region, AUX_WORD, EXEC_WORD}
+use Rattle.part_definitions.specs.Memory.{MemoryWrite, PowerOn, ShownFlags, byte_at, first_byte, fixed_byte, is_flag_word, last_written, rom_byte, takes_write, with_access, bytes_from}
 use Rattle.part_definitions.specs.Metadata.{bounds_in}
 use Rattle.part_definitions.specs.MonitorRule.{is_written_by_rom, leaves_stack_and_mac}
 use Rattle.part_definitions.specs.Region.{bounded_bytes, bytes_between, metadata_bytes, rest_bytes}
 use Rattle.trace_facts.proofs.MissedPlace.{MissesPlace, last_written-missed}
-use Rattle.mac_coverage.specs.AttestedBytes.{attested_bytes_in, without_exec_word}
+use Rattle.mac_coverage.specs.AttestedBytes.{attested_bytes_in, without_flag_words}
 use Rattle.bus_signals.proofs.ValidRange.{AreValidRanges, IsValidRange, are_valid-ranges}
 use Rattle.mac_coverage.proofs.ValidPlaces.{IsFreePlace, range-free}
 use Rattle.mac_coverage.proofs.Words.{bytes_from-same, take-bytes_from}
@@ -46,53 +46,61 @@ rom-missed (Some (Write place Byte number)) p within off = byte_elsewhere place 
 rom-missed (Some (Write place Word number)) p within off =
     (low_elsewhere place p off within, high_elsewhere place p off within)
 
--- the flag shows in the EXEC word alone
-exec_place : (p : ℕ) → is_exec_word p ≡ false → (p == EXEC_WORD) ≡ false
-exec_place p off =
-    false_from_ne_true (p == EXEC_WORD)
+-- the flags show in the EXEC word and the AUX word alone
+shown_place : (p place : ℕ) → is_flag_word p ≡ false → is_flag_word place ≡ true
+    → (p == place) ≡ false
+shown_place p place off shown =
+    false_from_ne_true (p == place)
     (λ here.
-    let same : p ≡ 0x268 = eqb-true p 0x268 here in
-    let inside : is_exec_word p ≡ true = ap is_exec_word same in
+    let same : p ≡ place = eqb-true p place here in
+    let inside : is_flag_word p ≡ true = ap is_flag_word same ∙ shown in
     let wrong : true ≡ false = sym inside ∙ off in
     cc)
 
-fixed_byte-off : (power : PowerOn) (before after : Bool) (p : ℕ) → is_exec_word p ≡ false
+abbrev flag_byte : ShownFlags → ℕ → ℕ
+flag_byte flags p =
+    if (p == EXEC_WORD) && flags.exec then 1 else if (p == AUX_WORD) && flags.aux then 1 else 0
+
+no_flag_byte : (flags : ShownFlags) (p : ℕ) → is_flag_word p ≡ false
+    → flag_byte flags p ≡ 0
+no_flag_byte flags p off =
+    cond-false {A = ℕ} ((p == EXEC_WORD) && flags.exec) 1 _
+    (ap (λ (here : Bool). here && flags.exec) (shown_place p 0x268 off refl))
+    ∙ cond-false {A = ℕ} ((p == AUX_WORD) && flags.aux) 1 0
+    (ap (λ (here : Bool). here && flags.aux) (shown_place p 0x26A off refl))
+
+fixed_byte-off : (power : PowerOn) (before after : ShownFlags) (p : ℕ) → is_flag_word p ≡ false
     → fixed_byte power after p ≡ fixed_byte power before p
 fixed_byte-off power before after p off =
-    let none : (flag : Bool) → ((p == EXEC_WORD) && flag) ≡ false =
-    λ flag. ap (λ (here : Bool). here && flag) (exec_place p off) in
-    let zero_byte : (flag : Bool) → (if (p == EXEC_WORD) && flag then 1 else 0) ≡ 0 =
-    λ flag. cond-false ((p == EXEC_WORD) && flag) 1 0 (none flag) in
-    let same : (if (p == EXEC_WORD) && after then 1 else 0)
-    ≡ (if (p == EXEC_WORD) && before then 1 else 0) =
-    zero_byte after ∙ sym (zero_byte before) in
     ap (λ (n : ℕ). if lies_in key_region p then power.key (p - key_region.first)
-    else if lies_in rom_region p then rom_byte p else n) same
+    else if lies_in rom_region p then rom_byte p else n)
+    (no_flag_byte after p off ∙ sym (no_flag_byte before p off))
 
 -- a byte where the ROM does not write
-pub byte_at-kept : (power : PowerOn) (exec : Bool) (access : Option Access)
+pub byte_at-kept : (power : PowerOn) (flags : ShownFlags) (access : Option Access)
     (writes : List MemoryWrite) (p : ℕ)
     → (some_writes access && leaves_stack_and_mac access) ≡ false
     → is_written_by_rom p ≡ false
-    → byte_at power exec (with_access access writes) p ≡ byte_at power exec writes p
-byte_at-kept power exec access writes p within off =
-    ap (λ (n : ℕ). if takes_write p then n else fixed_byte power exec p)
+    → byte_at power flags (with_access access writes) p ≡ byte_at power flags writes p
+byte_at-kept power flags access writes p within off =
+    ap (λ (n : ℕ). if takes_write p then n else fixed_byte power flags p)
     (last_written-missed access writes p (first_byte power p) (rom-missed access p within off))
 
-pub byte_at-off_exec : (power : PowerOn) (before after : Bool) (writes : List MemoryWrite) (p : ℕ)
-    → is_exec_word p ≡ false → byte_at power after writes p ≡ byte_at power before writes p
-byte_at-off_exec power before after writes p off =
+pub byte_at-off_flags :
+    (power : PowerOn) (before after : ShownFlags) (writes : List MemoryWrite) (p : ℕ)
+    → is_flag_word p ≡ false → byte_at power after writes p ≡ byte_at power before writes p
+byte_at-off_flags power before after writes p off =
     ap (λ (n : ℕ). if takes_write p then last_written writes p (first_byte power p) else n)
     (fixed_byte-off power before after p off)
 
--- memories that are equal where the ROM does not write and EXEC does not show
+-- memories that are equal where the ROM does not write and no flag shows
 abbrev pub AreAlike : (ℕ → ℕ) → (ℕ → ℕ) → Type 0
 AreAlike left right =
-    (p : ℕ) → is_written_by_rom p ≡ false → is_exec_word p ≡ false → left p ≡ right p
+    (p : ℕ) → is_written_by_rom p ≡ false → is_flag_word p ≡ false → left p ≡ right p
 
 bounds-alike : (left right : ℕ → ℕ) → AreAlike left right → bounds_in left ≡ bounds_in right
 bounds-alike left right alike =
-    let byte : (p : ℕ) → is_written_by_rom p ≡ false → is_exec_word p ≡ false → left p ≡ right p =
+    let byte : (p : ℕ) → is_written_by_rom p ≡ false → is_flag_word p ≡ false → left p ≡ right p =
     alike in
     λ i. record {
       er_min = byte 0x260 refl refl i + 256 * byte 0x261 refl refl i;
@@ -102,7 +110,8 @@ bounds-alike left right alike =
     }
 
 range-alike : (left right : ℕ → ℕ) (first last : ℕ) → AreAlike left right
-    → IsValidRange first last → bytes_between left first last ≡ bytes_between right first last
+    → IsValidRange metadata_region first last
+    → bytes_between left first last ≡ bytes_between right first last
 range-alike left right first last alike range =
     bytes_from-same left right first (last + 2 - first)
     (λ i within.
@@ -115,7 +124,8 @@ bounded-alike : (left right : ℕ → ℕ) (bounds : Bounds) → AreAlike left r
 bounded-alike left right bounds alike =
     elim (cases_Bool (are_valid bounds)) [
       | inl valid ↦
-          let ranges : AreValidRanges bounds = are_valid-ranges bounds valid in
+          let ranges : AreValidRanges metadata_region bounds =
+          are_valid-ranges metadata_region bounds valid in
           let code = range-alike left right bounds.er_min bounds.er_max alike ranges.executable in
           let output = range-alike left right bounds.or_min bounds.or_max alike ranges.output in
           λ i. if are_valid bounds then code i ++ output i else []
@@ -129,7 +139,7 @@ rest-alike left right alike =
     ap (bounded_bytes left) (bounds-alike left right alike)
     ∙ bounded-alike left right (bounds_in right) alike
 
--- the metadata up to the EXEC word
+-- the metadata up to the EXEC word, and from the counter of the request on
 prefix-alike : (left right : ℕ → ℕ) → AreAlike left right
     → bytes_from left 0x240 40 ≡ bytes_from right 0x240 40
 prefix-alike left right alike =
@@ -139,17 +149,31 @@ prefix-alike left right alike =
     no_write : (i : ℕ) → i < 40 → is_written_by_rom (0x240 + i) ≡ false
     no_write i within = grind (arith, nat_tests)
 
-    off_exec : (i : ℕ) → i < 40 → is_exec_word (0x240 + i) ≡ false
+    off_exec : (i : ℕ) → i < 40 → is_flag_word (0x240 + i) ≡ false
     off_exec i within = grind (arith, nat_tests)
 
-pub attested-but_exec : (left right : ℕ → ℕ) → AreAlike left right
-    → without_exec_word (attested_bytes_in left) ≡ without_exec_word (attested_bytes_in right)
-attested-but_exec left right alike =
-    let metadata : take 40 (metadata_bytes left) ≡ take 40 (metadata_bytes right) =
-    take-bytes_from left 0x240 40 42 (omega arith)
-    ∙ (prefix-alike left right alike ∙ sym (take-bytes_from right 0x240 40 42 (omega arith))) in
+suffix-alike : (left right : ℕ → ℕ) → AreAlike left right
+    → bytes_from left 0x26C 36 ≡ bytes_from right 0x26C 36
+suffix-alike left right alike =
+    bytes_from-same left right 0x26C 36
+    (λ i within. alike (0x26C + i) (no_write i within) (off_exec i within))
+  where
+    no_write : (i : ℕ) → i < 36 → is_written_by_rom (0x26C + i) ≡ false
+    no_write i within = grind (arith, nat_tests)
+
+    off_exec : (i : ℕ) → i < 36 → is_flag_word (0x26C + i) ≡ false
+    off_exec i within = grind (arith, nat_tests)
+
+pub attested-but_flags : (left right : ℕ → ℕ) → AreAlike left right
+    → without_flag_words (attested_bytes_in left) ≡ without_flag_words (attested_bytes_in right)
+attested-but_flags left right alike =
+    let first : take 40 (metadata_bytes left) ≡ take 40 (metadata_bytes right) =
+    take-bytes_from left 0x240 40 80 (omega arith)
+    ∙ (prefix-alike left right alike ∙ sym (take-bytes_from right 0x240 40 80 (omega arith))) in
+    let second : drop 44 (metadata_bytes left) ≡ drop 44 (metadata_bytes right) =
+    suffix-alike left right alike in
     let rest = rest-alike left right alike in
-    λ i. record { metadata = metadata i; rest = rest i }
+    λ i. record { metadata = first i ++ second i; rest = rest i }
 
 -- with the EXEC word
 pub attested-same : (left right : ℕ → ℕ)
@@ -157,9 +181,9 @@ pub attested-same : (left right : ℕ → ℕ)
     → attested_bytes_in left ≡ attested_bytes_in right
 attested-same left right same =
     let metadata : metadata_bytes left ≡ metadata_bytes right =
-    bytes_from-same left right 0x240 42 (λ i within. same (0x240 + i) (no_write i within)) in
+    bytes_from-same left right 0x240 80 (λ i within. same (0x240 + i) (no_write i within)) in
     let rest = rest-alike left right (λ p off off_exec. same p off) in
     λ i. record { metadata = metadata i; rest = rest i }
   where
-    no_write : (i : ℕ) → i < 42 → is_written_by_rom (0x240 + i) ≡ false
+    no_write : (i : ℕ) → i < 80 → is_written_by_rom (0x240 + i) ≡ false
     no_write i within = grind (arith, nat_tests)

@@ -1,35 +1,54 @@
 -- The next step of a play, where it is one of the ROM.
 use Rattle.std.proofs.Common.{◌≡◌, ℕ, ◌≤◌, true, false, List, [], ◌∷◌, None, length, refl, ap, sym, ◌∙◌, subst}
-use Rattle.std.specs.Prelude.{if◌then◌else◌}
+use Rattle.std.specs.Prelude.{◌==◌, Option, Some, if◌then◌else◌}
 use Rattle.std.proofs.lemmas.Bool.{cond-false, cond-true}
+use Rattle.bus_signals.specs.declared.access.Access.{Access}
+use Rattle.bus_signals.specs.declared.access.Access.TheVariants.{Fetch, Read, Write}
+use Rattle.bus_signals.specs.Map.{ROM_ENTRY}
 use Rattle.bus_signals.specs.declared.bus_record.BusRecord.{BusRecord}
 use Rattle.bus_signals.specs.declared.event.Event.{Event}
 use Rattle.bus_signals.specs.declared.kind.Kind.TheVariants.{Rom}
 use Rattle.part_definitions.specs.Attestation.{call_item, item_pc}
 use Rattle.part_definitions.specs.Flag.{last_pc}
-use Rattle.part_definitions.specs.Memory.{byte_at, is_exec_word, with_access}
-use Rattle.device_trace.specs.Logs.{Logs, exec_of, step_progress, with_events, with_record}
+use Rattle.part_definitions.specs.Memory.{byte_at, is_flag_word, with_access}
+use Rattle.device_trace.specs.Logs.{Logs, flags_of, step_progress, with_events, with_record}
 use Rattle.device_trace.specs.Progress.{InCall, next_pc_of}
 use Rattle.device_trace.specs.Signals.{step_kind}
 use Rattle.device_trace.specs.Step.{asks_reset, next_record}
 use Rattle.device_trace.specs.Trace.{byte_after, logs_after, trace}
 use Rattle.trace_facts.proofs.ExecFlag.{logs_after-valid, with_events-valid}
-use Rattle.mac_coverage.specs.AttestedBytes.{AttestedBytes, without_exec_word}
+use Rattle.mac_coverage.specs.AttestedBytes.{AttestedBytes, without_flag_words}
 use Rattle.mac_coverage.specs.Call.{begins_call, last_call}
-use Rattle.mac_coverage.specs.Coverage.{contents_before}
+use Rattle.mac_coverage.specs.Coverage.{contents_before, kept_before}
 use Rattle.mac_coverage.proofs.AttestedIs.{attested_bytes_in-is}
 use Rattle.mac_coverage.proofs.Calls.{CallSoFar, call-begins}
 use Rattle.mac_coverage.proofs.Device.{Device, start_of, start_of-bytes}
 use Rattle.mac_coverage.proofs.ExecKept.{IsRomStep}
 use Rattle.mac_coverage.proofs.MemoryBytes.{byte_after-byte}
-use Rattle.mac_coverage.proofs.MemoryKept.{attested-but_exec, attested-same}
-use Rattle.mac_coverage.proofs.WordPlan.{IsAttested}
+use Rattle.mac_coverage.proofs.MemoryKept.{attested-but_flags, attested-same}
+use Rattle.mac_coverage.proofs.WordPlan.{IsAttested, IsCounter}
+use Rattle.part_definitions.proofs.BytesFrom.{length-bytes_from}
+use Rattle.mac_coverage.proofs.Words.{bytes_from-are}
 use Rattle.mac_coverage.proofs.Steps.{IsCallStep, IsInRom, OnCall, bytes-after, bytes-alike, bytes-same, record_of-call, record_of-kind, record_of-pc}
 
 -- after a play that is in a call
+-- the last record wrote the high word of the kept counter
+abbrev pub WritesHighWord : Option Access → Type 0
+WritesHighWord None = ⊥
+WritesHighWord (Some (Fetch place)) = ⊥
+WritesHighWord (Some (Read place size)) = ⊥
+WritesHighWord (Some (Write place size number)) = place ≡ 0x4062
+
+abbrev pub LastWroteHighWord : List BusRecord → Type 0
+LastWroteHighWord [] = ⊥
+LastWroteHighWord (entry ∷ history) = (entry.reset ≡ None) × WritesHighWord entry.cpu
+
 pub record CallGoesOn (device : Device) (play : List (List Event)) (words : List ℕ) : Type 0 where
   pub contents : AttestedBytes
-  pub so_far : CallSoFar device play (last_call (trace (start_of device) play)) words contents
+  pub kept : List ℕ
+  pub so_far : CallSoFar device play (last_call (trace (start_of device) play)) words contents kept
+  pub made : length (last_call (trace (start_of device) play)) ≡ length words
+  pub high : length words ≡ 75 → LastWroteHighWord (trace (start_of device) play)
   pub stands : contents_before (start_of device) play 0 ≡ contents
   pub begun : 1 ≤ length words
   pub last : IsInRom (last_pc (logs_after (start_of device) play).records)
@@ -95,34 +114,59 @@ earlier_records device play events =
     if begins_call (entry_at device play events) then []
     else last_call (trace (start_of device) play)
 
+-- the kept counter is of bytes
+pub kept-is : (device : Device) (play : List (List Event))
+    → IsCounter (kept_before (start_of device) play 0)
+kept-is device play =
+    record {
+      size = length-bytes_from (byte_after (start_of device) play) 0x4060 4;
+      bytes =
+          bytes_from-are (byte_after (start_of device) play) 0x4060 4
+          (λ place. byte_after-byte (start_of device) play place (start_of-bytes device));
+    }
+
+pub none_earlier : (device : Device) (play : List (List Event)) (events : List Event)
+    → begins_call (entry_at device play events) ≡ true
+    → earlier_records device play events ≡ []
+none_earlier device play events begins =
+    cond-true (begins_call (entry_at device play events)) []
+    (last_call (trace (start_of device) play)) begins
+
 pub first_step : (device : Device) (play : List (List Event)) (events : List Event)
     (contents : AttestedBytes)
     → begins_call (entry_at device play events) ≡ true
-    → without_exec_word (contents_before (start_of device) play 0) ≡ without_exec_word contents
+    → without_flag_words (contents_before (start_of device) play 0) ≡ without_flag_words contents
     → CallSoFar device play (earlier_records device play events) [] contents
+    (kept_before (start_of device) play 0)
 first_step device play events contents begins alike =
-    subst (λ (call : List BusRecord). CallSoFar device play call [] contents)
-    (sym (cond-true (begins_call (entry_at device play events)) []
-    (last_call (trace (start_of device) play)) begins))
-    (call-begins device play contents alike)
+    subst
+    (λ (call : List BusRecord).
+    CallSoFar device play call [] contents (kept_before (start_of device) play 0))
+    (sym (none_earlier device play events begins))
+    (call-begins device play contents (kept-is device play) alike)
+
+pub all_earlier : (device : Device) (play : List (List Event)) (events : List Event)
+    → begins_call (entry_at device play events) ≡ false
+    → earlier_records device play events ≡ last_call (trace (start_of device) play)
+all_earlier device play events goes_on =
+    cond-false (begins_call (entry_at device play events)) []
+    (last_call (trace (start_of device) play)) goes_on
 
 pub later_step : (device : Device) (play : List (List Event)) (events : List Event)
-    (words : List ℕ) (contents : AttestedBytes)
+    (words : List ℕ) (contents : AttestedBytes) (kept : List ℕ)
     → begins_call (entry_at device play events) ≡ false
-    → CallSoFar device play (last_call (trace (start_of device) play)) words contents
-    → CallSoFar device play (earlier_records device play events) words contents
-later_step device play events words contents goes_on so_far =
-    subst (λ (call : List BusRecord). CallSoFar device play call words contents)
-    (sym (cond-false (begins_call (entry_at device play events)) []
-    (last_call (trace (start_of device) play)) goes_on))
-    so_far
+    → CallSoFar device play (last_call (trace (start_of device) play)) words contents kept
+    → CallSoFar device play (earlier_records device play events) words contents kept
+later_step device play events words contents kept goes_on so_far =
+    subst (λ (call : List BusRecord). CallSoFar device play call words contents kept)
+    (sym (all_earlier device play events goes_on)) so_far
 
 -- what a step of the ROM leaves
 pub after_step-bytes : (device : Device) (play : List (List Event)) (events : List Event)
     → IsRomStep (entry_at device play events)
-    → (p : ℕ) → is_exec_word p ≡ false
+    → (p : ℕ) → is_flag_word p ≡ false
     → byte_after (start_of device) (events ∷ play) p
-    ≡ byte_at (start_of device).power (exec_of (log_at device play events))
+    ≡ byte_at (start_of device).power (flags_of (start_of device) (log_at device play events))
     (with_access (entry_at device play events).cpu (log_at device play events).memory) p
 unfolding logs_after
 after_step-bytes device play events step =
@@ -130,24 +174,25 @@ after_step-bytes device play events step =
 
 pub after_step-alike : (device : Device) (play : List (List Event)) (events : List Event)
     → IsRomStep (entry_at device play events)
-    → without_exec_word (contents_before (start_of device) play 0)
-    ≡ without_exec_word (contents_before (start_of device) (events ∷ play) 0)
+    → without_flag_words (contents_before (start_of device) play 0)
+    ≡ without_flag_words (contents_before (start_of device) (events ∷ play) 0)
 unfolding logs_after with_events
 after_step-alike device play events step =
-    sym (attested-but_exec (byte_after (start_of device) (events ∷ play))
+    sym (attested-but_flags (byte_after (start_of device) (events ∷ play))
     (byte_after (start_of device) play)
     (bytes-alike (start_of device) (log_at device play events) (entry_at device play events) step))
 
 pub after_step-same : (device : Device) (play : List (List Event)) (events : List Event)
     → IsRomStep (entry_at device play events)
+    → ((entry_at device play events).pc == ROM_ENTRY) ≡ false
     → IsInRom (last_pc (logs_after (start_of device) play).records)
     → contents_before (start_of device) (events ∷ play) 0
     ≡ contents_before (start_of device) play 0
 unfolding logs_after with_events
-after_step-same device play events step last =
+after_step-same device play events step later last =
     attested-same (byte_after (start_of device) (events ∷ play)) (byte_after (start_of device) play)
     (bytes-same (start_of device) (log_at device play events) (entry_at device play events) step
-    (with_events-valid (start_of device) (logs_after (start_of device) play) events
+    later (with_events-valid (start_of device) (logs_after (start_of device) play) events
     (logs_after-valid (start_of device) play)) last)
 
 pub last-in_rom : (device : Device) (play : List (List Event)) (events : List Event)

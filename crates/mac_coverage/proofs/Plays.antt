@@ -1,7 +1,7 @@
 -- In every play the MAC covers the last call.
-use Rattle.std.proofs.Common.{◌≡◌, ℕ, ◌<◌, true, false, List, [], ◌∷◌, inl, inr, Option, Some, None, length, refl, ap, sym, ◌∙◌, arith, subst}
+use Rattle.std.proofs.Common.{◌≡◌, ℕ, ◌<◌, Bool, true, false, List, [], ◌∷◌, inl, inr, Option, Some, None, length, refl, ap, sym, ◌∙◌, arith, subst}
 use Rattle.std.specs.Prelude.{◌==◌, ◌&&◌, is_none, is_some, IsTrue}
-use Rattle.std.proofs.lemmas.Bool.{and_parts, cases_Bool}
+use Rattle.std.proofs.lemmas.Bool.{and_parts, cases_Bool, eqb-true}
 use Rattle.bus_signals.specs.declared.bus_record.BusRecord.{BusRecord}
 use Rattle.bus_signals.specs.declared.event.Event.{Event}
 use Rattle.bus_signals.specs.declared.kind.Kind.{Kind}
@@ -10,19 +10,23 @@ use Rattle.bus_signals.specs.declared.rule.Rule.{Rule}
 use Rattle.bus_signals.specs.Kind.{is_rom}
 use Rattle.bus_signals.specs.Map.{ROM_EXIT}
 use Rattle.bus_signals.specs.Report.{ReportFields}
+use Rattle.part_definitions.specs.Metadata.{counter_bytes, little_endian}
 use Rattle.part_definitions.specs.Region.{mac_bytes}
-use Rattle.device_trace.specs.Logs.{Logs, progress_after, step_progress, vector_of, with_record}
+use Rattle.part_definitions.specs.Request.{ATTESTS}
+use Rattle.bus_signals.specs.SeenRecord.{SeenRecord}
+use Rattle.device_trace.specs.Logs.{Logs, progress_after, step_progress, vector_of, with_events, with_record}
 use Rattle.device_trace.specs.Signals.{step_kind}
 use Rattle.device_trace.specs.Start.{Start, with_key}
 use Rattle.device_trace.specs.Step.{next_record}
-use Rattle.device_trace.specs.Text.{finishes_call, last_report, report_of}
+use Rattle.device_trace.specs.Text.{last_decision, last_report, report_of, report_where}
 use Rattle.device_trace.specs.Trace.{byte_after, logs_after, trace}
 use Rattle.trace_facts.proofs.Choices.{some_where}
 use Rattle.mac_coverage.specs.AttestedBytes.{tag_of}
 use Rattle.mac_coverage.specs.Call.{ends_finished, ends_in_call, ends_refused, last_call}
 use Rattle.mac_coverage.specs.Coverage.{Gives32Bytes, IsDeviceKey, IsOfBytes, MacCoversCall, MacCoversReport, contents_before}
+use Rattle.mac_coverage.proofs.Covers.{decision_after-finishes}
 use Rattle.mac_coverage.proofs.Device.{Device, start_of}
-use Rattle.mac_coverage.proofs.Outcomes.{rom_outcome}
+use Rattle.mac_coverage.proofs.Outcomes.{Outcome, rom_outcome}
 use Rattle.mac_coverage.proofs.PlaySteps.{CallGoesOn, PlayStands, entry-kind, entry_at, log_at}
 use Rattle.mac_coverage.proofs.Steps.{OnCall, other_step-no_call}
 use Rattle.mac_coverage.proofs.Words.{are_bytes}
@@ -42,14 +46,14 @@ other_next device play events other =
     (other_step-no_call (λ regs words. CallGoesOn device (events ∷ play) words) logs.progress
     (vector_of logs) entry.reset entry.cpu entry.value other)
 
-rom_kind : (kind : Kind) → is_rom kind ≡ true → kind ≡ Rom
+pub rom_kind : (kind : Kind) → is_rom kind ≡ true → kind ≡ Rom
 rom_kind Rom rom = refl
 rom_kind Boot rom = absurd (cc)
 rom_kind Cpu rom = absurd (cc)
 rom_kind Idle rom = absurd (cc)
 rom_kind Irq rom = absurd (cc)
 
-play_stands : (device : Device) (play : List (List Event)) → PlayStands device play
+pub play_stands : (device : Device) (play : List (List Event)) → PlayStands device play
 unfolding logs_after
 play_stands device [] = tt
 play_stands device (events ∷ play) =
@@ -60,71 +64,98 @@ play_stands device (events ∷ play) =
       | inr other ↦ other_next device play events other
     ]
 
-device_covers : (device : Device) (play : List (List Event))
-    → ends_in_call (trace (start_of device) play) ≡ true
-    → MacCoversCall device.digest device.key (start_of device) play
+pub outcome_at : (device : Device) (play : List (List Event))
+    → ends_in_call (trace (start_of device) play) ≡ true → Outcome device play
 unfolding trace
-device_covers device [] in_call = absurd (cc)
-device_covers device (events ∷ play) in_call =
+outcome_at device [] in_call = absurd (cc)
+outcome_at device (events ∷ play) in_call =
     let rom : step_kind (log_at device play events) ≡ Rom =
     sym (entry-kind device play events) ∙ rom_kind (entry_at device play events).kind in_call in
-    (rom_outcome device play events rom (play_stands device play)).covers
+    rom_outcome device play events rom (play_stands device play)
 
 -- the law
-pub mac_covers_call : (digest : List ℕ → List ℕ) (key : List ℕ) (image : ℕ → ℕ)
-    (play : List (List Event))
+pub mac_covers_call : (flag : List SeenRecord → Bool) (digest : List ℕ → List ℕ) (key : List ℕ)
+    (image : ℕ → ℕ) (play : List (List Event))
     → IsDeviceKey key → IsOfBytes image
-    → IsTrue (ends_in_call (trace (with_key digest key image) play))
-    → MacCoversCall digest key (with_key digest key image) play
-mac_covers_call digest key image play device_key bytes in_call =
-    device_covers
+    → IsTrue (ends_in_call (trace (with_key flag digest key image) play))
+    → MacCoversCall digest key (with_key flag digest key image) play
+mac_covers_call flag digest key image play device_key bytes in_call =
+    (outcome_at
     (record {
+      flag = flag;
       digest = digest;
       key = key;
       image = image;
       key_size = device_key.size;
       key_bytes = are_bytes key device_key.bytes;
       image_bytes = bytes;
-    }) play in_call
+    }) play in_call).covers
 
--- where the last step makes a report, it finishes a call, and the report tells the MAC in memory
-record Reports (start : Start) (play : List (List Event)) (report : ReportFields) : Type 0 where
-  in_call : ends_in_call (trace start play) ≡ true
-  refused : ends_refused (trace start play) ≡ false
-  finished : ends_finished (trace start play) ≡ true
-  mac : report.mac ≡ mac_bytes (byte_after start play)
+-- where the last step makes a report, it finishes a call that attests, and the report tells what is
+-- in memory
+pub record Reports (start : Start) (play : List (List Event)) (report : ReportFields) : Type 0 where
+  pub in_call : ends_in_call (trace start play) ≡ true
+  pub refused : ends_refused (trace start play) ≡ false
+  pub finished : ends_finished (trace start play) ≡ true
+  pub attests : last_decision start play ≡ Some ATTESTS
+  pub count : report.count ≡ little_endian (counter_bytes (byte_after start play))
+  pub mac : report.mac ≡ mac_bytes (byte_after start play)
+
+pub some_same : {first second : ℕ} → Some first ≡ Some second → first ≡ second
+some_same same = cc
 
 some_or_none : (rule : Option Rule) → is_none rule ≡ true → is_some rule ≡ false
 some_or_none None none = refl
 some_or_none (Some rule) none = absurd (cc)
 
-last_report-finishes : (start : Start) (play : List (List Event)) (report : ReportFields)
+-- a report is made where a decision attests
+record ReportsWhere (start : Start) (logs : Logs) (step : ℕ) (decision : Option ℕ)
+    (report : ReportFields) : Type 0 where
+  attests : decision ≡ Some ATTESTS
+  same : report_of start logs step ≡ report
+
+report_where-is : (start : Start) (logs : Logs) (step : ℕ) (decision : Option ℕ)
+    (report : ReportFields)
+    → report_where start logs step decision ≡ Some report
+    → ReportsWhere start logs step decision report
+report_where-is start logs step None report is = absurd (cc)
+report_where-is start logs step (Some decision) report is =
+    let both = some_where (decision == ATTESTS) (report_of start logs step) report is in
+    let same : decision ≡ ATTESTS = eqb-true decision ATTESTS both.0 in
+    record { attests = ap (λ (d : ℕ). Some d) same; same = both.1 }
+
+pub last_report-finishes : (start : Start) (play : List (List Event)) (report : ReportFields)
     → last_report start play ≡ Some report → Reports start play report
-unfolding trace
+unfolding trace logs_after with_record
 last_report-finishes start [] report is = absurd (cc)
 last_report-finishes start (events ∷ play) report is =
+    let logs : Logs = with_events (logs_after start play) events in
     let entry : BusRecord = next_record start (logs_after start play) events in
-    let both = some_where (finishes_call entry)
-    (report_of start (logs_after start (events ∷ play)) (length play)) report is in
+    let where_made = report_where-is start (logs_after start (events ∷ play)) (length play)
+    (last_decision start (events ∷ play)) report is in
+    let finishes = (decision_after-finishes (step_progress logs entry.kind) entry ATTESTS
+    where_made.attests).0 in
     let parts = and_parts (is_rom entry.kind && (entry.pc == ROM_EXIT)) (is_none entry.reset)
-    both.0 in
+    finishes in
     record {
       in_call = (and_parts (is_rom entry.kind) (entry.pc == ROM_EXIT) parts.0).0;
       refused = some_or_none entry.reset parts.1;
-      finished = both.0;
-      mac = ap (λ (reports : ReportFields). reports.mac) (sym both.1);
+      finished = finishes;
+      attests = where_made.attests;
+      count = ap (λ (reports : ReportFields). reports.count) (sym where_made.same);
+      mac = ap (λ (reports : ReportFields). reports.mac) (sym where_made.same);
     }
 
-pub reported_mac-is_tag : (digest : List ℕ → List ℕ) (key : List ℕ) (image : ℕ → ℕ)
-    (play : List (List Event)) (report : ReportFields)
+pub reported_mac-is_tag : (flag : List SeenRecord → Bool) (digest : List ℕ → List ℕ) (key : List ℕ)
+    (image : ℕ → ℕ) (play : List (List Event)) (report : ReportFields)
     → IsDeviceKey key → IsOfBytes image → Gives32Bytes digest
-    → last_report (with_key digest key image) play ≡ Some report
-    → report.mac ≡ tag_of digest key (contents_before (with_key digest key image) play 0)
-reported_mac-is_tag digest key image play report device_key bytes gives is =
-    let start : Start = with_key digest key image in
+    → last_report (with_key flag digest key image) play ≡ Some report
+    → report.mac ≡ tag_of digest key (contents_before (with_key flag digest key image) play 0)
+reported_mac-is_tag flag digest key image play report device_key bytes gives is =
+    let start : Start = with_key flag digest key image in
     let reports : Reports start play report = last_report-finishes start play report is in
     let covers : MacCoversCall digest key start play =
-    mac_covers_call digest key image play device_key bytes reports.in_call in
+    mac_covers_call flag digest key image play device_key bytes reports.in_call in
     let stands : contents_before start play 0 ≡ covers.contents =
     covers.throughout 0 (record {
       begun = call_begun (trace start play) reports.in_call;
@@ -132,7 +163,8 @@ reported_mac-is_tag digest key image play report device_key bytes gives is =
           (let wrong : true ≡ false = sym refuses ∙ reports.refused in absurd (cc));
     }) in
     reports.mac
-    ∙ (covers.stored reports.finished gives
+    ∙ (covers.stored reports.finished
+    (some_same (sym (covers.told reports.finished) ∙ reports.attests)) gives
     ∙ ap (tag_of digest key) (sym stands))
   where
     call_begun : (history : List BusRecord) → ends_in_call history ≡ true
@@ -140,14 +172,14 @@ reported_mac-is_tag digest key image play report device_key bytes gives is =
     call_begun [] in_call = absurd (cc)
     call_begun (entry ∷ history) in_call = omega arith
 
-pub report-covered : (digest : List ℕ → List ℕ) (key : List ℕ) (image : ℕ → ℕ)
-    (play : List (List Event)) (report : ReportFields)
+pub report-covered : (flag : List SeenRecord → Bool) (digest : List ℕ → List ℕ) (key : List ℕ)
+    (image : ℕ → ℕ) (play : List (List Event)) (report : ReportFields)
     → IsDeviceKey key → IsOfBytes image
-    → last_report (with_key digest key image) play ≡ Some report
-    → MacCoversReport digest key (with_key digest key image) report play
-report-covered digest key image play report device_key bytes is =
-    let start : Start = with_key digest key image in
+    → last_report (with_key flag digest key image) play ≡ Some report
+    → MacCoversReport digest key (with_key flag digest key image) report play
+report-covered flag digest key image play report device_key bytes is =
+    let start : Start = with_key flag digest key image in
     let reports : Reports start play report = last_report-finishes start play report is in (
-      mac_covers_call digest key image play device_key bytes reports.in_call,
-      λ gives. reported_mac-is_tag digest key image play report device_key bytes gives is,
+      mac_covers_call flag digest key image play device_key bytes reports.in_call,
+      λ gives. reported_mac-is_tag flag digest key image play report device_key bytes gives is,
     )

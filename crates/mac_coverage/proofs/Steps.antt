@@ -1,6 +1,7 @@
 -- The record of a step of a call, and what the step leaves.
-use Rattle.std.proofs.Common.{◌≡◌, ℕ, Bool, true, false, List, [], ◌∷◌, ◌⊎◌, inl, inr, Option, Some, None, length, refl, ap, sym, ◌∙◌}
-use Rattle.std.specs.Prelude.{◌&&◌, is_some}
+use Rattle.std.proofs.Common.{◌≡◌, ℕ, Bool, true, false, not, List, [], ◌∷◌, ◌⊎◌, inl, inr, Option, Some, None, length, refl, ap, sym, ◌∙◌}
+use Rattle.std.specs.Prelude.{◌==◌, ◌&&◌, is_none, is_some, map}
+use Rattle.std.proofs.lemmas.Bool.{and_from, cond-true}
 use Rattle.bus_signals.specs.declared.access.Access.{Access}
 use Rattle.bus_signals.specs.declared.bus_record.BusRecord.{BusRecord}
 use Rattle.bus_signals.specs.declared.kind.Kind.{Kind}
@@ -9,14 +10,16 @@ use Rattle.bus_signals.specs.declared.rule.Rule.{Rule}
 use Rattle.bus_signals.specs.declared.signals.Signals.{Signals}
 use Rattle.bus_signals.specs.Access.{some_writes}
 use Rattle.bus_signals.specs.Kind.{is_rom}
+use Rattle.bus_signals.specs.Map.{ROM_ENTRY}
 use Rattle.bus_signals.specs.SeenRecord.{SeenRecord}
 use Rattle.part_definitions.specs.Attestation.{call_item, word_passed}
 use Rattle.part_definitions.specs.CpuState.{Boundary, Executing, Entering}
-use Rattle.part_definitions.specs.Flag.{exec, last_pc}
-use Rattle.part_definitions.specs.Memory.{MemoryWrite, byte_at, is_exec_word, with_access}
+use Rattle.part_definitions.specs.FirstRule.{first_rule}
+use Rattle.part_definitions.specs.Flag.{last_pc}
+use Rattle.part_definitions.specs.Memory.{MemoryWrite, ShownFlags, byte_at, is_flag_word, with_access}
 use Rattle.part_definitions.specs.MonitorRule.{in_rom, is_written_by_rom, leaves_stack_and_mac}
-use Rattle.device_trace.specs.FirstRule.{first_rule}
-use Rattle.device_trace.specs.Logs.{Logs, exec_of, logged_bounds, logged_byte, memory_after, progress_after, step_progress, with_record}
+use Rattle.device_trace.specs.Blank.{blank_seen}
+use Rattle.device_trace.specs.Logs.{Logs, aux_of, exec_of, flags_of, goes_on_in_call, logged_bounds, logged_byte, memory_after, progress_after, records_until_call, step_progress, with_record}
 use Rattle.device_trace.specs.Progress.{Progress, Held, Runs, InCall, access_of, call_access, call_after, kind_of, last_registers, next_pc_of, next_progress, progress_from_boundary, progress_within}
 use Rattle.device_trace.specs.Signals.{signals_at, signals_of, step_kind, value_read}
 use Rattle.device_trace.specs.Start.{Start}
@@ -26,7 +29,7 @@ use Rattle.trace_facts.proofs.NeverBroken.{item_pc-in_rom}
 use Rattle.trace_facts.proofs.Choices.{other_false, none_there}
 use Rattle.trace_facts.proofs.BreaksNoRule.{BreaksNoRule, first_rule-none}
 use Rattle.mac_coverage.proofs.ExecKept.{IsRomStep, exec-rom_step}
-use Rattle.mac_coverage.proofs.MemoryKept.{AreAlike, byte_at-kept, byte_at-off_exec}
+use Rattle.mac_coverage.proofs.MemoryKept.{AreAlike, byte_at-kept, byte_at-off_flags}
 
 -- a step of the ROM is within a call, which went on or begins
 pub record IsOfCall (before within : Progress) : Type 0 where
@@ -156,24 +159,28 @@ memory-rom_step None cpu None writes none no_dma = refl
 memory-rom_step None cpu (Some dma) writes none no_dma = absurd (cc)
 memory-rom_step (Some rule) cpu dma writes none no_dma = absurd (cc)
 
-pub bytes-after : (start : Start) (logs : Logs) (entry : BusRecord) → IsRomStep entry
-    → (p : ℕ) → is_exec_word p ≡ false
-    → logged_byte start (with_record start logs entry) p
-    ≡ byte_at start.power (exec_of logs) (with_access entry.cpu logs.memory) p
+record_memory-rom_step : (start : Start) (logs : Logs) (entry : BusRecord) → IsRomStep entry
+    → (with_record start logs entry).memory ≡ with_access entry.cpu logs.memory
 unfolding with_record
-bytes-after start logs entry step p off_exec =
-    let exec_after : Bool =
-    exec (record { entry = entry; bounds = logged_bounds start logs } ∷ logs.records) in
-    byte_at-off_exec start.power (exec_of logs) exec_after
-    (memory_after entry.reset entry.cpu entry.dma logs.memory) p off_exec
-    ∙ ap (λ (writes : List MemoryWrite). byte_at start.power (exec_of logs) writes p)
-    (memory-rom_step entry.reset entry.cpu entry.dma logs.memory step.none step.no_dma)
+record_memory-rom_step start logs entry step =
+    memory-rom_step entry.reset entry.cpu entry.dma logs.memory step.none step.no_dma
+
+pub bytes-after : (start : Start) (logs : Logs) (entry : BusRecord) → IsRomStep entry
+    → (p : ℕ) → is_flag_word p ≡ false
+    → logged_byte start (with_record start logs entry) p
+    ≡ byte_at start.power (flags_of start logs) (with_access entry.cpu logs.memory) p
+bytes-after start logs entry step p off_flags =
+    byte_at-off_flags start.power (flags_of start logs)
+    (flags_of start (with_record start logs entry))
+    (with_record start logs entry).memory p off_flags
+    ∙ ap (λ (writes : List MemoryWrite). byte_at start.power (flags_of start logs) writes p)
+    (record_memory-rom_step start logs entry step)
 
 pub bytes-alike : (start : Start) (logs : Logs) (entry : BusRecord) → IsRomStep entry
     → AreAlike (logged_byte start (with_record start logs entry)) (logged_byte start logs)
-bytes-alike start logs entry step p off off_exec =
-    bytes-after start logs entry step p off_exec
-    ∙ byte_at-kept start.power (exec_of logs) entry.cpu logs.memory p step.within off
+bytes-alike start logs entry step p off off_flags =
+    bytes-after start logs entry step p off_flags
+    ∙ byte_at-kept start.power (flags_of start logs) entry.cpu logs.memory p step.within off
 
 -- the last record was one of the ROM
 pub record IsInRom (last : Option ℕ) : Type 0 where
@@ -181,20 +188,47 @@ pub record IsInRom (last : Option ℕ) : Type 0 where
   pub is : last ≡ Some pc
   pub code : in_rom pc ≡ true
 
+-- a later step of a call leaves both flags
+exec-same : (start : Start) (logs : Logs) (entry : BusRecord) → IsRomStep entry
+    → LogsAreValid start logs → IsInRom (last_pc logs.records)
+    → exec_of (with_record start logs entry) ≡ exec_of logs
+unfolding with_record
+exec-same start logs entry step valid last =
+    let now : SeenRecord = record { entry = entry; bounds = logged_bounds start logs } in
+    exec-rom_step last.pc now logs.records last.is step last.code valid
+
+aux-same : (start : Start) (logs : Logs) (entry : BusRecord) → IsRomStep entry
+    → (entry.pc == ROM_ENTRY) ≡ false
+    → aux_of start (with_record start logs entry) ≡ aux_of start logs
+unfolding with_record
+aux-same start logs entry step later =
+    let now : SeenRecord = record { entry = entry; bounds = logged_bounds start logs } in
+    let rom : is_rom entry.kind ≡ true = ap is_rom step.kind in
+    let inside : (is_rom entry.kind && not (entry.pc == ROM_ENTRY)) ≡ true =
+    and_from (is_rom entry.kind) (not (entry.pc == ROM_ENTRY)) rom (ap not later) in
+    let none : is_none entry.reset ≡ true = ap (λ (rule : Option Rule). is_none rule) step.none in
+    let goes_on : goes_on_in_call entry ≡ true =
+    and_from (is_rom entry.kind && not (entry.pc == ROM_ENTRY)) (is_none entry.reset) inside none in
+    ap (λ (seen : List SeenRecord). start.second_flag (map blank_seen seen))
+    (cond-true (goes_on_in_call entry) (records_until_call logs.records) (now ∷ logs.records)
+    goes_on)
+
 pub bytes-same : (start : Start) (logs : Logs) (entry : BusRecord) → IsRomStep entry
+    → (entry.pc == ROM_ENTRY) ≡ false
     → LogsAreValid start logs → IsInRom (last_pc logs.records)
     → (p : ℕ) → is_written_by_rom p ≡ false
     → logged_byte start (with_record start logs entry) p ≡ logged_byte start logs p
-unfolding with_record
-bytes-same start logs entry step valid last p off =
-    let now : SeenRecord = record { entry = entry; bounds = logged_bounds start logs } in
-    let same : exec (now ∷ logs.records) ≡ exec logs.records =
-    exec-rom_step last.pc now logs.records last.is step last.code valid in
-    ap (λ (flag : Bool). byte_at start.power flag
-    (memory_after entry.reset entry.cpu entry.dma logs.memory) p) same
-    ∙ (ap (λ (writes : List MemoryWrite). byte_at start.power (exec logs.records) writes p)
-    (memory-rom_step entry.reset entry.cpu entry.dma logs.memory step.none step.no_dma)
-    ∙ byte_at-kept start.power (exec logs.records) entry.cpu logs.memory p step.within off)
+bytes-same start logs entry step later valid last p off =
+    let same : flags_of start (with_record start logs entry) ≡ flags_of start logs =
+    (λ i. record {
+      exec = exec-same start logs entry step valid last i;
+      aux = aux-same start logs entry step later i;
+    }) in
+    ap (λ (flags : ShownFlags). byte_at start.power flags
+    (with_record start logs entry).memory p) same
+    ∙ (ap (λ (writes : List MemoryWrite). byte_at start.power (flags_of start logs) writes p)
+    (record_memory-rom_step start logs entry step)
+    ∙ byte_at-kept start.power (flags_of start logs) entry.cpu logs.memory p step.within off)
 
 -- the progress after a step of a call
 progress-in_call : (rule : Option Rule) (kind : Kind) (progress : Progress)

@@ -9,14 +9,14 @@ use Rattle.bus_signals.specs.Access.{bytes_of}
 use Rattle.bus_signals.specs.Bounds.{words_region}
 use Rattle.bus_signals.specs.Map.{lies_in, touches, mac_region, metadata_region, stack_region}
 use Rattle.bus_signals.proofs.ValidRange.{IsValidRange}
-use Rattle.part_definitions.specs.Memory.{is_exec_word}
+use Rattle.part_definitions.specs.Memory.{is_flag_word}
 use Rattle.part_definitions.specs.MonitorRule.{in_rom, is_written_by_rom}
 
 -- of a place in a valid region
 pub record IsFreePlace (place : ℕ) : Type 0 where
   pub unwritten : is_written_by_rom place ≡ false
   pub off_metadata : lies_in metadata_region place ≡ false
-  pub off_exec : is_exec_word place ≡ false
+  pub off_exec : is_flag_word place ≡ false
   pub off_rom : in_rom place ≡ false
   pub above : 0x200 ≤ place
 
@@ -27,7 +27,7 @@ outside first last place (inl below) =
 outside first last place (inr above) =
     and_right (nat_le first place) (nat_le place last) (lt-leb place last above)
 
-pub range-free : (first last place : ℕ) → IsValidRange first last
+pub range-free : (first last place : ℕ) → IsValidRange metadata_region first last
     → first ≤ place → place ≤ last + 1 → IsFreePlace place
 range-free first last place range above below =
     let off_mac : (place < 0x200) ⊎ (0x21F < place) =
@@ -35,7 +35,7 @@ range-free first last place range above below =
       | inl before ↦ inl (omega (arith, before, below))
       | inr after ↦ inr (omega (arith, after, above))
     ] in
-    let off_metadata : (place < 0x240) ⊎ (0x269 < place) =
+    let off_metadata : (place < 0x240) ⊎ (0x28F < place) =
     elim range.off_metadata [
       | inl before ↦ inl (omega (arith, before, below))
       | inr after ↦ inr (omega (arith, after, above))
@@ -50,17 +50,17 @@ range-free first last place range above below =
       | inl ram ↦ inl (let high = ram.1 in omega (arith, high, below))
       | inr program ↦ inr (let low = program.0 in omega (arith, low, above))
     ] in
-    let off_exec : (place < 0x268) ⊎ (0x269 < place) =
+    let off_exec : (place < 0x268) ⊎ (0x26B < place) =
     elim off_metadata [
       | inl before ↦ inl (omega (arith, before))
-      | inr after ↦ inr after
+      | inr after ↦ inr (omega (arith, after))
     ] in
     record {
       unwritten =
           or_from (lies_in stack_region place) (lies_in mac_region place)
           (outside 0x4000 0x43FF place off_stack) (outside 0x200 0x21F place off_mac);
-      off_metadata = outside 0x240 0x269 place off_metadata;
-      off_exec = outside 0x268 0x269 place off_exec;
+      off_metadata = outside 0x240 0x28F place off_metadata;
+      off_exec = outside 0x268 0x26B place off_exec;
       off_rom = outside 0xA000 0xBFFF place off_rom;
       above =
           elim range.place [
@@ -70,7 +70,7 @@ range-free first last place range above below =
     }
 
 -- a place of a region as the flag sees it
-pub words_region-free : (first last place : ℕ) → IsValidRange first last
+pub words_region-free : (first last place : ℕ) → IsValidRange metadata_region first last
     → lies_in (words_region first last) place ≡ true → IsFreePlace place
 words_region-free first last place range within =
     let parts = and_parts (nat_le first place) (nat_le place ((last + 1) % 2 ^ 16)) within in
@@ -83,19 +83,20 @@ clash : {test : Bool} → test ≡ true → test ≡ false → ⊥
 clash holds fails = let wrong : true ≡ false = sym holds ∙ fails in cc
 
 -- code of the ROM is outside, and so is what the ROM writes
-pub rom_outside : (first last pc : ℕ) → IsValidRange first last → in_rom pc ≡ true
+pub rom_outside : (first last pc : ℕ) → IsValidRange metadata_region first last → in_rom pc ≡ true
     → lies_in (words_region first last) pc ≡ false
 rom_outside first last pc range rom =
     false_from_ne_true (lies_in (words_region first last) pc)
     (λ within. clash rom (words_region-free first last pc range within).off_rom)
 
-written_outside : (first last place : ℕ) → IsValidRange first last → is_written_by_rom place ≡ true
+written_outside : (first last place : ℕ) → IsValidRange metadata_region first last
+    → is_written_by_rom place ≡ true
     → lies_in (words_region first last) place ≡ false
 written_outside first last place range writes =
     false_from_ne_true (lies_in (words_region first last) place)
     (λ within. clash writes (words_region-free first last place range within).unwritten)
 
-none_elsewhere : (test other : ℕ → Bool) (places : List ℕ)
+pub none_elsewhere : (test other : ℕ → Bool) (places : List ℕ)
     → ((place : ℕ) → test place ≡ true → other place ≡ false)
     → list_any (λ place. not (test place)) places ≡ false → list_any other places ≡ false
 none_elsewhere test other [] apart none = refl
@@ -104,7 +105,7 @@ none_elsewhere test other (place ∷ places) apart none =
     or_from (other place) (list_any other places) (apart place (not-false (test place) parts.0))
     (none_elsewhere test other places apart parts.1)
 
-pub writes_outside : (first last : ℕ) (access : Access) → IsValidRange first last
+pub writes_outside : (first last : ℕ) (access : Access) → IsValidRange metadata_region first last
     → list_any (λ place. not (is_written_by_rom place)) (bytes_of access) ≡ false
     → touches access (words_region first last) ≡ false
 writes_outside first last access range within =
@@ -118,11 +119,11 @@ metadata_unwritten place writes =
     elim (or_cases (lies_in stack_region place) (lies_in mac_region place) writes) [
       | inl stack ↦
           let parts = and_parts (nat_le 0x4000 place) (nat_le place 0x43FF) stack in
-          outside 0x240 0x269 place
+          outside 0x240 0x28F place
           (inr (let above : 0x4000 ≤ place = leb-true 0x4000 place parts.0 in omega (arith, above)))
       | inr mac ↦
           let parts = and_parts (nat_le 0x200 place) (nat_le place 0x21F) mac in
-          outside 0x240 0x269 place
+          outside 0x240 0x28F place
           (inl (let below : place ≤ 0x21F = leb-true place 0x21F parts.1 in omega (arith, below)))
     ]
 

@@ -3,8 +3,7 @@ use Rattle.std.specs.Prelude.{◌==◌, ◌&&◌, ℕ, Bool, false, List, [], �
 use Rattle.bus_signals.specs.declared.bus_record.BusRecord.{BusRecord}
 use Rattle.bus_signals.specs.Kind.{is_rom}
 use Rattle.bus_signals.specs.Map.{ROM_ENTRY}
-use Rattle.device_trace.specs.Logs.{released_words_after}
-use Rattle.device_trace.specs.Text.{finishes_call}
+use Rattle.device_trace.specs.Logs.{finishes_call, released_words_after}
 
 -- a call begins with its access at the ROM's entry
 abbrev pub begins_call : BusRecord → Bool

@@ -1,43 +1,42 @@
 -- Closed plays at which the law is computed.
-use Rattle.std.specs.Prelude.{ℕ, List, [], ◌∷◌, ◌++◌, length}
+use Rattle.std.specs.Prelude.{ℕ, List, [], ◌∷◌, length, take}
+use Rattle.bus_signals.specs.declared.event.Event.{Event}
+use Rattle.bus_signals.specs.declared.event.Event.TheVariants.{Reset}
 use Rattle.bus_signals.specs.Map.{EXEC_WORD}
-use Rattle.device_trace.specs.Example.{upwards, quiet_steps}
-use Rattle.device_trace.specs.Start.{Start, with_key}
+use Rattle.device_trace.specs.Example.{counting_words, event_after, quiet_steps, start_with}
 use Rattle.device_trace.specs.Trace.{trace, byte_after}
 use Rattle.mac_coverage.specs.Call.{last_call, mac_written}
-use Rattle.mac_coverage.specs.Coverage.{contents_before}
+use Rattle.mac_coverage.specs.Coverage.{contents_before, kept_before}
 
--- a digest that can be computed here: always the bytes 01 to 20
-abbrev pub constant_digest : List ℕ → List ℕ
-constant_digest bytes = upwards 1 32
+-- the call of `attestation` begins after 7 steps; in its step 124 it is broken off by a reset
+abbrev pub broken_call : List (List Event)
+broken_call = event_after Reset (quiet_steps 130 [])
 
--- a device with the key 00 to 3F
-abbrev pub device_of : (ℕ → ℕ) → Start
-device_of image = with_key constant_digest (upwards 0 64) image
-
--- the words of the bytes 01 to 20
-abbrev pub first_words : List ℕ
-first_words = 0x0201 ∷ 0x0403 ∷ 0x0605 ∷ 0x0807 ∷ 0x0A09 ∷ 0x0C0B ∷ 0x0E0D ∷ []
-
+-- the words of the bytes 01 to 20, behind the decision to attest, and the first seven of them
 abbrev pub all_words : List ℕ
-all_words =
-    first_words
-    ++ 0x100F ∷ 0x1211 ∷ 0x1413 ∷ 0x1615 ∷ 0x1817 ∷ 0x1A19 ∷ 0x1C1B ∷ 0x1E1D ∷ 0x201F ∷ []
+all_words = 1 ∷ counting_words
 
--- how many steps the last call made in so many steps with no event, and what it wrote to the MAC
-abbrev pub steps_made : (ℕ → ℕ) → ℕ → ℕ
-steps_made image steps = length (last_call (trace (device_of image) (quiet_steps steps [])))
+abbrev pub first_words : List ℕ
+first_words = 1 ∷ take 7 counting_words
 
-abbrev pub words_written : (ℕ → ℕ) → ℕ → List ℕ
-words_written image steps = mac_written (last_call (trace (device_of image) (quiet_steps steps [])))
+-- how many steps the last call of a play made, and what it wrote to the MAC
+abbrev pub steps_made : (ℕ → ℕ) → List (List Event) → ℕ
+steps_made image play = length (last_call (trace (start_with image) play))
 
--- the bytes of ER and OR that stand in memory after so many steps with no event
+abbrev pub words_written : (ℕ → ℕ) → List (List Event) → List ℕ
+words_written image play = mac_written (last_call (trace (start_with image) play))
+
+-- the bytes of ER and OR that stand in memory after so many steps with no event, and the kept
+-- counter
 abbrev pub rest_standing : (ℕ → ℕ) → ℕ → List ℕ
-rest_standing image steps = (contents_before (device_of image) (quiet_steps steps []) 0).rest
+rest_standing image steps = (contents_before (start_with image) (quiet_steps steps []) 0).rest
+
+abbrev pub kept_standing : (ℕ → ℕ) → ℕ → List ℕ
+kept_standing image steps = kept_before (start_with image) (quiet_steps steps []) 0
 
 -- the EXEC word then
 abbrev pub exec_standing : (ℕ → ℕ) → ℕ → ℕ
-exec_standing image steps = byte_after (device_of image) (quiet_steps steps []) EXEC_WORD
+exec_standing image steps = byte_after (start_with image) (quiet_steps steps []) EXEC_WORD
 
 -- the program C000 to C00A, and the word 0 of the output
 abbrev pub program_and_output : List ℕ

@@ -1,5 +1,6 @@
-ghost use Rattle.std.specs.Prelude.{◌≡◌, ℕ, IsTrue, List, Some};
+ghost use Rattle.std.specs.Prelude.{◌≡◌, ℕ, Bool, IsTrue, List, Some};
 ghost use Rattle.bus_signals.specs.Report.{ReportFields};
+ghost use Rattle.bus_signals.specs.SeenRecord.{SeenRecord};
 ghost use Rattle.bus_signals.specs.declared.event.Event.{Event};
 ghost use Rattle.device_trace.specs.Report.{EachReport};
 ghost use Rattle.device_trace.specs.Start.{with_key};
@@ -12,37 +13,43 @@ ghost use Rattle.mac_coverage.specs.Coverage.{Gives32Bytes, IsDeviceKey, IsOfByt
 /// Let the last step of a play be one of a call of the ROM. Metadata and bytes of ER and OR stand
 /// in memory unchanged at each moment from the end of the call's first step to the end of its last,
 /// or to the beginning of one that is refused; before the call they stood there too, but for the
-/// EXEC word. The words that the call wrote to the MAC are the first words of their tag under the
-/// device key. Where the call is finished, they are all 16, and the tag stands in memory.
+/// EXEC word and the AUX word. The counter that was kept before the call is kept until the call
+/// writes it, and then the request's, where the call attests. The words that the call wrote to the
+/// MAC are the first of these: its decision by the token and the two counters and, where it
+/// attests, the 16 words of the tag under the device key. Where the call is finished, they are all
+/// of them, and the tag stands in memory.
 pub fn mac_covers_region_throughout_call()
-    ensures { (digest : List ℕ → List ℕ) (key : List ℕ) (image : ℕ → ℕ)
+    ensures { (flag : List SeenRecord → Bool) (digest : List ℕ → List ℕ) (key : List ℕ)
+        (image : ℕ → ℕ)
         → (play : List (List Event))
         → IsDeviceKey key
         → IsOfBytes image
-        → IsTrue (ends_in_call (trace (with_key digest key image) play))
-        → MacCoversCall digest key (with_key digest key image) play }
+        → IsTrue (ends_in_call (trace (with_key flag digest key image) play))
+        → MacCoversCall digest key (with_key flag digest key image) play }
 {}
 
 /// The MAC in a report is the tag, under the device key, of the metadata and the bytes of ER and OR
 /// that stand in memory as the report is made. By the law above they stood there throughout the
 /// call.
 pub fn reported_mac_is_tag()
-    ensures { (digest : List ℕ → List ℕ) (key : List ℕ) (image : ℕ → ℕ)
+    ensures { (flag : List SeenRecord → Bool) (digest : List ℕ → List ℕ) (key : List ℕ)
+        (image : ℕ → ℕ)
         → (play : List (List Event)) (report : ReportFields)
         → IsDeviceKey key
         → IsOfBytes image
         → Gives32Bytes digest
-        → last_report (with_key digest key image) play ≡ Some report
+        → last_report (with_key flag digest key image) play ≡ Some report
         → report.mac
-        ≡ tag_of digest key (attested_bytes_in (byte_after (with_key digest key image) play)) }
+        ≡ tag_of digest key (attested_bytes_in (byte_after (with_key flag digest key image) play)) }
 {}
 
 /// So the MAC of each report of a play covers its call.
 pub fn mac_covers_each_report()
-    ensures { (digest : List ℕ → List ℕ) (key : List ℕ) (image : ℕ → ℕ)
+    ensures { (flag : List SeenRecord → Bool) (digest : List ℕ → List ℕ) (key : List ℕ)
+        (image : ℕ → ℕ)
         (play : List (List Event))
         → IsDeviceKey key
         → IsOfBytes image
-        → EachReport (with_key digest key image) play
-        (MacCoversReport digest key (with_key digest key image)) }
+        → EachReport (with_key flag digest key image) play
+        (MacCoversReport digest key (with_key flag digest key image)) }
 {}

@@ -9,6 +9,7 @@ mod example;
 mod law;
 
 pub use example::{
-    exec_falls_in_first_step, finished_call_writes_mac, interrupted_call_writes_less,
+    broken_call_writes_less, denied_call_writes_decision, exec_falls_in_first_step,
+    finished_call_writes_mac,
 };
 pub use law::{mac_covers_each_report, mac_covers_region_throughout_call, reported_mac_is_tag};

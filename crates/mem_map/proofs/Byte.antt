@@ -3,7 +3,8 @@ use Rattle.std.proofs.Common.{◌≡◌, ◌<◌, ◌≤◌, ◌+◌, ◌∷◌,
 use Rattle.std.proofs.lemmas.Bool.Decides.{eqb_tells}
 use Rattle.std.proofs.Math.ListN.{get_or-append}
 use Rattle.std.proofs.Math.Seq.{drop-cons, get_or-append_seam}
-use Rattle.part_definitions.specs.Memory.{PowerOn, MemoryWrite, byte_at, bytes_from}
+use Rattle.bus_signals.specs.Map.{EXEC_WORD, AUX_WORD}
+use Rattle.part_definitions.specs.Memory.{PowerOn, ShownFlags, MemoryWrite, byte_at, bytes_from}
 
 -- a piece of a list is the bytes of its places
 pub take-drop-bytes :
@@ -30,15 +31,32 @@ append-bytes bytes xs byte count size before here =
     (λ place within. get_or-append xs (byte ∷ []) 0 place (omega arith) ∙ before place within)
     (rw size at (get_or-append_seam xs byte [] 0) ∙ here)
 
--- the flag shows at its own byte alone
+-- each flag shows at its own byte alone
 pub set-exec_byte :
-    (start : PowerOn) (exec on : Bool) (writes : List MemoryWrite) (xs : List ℕ) (byte place : ℕ)
-    → 0x0268 < length xs
-    → get_or xs place 0 ≡ byte_at start exec writes place
-    → byte ≡ byte_at start on writes 0x0268
-    → get_or (set xs 0x0268 byte) place 0 ≡ byte_at start on writes place
-set-exec_byte start exec on writes xs byte place within before shows =
-    elim (eqb_tells place 0x0268) [
-      | inl same ↦ rw same.1 (get_or-set_same xs 0x0268 byte 0 within ∙ shows)
-      | inr other ↦ get_or-set_other xs 0x0268 place byte 0 other.1 ∙ before ∙ rw other.0 refl
+    (start : PowerOn) (flags : ShownFlags) (on : Bool) (writes : List MemoryWrite) (xs : List ℕ)
+    (byte place : ℕ)
+    → EXEC_WORD < length xs
+    → get_or xs place 0 ≡ byte_at start flags writes place
+    → byte ≡ byte_at start (record flags { exec = on }) writes EXEC_WORD
+    → get_or (set xs EXEC_WORD byte) place 0
+    ≡ byte_at start (record flags { exec = on }) writes place
+set-exec_byte start flags on writes xs byte place within before shows =
+    elim (eqb_tells place EXEC_WORD) [
+      | inl same ↦ rw same.1 (get_or-set_same xs EXEC_WORD byte 0 within ∙ shows)
+      | inr other ↦
+          get_or-set_other xs EXEC_WORD place byte 0 other.1 ∙ before ∙ rw other.0 refl
+    ]
+
+pub set-aux_byte :
+    (start : PowerOn) (flags : ShownFlags) (on : Bool) (writes : List MemoryWrite) (xs : List ℕ)
+    (byte place : ℕ)
+    → AUX_WORD < length xs
+    → get_or xs place 0 ≡ byte_at start flags writes place
+    → byte ≡ byte_at start (record flags { aux = on }) writes AUX_WORD
+    → get_or (set xs AUX_WORD byte) place 0 ≡ byte_at start (record flags { aux = on }) writes place
+set-aux_byte start flags on writes xs byte place within before shows =
+    elim (eqb_tells place AUX_WORD) [
+      | inl same ↦ rw same.1 (get_or-set_same xs AUX_WORD byte 0 within ∙ shows)
+      | inr other ↦
+          get_or-set_other xs AUX_WORD place byte 0 other.1 ∙ before ∙ rw other.0 refl
     ]

@@ -1,6 +1,7 @@
 -- The bytes of a valid region are a span.
 use Rattle.std.proofs.Common.{◌≡◌, ◌+◌, ◌≤◌, ℕ, true, inl, inr, arith}
 use Rattle.std.proofs.lemmas.Bool.Decides.{nat_tests}
+use Rattle.bus_signals.specs.declared.region.Region.{Region}
 use Rattle.bus_signals.proofs.ValidRange.{IsValidRange}
 use Rattle.mem_map.specs.Span.{is_span}
 
@@ -20,7 +21,8 @@ span-program :
     → is_span first (last + 1) ≡ true
 span-program first last low in_order high = grind (arith, nat_tests)
 
-pub span-valid : (first last : ℕ) → IsValidRange first last → is_span first (last + 1) ≡ true
+pub span-valid : {metadata : Region} (first last : ℕ) → IsValidRange metadata first last
+    → is_span first (last + 1) ≡ true
 span-valid first last range =
     elim range.place [
       | inl ram ↦ span-ram first last ram.0 range.ordered ram.1

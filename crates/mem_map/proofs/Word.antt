@@ -3,7 +3,7 @@ use Rattle.std.proofs.Common.{◌≡◌, ◌<◌, ◌+◌, ◌*◌, ◌&&◌, �
 use Rattle.std.proofs.lemmas.Bool.{le-leb, lt-leb, eq-eqb}
 use Rattle.std.proofs.lemmas.Bool.Decides.{leb_tells, eqb_tells}
 use Rattle.bus_signals.specs.Map.{lies_in, stack_region}
-use Rattle.part_definitions.specs.Memory.{PowerOn, MemoryWrite, byte_at, first_byte, fixed_byte, last_written, takes_write, is_ram, is_program, is_exec_word}
+use Rattle.part_definitions.specs.Memory.{PowerOn, ShownFlags, MemoryWrite, byte_at, first_byte, fixed_byte, last_written, takes_write, is_ram, is_program, is_flag_word}
 
 -- a range of whole words begins before both bytes of a word or before none
 even_first : (first half : ℕ) → nat_le (first * 2) (half * 2 + 1) ≡ nat_le (first * 2) (half * 2)
@@ -36,7 +36,7 @@ whole_words first last half =
 
 -- whether a place takes writes, by the ranges in which it lies
 abbrev takes_by : Bool → Bool → Bool → Bool → Bool
-takes_by ram program exec_word stack = ((ram || program) && not exec_word) || stack
+takes_by ram program flag_word stack = ((ram || program) && not flag_word) || stack
 
 -- the two bytes of a word take writes alike
 pub takes_write-word : (half : ℕ) → takes_write (half * 2 + 1) ≡ takes_write (half * 2)
@@ -44,26 +44,27 @@ takes_write-word half =
     let low : ℕ = half * 2 in
     let high : ℕ = half * 2 + 1 in
     ap
-    (λ ram. takes_by ram (is_program high) (is_exec_word high) (lies_in stack_region high))
+    (λ ram. takes_by ram (is_program high) (is_flag_word high) (lies_in stack_region high))
     (whole_words 0x0100 0x10FF half)
     ∙ ap
-    (λ program. takes_by (is_ram low) program (is_exec_word high) (lies_in stack_region high))
+    (λ program. takes_by (is_ram low) program (is_flag_word high) (lies_in stack_region high))
     (whole_words 0x6000 0x7FFF half)
     ∙ ap
-    (λ exec_word. takes_by (is_ram low) (is_program low) exec_word (lies_in stack_region high))
-    (whole_words 0x0134 0x0134 half)
+    (λ flag_word. takes_by (is_ram low) (is_program low) flag_word (lies_in stack_region high))
+    (whole_words 0x0134 0x0135 half)
     ∙ ap
-    (λ stack. takes_by (is_ram low) (is_program low) (is_exec_word low) stack)
+    (λ stack. takes_by (is_ram low) (is_program low) (is_flag_word low) stack)
     (whole_words 0x2000 0x21FF half)
 
 -- a write to a place that takes none changes nothing
 pub byte_at-refused :
-    (start : PowerOn) (exec : Bool) (writes : List MemoryWrite) (write : MemoryWrite) (place : ℕ)
+    (start : PowerOn) (flags : ShownFlags) (writes : List MemoryWrite) (write : MemoryWrite)
+    (place : ℕ)
     → takes_write write.place ≡ false
-    → byte_at start exec (write ∷ writes) place ≡ byte_at start exec writes place
-byte_at-refused start exec writes write place refuses =
+    → byte_at start flags (write ∷ writes) place ≡ byte_at start flags writes place
+byte_at-refused start flags writes write place refuses =
     let first : ℕ = first_byte start place in
-    let fallback : ℕ = fixed_byte start exec place in
+    let fallback : ℕ = fixed_byte start flags place in
     elim (eqb_tells write.place place) [
       | inl same ↦
           let here : takes_write place ≡ false = ap takes_write (sym same.1) ∙ refuses in
@@ -79,16 +80,16 @@ byte_at-refused start exec writes write place refuses =
 
 -- a write to a place that takes it shows there, and nowhere else
 pub byte_at-taken :
-    (start : PowerOn) (exec : Bool) (writes : List MemoryWrite) (xs : List ℕ)
+    (start : PowerOn) (flags : ShownFlags) (writes : List MemoryWrite) (xs : List ℕ)
     (here byte place : ℕ)
     → takes_write here ≡ true
     → here < length xs
-    → get_or xs place 0 ≡ byte_at start exec writes place
+    → get_or xs place 0 ≡ byte_at start flags writes place
     → get_or (set xs here byte) place 0
-    ≡ byte_at start exec (record { place = here; byte = byte } ∷ writes) place
-byte_at-taken start exec writes xs here byte place takes within before =
+    ≡ byte_at start flags (record { place = here; byte = byte } ∷ writes) place
+byte_at-taken start flags writes xs here byte place takes within before =
     let first : ℕ = first_byte start place in
-    let fallback : ℕ = fixed_byte start exec place in
+    let fallback : ℕ = fixed_byte start flags place in
     elim (eqb_tells here place) [
       | inl same ↦
           rw (← same.1)
@@ -100,7 +101,7 @@ byte_at-taken start exec writes xs here byte place takes within before =
           if takes
           then last_written (record { place = here; byte = byte } ∷ writes) here
           (first_byte start here)
-          else fixed_byte start exec here)
+          else fixed_byte start flags here)
           takes))
       | inr other ↦
           get_or-set_other xs here place byte 0 (λ same. other.1 (sym same))
@@ -114,35 +115,36 @@ byte_at-taken start exec writes xs here byte place takes within before =
 
 -- a memory of all places, after both bytes of a word were written
 pub word_taken :
-    (start : PowerOn) (exec : Bool) (writes : List MemoryWrite) (xs : List ℕ) (half low high : ℕ)
+    (start : PowerOn) (flags : ShownFlags) (writes : List MemoryWrite) (xs : List ℕ)
+    (half low high : ℕ)
     → takes_write (half * 2) ≡ true
     → length xs ≡ 65536
     → half * 2 + 1 < 65536
-    → ((place : ℕ) → place < 65536 → get_or xs place 0 ≡ byte_at start exec writes place)
+    → ((place : ℕ) → place < 65536 → get_or xs place 0 ≡ byte_at start flags writes place)
     → (place : ℕ) → place < 65536
     → get_or (set (set xs (half * 2) low) (half * 2 + 1) high) place 0
-    ≡ byte_at start exec
+    ≡ byte_at start flags
     (record { place = half * 2 + 1; byte = high }
     ∷ record { place = half * 2; byte = low }
     ∷ writes) place
-word_taken start exec writes xs half low high takes whole within before place inside =
+word_taken start flags writes xs half low high takes whole within before place inside =
     let size : length (set xs (half * 2) low) ≡ 65536 = length-set xs (half * 2) low ∙ whole in
-    byte_at-taken start exec (record { place = half * 2; byte = low } ∷ writes)
+    byte_at-taken start flags (record { place = half * 2; byte = low } ∷ writes)
     (set xs (half * 2) low) (half * 2 + 1) high place
     (takes_write-word half ∙ takes) (omega (arith, size, within))
-    (byte_at-taken start exec writes xs (half * 2) low place
+    (byte_at-taken start flags writes xs (half * 2) low place
     takes (omega (arith, whole, within)) (before place inside))
 
 -- and after a word was refused
 pub word_refused :
-    (start : PowerOn) (exec : Bool) (writes : List MemoryWrite) (half low high place : ℕ)
+    (start : PowerOn) (flags : ShownFlags) (writes : List MemoryWrite) (half low high place : ℕ)
     → takes_write (half * 2) ≡ false
-    → byte_at start exec
+    → byte_at start flags
     (record { place = half * 2 + 1; byte = high }
     ∷ record { place = half * 2; byte = low }
     ∷ writes) place
-    ≡ byte_at start exec writes place
-word_refused start exec writes half low high place refuses =
-    byte_at-refused start exec (record { place = half * 2; byte = low } ∷ writes)
+    ≡ byte_at start flags writes place
+word_refused start flags writes half low high place refuses =
+    byte_at-refused start flags (record { place = half * 2; byte = low } ∷ writes)
     (record { place = half * 2 + 1; byte = high }) place (takes_write-word half ∙ refuses)
-    ∙ byte_at-refused start exec writes (record { place = half * 2; byte = low }) place refuses
+    ∙ byte_at-refused start flags writes (record { place = half * 2; byte = low }) place refuses

@@ -1,13 +1,13 @@
-ghost use Rattle.std.specs.Prelude.{◌≡◌, ◌+◌, ◌-◌, ◌*◌, ◌/◌, ◌&&◌, ◌∷◌, [], Bool, false, List, IfOk, IfSome, IsSome, IsTrue, ◌↔◌, vec_len};
+ghost use Rattle.std.specs.Prelude.{◌≡◌, ◌+◌, ◌-◌, ◌*◌, ◌/◌, ◌&&◌, ◌∷◌, [], List, IfOk, IfSome, IsSome, IsTrue, ◌↔◌, length, vec_len};
 ghost use Rattle.word_arith.specs.declared.size.Size.{Size};
-ghost use Rattle.part_definitions.specs.Memory.{PowerOn, MemoryWrite, byte_at, number_at, with_number, bytes_from};
+ghost use Rattle.part_definitions.specs.Memory.{PowerOn, ShownFlags, MemoryWrite, no_flags, byte_at, number_at, with_number, bytes_from};
 ghost use Rattle.part_definitions.specs.Metadata.{bounds_in};
 ghost use Rattle.mem_map.specs.Image.{power_on_of};
 ghost use Rattle.mem_map.specs.Span.{is_span};
 
 use crate::image::Image;
 use crate::place::{
-    ER_MAX, ER_MIN, EXEC_WORD, OR_MAX, OR_MIN, PLACES, is_image_place, is_span, rom_byte,
+    AUX_WORD, ER_MAX, ER_MIN, EXEC_WORD, OR_MAX, OR_MIN, PLACES, is_image_place, is_span, rom_byte,
     takes_write,
 };
 use bus_signals::{Bounds, CR, KR};
@@ -16,7 +16,7 @@ use word_arith::Size;
 
 // The byte at a place before the first write.
 fn power_on_byte(key: &[u8; 64], image: &Image, place: u16) -> u8
-    ensures { result ≡ byte_at (power_on_of key.now image.now) false [] place }
+    ensures { result ≡ byte_at (power_on_of key.now image.now) no_flags [] place }
 {
     if is_image_place(place) && takes_write(place) {
         image.get(place).unwrap_or(0)
@@ -42,7 +42,7 @@ impl Memory {
     /// The memory at power-on.
     pub fn new(alloc: Global, key: &[u8; 64], image: &Image) -> Result<Memory, AllocError>
         ensures { IfOk result (λ memory.
-            MemoryStandsFor memory (power_on_of key.now image.now) false []) }
+            MemoryStandsFor memory (power_on_of key.now image.now) no_flags []) }
     {
         let mut bytes = Vec::with_capacity(alloc, PLACES)?;
         for place in 0..PLACES {
@@ -111,11 +111,29 @@ impl Memory {
 
     /// Shows the EXEC flag in the EXEC word of the metadata.
     pub fn set_exec(&mut self, on: bool)
-        ensures { (start : PowerOn) (exec : Bool) (writes : List MemoryWrite)
-            → MemoryStandsFor self.old start exec writes
-            → MemoryStandsFor self.new start on writes }
+        ensures { (start : PowerOn) (flags : ShownFlags) (writes : List MemoryWrite)
+            → MemoryStandsFor self.old start flags writes
+            → MemoryStandsFor self.new start (record flags { exec = on }) writes }
     {
         self.bytes[usize::from(EXEC_WORD)] = u8::from(on);
+    }
+
+    /// Shows the second flag in the AUX word of the metadata.
+    pub fn set_aux(&mut self, on: bool)
+        ensures { (start : PowerOn) (flags : ShownFlags) (writes : List MemoryWrite)
+            → MemoryStandsFor self.old start flags writes
+            → MemoryStandsFor self.new start (record flags { aux = on }) writes }
+    {
+        self.bytes[usize::from(AUX_WORD)] = u8::from(on);
+    }
+
+    /// Whether the second flag is shown as set.
+    pub fn shows_aux(&self) -> bool
+        ensures { (start : PowerOn) (flags : ShownFlags) (writes : List MemoryWrite)
+            → MemoryStandsFor self.now start flags writes
+            → result ≡ flags.aux }
+    {
+        self.bytes[usize::from(AUX_WORD)] != 0
     }
 
     /// ERmin, the first address of the executable region, as the metadata has it.
@@ -141,6 +159,7 @@ impl Memory {
     /// the address of its last byte.
     pub fn span(&self, first: u16, last: u16) -> Option<&[u8]>
         ensures within { IsSome result ↔ IsTrue (is_span first last) }
+        ensures long { IfSome result (λ piece. length piece.now ≡ last + 1 - first) }
         ensures bytes { IfSome result (λ piece.
             Tells self.now (λ bytes. bytes_from bytes first (last + 1 - first)) piece.now) }
     {

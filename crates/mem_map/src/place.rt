@@ -26,6 +26,9 @@ pub const OR_MAX: u16 = 0x0266;
 /// The metadata's word that shows the EXEC flag.
 pub const EXEC_WORD: u16 = 0x0268;
 
+/// The metadata's word that shows the second flag.
+pub const AUX_WORD: u16 = 0x026A;
+
 // The two bytes of the attestation ROM's last word.
 const ROM_EXIT: u16 = 0xBFFE;
 
@@ -51,8 +54,8 @@ pub fn is_span(first: u16, last: u16) -> bool
 pub fn takes_write(place: u16) -> bool
     ensures { result ≡ takes_write place }
 {
-    let is_exec_word = EXEC_WORD <= place && place <= EXEC_WORD + 1;
-    (is_image_place(place) && !is_exec_word) || XS.contains(place)
+    let is_flag_word = EXEC_WORD <= place && place <= AUX_WORD + 1;
+    (is_image_place(place) && !is_flag_word) || XS.contains(place)
 }
 
 /// What the attestation ROM reads as at this place.

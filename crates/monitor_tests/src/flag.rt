@@ -87,9 +87,9 @@ fn rises_with_valid_bounds_alone(rt: HostRuntime) {
         ((0xC020, 0xC026, 0x021E, 0x0220), false),
         ((0xC020, 0xC026, 0x0220, 0x023E), true),
         ((0xC020, 0xC026, 0x0220, 0x0240), false),
-        ((0xC020, 0xC026, 0x0268, 0x0268), false),
-        ((0xC020, 0xC026, 0x026A, 0x21FE), true),
-        ((0xC020, 0xC026, 0x026A, 0x2200), false),
+        ((0xC020, 0xC026, 0x028E, 0x028E), false),
+        ((0xC020, 0xC026, 0x0290, 0x21FE), true),
+        ((0xC020, 0xC026, 0x0290, 0x2200), false),
         ((0xC020, 0xC026, 0x4000, 0x4000), false),
     ];
     for ((er_min, er_max, or_min, or_max), is_set) in rows {
@@ -133,8 +133,8 @@ fn stays_or_falls_inside(rt: HostRuntime) {
         (inside(Fetch(0xC028)), false),
         (inside(Write(0x023F, Byte, 1)), true),
         (inside(Write(0x0240, Byte, 1)), false),
-        (inside(Write(0x0269, Byte, 1)), false),
-        (inside(Write(0x026A, Byte, 1)), true),
+        (inside(Write(0x028F, Byte, 1)), false),
+        (inside(Write(0x0290, Byte, 1)), true),
         (inside(Read(0x0240, Word)), true),
         (with_dma(Read(0x0400, Word)), false),
         (irq, false),

@@ -1,19 +1,25 @@
 -- A call of the attestation ROM: its accesses, by the words that passed in it so far, those that it
 -- read and those that it wrote to the MAC. (VRASED.)
-use Rattle.std.specs.Prelude.{◌==◌, ◌++◌, ◌+◌, ◌-◌, ◌*◌, ◌/◌, ◌%◌, ℕ, Bool, true, false, List, [], ◌∷◌, length, take, drop, slice_index, nat_lt, if◌then◌else◌, Option, Some}
+use Rattle.std.specs.Prelude.{◌==◌, ◌++◌, ◌+◌, ◌-◌, ◌*◌, ◌/◌, ◌%◌, ℕ, Bool, true, false, not, List, [], ◌∷◌, length, take, drop, slice_index, nat_lt, if◌then◌else◌, Option, Some}
 use Rattle.word_arith.specs.declared.size.Size.TheVariants.{Word}
 use Rattle.bus_signals.specs.declared.access.Access.{Access}
 use Rattle.bus_signals.specs.declared.access.Access.TheVariants.{Write}
 use Rattle.bus_signals.specs.declared.bounds.Bounds.{Bounds}
-use Rattle.bus_signals.specs.Map.{lies_in, key_region, metadata_region, mac_region, DERIVED_KEY, INNER_DIGEST, ROM_ENTRY, ROM_BODY, ROM_EXIT}
+use Rattle.bus_signals.specs.Map.{lies_in, key_region, metadata_region, mac_region, DERIVED_KEY, INNER_DIGEST, KEPT_COUNTER, ROM_ENTRY, ROM_BODY, ROM_EXIT}
 use Rattle.part_definitions.specs.BusAccess.{read_at, write_at}
 use Rattle.bus_signals.specs.Bounds.{are_valid}
 use Rattle.part_definitions.specs.Hmac.{hmac, inner_digest}
+use Rattle.part_definitions.specs.Metadata.{challenge_in}
+use Rattle.part_definitions.specs.Request.{request_decision, ATTESTS}
 
 -- one access of a call, with its number among those of its sort
 pub data CallItem : Type 0 where
   KeyRead : ℕ → CallItem
   MetadataRead : ℕ → CallItem
+  -- of the kept counter, low word 0 and high word 1
+  KeptRead : ℕ → CallItem
+  KeptWrite : ℕ → CallItem
+  DecisionWrite : CallItem
   DerivedKeyWrite : ℕ → CallItem
   RegionRead : ℕ → CallItem
   InnerDigestWrite : ℕ → CallItem
@@ -22,15 +28,27 @@ pub data CallItem : Type 0 where
 
 -- how many words the metadata has
 abbrev pub METADATA_WORDS : ℕ
-METADATA_WORDS = 21
+METADATA_WORDS = 40
 
--- how many words pass before the metadata is read: 32 of the key; before the derived key is
--- written: with those of the metadata; before the region is read: with 16 of the derived key
+-- how many words pass before the metadata is read: 32 of the key; before the kept counter is read:
+-- with those of the metadata; before it is written: with its two words; before the decision is
+-- written: with the same two
 abbrev pub BEFORE_METADATA : ℕ
 BEFORE_METADATA = 32
 
+abbrev pub BEFORE_KEPT : ℕ
+BEFORE_KEPT = BEFORE_METADATA + METADATA_WORDS
+
+abbrev pub BEFORE_KEPT_WRITE : ℕ
+BEFORE_KEPT_WRITE = BEFORE_KEPT + 2
+
+abbrev pub BEFORE_DECISION : ℕ
+BEFORE_DECISION = BEFORE_KEPT_WRITE + 2
+
+-- in a call that attests, before the derived key is written: with the decision; before the region
+-- is read: with 16 of the derived key
 abbrev pub BEFORE_DERIVED_KEY : ℕ
-BEFORE_DERIVED_KEY = BEFORE_METADATA + METADATA_WORDS
+BEFORE_DERIVED_KEY = BEFORE_DECISION + 1
 
 abbrev pub BEFORE_REGION : ℕ
 BEFORE_REGION = BEFORE_DERIVED_KEY + 16
@@ -43,7 +61,8 @@ BEFORE_MAC = BEFORE_REGION + 16
 abbrev pub BEFORE_RETURN : ℕ
 BEFORE_RETURN = BEFORE_MAC + 16
 
--- a word of the metadata; the bounds are words 16 to 19 of it, behind the challenge
+-- a word of the metadata; the bounds are words 16 to 19 of it, behind the challenge, and the
+-- counter is words 22 and 23, behind the flags
 abbrev pub metadata_word : List ℕ → ℕ → ℕ
 metadata_word words i = slice_index words (BEFORE_METADATA + i)
 
@@ -70,21 +89,40 @@ region_words bounds =
     then executable_words bounds + words_between bounds.or_min bounds.or_max
     else 0
 
--- a call's accesses in order, where it reads so many words of ER and OR: the one after so many
--- words that passed
-abbrev pub item_after : ℕ → ℕ → CallItem
-item_after region count =
+-- the decision that was written
+abbrev pub decision_read : List ℕ → ℕ
+decision_read words = slice_index words BEFORE_DECISION
+
+-- the accesses of a call in order, the high word of the kept counter written first: the one after
+-- so many words that passed, up to the decision
+abbrev pub item_until_decision : ℕ → CallItem
+item_until_decision count =
     if nat_lt count BEFORE_METADATA then KeyRead count
-    else if nat_lt count BEFORE_DERIVED_KEY then MetadataRead (count - BEFORE_METADATA)
-    else if nat_lt count BEFORE_REGION then DerivedKeyWrite (count - BEFORE_DERIVED_KEY)
+    else if nat_lt count BEFORE_KEPT then MetadataRead (count - BEFORE_METADATA)
+    else if nat_lt count BEFORE_KEPT_WRITE then KeptRead (count - BEFORE_KEPT)
+    else if nat_lt count BEFORE_DECISION then KeptWrite (BEFORE_DECISION - 1 - count)
+    else DecisionWrite
+
+-- and after it in a call that attests, where it reads so many words of ER and OR
+abbrev pub item_of_attestation : ℕ → ℕ → CallItem
+item_of_attestation region count =
+    if nat_lt count BEFORE_REGION then DerivedKeyWrite (count - BEFORE_DERIVED_KEY)
     else if nat_lt count (BEFORE_REGION + region) then RegionRead (count - BEFORE_REGION)
     else if nat_lt count (BEFORE_MAC + region) then
     InnerDigestWrite (count - (BEFORE_REGION + region))
     else if nat_lt count (BEFORE_RETURN + region) then MacWrite (count - (BEFORE_MAC + region))
     else ReturnRead
 
+-- another decision ends the call
+abbrev pub item_after : ℕ → ℕ → ℕ → CallItem
+item_after region decision count =
+    if nat_lt count BEFORE_DERIVED_KEY then item_until_decision count
+    else if decision == ATTESTS then item_of_attestation region count
+    else ReturnRead
+
 abbrev pub call_item : List ℕ → CallItem
-call_item words = item_after (region_words (bounds_read words)) (length words)
+call_item words =
+    item_after (region_words (bounds_read words)) (decision_read words) (length words)
 
 -- word i of ER and then of OR
 abbrev pub region_place : Bounds → ℕ → ℕ
@@ -96,6 +134,9 @@ region_place bounds i =
 abbrev pub item_access : ℕ → Bounds → CallItem → ℕ → Access
 item_access sp bounds (KeyRead i) number = read_at Word (key_region.first + 2 * i)
 item_access sp bounds (MetadataRead i) number = read_at Word (metadata_region.first + 2 * i)
+item_access sp bounds (KeptRead i) number = read_at Word (KEPT_COUNTER + 2 * i)
+item_access sp bounds (KeptWrite i) number = write_at Word (KEPT_COUNTER + 2 * i) number
+item_access sp bounds DecisionWrite number = write_at Word mac_region.first number
 item_access sp bounds (DerivedKeyWrite i) number = write_at Word (DERIVED_KEY + 2 * i) number
 item_access sp bounds (RegionRead i) number = read_at Word (region_place bounds i)
 item_access sp bounds (InnerDigestWrite i) number = write_at Word (INNER_DIGEST + 2 * i) number
@@ -127,13 +168,16 @@ key_read words = bytes_of_words (take BEFORE_METADATA words)
 abbrev pub metadata_read : List ℕ → List ℕ
 metadata_read words = bytes_of_words (take METADATA_WORDS (drop BEFORE_METADATA words))
 
+abbrev pub kept_read : List ℕ → List ℕ
+kept_read words = bytes_of_words (take 2 (drop BEFORE_KEPT words))
+
 abbrev pub region_read : List ℕ → List ℕ
 region_read words =
     bytes_of_words (take (region_words (bounds_read words)) (drop BEFORE_REGION words))
 
--- the key of one challenge, the first 32 bytes of the metadata
+-- the key of one challenge
 abbrev pub derived_key : (List ℕ → List ℕ) → List ℕ → List ℕ → List ℕ
-derived_key digest key metadata = hmac digest key (take 32 metadata)
+derived_key digest key metadata = hmac digest key (challenge_in metadata)
 
 -- the MAC of metadata and region
 abbrev pub attestation_tag : (List ℕ → List ℕ) → List ℕ → List ℕ → List ℕ → List ℕ
@@ -152,8 +196,21 @@ abbrev pub tag_in : (List ℕ → List ℕ) → List ℕ → List ℕ
 tag_in digest words =
     attestation_tag digest (key_read words) (metadata_read words) (region_read words)
 
+abbrev pub decision_in : (List ℕ → List ℕ) → List ℕ → ℕ
+decision_in digest words =
+    request_decision digest (key_read words) (metadata_read words) (kept_read words)
+
+-- a word of the counter that is kept from now on: the request's where the call attests, else the
+-- one that was kept
+abbrev pub counter_word : List ℕ → ℕ → ℕ → ℕ
+counter_word words decision i =
+    if decision == ATTESTS then metadata_word words (22 + i)
+    else slice_index words (BEFORE_KEPT + i)
+
 -- the word that a call writes there, 0 where it reads
 abbrev pub written_word : (List ℕ → List ℕ) → List ℕ → CallItem → ℕ
+written_word digest words (KeptWrite i) = counter_word words (decision_in digest words) i
+written_word digest words DecisionWrite = decision_in digest words
 written_word digest words (DerivedKeyWrite i) = word_of_bytes (call_key digest words) i
 written_word digest words (InnerDigestWrite i) = word_of_bytes (inner_in digest words) i
 written_word digest words (MacWrite i) = word_of_bytes (tag_in digest words) i

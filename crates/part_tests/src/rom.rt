@@ -30,33 +30,70 @@ fn keep(mac: &mut [u8; 32], place: u16, word: u16) {
     }
 }
 
-// A step over this memory, if there is one: its access.
-fn step<D: Digest32>(rom: &mut Rom<D>, memory: &[(u16, u16)]) -> Option<Access> {
+// The token of 32 zero bytes and the counter 1 under this key, by Python's hmac and hashlib.
+const TOKEN: [u16; 16] = [
+    0xC9BD, 0x28E6, 0x03DF, 0x964A, 0xB922, 0x0490, 0xBF0E, 0x50EF, 0xC49C, 0x2A20, 0xFB94, 0xDBEF,
+    0x664C, 0xC95E, 0xCA13, 0xE9A5,
+];
+
+// The word at a place of a request with this counter and the token above, over this memory.
+fn request_word(memory: &[(u16, u16)], counter: u16, place: u16) -> u16 {
+    if place == 0x026C {
+        counter
+    } else if 0x0270 <= place && place < 0x0290 {
+        TOKEN[usize::from(place - 0x0270) / 2]
+    } else {
+        word_at(memory, place)
+    }
+}
+
+// A step over this memory with a request, if there is one: its access.
+fn step<D: Digest32>(rom: &mut Rom<D>, memory: &[(u16, u16)], counter: u16) -> Option<Access> {
     let access = rom.ask()?;
     let value = match access {
-        Access::Fetch(place) | Access::Read(place, _) => word_at(memory, place),
+        Access::Fetch(place) | Access::Read(place, _) => request_word(memory, counter, place),
         Access::Write(..) => 0,
     };
     rom.take(value);
     Some(access)
 }
 
-// The MAC that so many steps of a call write over this memory, and the registers after them.
-fn call<D: Digest32>(memory: &[(u16, u16)], steps: usize) -> ([u8; 32], Option<(u16, u16)>) {
+// What a call wrote to the MAC's region and as kept counter, and what it ends with.
+#[derive(Clone, Copy, Debug)]
+struct Outcome {
+    mac: [u8; 32],
+    kept: [u16; 2],
+    registers: Option<(u16, u16)>,
+    decision: Option<u16>,
+}
+
+// So many steps of a call over this memory.
+fn call<D: Digest32>(memory: &[(u16, u16)], counter: u16, steps: usize) -> Outcome {
     let mut rom = Rom::<D>::new();
     rom.begin(SP);
     let mut mac = [0; 32];
+    let mut kept = [0; 2];
     for _step in 0..steps {
-        if let Some(Access::Write(place, _, word)) = step(&mut rom, memory) {
+        if let Some(Access::Write(place, _, word)) = step(&mut rom, memory, counter) {
             keep(&mut mac, place, word);
+            if place == 0x4060 {
+                kept[0] = word;
+            } else if place == 0x4062 {
+                kept[1] = word;
+            }
         }
     }
-    (mac, rom.done())
+    Outcome {
+        mac,
+        kept,
+        registers: rom.done(),
+        decision: rom.decision(),
+    }
 }
 
 // HMAC-SHA-256 of metadata and region under the derived key, by Python's hmac and hashlib. In both
-// the challenge is 32 zero bytes. The first call is of the program MOV #2200,SP; DINT; CALL #A000;
-// JMP $ and one word of output, the second has bounds 0000, which are not valid.
+// the challenge is 32 zero bytes and the counter 1. The first call is of the program MOV #2200,SP;
+// DINT; CALL #A000; JMP $ and one word of output, the second has bounds 0000, which are not valid.
 #[test]
 fn attests_region(rt: HostRuntime) -> Result<(), Fail> {
     let memory = [
@@ -72,20 +109,37 @@ fn attests_region(rt: HostRuntime) -> Result<(), Fail> {
         (0xC00A, 0x3FFF),
         (SP, 0xC00A),
     ];
-    let (mac, registers) = call::<Sha256Digest>(&memory, 109);
-    assert_eq!(rt; registers, Some((0xC00A, 0x2200)));
-    let digits = "c2ca2849ea395e231a8287688ee8044d32390b579ea5242de959f350e8686345";
-    assert_eq!(rt; hex::encode(rt.alloc(), mac)?.as_str(), digits);
+    let outcome = call::<Sha256Digest>(&memory, 1, 133);
+    assert_eq!(rt; outcome.registers, Some((0xC00A, 0x2200)));
+    assert_eq!(rt; outcome.decision, Some(1));
+    assert_eq!(rt; outcome.kept, [1, 0]);
+    let digits = "987ec8975bddd1c65d1f11a8047fd0f67e6397dad1f7e10becfdbb0ea64f6a66";
+    assert_eq!(rt; hex::encode(rt.alloc(), outcome.mac)?.as_str(), digits);
     Ok(())
 }
 
 #[test]
 fn attests_metadata_alone(rt: HostRuntime) -> Result<(), Fail> {
     let memory = [(SP, 0xA002)];
-    assert_eq!(rt; call::<Sha256Digest>(&memory, 101).1, None);
-    let (mac, registers) = call::<Sha256Digest>(&memory, 102);
-    assert_eq!(rt; registers, Some((0xA002, 0x2200)));
-    let digits = "fb82d240b51e2e657435a863e8a831da4944e6d90dbc84576d9e645d38942e03";
-    assert_eq!(rt; hex::encode(rt.alloc(), mac)?.as_str(), digits);
+    assert_eq!(rt; call::<Sha256Digest>(&memory, 1, 125).registers, None);
+    let outcome = call::<Sha256Digest>(&memory, 1, 126);
+    assert_eq!(rt; outcome.registers, Some((0xA002, 0x2200)));
+    let digits = "bb2df1d544f72d6f4d8b2863d97c24f7689e82b32ee95ac87f8820d60fba2a72";
+    assert_eq!(rt; hex::encode(rt.alloc(), outcome.mac)?.as_str(), digits);
     Ok(())
+}
+
+// The decision is all that such a call writes to the MAC's region, and the kept counter stays.
+#[test]
+fn denies_without_token_or_new_counter(rt: HostRuntime) {
+    let old = call::<Sha256Digest>(&[(0x4060, 1), (SP, 0xC00A)], 1, 78);
+    assert_eq!(rt; old.decision, Some(2));
+    assert_eq!(rt; old.kept, [1, 0]);
+    assert_eq!(rt; old.registers, Some((0xC00A, 0x2200)));
+    let wrong = call::<Sha256Digest>(&[(0x4062, 7), (SP, 0xC00A)], 2, 78);
+    assert_eq!(rt; wrong.decision, Some(3));
+    assert_eq!(rt; wrong.kept, [0, 7]);
+    let mut decision = [0; 32];
+    decision[0] = 3;
+    assert_eq!(rt; wrong.mac, decision);
 }

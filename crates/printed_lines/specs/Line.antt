@@ -5,6 +5,8 @@ use Rattle.hex.specs.Hex.{encode_lower}
 use Rattle.bus_signals.specs.declared.rule.Rule.{Rule}
 use Rattle.bus_signals.specs.declared.rule.Rule.TheVariants.{X0, A1, A2, A3, A4, K1, K2, K3, K4, K5, K6, I1}
 use Rattle.bus_signals.specs.declared.bounds.Bounds.{Bounds}
+use Rattle.bus_signals.specs.declared.version.Version.{Version}
+use Rattle.bus_signals.specs.declared.version.Version.TheVariants.{One, Two}
 use Rattle.bus_signals.specs.Report.{ReportFields}
 
 -- a word as four digits, a byte as two
@@ -51,10 +53,21 @@ abbrev pub output_word : Option (List ℕ) → List ℕ
 output_word None = codes "-"
 output_word (Some bytes) = encode_lower bytes
 
--- this step finished a call: all before the output, the output, and all after it
+-- this step finished a call that attests: the keyword, and from version 2 on what is new in it
+abbrev pub report_keyword : Version → List ℕ
+report_keyword One = codes "report "
+report_keyword Two = codes "report2 "
+
+abbrev pub request_words : Version → Bool → ℕ → List ℕ
+request_words One aux count = []
+request_words Two aux count =
+    codes " aux " ++ flag_digit aux ++ codes " count " ++ decimal count
+
+-- all before the output, the output, and all after it
 abbrev pub report_head : ReportFields → List ℕ
 report_head report =
-    codes "report " ++ decimal report.step ++ codes " exec " ++ flag_digit report.exec
+    report_keyword report.version ++ decimal report.step ++ codes " exec " ++ flag_digit report.exec
+    ++ request_words report.version report.aux report.count
     ++ codes " chal " ++ encode_lower report.chal ++ codes " " ++ bounds_words report.bounds
     ++ codes " data "
 
@@ -63,6 +76,11 @@ report_tail mac = codes " mac " ++ encode_lower mac ++ codes "\n"
 
 abbrev pub report_line : ReportFields → List ℕ
 report_line report = report_head report ++ output_word report.output ++ report_tail report.mac
+
+-- this step finished a call that does not attest, with this decision
+abbrev pub denied_line : ℕ → ℕ → List ℕ
+denied_line step decision =
+    codes "denied " ++ decimal step ++ codes " " ++ decimal decision ++ codes "\n"
 
 -- after so many steps: the pc that the next step would have, and the EXEC flag
 abbrev pub end_line : ℕ → ℕ → Bool → List ℕ

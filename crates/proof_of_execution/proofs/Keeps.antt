@@ -11,52 +11,48 @@ use Rattle.bus_signals.specs.Access.{some_writes}
 use Rattle.bus_signals.specs.Bounds.{executable_region, output_region}
 use Rattle.bus_signals.specs.Map.{some_touches, metadata_region}
 use Rattle.bus_signals.specs.SeenRecord.{SeenRecord}
-use Rattle.part_definitions.specs.Flag.{accesses_in, writes_to, fetches_outside, runs_inside, ran_inside, ran_at, clears_e1, clears_e2, clears_e3, clears_e4, clears_e5, clears_e6, clears_e7, clears_e8, clears_e9, clears}
+use Rattle.part_definitions.specs.Flag.{accesses_in, writes_to, fetches_outside, runs_inside, ran_inside, ran_at, clears_e1, clears_e2, clears_e3, clears_e4, clears_e5, clears_e6, clears_e7, clears_e8, clears_e9, clears_both, clears}
 use Rattle.trace_facts.proofs.Choices.{other_false, first_false, none_there}
 use Rattle.trace_facts.proofs.MissedPlace.{writes_nowhere}
-use Rattle.device_trace.specs.WholeRun.{is_inside, runs_undisturbed, keeps_code, keeps_output}
+use Rattle.device_trace.specs.WholeRun.{is_inside, runs_alone, runs_undisturbed, keeps_code, keeps_output}
 
-pub record Keeps (last : Option ℕ) (now : SeenRecord) : Type 0 where
+-- what clears neither flag
+pub record KeepsBoth (last : Option ℕ) (now : SeenRecord) : Type 0 where
   pub e1 : clears_e1 now ≡ false
   pub e2 : clears_e2 last now ≡ false
-  pub e3 : clears_e3 last now ≡ false
-  pub e4 : clears_e4 now ≡ false
   pub e5 : clears_e5 now ≡ false
   pub e6 : clears_e6 now ≡ false
   pub e7 : clears_e7 now ≡ false
   pub e8 : clears_e8 now ≡ false
   pub e9 : clears_e9 now ≡ false
 
-pub clears-kept : (last : Option ℕ) (now : SeenRecord) → clears last now ≡ false → Keeps last now
-clears-kept last now none =
+pub record Keeps (last : Option ℕ) (now : SeenRecord) : Type 0 where
+  pub both : KeepsBoth last now
+  pub e3 : clears_e3 last now ≡ false
+  pub e4 : clears_e4 now ≡ false
+
+pub clears_both-kept : (last : Option ℕ) (now : SeenRecord) → clears_both last now ≡ false
+    → KeepsBoth last now
+clears_both-kept last now none =
     let p9 = or_parts _ (clears_e9 now) none in
     let p8 = or_parts _ (clears_e8 now) p9.0 in
     let p7 = or_parts _ (clears_e7 now) p8.0 in
     let p6 = or_parts _ (clears_e6 now) p7.0 in
     let p5 = or_parts _ (clears_e5 now) p6.0 in
-    let p4 = or_parts _ (clears_e4 now) p5.0 in
-    let p3 = or_parts _ (clears_e3 last now) p4.0 in
-    let p2 = or_parts (clears_e1 now) (clears_e2 last now) p3.0 in
-    record {
-      e1 = p2.0;
-      e2 = p2.1;
-      e3 = p3.1;
-      e4 = p4.1;
-      e5 = p5.1;
-      e6 = p6.1;
-      e7 = p7.1;
-      e8 = p8.1;
-      e9 = p9.1;
-    }
+    let p2 = or_parts (clears_e1 now) (clears_e2 last now) p5.0 in
+    record { e1 = p2.0; e2 = p2.1; e5 = p5.1; e6 = p6.1; e7 = p7.1; e8 = p8.1; e9 = p9.1 }
+
+pub clears-kept : (last : Option ℕ) (now : SeenRecord) → clears last now ≡ false → Keeps last now
+clears-kept last now none =
+    let p4 = or_parts _ (clears_e4 now) none in
+    let p3 = or_parts (clears_both last now) (clears_e3 last now) p4.0 in
+    record { both = clears_both-kept last now p3.0; e3 = p3.1; e4 = p4.1 }
 
 -- inside ER
-pub undisturbed-kept : (last : Option ℕ) (now : SeenRecord)
-    → Keeps last now → runs_inside now ≡ true
-    → runs_undisturbed now.bounds now.entry ≡ true
-undisturbed-kept last now keeps inside =
+pub alone-kept : (last : Option ℕ) (now : SeenRecord)
+    → KeepsBoth last now → runs_inside now ≡ true → runs_alone now.bounds now.entry ≡ true
+alone-kept last now keeps inside =
     let within : is_inside now.bounds now.entry ≡ true = inside in
-    let quiet : now.entry.irq ≡ false =
-    other_false now.entry.irq (runs_inside now) keeps.e4 inside in
     let no_dma : is_some now.entry.dma ≡ false =
     other_false (is_some now.entry.dma) (runs_inside now) keeps.e7 inside in
     let no_fetch : list_any (fetches_outside (executable_region now.bounds)) (accesses_in now.entry)
@@ -66,14 +62,21 @@ undisturbed-kept last now keeps inside =
     (and_comm (list_any (fetches_outside (executable_region now.bounds)) (accesses_in now.entry))
     (runs_inside now)
     ∙ keeps.e8) inside in
-    and_from (is_inside now.bounds now.entry && not now.entry.irq && is_none now.entry.dma) _
-    (and_from (is_inside now.bounds now.entry && not now.entry.irq) (is_none now.entry.dma)
-    (and_from (is_inside now.bounds now.entry) (not now.entry.irq) within
-    (not_from_false now.entry.irq quiet))
+    and_from (is_inside now.bounds now.entry && is_none now.entry.dma) _
+    (and_from (is_inside now.bounds now.entry) (is_none now.entry.dma) within
     (ap is_none (none_there now.entry.dma no_dma)))
     (not_from_false _ no_fetch)
 
-pub code-kept : (last : Option ℕ) (now : SeenRecord) → Keeps last now
+pub undisturbed-kept : (last : Option ℕ) (now : SeenRecord)
+    → Keeps last now → runs_inside now ≡ true
+    → runs_undisturbed now.bounds now.entry ≡ true
+undisturbed-kept last now keeps inside =
+    let quiet : now.entry.irq ≡ false =
+    other_false now.entry.irq (runs_inside now) keeps.e4 inside in
+    and_from (runs_alone now.bounds now.entry) (not now.entry.irq)
+    (alone-kept last now keeps.both inside) (not_from_false now.entry.irq quiet)
+
+pub code-kept : (last : Option ℕ) (now : SeenRecord) → KeepsBoth last now
     → keeps_code now.bounds now.entry ≡ true
 code-kept last now keeps =
     let dma =
@@ -98,7 +101,9 @@ touches_nowhere access region off =
     writes_nowhere access region
     (and_right (some_writes access) (some_touches access region) off)
 
-pub output-kept : (last : Option ℕ) (now : SeenRecord) → Keeps last now → runs_inside now ≡ false
+pub output-kept : (last : Option ℕ) (now : SeenRecord)
+    → KeepsBoth last now
+    → runs_inside now ≡ false
     → keeps_output now.bounds now.entry ≡ true
 output-kept last now keeps outside =
     let region : Region = output_region now.bounds in
@@ -117,7 +122,7 @@ output-kept last now keeps outside =
     and_from _ _ (not_from_false _ off) (not_from_false _ dma.1)
 
 -- how ER is entered and left
-pub leaves_at_end : (last : Option ℕ) (now : SeenRecord) → Keeps last now
+pub leaves_at_end : (last : Option ℕ) (now : SeenRecord) → KeepsBoth last now
     → ran_inside last (executable_region now.bounds) ≡ true → runs_inside now ≡ false
     → ran_at last now.bounds.er_max ≡ true
 leaves_at_end last now keeps was_inside outside =

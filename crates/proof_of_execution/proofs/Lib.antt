@@ -3,3 +3,7 @@ pub mod Regions
 pub mod Runs
 pub mod Entries
 pub mod Plays
+pub mod KeepsAux
+pub mod TrustedRuns
+pub mod InterruptEntries
+pub mod TrustedPlays

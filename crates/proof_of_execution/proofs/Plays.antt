@@ -1,6 +1,6 @@
 -- Where EXEC is set after a play, the executable region runs, has run whole, or sleeps.
-use Rattle.std.proofs.Common.{◌≡◌, ℕ, Bool, true, false, List, [], ◌∷◌, ◌⊎◌, inl, inr, length, Option, Some, None, ap, sym, ◌∙◌, subst}
-use Rattle.std.specs.Prelude.{◌==◌, ◌&&◌, is_some, IsTrue}
+use Rattle.std.proofs.Common.{◌≡◌, ℕ, Bool, true, false, List, [], ◌∷◌, ◌⊎◌, inl, inr, length, Option, Some, None, refl, ap, sym, ◌∙◌, subst}
+use Rattle.std.specs.Prelude.{◌==◌, ◌&&◌, is_some, IsTrue, if◌then◌else◌}
 use Rattle.std.specs.List.{list_any}
 use Rattle.std.proofs.lemmas.Bool.{cases_Bool, and_from, and_parts, or_parts, eqb-true}
 use Rattle.bus_signals.specs.declared.bounds.Bounds.{Bounds}
@@ -12,15 +12,16 @@ use Rattle.bus_signals.specs.Kind.{is_rom}
 use Rattle.bus_signals.specs.Map.{lies_in, metadata_region, ROM_EXIT}
 use Rattle.bus_signals.specs.Report.{ReportFields}
 use Rattle.bus_signals.specs.SeenRecord.{SeenRecord}
+use Rattle.part_definitions.specs.FirstRule.{first_rule}
+use Rattle.part_definitions.specs.Request.{ATTESTS}
 use Rattle.part_definitions.specs.Flag.{accesses_in, writes_to, is_opcode_fetch, starts_run, runs_inside, ran_inside, last_pc}
 use Rattle.part_definitions.specs.MonitorRule.{in_rom}
-use Rattle.device_trace.specs.FirstRule.{first_rule}
-use Rattle.device_trace.specs.Logs.{Logs, exec_of, logged_bounds, vector_of, step_progress, progress_after, with_events, with_record}
+use Rattle.device_trace.specs.Logs.{Logs, exec_of, logged_bounds, vector_of, step_progress, finishes_call, decision_in, progress_after, with_events, with_record}
 use Rattle.device_trace.specs.Progress.{Progress, last_registers}
 use Rattle.device_trace.specs.Signals.{value_read, step_kind, proposed_access, signals_at, signals_of}
 use Rattle.device_trace.specs.Start.{Start}
 use Rattle.device_trace.specs.Step.{dma_value_read, record_from, record_of, asks_reset, next_record}
-use Rattle.device_trace.specs.Text.{finishes_call, report_of, last_report}
+use Rattle.device_trace.specs.Text.{report_of, report_where, last_report}
 use Rattle.device_trace.specs.Trace.{logs_after, trace}
 use Rattle.device_trace.specs.WholeRun.{WholeRun}
 use Rattle.trace_facts.proofs.ExecFlag.{exec-more, exec-none}
@@ -186,7 +187,7 @@ record_state start logs reset history fresh before set =
     let more = exec-more now logs.records set in
     let keeps : Keeps (last_pc logs.records) now = clears-kept (last_pc logs.records) now more.0 in
     let clean = or_parts (list_any (writes_to metadata_region) (accesses_in entry))
-    (is_some entry.reset) keeps.e9 in
+    (is_some entry.reset) keeps.both.e9 in
     let none : entry.reset ≡ None = none_there entry.reset clean.1 in
     let after : Progress =
     progress_after entry.reset entry.kind (step_progress logs entry.kind) entry.cpu entry.value in
@@ -248,6 +249,27 @@ last_state start logs events history at_exit state set =
     whole_at_exit _ (next_record start logs events ∷ history) _
     (next_record start logs events).pc at_exit (state set)
 
+-- a report is made where a call was finished
+pub made_where : (start : Start) (logs : Logs) (step : ℕ) (decision : Option ℕ)
+    (report : ReportFields)
+    → report_where start logs step decision ≡ Some report
+    → (is_some decision ≡ true) × (report_of start logs step ≡ report)
+made_where start logs step None report is = absurd (cc)
+made_where start logs step (Some decision) report is =
+    (refl, (some_where (decision == ATTESTS) (report_of start logs step) report is).1)
+
+finished_where : (finishes : Bool) (decision : Option ℕ)
+    → is_some (if finishes then decision else None) ≡ true → finishes ≡ true
+finished_where true decision some = refl
+finished_where false decision some = absurd (cc)
+
+-- the decision after a step is that of the call that it finished
+pub decision_finishes : (start : Start) (logs : Logs) (entry : BusRecord)
+    → is_some (with_record start logs entry).decision ≡ true → finishes_call entry ≡ true
+unfolding with_record
+decision_finishes start logs entry some =
+    finished_where (finishes_call entry) (decision_in (step_progress logs entry.kind)) some
+
 pub report-whole_run : (start : Start) (play : List (List Event)) (report : ReportFields)
     → last_report start play ≡ Some report → IsTrue report.exec
     → WholeRun report.bounds (trace start play)
@@ -257,13 +279,14 @@ report-whole_run start (events ∷ play) report is set =
     let logs : Logs = logs_after start play in
     let entry : BusRecord = next_record start logs events in
     let after : Logs = with_record start (with_events logs events) entry in
-    let fields : ReportFields = report_of start after (length play) in
-    let both = some_where (finishes_call entry) fields report is in
-    let call = and_parts (is_rom entry.kind && (entry.pc == ROM_EXIT)) _ both.0 in
+    let made = made_where start after (length play) after.decision report is in
+    let finishes : finishes_call entry ≡ true =
+    decision_finishes start (with_events logs events) entry made.0 in
+    let call = and_parts (is_rom entry.kind && (entry.pc == ROM_EXIT)) _ finishes in
     let place = and_parts (is_rom entry.kind) (entry.pc == ROM_EXIT) call.0 in
-    let set_after : exec_of after ≡ true = ap (λ (r : ReportFields). r.exec) both.1 ∙ set in
+    let set_after : exec_of after ≡ true = ap (λ (r : ReportFields). r.exec) made.1 ∙ set in
     subst (λ (bounds : Bounds). WholeRun bounds (entry ∷ trace start play))
-    (ap (λ (r : ReportFields). r.bounds) both.1)
+    (ap (λ (r : ReportFields). r.bounds) made.1)
     (last_state start logs events (trace start play) (eqb-true entry.pc ROM_EXIT place.1)
     (step_state start logs events (trace start play) (logs_after-fresh start play)
     (play_state start play)) set_after)

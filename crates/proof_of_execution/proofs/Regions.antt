@@ -5,7 +5,7 @@ use Rattle.std.proofs.lemmas.Bool.{and_parts, and_from, leb-true, le-leb, eq-eqb
 use Rattle.std.proofs.lemmas.Bool.Decides.{nat_tests}
 use Rattle.bus_signals.specs.declared.bounds.Bounds.{Bounds}
 use Rattle.bus_signals.specs.Bounds.{are_valid, executable_region}
-use Rattle.bus_signals.specs.Map.{lies_in}
+use Rattle.bus_signals.specs.Map.{lies_in, metadata_region}
 use Rattle.bus_signals.proofs.ValidRange.{are_valid-ranges}
 use Rattle.part_definitions.specs.MonitorRule.{in_rom}
 
@@ -26,7 +26,7 @@ within_region first last pc fits within =
 pub inside-open : (bounds : Bounds) (pc : ℕ) → are_valid bounds ≡ true
     → lies_in (executable_region bounds) pc ≡ true → (in_rom pc ≡ false) × (0 < pc)
 inside-open bounds pc valid within =
-    let range = (are_valid-ranges bounds valid).executable in
+    let range = (are_valid-ranges metadata_region bounds valid).executable in
     let place = within_region bounds.er_min bounds.er_max pc range.fits within in
     elim range.place [
       | inl ram ↦ open_pc pc (inl (omega (arith, ram.0, place.0), omega (arith, ram.1, place.1)))
@@ -36,7 +36,7 @@ inside-open bounds pc valid within =
 pub min-inside : (bounds : Bounds) → are_valid bounds ≡ true
     → lies_in (executable_region bounds) bounds.er_min ≡ true
 min-inside bounds valid =
-    let range = (are_valid-ranges bounds valid).executable in
+    let range = (are_valid-ranges metadata_region bounds valid).executable in
     and_from (nat_le bounds.er_min bounds.er_min)
     (nat_le bounds.er_min ((bounds.er_max + 1) % 2 ^ 16))
     (le-leb bounds.er_min bounds.er_min (omega arith))
@@ -50,4 +50,4 @@ even_place place even = eq-eqb (place / 2 * 2) place (omega arith)
 pub min-even : (bounds : Bounds) → are_valid bounds ≡ true
     → (bounds.er_min / 2 * 2 == bounds.er_min) ≡ true
 min-even bounds valid =
-    even_place bounds.er_min (are_valid-ranges bounds valid).executable.first_even
+    even_place bounds.er_min (are_valid-ranges metadata_region bounds valid).executable.first_even

@@ -50,7 +50,7 @@ run_starts last now history keeps starts =
       undisturbed =
           and_from (runs_undisturbed now.bounds now.entry) true
           (undisturbed-kept last now keeps inside) refl;
-      code = and_from (keeps_code now.bounds now.entry) true (code-kept last now keeps) refl;
+      code = and_from (keeps_code now.bounds now.entry) true (code-kept last now keeps.both) refl;
       is_last = refl;
       inside = inside;
     }
@@ -69,7 +69,7 @@ run_goes_on last now history keeps inside run =
       undisturbed =
           and_from (runs_undisturbed now.bounds now.entry) _
           (undisturbed-kept last now keeps inside) run.undisturbed;
-      code = and_from (keeps_code now.bounds now.entry) _ (code-kept last now keeps) run.code;
+      code = and_from (keeps_code now.bounds now.entry) _ (code-kept last now keeps.both) run.code;
       is_last = refl;
       inside = inside;
     }
@@ -84,7 +84,7 @@ run_ends last now history keeps valid outside run =
     ap (λ (pc : Option ℕ). ran_inside pc (executable_region now.bounds)) run.is_last ∙ run.inside in
     let at_end : (run.newest.pc == now.bounds.er_max) ≡ true =
     ap (λ (pc : Option ℕ). ran_at pc now.bounds.er_max) (sym run.is_last)
-    ∙ leaves_at_end last now keeps was_inside outside in
+    ∙ leaves_at_end last now keeps.both was_inside outside in
     let whole : WholeRun now.bounds (now.entry ∷ history) =
     record {
       valid = valid;
@@ -96,13 +96,13 @@ run_ends last now history keeps valid outside run =
       ends = at_end;
       undisturbed = run.undisturbed;
       left = and_from (not (is_inside now.bounds now.entry)) true (not_from_false _ outside) refl;
-      code = and_from (keeps_code now.bounds now.entry) _ (code-kept last now keeps) run.code;
+      code = and_from (keeps_code now.bounds now.entry) _ (code-kept last now keeps.both) run.code;
       output = and_from (keeps_output now.bounds now.entry) true
-          (output-kept last now keeps outside) refl;
+          (output-kept last now keeps.both outside) refl;
     } in
     record { whole = whole; outside = outside }
 
-all_left : (bounds : Bounds) (after : List BusRecord)
+pub all_left : (bounds : Bounds) (after : List BusRecord)
     → has_left bounds after ≡ true → list_all (λ one. not (is_inside bounds one)) after ≡ true
 all_left bounds [] rest = refl
 all_left bounds (entry ∷ after) rest = rest
@@ -125,8 +125,9 @@ stays_outside last now history keeps outside run =
       left =
           and_from (not (is_inside now.bounds now.entry)) _ (not_from_false _ outside)
           (all_left now.bounds run.whole.after run.whole.left);
-      code = and_from (keeps_code now.bounds now.entry) _ (code-kept last now keeps) run.whole.code;
+      code = and_from (keeps_code now.bounds now.entry) _
+          (code-kept last now keeps.both) run.whole.code;
       output = and_from (keeps_output now.bounds now.entry) _
-          (output-kept last now keeps outside) run.whole.output;
+          (output-kept last now keeps.both outside) run.whole.output;
     } in
     record { whole = whole; outside = outside }

@@ -7,11 +7,11 @@ use Rattle.device_trace.specs.Example.{quiet_steps}
 
 -- the region is called and then attested, with no event
 abbrev pub quiet_play : List (List Event)
-quiet_play = quiet_steps 121 []
+quiet_play = quiet_steps 145 []
 
 -- the same, where a byte arrives while the region runs
 abbrev pub play_with_byte : List (List Event)
-play_with_byte = quiet_steps 118 ((Rx 0x55 ∷ []) ∷ quiet_steps 11 [])
+play_with_byte = quiet_steps 142 ((Rx 0x55 ∷ []) ∷ quiet_steps 11 [])
 
 -- EXEC in a report
 abbrev pub reported_exec : Option ReportFields → Option Bool

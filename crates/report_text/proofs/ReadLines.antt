@@ -1,5 +1,5 @@
 -- Texts of printed lines, and the reports that are read of them.
-use Rattle.std.proofs.Common.{◌≡◌, ◌∙◌, ℕ, ◌+◌, ◌<◌, ◌≤◌, Bool, false, List, [], ◌∷◌, ◌++◌, Option, Some, None, Ok, length, length-append, append_assoc, append-nil, add-zero, refl, ap, sym, arith}
+use Rattle.std.proofs.Common.{◌≡◌, ◌∙◌, ℕ, ◌+◌, ◌<◌, ◌≤◌, Bool, false, List, [], ◌∷◌, ◌++◌, Option, Some, None, Ok, length, length-append, append_assoc, append-nil, add-zero, refl, ap, sym, subst, arith}
 use Rattle.std.specs.Prelude.{◌^◌, codes, IsUtf8}
 use Rattle.std.specs.Fmt.{decimal}
 use Rattle.std.specs.List.{join_with_byte}
@@ -18,14 +18,14 @@ use Rattle.text_scan.proofs.FirstLine.{lines-line}
 use Rattle.text_scan.proofs.PlainWords.{ArePlain, IsPlainWord, hex_bytes_of-digits, hex_word_of-digits, words_of-join, printed-join, printed_bounds, printed-ascii, plain-decimal, plain-encoded, one_byte}
 use Rattle.text_scan.proofs.TextUtf8.{utf8_of-whole}
 use Rattle.report_verifier.specs.declared.decision.Decision.{Decision}
-use Rattle.report_verifier.specs.declared.decision.Decision.TheVariants.{Accept, NoChallenge, ChalDiffers, BoundsDiffer, ExecZero, MacDiffers}
+use Rattle.report_verifier.specs.declared.decision.Decision.TheVariants.{Accept, NoChallenge, VersionDiffers, ChalDiffers, BoundsDiffer, ExecZero, MacDiffers}
 use Rattle.report_text.specs.ReadBack.{IsPrintable, IsReadBack, IsPassedOver}
 use Rattle.report_text.specs.ReportFile.{with_report, with_line, reports_of}
 use Rattle.report_text.specs.ReportLine.{name_of, tx_line_of, reset_of, end_line_of, verdict_of, no_report_of, line_of}
 use Rattle.report_text.specs.RuleName.{is_rule_name}
 use Rattle.report_text.specs.VerdictLine.{verdict_line}
 use Rattle.report_text.specs.VerdictName.{verdict_name, is_verdict_name}
-use Rattle.report_text.proofs.ReportWords.{report_words, report_line-words, line_of-words, count_of-decimal, exec_of-flag, plain-words, plain-flag, plain-place}
+use Rattle.report_text.proofs.ReportWords.{one, one-same, report_words, report_line-words, line_of-words, count_of-decimal, exec_of-flag, plain-words, plain-flag, plain-place}
 
 -- What a text says, whatever stands before and behind it: these lines, and these reports of them.
 pub record ReadsAs (text : List ℕ) (reports : List ReportFields) : Type 0 where
@@ -138,12 +138,18 @@ reads-other words text is some says plain has =
 
 -- the line of a report
 
+reads-one : (report : ReportFields) → IsPrintable report
+    → ReadsAs (report_line (one report)) (one report ∷ [])
+reads-one report printable =
+    reads-line (report_words report) (report_line (one report)) (Some (one report))
+    (one report ∷ []) (report_line-words report) (omega arith) refl (plain-words report printable)
+    (line_of-words report printable) (λ before. rw printable.fits refl)
+
 pub reads-report : (report : ReportFields) → IsPrintable report
     → ReadsAs (report_line report) (report ∷ [])
 reads-report report printable =
-    reads-line (report_words report) (report_line report) (Some report) (report ∷ [])
-    (report_line-words report) (omega arith) refl (plain-words report printable)
-    (line_of-words report printable) (λ before. rw printable.fits refl)
+    subst (λ (same : ReportFields). ReadsAs (report_line same) (same ∷ []))
+    (one-same report printable) (reads-one report printable)
 
 pub read_back : IsReadBack
 read_back report printable =
@@ -226,6 +232,7 @@ name_of-verdict : (verdict : Decision)
 unfolding name_of
 name_of-verdict Accept = refl
 name_of-verdict NoChallenge = refl
+name_of-verdict VersionDiffers = refl
 name_of-verdict ChalDiffers = refl
 name_of-verdict BoundsDiffer = refl
 name_of-verdict ExecZero = refl
@@ -234,6 +241,7 @@ name_of-verdict MacDiffers = refl
 plain-verdict : (verdict : Decision) → IsPlainWord (verdict_name verdict)
 plain-verdict Accept = (omega arith, refl)
 plain-verdict NoChallenge = (omega arith, refl)
+plain-verdict VersionDiffers = (omega arith, refl)
 plain-verdict ChalDiffers = (omega arith, refl)
 plain-verdict BoundsDiffer = (omega arith, refl)
 plain-verdict ExecZero = (omega arith, refl)

@@ -1,7 +1,8 @@
 -- The line of a report is read as that report, and the line of a verdict as none.
-use Rattle.std.specs.Prelude.{◌≡◌, ◌<◌, ◌^◌, ℕ, List, [], ◌∷◌, length, Ok, IfSome, IsTrue}
+use Rattle.std.specs.Prelude.{◌≡◌, ◌<◌, ◌^◌, ℕ, false, List, [], ◌∷◌, length, Ok, IfSome, IsTrue}
 use Rattle.hex.specs.Hex.{IsBytes}
 use Rattle.bus_signals.specs.declared.bounds.Bounds.{Bounds}
+use Rattle.bus_signals.specs.declared.version.Version.TheVariants.{One}
 use Rattle.bus_signals.specs.Report.{ReportFields}
 use Rattle.printed_lines.specs.Line.{report_line}
 use Rattle.report_verifier.specs.declared.decision.Decision.{Decision}
@@ -20,8 +21,11 @@ pub record AreWords (bounds : Bounds) : Type 0 where
   pub or_min : bounds.or_min < 2 ^ 16
   pub or_max : bounds.or_max < 2 ^ 16
 
--- a report whose numbers fit, and whose output fits its bounds
+-- a report of version 1 whose numbers fit, and whose output fits its bounds
 pub record IsPrintable (report : ReportFields) : Type 0 where
+  pub version : report.version ≡ One
+  pub aux : report.aux ≡ false
+  pub count : report.count ≡ 0
   pub step : report.step < 2 ^ 32
   pub chal : IsBlock report.chal
   pub bounds : AreWords report.bounds

@@ -1,7 +1,7 @@
 -- A report file: the reports of its lines, or the first fault.
 use Rattle.std.specs.Prelude.{ℕ, ◌==◌, ◌&&◌, ◌+◌, ◌-◌, Bool, not, List, [], ◌∷◌, ◌++◌, length, if◌then◌else◌, Option, Some, None, Result, Ok, Err}
 use Rattle.bus_signals.specs.declared.bounds.Bounds.{Bounds}
-use Rattle.bus_signals.specs.Bounds.{are_valid}
+use Rattle.bus_signals.specs.Bounds.{are_valid_one}
 use Rattle.bus_signals.specs.Report.{ReportFields}
 use Rattle.text_scan.specs.declared.fault_at.FaultAt.{FaultAt}
 use Rattle.text_scan.specs.declared.fault_kind.FaultKind.{FaultKind}
@@ -13,9 +13,9 @@ use Rattle.report_text.specs.ReportLine.{line_of}
 
 -- with valid bounds there are the bytes of the output region, else there are none
 abbrev pub output_fits : Bounds → Option (List ℕ) → Bool
-output_fits bounds None = not (are_valid bounds)
+output_fits bounds None = not (are_valid_one bounds)
 output_fits bounds (Some bytes) =
-    are_valid bounds && (length bytes == bounds.or_max + 2 - bounds.or_min)
+    are_valid_one bounds && (length bytes == bounds.or_max + 2 - bounds.or_min)
 
 abbrev pub with_report :
     List ReportFields → Option ReportFields → Result (List ReportFields) FaultKind

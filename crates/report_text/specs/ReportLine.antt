@@ -1,7 +1,8 @@
 -- The lines of a report file: what each says, and its first fault.
-use Rattle.std.specs.Prelude.{ℕ, ◌==◌, Bool, List, if◌then◌else◌, Option, Some, None, Result, Ok, Err, codes}
+use Rattle.std.specs.Prelude.{false, ℕ, ◌==◌, Bool, List, if◌then◌else◌, Option, Some, None, Result, Ok, Err, codes}
 use Rattle.std.specs.Str.{bytes_eq}
 use Rattle.bus_signals.specs.declared.bounds.Bounds.{Bounds}
+use Rattle.bus_signals.specs.declared.version.Version.TheVariants.{One}
 use Rattle.bus_signals.specs.Report.{ReportFields}
 use Rattle.text_scan.specs.declared.fault_kind.FaultKind.{FaultKind}
 use Rattle.text_scan.specs.declared.fault_kind.FaultKind.TheVariants.{Word}
@@ -72,8 +73,11 @@ report_of words = do
   mac ← digest_of (codes "mac") output.1
   Ok (
     record {
+      version = One;
       step = step.0;
       exec = exec.0;
+      aux = false;
+      count = 0;
       chal = chal.0;
       bounds = bounds.0;
       output = output.0;

@@ -1,12 +1,13 @@
-ghost use Rattle.std.specs.Prelude.{◌≡◌};
+ghost use Rattle.std.specs.Prelude.{◌≡◌, false};
+ghost use Rattle.bus_signals.specs.declared.version.Version.TheVariants.{One};
 ghost use Rattle.bus_signals.specs.Report.{ReportFields, fields_of};
 ghost use Rattle.report_text.specs.ReportFile.{output_fits};
 
-use bus_signals::{Bounds, ReportView, valid};
+use bus_signals::{Bounds, ReportView, Version, valid_one};
 use std::marker::Model;
 use text_scan::Bytes;
 
-/// An attestation report, as read from a file.
+/// An attestation report of version 1, as read from a file.
 #[derive(Debug, Drop)]
 pub struct Report {
     /// The step that finished the call, below 2^32.
@@ -24,8 +25,11 @@ impl Model for Report {
     ghost Value = { ReportFields };
 
     ghost view = { λ report. record {
+      version = One;
       step = report.step;
       exec = report.exec;
+      aux = false;
+      count = 0;
       chal = report.chal;
       bounds = report.bounds;
       output = report.output;
@@ -39,8 +43,11 @@ impl Report {
         ensures { fields_of result ≡ self.now }
     {
         ReportView {
+            version: Version::One,
             step: self.step,
             exec: self.exec,
+            aux: false,
+            count: 0,
             chal: self.chal,
             bounds: self.bounds,
             output: match &self.output {
@@ -57,10 +64,10 @@ impl Report {
         ensures { result ≡ output_fits self.now.bounds self.now.output }
     {
         match &self.output {
-            None => !valid(&self.bounds),
+            None => !valid_one(&self.bounds),
             Some(bytes) => {
                 let end = usize::from(self.bounds.or_max) + 2;
-                valid(&self.bounds)
+                valid_one(&self.bounds)
                     && bytes.as_slice().len() == end.saturating_sub(usize::from(self.bounds.or_min))
             }
         }

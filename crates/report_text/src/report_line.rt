@@ -2,17 +2,18 @@ ghost use Rattle.std.specs.Prelude.{◌≡◌, ◌≤◌, ◌+◌, ◌++◌, len
 ghost use Rattle.hex.specs.Hex.{encode_lower};
 ghost use Rattle.outside_edge.specs.Sink.{Puts, CountsFaults};
 ghost use Rattle.bus_signals.specs.Report.{fields_of};
-ghost use Rattle.printed_lines.specs.Line.{output_word, bounds_words, report_head, report_tail, report_line};
+ghost use Rattle.printed_lines.specs.Line.{output_word, bounds_words, report_keyword, request_words, report_head, report_tail, report_line};
 
 use crate::printed_line::flag_digit;
-use bus_signals::{Bounds, ReportView};
+use bus_signals::{Bounds, ReportView, Version};
 use line_buffer::LineBuffer;
 use outside_edge::{Failed, Sink, put_all};
 
 // How many bytes of the output are put at once.
 const PIECE: usize = 32;
 
-/// Puts the line of a report: `report S exec E chal H64 er H4 H4 or H4 H4 data D mac H64`.
+/// Puts the line of a report: `report S exec E chal H64 er H4 H4 or H4 H4 data D mac H64`, and from
+/// version 2 on `report2 S exec E aux A count N chal ..`, which goes on likewise.
 pub fn print_report<W: Sink>(view: &ReportView<'_>, sink: &mut W) -> Result<(), Failed>
     ensures puts { Puts W.stands sink.old sink.new (report_line (fields_of view.now)) result }
     ensures counts { CountsFaults W.faults sink.old sink.new result }
@@ -36,10 +37,11 @@ fn print_head<W: Sink>(view: &ReportView<'_>, sink: &mut W) -> Result<(), Failed
     ensures counts { CountsFaults W.faults sink.old sink.new result }
 {
     let mut line = LineBuffer::new();
-    line.push(b"report ");
+    line.push(keyword(view.version));
     line.push_decimal(view.step);
     line.push(b" exec ");
     line.push(flag_digit(view.exec));
+    push_request(&mut line, view.version, view.aux, view.count);
     line.push(b" chal ");
     line.push_hex(&view.chal);
     line.push(b" ");
@@ -48,8 +50,36 @@ fn print_head<W: Sink>(view: &ReportView<'_>, sink: &mut W) -> Result<(), Failed
     put_all(sink, line.as_slice())
 }
 
+// The keyword of a report.
+fn keyword(version: Version) -> &'static [u8]
+    ensures text { result.now ≡ report_keyword version }
+    ensures len { length result.now ≤ 8 }
+{
+    match version {
+        Version::One => b"report ",
+        Version::Two => b"report2 ",
+    }
+}
+
+// What is new in version 2: the second flag and the counter.
+fn push_request(line: &mut LineBuffer, version: Version, aux: bool, count: u32)
+    requires { length line.old ≤ 60 }
+    ensures text { line.new ≡ line.old ++ request_words version aux count }
+    ensures len { length line.new ≤ length line.old + 33 }
+{
+    match version {
+        Version::One => {}
+        Version::Two => {
+            line.push(b" aux ");
+            line.push(flag_digit(aux));
+            line.push(b" count ");
+            line.push_decimal(u64::from(count));
+        }
+    }
+}
+
 fn push_bounds(line: &mut LineBuffer, bounds: &Bounds)
-    requires { length line.old ≤ 120 }
+    requires { length line.old ≤ 140 }
     ensures text { line.new ≡ line.old ++ bounds_words bounds.now }
     ensures len { length line.new ≡ length line.old + 25 }
 {

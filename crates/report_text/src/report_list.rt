@@ -7,7 +7,7 @@ ghost use Rattle.report_text.specs.ReportFile.{output_fits, with_report, with_li
 
 use crate::report::Report;
 use crate::report_entry::read_report_entry;
-use bus_signals::valid;
+use bus_signals::valid_one;
 use std::alloc::Global;
 use std::marker::Model;
 use text_scan::{FaultKind, LineReader, TextFault, WordFault, read_text};

@@ -3,9 +3,10 @@ ghost use Rattle.report_text.specs.VerdictName.{verdict_name, is_verdict_name};
 
 use report_verifier::Decision;
 
-const ALL_VERDICTS: [Decision; 6] = [
+const ALL_VERDICTS: [Decision; 7] = [
     Decision::Accept,
     Decision::NoChallenge,
+    Decision::VersionDiffers,
     Decision::ChalDiffers,
     Decision::BoundsDiffer,
     Decision::ExecZero,
@@ -15,11 +16,12 @@ const ALL_VERDICTS: [Decision; 6] = [
 /// A verdict's name, as it is printed.
 pub fn verdict_name(decision: Decision) -> &'static [u8]
     ensures name { result.now ≡ verdict_name decision }
-    ensures len { length result.now ≤ 13 }
+    ensures len { length result.now ≤ 15 }
 {
     match decision {
         Decision::Accept => b"accept",
         Decision::NoChallenge => b"no-challenge",
+        Decision::VersionDiffers => b"version-differs",
         Decision::ChalDiffers => b"chal-differs",
         Decision::BoundsDiffer => b"bounds-differ",
         Decision::ExecZero => b"exec-zero",

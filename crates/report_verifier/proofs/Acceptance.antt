@@ -6,20 +6,21 @@ use Rattle.std.proofs.Math.Seq.{take-append_seam, drop-append_seam}
 use Rattle.std.proofs.lemmas.Bool.{and_parts, cases_Bool, cond-true, eqb-true, false≢true}
 use Rattle.std.proofs.lemmas.Slice.Eq.{bytes_eq-Decides}
 use Rattle.bus_signals.specs.declared.bounds.Bounds.{Bounds}
-use Rattle.bus_signals.specs.Bounds.{are_valid}
+use Rattle.bus_signals.specs.Bounds.{are_valid_one}
 use Rattle.bus_signals.specs.Report.{ReportFields}
 use Rattle.part_definitions.specs.Attestation.{attestation_tag, derived_key}
 use Rattle.part_definitions.specs.Hmac.{hmac}
 use Rattle.part_definitions.specs.Metadata.{bounds_in}
-use Rattle.part_definitions.specs.Region.{bounded_bytes, bytes_between, challenge_bytes, metadata_bytes, output_bytes, rest_bytes}
-use Rattle.report_verifier.specs.declared.decision.Decision.TheVariants.{Accept, ChalDiffers, BoundsDiffer, ExecZero, MacDiffers}
+use Rattle.part_definitions.specs.Region.{bytes_between, challenge_bytes, output_bytes}
+use Rattle.report_verifier.specs.declared.decision.Decision.{Decision}
+use Rattle.report_verifier.specs.declared.decision.Decision.TheVariants.{Accept, VersionDiffers, ChalDiffers, BoundsDiffer, ExecZero, MacDiffers}
 use Rattle.report_verifier.specs.declared.expect.Expect.{Expect}
 use Rattle.report_verifier.specs.Acceptance.{IsAccepted, StandsAsExpected}
 use Rattle.report_verifier.specs.Collision.{Collides, colliding_pair}
-use Rattle.report_verifier.specs.Comparison.{expected_key, expected_bytes, own_bytes}
+use Rattle.report_verifier.specs.Comparison.{bounded_bytes, expected_key, expected_bytes, metadata_bytes, own_bytes, rest_bytes}
 use Rattle.report_verifier.specs.Expectation.{expected_mac, expected_metadata, expected_rest, image_byte, image_code, output_of}
 use Rattle.report_verifier.specs.PolicyGrammar.{bounds_with}
-use Rattle.report_verifier.specs.Verdict.{same_bounds}
+use Rattle.report_verifier.specs.Verdict.{is_version_two, same_bounds}
 use Rattle.report_verifier.proofs.Pairs.{one_mac-collides}
 use Rattle.part_definitions.proofs.BytesFrom.{length-bytes_from}
 use Rattle.report_verifier.proofs.SixPieces.{length-metadata, take-chal}
@@ -37,6 +38,12 @@ tests-hold true true true false is = absurd (cc)
 tests-hold true true false mac is = absurd (cc)
 tests-hold true false exec mac is = absurd (cc)
 tests-hold false bounds exec mac is = absurd (cc)
+
+-- and that the report is not of version 2
+pub version-one : (two : Bool) (decision : Decision)
+    → (if two then VersionDiffers else decision) ≡ Accept → decision ≡ Accept
+version-one true decision is = absurd (cc)
+version-one false decision is = is
 
 -- bounds that are the same in each part are equal
 pub same-bounds : (left right : Bounds) → same_bounds left right ≡ true → left ≡ right
@@ -69,7 +76,8 @@ accept-agrees : (digest : List ℕ → List ℕ) (key : List ℕ) (image : ℕ �
 accept-agrees digest key image expect bytes report is =
     let mac : List ℕ = expected_mac digest key image expect report.output in
     let tests = tests-hold (bytes_eq expect.chal report.chal)
-    (same_bounds expect.bounds report.bounds) report.exec (bytes_eq mac report.mac) is.accepted in
+    (same_bounds expect.bounds report.bounds) report.exec (bytes_eq mac report.mac)
+    (version-one (is_version_two report.version) _ is.accepted) in
     let bounds = same-bounds expect.bounds report.bounds tests.1 in
     record {
       chal = (bytes_eq-Decides expect.chal report.chal).0 tests.0 ∙ is.of_memory.chal;
@@ -125,7 +133,7 @@ expected-where digest key image expect bytes report is same =
     let rest : rest_bytes bytes
     ≡ bytes_between bytes bounds.er_min bounds.er_max ++ output_bytes bytes bounds =
     ap (bounded_bytes bytes) (sym agrees.here)
-    ∙ cond-true (are_valid bounds) _ _ is.valid in
+    ∙ cond-true (are_valid_one bounds) _ _ is.valid in
     let code = parts-same (image_code image bounds) (output_of report.output)
     (bytes_between bytes bounds.er_min bounds.er_max) (output_bytes bytes bounds)
     (length-bytes_from (image_byte image) bounds.er_min count

@@ -1,5 +1,4 @@
 pub mod SixPieces
-pub mod SameBytes
 pub mod CodeBytes
 pub mod Pairs
 pub mod Acceptance

@@ -3,7 +3,7 @@ use Rattle.std.proofs.Common.{◌≡◌, ℕ, List, [], ◌∷◌, Bool, true, f
 use Rattle.std.specs.Prelude.{if◌then◌else◌}
 use Rattle.std.specs.Str.Lines.{lines}
 use Rattle.bus_signals.specs.declared.bounds.Bounds.{Bounds}
-use Rattle.bus_signals.specs.Bounds.{are_valid}
+use Rattle.bus_signals.specs.Bounds.{are_valid_one}
 use Rattle.text_scan.specs.declared.fault_at.FaultAt.{FaultAt}
 use Rattle.text_scan.specs.declared.fault_kind.FaultKind.{FaultKind}
 use Rattle.text_scan.specs.declared.fault_kind.FaultKind.TheVariants as kinds
@@ -20,10 +20,10 @@ use Rattle.report_verifier.specs.PolicyGrammar.{policy_of, line_of, bounds_with,
 
 -- the bounds that a draft has are valid
 abbrev HasValidBounds : Draft → Type 0
-HasValidBounds (Whole policy) = are_valid policy.bounds ≡ true
+HasValidBounds (Whole policy) = are_valid_one policy.bounds ≡ true
 HasValidBounds draft = Unit {0}
 
-with_bounds-valid : (bounds : Bounds) (test : Bool) → are_valid bounds ≡ test
+with_bounds-valid : (bounds : Bounds) (test : Bool) → are_valid_one bounds ≡ test
     → IfOk (if test then Ok (Whole (record { bounds = bounds; challenges = [] }))
     else Err kinds.Bounds) HasValidBounds
 with_bounds-valid bounds true valid = valid
@@ -74,25 +74,25 @@ state_after-valid draft (line ∷ lines) valid =
     (λ after valid_after. state_after-valid after lines valid_after)
 
 whole-valid : (last : ℕ) (draft : Draft) → HasValidBounds draft
-    → IfOk (whole_policy last draft) (λ policy. are_valid policy.bounds ≡ true)
+    → IfOk (whole_policy last draft) (λ policy. are_valid_one policy.bounds ≡ true)
 whole-valid last Empty valid = tt
 whole-valid last (ExecutableKnown first end) valid = tt
 whole-valid last (Whole policy) valid = valid
 
 draft-valid : (last : ℕ) (draft : Result Draft FaultAt) → IfOk draft HasValidBounds
-    → IfOk (draft >>= whole_policy last) (λ policy. are_valid policy.bounds ≡ true)
+    → IfOk (draft >>= whole_policy last) (λ policy. are_valid_one policy.bounds ≡ true)
 draft-valid last (Ok after) valid = whole-valid last after valid
 draft-valid last (Err fault) valid = tt
 
 pub policy_of-valid : (text : List ℕ)
-    → IfOk (policy_of text) (λ policy. are_valid policy.bounds ≡ true)
+    → IfOk (policy_of text) (λ policy. are_valid_one policy.bounds ≡ true)
 unfolding policy_of text_fold
 policy_of-valid text = by_case (utf8_of text)
   where
     by_case : (sound : Result Unit FaultAt)
         → IfOk ((sound >>= (λ is. state_after with_line Empty (lines_of text)))
         >>= whole_policy (length (lines text)))
-        (λ policy. are_valid policy.bounds ≡ true)
+        (λ policy. are_valid_one policy.bounds ≡ true)
     by_case (Err fault) = tt
     by_case (Ok is) =
         draft-valid (length (lines text)) (state_after with_line Empty (lines_of text))

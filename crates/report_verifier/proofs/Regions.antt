@@ -1,7 +1,8 @@
 -- How many bytes valid regions have together with the metadata.
 use Rattle.std.proofs.Common.{◌≡◌, ◌+◌, ◌-◌, ◌≤◌, ◌<◌, ◌⊎◌, ℕ, true, inl, inr, arith}
 use Rattle.bus_signals.specs.declared.bounds.Bounds.{Bounds}
-use Rattle.bus_signals.specs.Bounds.{are_valid}
+use Rattle.bus_signals.specs.Bounds.{are_valid_one}
+use Rattle.bus_signals.specs.Map.{version_one_metadata}
 use Rattle.bus_signals.proofs.ValidRange.{IsValidRange, are_valid-ranges}
 
 -- in RAM a region lies beside MAC and metadata
@@ -20,7 +21,7 @@ ram-size first last in_order ram (inr mac) (inr metadata) = omega (arith, metada
 abbrev IsSized : ℕ → ℕ → Type 0
 IsSized first last = (last + 2 - first ≤ 8086) ⊎ ((0xC000 ≤ first) × (last + 1 ≤ 0xFFDF))
 
-range-sized : (first last : ℕ) → IsValidRange first last → IsSized first last
+range-sized : (first last : ℕ) → IsValidRange version_one_metadata first last → IsSized first last
 range-sized first last range =
     elim range.place [
       | inl ram ↦ inl (ram-size first last range.ordered ram range.off_mac range.off_metadata)
@@ -42,10 +43,10 @@ both-fit er_min er_max or_min or_max (inr er) (inr or) (inl below) =
 both-fit er_min er_max or_min or_max (inr er) (inr or) (inr above) =
     omega (arith, er.0, er.1, or.0, or.1, above)
 
-pub valid-fit : (bounds : Bounds) → are_valid bounds ≡ true
+pub valid-fit : (bounds : Bounds) → are_valid_one bounds ≡ true
     → 42 + (bounds.er_max + 2 - bounds.er_min) + (bounds.or_max + 2 - bounds.or_min) ≤ 24480
 valid-fit bounds valid =
-    let ranges = are_valid-ranges bounds valid in
+    let ranges = are_valid-ranges version_one_metadata bounds valid in
     both-fit bounds.er_min bounds.er_max bounds.or_min bounds.or_max
     (range-sized bounds.er_min bounds.er_max ranges.executable)
     (range-sized bounds.or_min bounds.or_max ranges.output) ranges.apart

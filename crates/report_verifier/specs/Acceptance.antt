@@ -1,10 +1,11 @@
--- What an accept means for a device whose memory has these bytes.
+-- What an accept means for a device of version 1 whose memory has these bytes.
 use Rattle.std.specs.Prelude.{◌≡◌, ℕ, List, Option, Some, IsTrue}
-use Rattle.bus_signals.specs.Bounds.{are_valid}
+use Rattle.bus_signals.specs.Bounds.{are_valid_one}
 use Rattle.bus_signals.specs.Report.{ReportFields}
 use Rattle.part_definitions.specs.Attestation.{attestation_tag}
 use Rattle.part_definitions.specs.Metadata.{bounds_in}
-use Rattle.part_definitions.specs.Region.{challenge_bytes, metadata_bytes, rest_bytes, bytes_between, output_bytes}
+use Rattle.part_definitions.specs.Region.{challenge_bytes, bytes_between, output_bytes}
+use Rattle.report_verifier.specs.Comparison.{metadata_bytes, rest_bytes}
 use Rattle.report_verifier.specs.declared.decision.Decision.TheVariants.{Accept}
 use Rattle.report_verifier.specs.declared.expect.Expect.{Expect}
 use Rattle.report_verifier.specs.Expectation.{expected_metadata, image_code}
@@ -16,14 +17,14 @@ pub record IsOfMemory (digest : List ℕ → List ℕ) (key : List ℕ) (bytes :
     (report : ReportFields) : Type 0 where
   pub chal : report.chal ≡ challenge_bytes bytes
   pub bounds : report.bounds ≡ bounds_in bytes
-  pub output : IsTrue (are_valid report.bounds)
+  pub output : IsTrue (are_valid_one report.bounds)
       → report.output ≡ Some (output_bytes bytes report.bounds)
   pub mac : report.mac ≡ attestation_tag digest key (metadata_bytes bytes) (rest_bytes bytes)
 
 -- it is accepted by a verifier that has the device key
 pub record IsAccepted (digest : List ℕ → List ℕ) (key : List ℕ) (image : ℕ → Option ℕ)
     (expect : Expect) (bytes : ℕ → ℕ) (report : ReportFields) : Type 0 where
-  pub valid : IsTrue (are_valid expect.bounds)
+  pub valid : IsTrue (are_valid_one expect.bounds)
   pub of_memory : IsOfMemory digest key bytes report
   pub accepted : verdict digest key image (Some expect) report ≡ Accept
 

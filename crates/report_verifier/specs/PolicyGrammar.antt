@@ -3,7 +3,7 @@ use Rattle.std.specs.Prelude.{ℕ, List, [], ◌∷◌, ◌++◌, length, if◌t
 use Rattle.std.specs.Str.{bytes_eq}
 use Rattle.std.specs.Str.Lines.{lines}
 use Rattle.bus_signals.specs.declared.bounds.Bounds.{Bounds}
-use Rattle.bus_signals.specs.Bounds.{are_valid}
+use Rattle.bus_signals.specs.Bounds.{are_valid_one}
 use Rattle.text_scan.specs.declared.fault_at.FaultAt.{FaultAt}
 use Rattle.text_scan.specs.declared.fault_kind.FaultKind.{FaultKind}
 use Rattle.text_scan.specs.declared.fault_kind.FaultKind.TheVariants.{Word, Missing, Order}
@@ -55,7 +55,7 @@ line_of words = do
 -- a policy with no challenge, where its bounds are valid
 abbrev pub with_bounds : Bounds → Result Draft FaultKind
 with_bounds bounds =
-    if are_valid bounds then Ok (Whole (record { bounds = bounds; challenges = [] }))
+    if are_valid_one bounds then Ok (Whole (record { bounds = bounds; challenges = [] }))
     else Err kinds.Bounds
 
 abbrev pub bounds_with : ℕ → ℕ → ℕ → ℕ → Bounds

@@ -1,16 +1,15 @@
 ghost use Rattle.std.specs.Prelude.{◌≡◌, IsTrue, option_map};
 ghost use Rattle.std.specs.Option.{ForSome};
 ghost use Rattle.sha2.specs.Sha256.{sha256};
-ghost use Rattle.bus_signals.specs.Bounds.{are_valid};
+ghost use Rattle.bus_signals.specs.Bounds.{are_valid_one};
 ghost use Rattle.bus_signals.specs.Report.{fields_of};
 ghost use Rattle.mem_map.specs.Image.{byte_in};
-ghost use Rattle.report_verifier.specs.Verdict.{verdict, verdict_on};
+ghost use Rattle.report_verifier.specs.Verdict.{verdict, verdict_one, verdict_on};
 
 use crate::expect::Expect;
 use crate::expected_mac::expected_mac;
-use crate::same_bytes::same_bytes;
-use bus_signals::ReportView;
-use hmac_core::{Digest32, Sha256Digest};
+use bus_signals::{ReportView, Version};
+use hmac_core::{Digest32, Sha256Digest, same_bytes};
 use mem_map::Image;
 
 /// The verdict on a report.
@@ -20,6 +19,8 @@ pub enum Decision {
     Accept,
     /// No challenge is left: the report answers none.
     NoChallenge,
+    /// It is of another version than the policy.
+    VersionDiffers,
     /// It answers another challenge.
     ChalDiffers,
     /// It is of another code or output region.
@@ -36,7 +37,7 @@ fn decide_on<D: Digest32>(
     expect: &Expect,
     report: &ReportView<'_>,
 ) -> Decision
-    requires { IsTrue (are_valid expect.now.bounds) }
+    requires { IsTrue (are_valid_one expect.now.bounds) }
     ensures { result
         ≡ verdict_on D.digest_of key.now (byte_in image.now) expect.now (fields_of report.now) }
 {
@@ -56,6 +57,23 @@ fn decide_on<D: Digest32>(
     Decision::Accept
 }
 
+fn decide_one<D: Digest32>(
+    key: &[u8; 64],
+    image: &Image,
+    expect: Option<&Expect>,
+    report: &ReportView<'_>,
+) -> Decision
+    requires { ForSome expect (λ expect. IsTrue (are_valid_one expect.now.bounds)) }
+    ensures { result
+        ≡ verdict_one D.digest_of key.now (byte_in image.now)
+        (option_map (λ expect. expect.now) expect.entry) (fields_of report.now) }
+{
+    match expect {
+        None => Decision::NoChallenge,
+        Some(expect) => decide_on::<D>(key, image, expect, report),
+    }
+}
+
 /// The first verdict that holds of a report, where this is expected of it, by MACs over any digest.
 pub fn decide_by<D: Digest32>(
     key: &[u8; 64],
@@ -63,14 +81,14 @@ pub fn decide_by<D: Digest32>(
     expect: Option<&Expect>,
     report: &ReportView<'_>,
 ) -> Decision
-    requires { ForSome expect (λ expect. IsTrue (are_valid expect.now.bounds)) }
+    requires { ForSome expect (λ expect. IsTrue (are_valid_one expect.now.bounds)) }
     ensures { result
         ≡ verdict D.digest_of key.now (byte_in image.now)
         (option_map (λ expect. expect.now) expect.entry) (fields_of report.now) }
 {
-    match expect {
-        None => Decision::NoChallenge,
-        Some(expect) => decide_on::<D>(key, image, expect, report),
+    match report.version {
+        Version::One => decide_one::<D>(key, image, expect, report),
+        Version::Two => Decision::VersionDiffers,
     }
 }
 
@@ -81,7 +99,7 @@ pub fn decide(
     expect: Option<&Expect>,
     report: &ReportView<'_>,
 ) -> Decision
-    requires { ForSome expect (λ expect. IsTrue (are_valid expect.now.bounds)) }
+    requires { ForSome expect (λ expect. IsTrue (are_valid_one expect.now.bounds)) }
     ensures { result
         ≡ verdict sha256 key.now (byte_in image.now)
         (option_map (λ expect. expect.now) expect.entry) (fields_of report.now) }

@@ -4,7 +4,7 @@ ghost use Rattle.report_verifier.specs.PolicyGrammar.{with_entry, with_line};
 
 use crate::policy::Policy;
 use crate::policy_line::{PolicyLine, read_policy_line};
-use bus_signals::{Bounds, valid};
+use bus_signals::{Bounds, valid_one};
 use std::alloc::Global;
 use text_scan::{FaultKind, LineReader, WordFault};
 
@@ -61,7 +61,7 @@ fn add_output(alloc: Global, draft: &mut Draft, or_min: u16, or_max: u16) -> Res
         or_min,
         or_max,
     };
-    if !valid(&bounds) {
+    if !valid_one(&bounds) {
         return Err(FaultKind::Bounds);
     }
     *draft = Draft::Whole(Policy::new(alloc, bounds));

@@ -1,5 +1,5 @@
 ghost use Rattle.std.specs.Prelude.{◌≡◌, ◌++◌, ℕ, List, option_map, IsTrue};
-ghost use Rattle.bus_signals.specs.Bounds.{are_valid};
+ghost use Rattle.bus_signals.specs.Bounds.{are_valid_one};
 ghost use Rattle.mem_map.specs.Image.{byte_in};
 ghost use Rattle.part_definitions.specs.Hmac.{hmac};
 ghost use Rattle.hmac_core.specs.Hmac.{HmacStandsFor};
@@ -27,7 +27,7 @@ fn take_metadata<D: Digest32>(mac: &mut Hmac<D>, expect: &Expect)
 
 // The HMAC takes the image's code.
 fn take_code<D: Digest32>(mac: &mut Hmac<D>, image: &Image, bounds: &Bounds)
-    requires { IsTrue (are_valid bounds.now) }
+    requires { IsTrue (are_valid_one bounds.now) }
     ensures { (key message : List ℕ)
         → HmacStandsFor D.has_taken D.digest_of mac.old key message
         → HmacStandsFor D.has_taken D.digest_of mac.new key
@@ -55,7 +55,7 @@ fn derived_mac<D: Digest32>(
     expect: &Expect,
     output: &[u8],
 ) -> [u8; 32]
-    requires { IsTrue (are_valid expect.now.bounds) }
+    requires { IsTrue (are_valid_one expect.now.bounds) }
     ensures { result ≡ hmac D.digest_of derived_key.now
         (expected_metadata expect.now
         ++ (image_code (byte_in image.now) expect.now.bounds ++ output.now)) }
@@ -75,7 +75,7 @@ pub fn expected_mac<D: Digest32>(
     expect: &Expect,
     output: Option<&[u8]>,
 ) -> [u8; 32]
-    requires { IsTrue (are_valid expect.now.bounds) }
+    requires { IsTrue (are_valid_one expect.now.bounds) }
     ensures { result
         ≡ expected_mac D.digest_of key.now (byte_in image.now) expect.now
         (option_map (λ bytes. bytes.now) output.entry) }

@@ -1,6 +1,6 @@
 ghost use Rattle.std.specs.Prelude.{◌≡◌, ◌⊎◌, ℕ, List, Option, Ok, IfOk, IsTrue};
 ghost use Rattle.std.specs.declared.alloc.AllocError.{AllocError};
-ghost use Rattle.bus_signals.specs.Bounds.{are_valid};
+ghost use Rattle.bus_signals.specs.Bounds.{are_valid_one};
 ghost use Rattle.bus_signals.specs.Report.{ReportFields};
 ghost use Rattle.part_definitions.specs.Hmac.{hmac};
 ghost use Rattle.report_verifier.specs.declared.evidence.Exhibit.TheVariants.{MacsDiffer};
@@ -13,7 +13,7 @@ ghost use Rattle.report_verifier.specs.PolicyGrammar.{policy_of};
 /// The bounds of a policy that is read are valid.
 pub fn policies_have_valid_bounds()
     ensures { (text : List ℕ)
-        → IfOk (policy_of text) (λ policy. IsTrue (are_valid policy.bounds)) }
+        → IfOk (policy_of text) (λ policy. IsTrue (are_valid_one policy.bounds)) }
 {}
 
 /// Two unequal messages with one HMAC give a pair of unequal lists with one digest.

@@ -19,7 +19,6 @@ mod law;
 mod policy;
 mod policy_line;
 mod policy_reader;
-mod same_bytes;
 
 pub use collision::exhibit;
 pub use comparison::compare;

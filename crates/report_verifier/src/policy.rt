@@ -1,5 +1,5 @@
 ghost use Rattle.std.specs.Prelude.{◌≡◌, ◌++◌, ◌∷◌, [], OnOk, IfSome, IsTrue};
-ghost use Rattle.bus_signals.specs.Bounds.{are_valid};
+ghost use Rattle.bus_signals.specs.Bounds.{are_valid_one};
 ghost use Rattle.report_verifier.specs.Policy.{PolicyFields, expect_at};
 
 use crate::expect::Expect;
@@ -23,12 +23,12 @@ impl Model for Policy {
       challenges = policy.challenges.items;
     } };
 
-    ghost invariant = { λ policy. IsTrue (are_valid policy.bounds) };
+    ghost invariant = { λ policy. IsTrue (are_valid_one policy.bounds) };
 }
 
 impl Policy {
     pub(crate) fn new(alloc: Global, bounds: Bounds) -> Policy
-        requires { IsTrue (are_valid bounds) }
+        requires { IsTrue (are_valid_one bounds) }
         ensures { result ≡ record { bounds = bounds; challenges = [] } }
     {
         Policy {
@@ -50,7 +50,7 @@ impl Policy {
     /// What report `i` shall name, from 0; `None` exactly past the last challenge.
     pub fn expect(&self, i: usize) -> Option<Expect>
         ensures expectation { result ≡ expect_at self.now i }
-        ensures valid { IfSome result (λ expect. IsTrue (are_valid expect.bounds)) }
+        ensures valid { IfSome result (λ expect. IsTrue (are_valid_one expect.bounds)) }
     {
         let chal = *self.challenges.get(i)?;
         Some(Expect {

@@ -1,5 +1,6 @@
 -- The engine's states, as a value is taken.
 use Rattle.std.proofs.Common.{◌≡◌, ◌++◌, ◌∷◌, [], ℕ, List, if◌then◌else◌, subst, sym, ap}
+use Rattle.part_definitions.specs.Attestation.{decision_read}
 use Rattle.swatt_rom.specs.RomCall.{RomCall, NoCall, InCall, AfterCall, next_word, after_step, after_value}
 use Rattle.swatt_rom.specs.Phase.{PhaseStandsFor, IsBeforeReturn}
 use Rattle.swatt_rom.specs.State.{StateStandsFor}
@@ -15,7 +16,7 @@ module _ {D : Type 0} (has_taken : D → List ℕ → Type 0) (digest : List ℕ
       → InCall sp (words ++ next_word digest sp words value ∷ [])
       ≡ after_step digest sp words value
   after_step-phase phase sp words value stands =
-      sym (ap (λ returns. if returns then AfterCall sp value
+      sym (ap (λ returns. if returns then AfterCall sp value (decision_read words)
       else InCall sp (words ++ next_word digest sp words value ∷ []))
       (is_return-phase has_taken digest phase words stands))
 
@@ -32,19 +33,21 @@ module _ {D : Type 0} (has_taken : D → List ℕ → Type 0) (digest : List ℕ
       subst (StateStandsFor has_taken digest (Calls sp next))
       (after_step-phase phase start words value stands.1)
       (stands.0, step start words stands.1)
-  after_value-calls sp value phase next step (AfterCall start word) stands = absurd stands
+  after_value-calls sp value phase next step (AfterCall start word written) stands = absurd stands
 
   pub after_value-returns :
-      (sp value : ℕ) (phase : Phase D)
+      (sp value decision : ℕ) (phase : Phase D)
       → ((start : ℕ) (words : List ℕ)
       → PhaseStandsFor has_taken digest phase words
-      → IsBeforeReturn (words ++ next_word digest start words value ∷ []))
+      → IsBeforeReturn decision (words ++ next_word digest start words value ∷ []))
       → (call : RomCall)
       → StateStandsFor has_taken digest (Calls sp phase) call
-      → StateStandsFor {D = D} has_taken digest (Returns sp) (after_value digest call value)
-  after_value-returns sp value phase step NoCall stands = absurd stands
-  after_value-returns sp value phase step (InCall start words) stands =
-      subst (StateStandsFor {D = D} has_taken digest (Returns sp))
+      → StateStandsFor {D = D} has_taken digest
+      (Returns sp decision) (after_value digest call value)
+  after_value-returns sp value decision phase step NoCall stands = absurd stands
+  after_value-returns sp value decision phase step (InCall start words) stands =
+      subst (StateStandsFor {D = D} has_taken digest (Returns sp decision))
       (after_step-phase phase start words value stands.1)
       (stands.0, step start words stands.1)
-  after_value-returns sp value phase step (AfterCall start word) stands = absurd stands
+  after_value-returns sp value decision phase step (AfterCall start word written) stands =
+      absurd stands

@@ -1,33 +1,50 @@
 -- The accesses of a call, by the number of words that passed.
 use Rattle.std.proofs.Common.{◌≡◌, ◌<◌, ◌+◌, ℕ, arith}
 use Rattle.std.proofs.lemmas.Bool.Decides.{nat_tests}
-use Rattle.part_definitions.specs.Attestation.{KeyRead, MetadataRead, DerivedKeyWrite, RegionRead, InnerDigestWrite, MacWrite, item_after}
+use Rattle.part_definitions.specs.Attestation.{KeyRead, MetadataRead, KeptRead, KeptWrite, DecisionWrite, DerivedKeyWrite, RegionRead, InnerDigestWrite, MacWrite, item_after}
+use Rattle.part_definitions.specs.Request.{ATTESTS}
 
-pub item_after-key : (region i : ℕ) → i < 32 → item_after region i ≡ KeyRead i
-item_after-key region i within = grind (arith, nat_tests)
+pub item_after-key : (region decision i : ℕ) → i < 32 → item_after region decision i ≡ KeyRead i
+item_after-key region decision i within = grind (arith, nat_tests)
 
 pub item_after-metadata :
-    (region count i : ℕ) → i < 21 → count ≡ 32 + i → item_after region count ≡ MetadataRead i
-item_after-metadata region count i within at = grind (arith, nat_tests)
+    (region decision count i : ℕ) → i < 40 → count ≡ 32 + i
+    → item_after region decision count ≡ MetadataRead i
+item_after-metadata region decision count i within at = grind (arith, nat_tests)
+
+pub item_after-kept :
+    (region decision count i : ℕ) → i < 2 → count ≡ 72 + i
+    → item_after region decision count ≡ KeptRead i
+item_after-kept region decision count i within at = grind (arith, nat_tests)
+
+pub item_after-high : (region decision count : ℕ) → count ≡ 74
+    → item_after region decision count ≡ KeptWrite 1
+item_after-high region decision count at = grind (arith, nat_tests)
+
+pub item_after-low : (region decision count : ℕ) → count ≡ 75
+    → item_after region decision count ≡ KeptWrite 0
+item_after-low region decision count at = grind (arith, nat_tests)
+
+pub item_after-decision : (region decision count : ℕ) → count ≡ 76
+    → item_after region decision count ≡ DecisionWrite
+item_after-decision region decision count at = grind (arith, nat_tests)
 
 pub item_after-derived_key :
-    (region count i : ℕ) → i < 16 → count ≡ 53 + i → item_after region count ≡ DerivedKeyWrite i
-item_after-derived_key region count i within at = grind (arith, nat_tests)
+    (region decision count i : ℕ) → decision ≡ ATTESTS → i < 16 → count ≡ 77 + i
+    → item_after region decision count ≡ DerivedKeyWrite i
+item_after-derived_key region decision count i attests within at = grind (arith, nat_tests)
 
 pub item_after-region :
-    (region count i : ℕ) → i < region → count ≡ 69 + i → item_after region count ≡ RegionRead i
-item_after-region region count i within at = grind (arith, nat_tests)
+    (region decision count i : ℕ) → decision ≡ ATTESTS → i < region → count ≡ 93 + i
+    → item_after region decision count ≡ RegionRead i
+item_after-region region decision count i attests within at = grind (arith, nat_tests)
 
 pub item_after-inner_digest :
-    (region count i : ℕ)
-    → i < 16
-    → count ≡ 69 + region + i
-    → item_after region count ≡ InnerDigestWrite i
-item_after-inner_digest region count i within at = grind (arith, nat_tests)
+    (region decision count i : ℕ) → decision ≡ ATTESTS → i < 16 → count ≡ 93 + region + i
+    → item_after region decision count ≡ InnerDigestWrite i
+item_after-inner_digest region decision count i attests within at = grind (arith, nat_tests)
 
 pub item_after-mac :
-    (region count i : ℕ)
-    → i < 16
-    → count ≡ 85 + region + i
-    → item_after region count ≡ MacWrite i
-item_after-mac region count i within at = grind (arith, nat_tests)
+    (region decision count i : ℕ) → decision ≡ ATTESTS → i < 16 → count ≡ 109 + region + i
+    → item_after region decision count ≡ MacWrite i
+item_after-mac region decision count i attests within at = grind (arith, nat_tests)

@@ -2,16 +2,17 @@
 use Rattle.std.proofs.Common.{◌≡◌, ◌≤◌, ◌%◌, true}
 use Rattle.bus_signals.specs.declared.bounds.Bounds.{Bounds}
 use Rattle.bus_signals.specs.Bounds.{are_valid}
+use Rattle.bus_signals.specs.Map.{metadata_region}
 use Rattle.bus_signals.proofs.ValidRange.{are_valid-ranges}
 
 pub executable_ordered :
     (bounds : Bounds) → are_valid bounds ≡ true → bounds.er_min ≤ bounds.er_max
-executable_ordered bounds valid = (are_valid-ranges bounds valid).executable.ordered
+executable_ordered bounds valid = (are_valid-ranges metadata_region bounds valid).executable.ordered
 
 pub output_ordered : (bounds : Bounds) → are_valid bounds ≡ true → bounds.or_min ≤ bounds.or_max
-output_ordered bounds valid = (are_valid-ranges bounds valid).output.ordered
+output_ordered bounds valid = (are_valid-ranges metadata_region bounds valid).output.ordered
 
 pub output_even : (bounds : Bounds) → are_valid bounds ≡ true → bounds.or_min % 2 ≡ 0
-output_even bounds valid = (are_valid-ranges bounds valid).output.first_even
+output_even bounds valid = (are_valid-ranges metadata_region bounds valid).output.first_even
 
 pub ruleset valid_bounds = (executable_ordered, output_ordered, output_even)

@@ -2,8 +2,10 @@
 use Rattle.std.proofs.Common.{◌≡◌, ◌<◌, ◌≤◌, ◌+◌, ◌++◌, ◌∷◌, ◌∙◌, [], ℕ, List, length, length-append, take, drop, ap, sym, arith}
 use Rattle.std.proofs.Math.ListN.{get_or-append}
 use Rattle.std.proofs.Math.Seq.{take-append_seam, drop-append_seam}
-use Rattle.std.proofs.lemmas.List.{take-append-le, drop-append-le, take_all, drop_all, length-drop}
-use Rattle.part_definitions.specs.Attestation.{bounds_read, region_words, bytes_of_words, key_read, metadata_read, region_read, derived_key, call_key, inner_in, tag_in}
+use Rattle.std.proofs.lemmas.List.{take-append-le, drop-append-le, take_all, drop_all, length-drop, get_or-append-add}
+use Rattle.part_definitions.specs.Attestation.{bounds_read, region_words, bytes_of_words, key_read, metadata_read, region_read, kept_read, decision_read, decision_in, counter_word, metadata_word, derived_key, call_key, inner_in, tag_in}
+use Rattle.part_definitions.specs.Request.{ATTESTS, request_decision}
+use Rattle.std.specs.Prelude.{◌==◌, slice_index, if◌then◌else◌}
 use Rattle.swatt_rom.proofs.WordBytes.{bytes_of_words-append}
 
 -- how many words of the region a call with these words reads
@@ -27,59 +29,85 @@ pub key_read-append : (xs ys : List ℕ) → 32 ≤ length xs → key_read (xs +
 key_read-append xs ys enough = ap bytes_of_words (take-append-le 32 xs ys enough)
 
 pub metadata_read-append :
-    (xs ys : List ℕ) → 53 ≤ length xs → metadata_read (xs ++ ys) ≡ metadata_read xs
+    (xs ys : List ℕ) → 72 ≤ length xs → metadata_read (xs ++ ys) ≡ metadata_read xs
 metadata_read-append xs ys enough =
-    ap (λ words. bytes_of_words (take 21 words)) (drop-append-le 32 xs ys (omega arith))
-    ∙ ap bytes_of_words (take-append-le 21 (drop 32 xs) ys (omega (arith, length-drop 32 xs)))
+    ap (λ words. bytes_of_words (take 40 words)) (drop-append-le 32 xs ys (omega arith))
+    ∙ ap bytes_of_words (take-append-le 40 (drop 32 xs) ys (omega (arith, length-drop 32 xs)))
 
 pub call_key-append :
     (digest : List ℕ → List ℕ) (xs ys : List ℕ)
-    → 53 ≤ length xs
+    → 72 ≤ length xs
     → call_key digest (xs ++ ys) ≡ call_key digest xs
 call_key-append digest xs ys enough =
     ap (λ key. derived_key digest key (metadata_read (xs ++ ys)))
     (key_read-append xs ys (omega arith))
     ∙ ap (derived_key digest (key_read xs)) (metadata_read-append xs ys enough)
 
+pub kept_read-append : (xs ys : List ℕ) → 74 ≤ length xs → kept_read (xs ++ ys) ≡ kept_read xs
+kept_read-append xs ys enough =
+    ap (λ words. bytes_of_words (take 2 words)) (drop-append-le 72 xs ys (omega arith))
+    ∙ ap bytes_of_words (take-append-le 2 (drop 72 xs) ys (omega (arith, length-drop 72 xs)))
+
+pub decision_read-append : (xs ys : List ℕ) → 77 ≤ length xs
+    → decision_read (xs ++ ys) ≡ decision_read xs
+decision_read-append xs ys enough = get_or-append xs ys 0 76 (omega arith)
+
+pub decision_in-append : (digest : List ℕ → List ℕ) (xs ys : List ℕ) → 74 ≤ length xs
+    → decision_in digest (xs ++ ys) ≡ decision_in digest xs
+decision_in-append digest xs ys enough =
+    cc (
+      key_read-append xs ys (omega arith),
+      metadata_read-append xs ys (omega arith),
+      kept_read-append xs ys enough,
+    )
+
+pub counter_word-append : (xs ys : List ℕ) (decision i : ℕ) → 74 ≤ length xs → i < 2
+    → counter_word (xs ++ ys) decision i ≡ counter_word xs decision i
+counter_word-append xs ys decision i enough within =
+    ap (λ word. if decision == ATTESTS then word else slice_index (xs ++ ys) (72 + i))
+    (get_or-append xs ys 0 (32 + (22 + i)) (omega arith))
+    ∙ ap (λ word. if decision == ATTESTS then metadata_word xs (22 + i) else word)
+    (get_or-append xs ys 0 (72 + i) (omega arith))
+
 -- before the region begins none of it was read
-pub region_read-before : (xs : List ℕ) → length xs ≤ 69 → region_read xs ≡ []
+pub region_read-before : (xs : List ℕ) → length xs ≤ 93 → region_read xs ≡ []
 region_read-before xs few =
-    ap (λ words. bytes_of_words (take (region_in xs) words)) (drop_all 69 xs few)
+    ap (λ words. bytes_of_words (take (region_in xs) words)) (drop_all 93 xs few)
     ∙ ap bytes_of_words (take_all (region_in xs) [] (omega arith))
 
 -- a word of the region is read
 pub region_read-more :
     (xs : List ℕ) (word : ℕ)
-    → 69 ≤ length xs
-    → length xs < 69 + region_in xs
+    → 93 ≤ length xs
+    → length xs < 93 + region_in xs
     → region_read (xs ++ word ∷ []) ≡ region_read xs ++ bytes_of_words (word ∷ [])
 region_read-more xs word begins later =
     let same = region_in-append xs (word ∷ []) (omega arith) in
-    let size = length-append (drop 69 xs) (word ∷ []) in
+    let size = length-append (drop 93 xs) (word ∷ []) in
     ap (λ words. bytes_of_words (take (region_in (xs ++ word ∷ [])) words))
-    (drop-append-le 69 xs (word ∷ []) begins)
+    (drop-append-le 93 xs (word ∷ []) begins)
     ∙ ap bytes_of_words
-    (take_all (region_in (xs ++ word ∷ [])) (drop 69 xs ++ word ∷ [])
-    (omega (arith, length-drop 69 xs, size, same)))
-    ∙ bytes_of_words-append (drop 69 xs) (word ∷ [])
+    (take_all (region_in (xs ++ word ∷ [])) (drop 93 xs ++ word ∷ [])
+    (omega (arith, length-drop 93 xs, size, same)))
+    ∙ bytes_of_words-append (drop 93 xs) (word ∷ [])
     ∙ ap (λ bytes. bytes ++ bytes_of_words (word ∷ []))
     (sym (ap bytes_of_words
-    (take_all (region_in xs) (drop 69 xs) (omega (arith, length-drop 69 xs)))))
+    (take_all (region_in xs) (drop 93 xs) (omega (arith, length-drop 93 xs)))))
 
 -- the region was read
 pub region_read-append :
-    (xs ys : List ℕ) → 69 + region_in xs ≤ length xs → region_read (xs ++ ys) ≡ region_read xs
+    (xs ys : List ℕ) → 93 + region_in xs ≤ length xs → region_read (xs ++ ys) ≡ region_read xs
 region_read-append xs ys over =
     let same : region_in (xs ++ ys) ≡ region_in xs = region_in-append xs ys (omega arith) in
-    ap (λ region. bytes_of_words (take region (drop 69 (xs ++ ys)))) same
+    ap (λ region. bytes_of_words (take region (drop 93 (xs ++ ys)))) same
     ∙ ap (λ words. bytes_of_words (take (region_in xs) words))
-    (drop-append-le 69 xs ys (omega arith))
+    (drop-append-le 93 xs ys (omega arith))
     ∙ ap bytes_of_words
-    (take-append-le (region_in xs) (drop 69 xs) ys (omega (arith, length-drop 69 xs)))
+    (take-append-le (region_in xs) (drop 93 xs) ys (omega (arith, length-drop 93 xs)))
 
 pub inner_in-append :
     (digest : List ℕ → List ℕ) (xs ys : List ℕ)
-    → 69 + region_in xs ≤ length xs
+    → 93 + region_in xs ≤ length xs
     → inner_in digest (xs ++ ys) ≡ inner_in digest xs
 inner_in-append digest xs ys over =
     cc (
@@ -90,7 +118,7 @@ inner_in-append digest xs ys over =
 
 pub tag_in-append :
     (digest : List ℕ → List ℕ) (xs ys : List ℕ)
-    → 69 + region_in xs ≤ length xs
+    → 93 + region_in xs ≤ length xs
     → tag_in digest (xs ++ ys) ≡ tag_in digest xs
 tag_in-append digest xs ys over =
     cc (
@@ -111,9 +139,61 @@ key_read-whole key metadata size =
 pub metadata_read-whole :
     (key metadata : List ℕ)
     → length key ≡ 32
-    → length metadata ≡ 21
+    → length metadata ≡ 40
     → metadata_read (key ++ metadata) ≡ bytes_of_words metadata
 metadata_read-whole key metadata size rest =
-    ap (λ n. bytes_of_words (take 21 (drop n (key ++ metadata)))) (sym size)
-    ∙ ap (λ words. bytes_of_words (take 21 words)) (drop-append_seam key metadata)
-    ∙ ap bytes_of_words (take_all 21 metadata (omega arith))
+    ap (λ n. bytes_of_words (take 40 (drop n (key ++ metadata)))) (sym size)
+    ∙ ap (λ words. bytes_of_words (take 40 words)) (drop-append_seam key metadata)
+    ∙ ap bytes_of_words (take_all 40 metadata (omega arith))
+
+-- the kept counter was read after them
+pub kept_read-whole :
+    (key metadata kept : List ℕ)
+    → length key ≡ 32
+    → length metadata ≡ 40
+    → length kept ≡ 2
+    → kept_read ((key ++ metadata) ++ kept) ≡ bytes_of_words kept
+kept_read-whole key metadata kept size rest two =
+    let passed : length (key ++ metadata) ≡ 72 = omega (arith, length-append key metadata) in
+    ap (λ n. bytes_of_words (take 2 (drop n ((key ++ metadata) ++ kept)))) (sym passed)
+    ∙ ap (λ words. bytes_of_words (take 2 words)) (drop-append_seam (key ++ metadata) kept)
+    ∙ ap bytes_of_words (take_all 2 kept (omega arith))
+
+pub decision_in-whole :
+    (digest : List ℕ → List ℕ) (key metadata kept : List ℕ)
+    → length key ≡ 32
+    → length metadata ≡ 40
+    → length kept ≡ 2
+    → decision_in digest ((key ++ metadata) ++ kept)
+    ≡ request_decision digest (bytes_of_words key) (bytes_of_words metadata) (bytes_of_words kept)
+decision_in-whole digest key metadata kept size rest two =
+    let passed : length (key ++ metadata) ≡ 72 = omega (arith, length-append key metadata) in
+    cc (
+      key_read-append (key ++ metadata) kept (omega arith),
+      key_read-whole key metadata size,
+      metadata_read-append (key ++ metadata) kept (omega arith),
+      metadata_read-whole key metadata size rest,
+      kept_read-whole key metadata kept size rest two,
+    )
+
+-- its words, and those of the request's counter
+pub kept_word-whole :
+    (key metadata kept : List ℕ) (i : ℕ)
+    → length key ≡ 32
+    → length metadata ≡ 40
+    → slice_index ((key ++ metadata) ++ kept) (72 + i) ≡ slice_index kept i
+kept_word-whole key metadata kept i size rest =
+    let passed : length (key ++ metadata) ≡ 72 = omega (arith, length-append key metadata) in
+    ap (λ n. slice_index ((key ++ metadata) ++ kept) (n + i)) (sym passed)
+    ∙ get_or-append-add (key ++ metadata) kept i 0
+
+pub metadata_word-whole :
+    (key metadata kept : List ℕ) (i : ℕ)
+    → length key ≡ 32
+    → length metadata ≡ 40
+    → i < 40
+    → metadata_word ((key ++ metadata) ++ kept) i ≡ slice_index metadata i
+metadata_word-whole key metadata kept i size rest within =
+    get_or-append (key ++ metadata) kept 0 (32 + i) (omega (arith, length-append key metadata))
+    ∙ ap (λ n. slice_index (key ++ metadata) (n + i)) (sym size)
+    ∙ get_or-append-add key metadata i 0

@@ -11,8 +11,8 @@ abbrev pub StateStandsFor :
 StateStandsFor has_taken digest Idle NoCall = Unit {0}
 StateStandsFor has_taken digest (Calls sp phase) (InCall start words) =
     (sp ≡ start) × PhaseStandsFor has_taken digest phase words
-StateStandsFor has_taken digest (Returns sp) (InCall start words) =
-    (sp ≡ start) × IsBeforeReturn words
-StateStandsFor has_taken digest (Leaves pc sp) (AfterCall start word) =
-    (pc ≡ even word) × (sp ≡ plus start 2)
+StateStandsFor has_taken digest (Returns sp decision) (InCall start words) =
+    (sp ≡ start) × IsBeforeReturn decision words
+StateStandsFor has_taken digest (Leaves pc sp decision) (AfterCall start word written) =
+    (pc ≡ even word) × (sp ≡ plus start 2) × (decision ≡ written)
 StateStandsFor has_taken digest state call = ⊥

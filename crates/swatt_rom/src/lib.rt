@@ -5,7 +5,9 @@
 //! The one contract is that whatever it reads the engine asks for the definition's next access.
 #![tactic(auto)]
 
+mod decided;
 mod digest_words;
+mod next;
 mod phase;
 mod region_words;
 mod rom;
@@ -13,4 +15,5 @@ mod state;
 mod word_buffer;
 mod word_bytes;
 
+pub use decided::ATTESTS;
 pub use rom::Rom;

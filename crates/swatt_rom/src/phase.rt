@@ -1,22 +1,23 @@
 ghost use Rattle.std.specs.Prelude.{◌≡◌, ◌≤◌, ◌++◌, ◌∷◌, [], ℕ, List, length};
+ghost use Rattle.part_definitions.specs.Request.{ATTESTS};
 ghost use Rattle.bus_signals.specs.Access.{IsFormed};
-ghost use Rattle.part_definitions.specs.Attestation.{BEFORE_REGION, call_item, item_pc, bounds_read, derived_key, tag_in};
+ghost use Rattle.part_definitions.specs.Attestation.{BEFORE_DERIVED_KEY, BEFORE_REGION, call_item, item_pc, bounds_read, decision_read, derived_key};
 ghost use Rattle.hmac_core.specs.Hmac.{HmacStandsFor};
 ghost use Rattle.swatt_rom.specs.RomCall.{call_access, next_word};
 
+use crate::decided::{ATTESTS, Decided, KEY_WORDS, METADATA_WORDS, decide};
 use crate::digest_words::DigestWords;
+use crate::next::Next;
 use crate::region_words::RegionWords;
 use crate::word_buffer::WordBuffer;
 use crate::word_bytes::bytes_of;
 use arrayvec::ArrayVec;
 use bus_signals::{Access, Bounds, CR, KR, META, MR, XS};
 use hmac_core::{Digest32, Hmac, hmac};
+use word_arith::Size;
 
-// The words of the key.
-const KEY_WORDS: usize = 32;
-
-// The words of the metadata: sixteen of the challenge, four bounds and the EXEC word.
-const METADATA_WORDS: usize = 21;
+// Where the counter of the last request that was attested is kept.
+const KEPT_COUNTER: u16 = 0x4060;
 
 /// What a call does next, and what it still knows: all of it but the return read.
 #[derive(Drop)]
@@ -27,6 +28,20 @@ pub enum Phase<D> {
     ReadsMetadata {
         key: [u16; KEY_WORDS],
         metadata: WordBuffer<METADATA_WORDS>,
+    },
+    ReadsKept {
+        key: [u16; KEY_WORDS],
+        metadata: [u16; METADATA_WORDS],
+        kept: WordBuffer<2>,
+    },
+    WritesHighWord {
+        decided: Decided,
+    },
+    WritesLowWord {
+        decided: Decided,
+    },
+    WritesDecision {
+        decided: Decided,
     },
     WritesDerivedKey {
         key: DigestWords,
@@ -76,8 +91,7 @@ fn hash_of<D: Digest32>(key: &[u8], message: &[u8]) -> Hmac<D>
 }
 
 impl<D: Digest32> Phase<D> {
-    ghost use Rattle.swatt_rom.specs.DigestWords.{WritesDigest};
-    ghost use Rattle.swatt_rom.specs.Phase.{PhaseStandsFor, NextStandsFor, HashesRegion, StandsAtDerivedKey, StandsAtRegion, StandsAtInnerDigest, before_inner_digest, before_mac};
+    ghost use Rattle.swatt_rom.specs.Phase.{PhaseStandsFor, NextStandsFor, HashesRegion, HasDecided, StandsAtDerivedKey, StandsAtRegion, StandsAtInnerDigest, StandsAtMac, before_inner_digest};
 
     /// The beginning of a call.
     pub fn new() -> Phase<D>
@@ -98,6 +112,16 @@ impl<D: Digest32> Phase<D> {
         match self {
             Phase::ReadsKey { key } => key.access(KR.first),
             Phase::ReadsMetadata { metadata, .. } => metadata.access(META.first),
+            Phase::ReadsKept { kept, .. } => kept.access(KEPT_COUNTER),
+            Phase::WritesHighWord { decided } => {
+                Access::Write(KEPT_COUNTER + 2, Size::Word, decided.counter[1])
+            }
+            Phase::WritesLowWord { decided } => {
+                Access::Write(KEPT_COUNTER, Size::Word, decided.counter[0])
+            }
+            Phase::WritesDecision { decided } => {
+                Access::Write(MR.first, Size::Word, decided.decision)
+            }
             Phase::WritesDerivedKey { key, .. } => key.access(XS.first),
             Phase::ReadsRegion { region, .. } => region.access(),
             Phase::WritesInnerDigest { inner, .. } => inner.access(XS.first + 32),
@@ -117,26 +141,34 @@ impl<D: Digest32> Phase<D> {
         }
     }
 
-    /// What it does after a step whose access read this value, `None` before the return read.
-    pub fn after(self, value: u16) -> Option<Phase<D>>
+    /// What comes after a step whose access read this value.
+    pub fn after(self, value: u16) -> Next<D>
         ensures { (sp : ℕ) (words : List ℕ)
             → PhaseStandsFor D.has_taken D.digest_of self words
             → NextStandsFor D.has_taken D.digest_of result
             (words ++ next_word D.digest_of sp words value ∷ []) }
     {
         match self {
-            Phase::ReadsKey { key } => Some(Phase::after_key_word(key, value)),
+            Phase::ReadsKey { key } => Next::GoesOn(Phase::after_key_word(key, value)),
             Phase::ReadsMetadata { key, metadata } => {
-                Some(Phase::after_metadata_word(key, metadata, value))
+                Next::GoesOn(Phase::after_metadata_word(key, metadata, value))
             }
+            Phase::ReadsKept {
+                key,
+                metadata,
+                kept,
+            } => Next::GoesOn(Phase::after_kept_word(key, metadata, kept, value)),
+            Phase::WritesHighWord { decided } => Next::GoesOn(Phase::WritesLowWord { decided }),
+            Phase::WritesLowWord { decided } => Next::GoesOn(Phase::WritesDecision { decided }),
+            Phase::WritesDecision { decided } => Phase::after_decision(&decided),
             Phase::WritesDerivedKey { key, bounds, hash } => {
-                Some(Phase::after_derived_key_word(key, bounds, hash))
+                Next::GoesOn(Phase::after_derived_key_word(key, bounds, hash))
             }
             Phase::ReadsRegion { region, hash } => {
-                Some(Phase::after_region_word(region, hash, value))
+                Next::GoesOn(Phase::after_region_word(region, hash, value))
             }
             Phase::WritesInnerDigest { inner, mac } => {
-                Some(Phase::after_inner_digest_word(inner, mac))
+                Next::GoesOn(Phase::after_inner_digest_word(inner, mac))
             }
             Phase::WritesMac { mac } => Phase::after_mac_word(mac),
         }
@@ -163,18 +195,62 @@ impl<D: Digest32> Phase<D> {
             (key ++ metadata.words.items ++ word ∷ []) }
     {
         match metadata.with(word) {
-            Ok(metadata) => Phase::after_metadata(&key, &metadata),
+            Ok(metadata) => Phase::ReadsKept {
+                key,
+                metadata,
+                kept: WordBuffer::new(),
+            },
             Err(metadata) => Phase::ReadsMetadata { key, metadata },
         }
     }
 
+    fn after_kept_word(
+        key: [u16; KEY_WORDS],
+        metadata: [u16; METADATA_WORDS],
+        kept: WordBuffer<2>,
+        word: u16,
+    ) -> Phase<D>
+        ensures { PhaseStandsFor D.has_taken D.digest_of result
+            ((key ++ metadata) ++ kept.words.items ++ word ∷ []) }
+    {
+        match kept.with(word) {
+            Ok(kept) => Phase::WritesHighWord {
+                decided: decide::<D>(key, metadata, kept),
+            },
+            Err(kept) => Phase::ReadsKept {
+                key,
+                metadata,
+                kept,
+            },
+        }
+    }
+
+    // A call that does not attest ends.
+    fn after_decision(decided: &Decided) -> Next<D>
+        ensures { (words : List ℕ)
+            → HasDecided D.digest_of decided.now 2 words
+            → NextStandsFor D.has_taken D.digest_of result
+            (words ++ decided.now.decision ∷ []) }
+    {
+        if decided.decision == ATTESTS {
+            Next::GoesOn(Phase::after_attesting(&decided.key, &decided.metadata))
+        } else {
+            Next::Returns {
+                decision: decided.decision,
+            }
+        }
+    }
+
     // The key of the challenge is derived, and the hash of the region begins under it.
-    fn after_metadata(key: &[u16; KEY_WORDS], metadata: &[u16; METADATA_WORDS]) -> Phase<D>
-        ensures { PhaseStandsFor D.has_taken D.digest_of result (key.now ++ metadata.now) }
+    fn after_attesting(key: &[u16; KEY_WORDS], metadata: &[u16; METADATA_WORDS]) -> Phase<D>
+        ensures { (rest : List ℕ)
+            → length ((key.now ++ metadata.now) ++ rest) ≡ BEFORE_DERIVED_KEY
+            → decision_read ((key.now ++ metadata.now) ++ rest) ≡ ATTESTS
+            → PhaseStandsFor D.has_taken D.digest_of result ((key.now ++ metadata.now) ++ rest) }
     {
         let bounds = bounds_of(metadata);
         let key: ArrayVec<u8, 64> = bytes_of(key);
-        let metadata: ArrayVec<u8, 42> = bytes_of(metadata);
+        let metadata: ArrayVec<u8, 80> = bytes_of(metadata);
         let challenge_key = derived_key::<D>(&key, &metadata);
         Phase::WritesDerivedKey {
             key: DigestWords::new(challenge_key),
@@ -199,6 +275,7 @@ impl<D: Digest32> Phase<D> {
         ensures { (words : List ℕ)
             → bounds ≡ bounds_read words
             → length words ≡ BEFORE_REGION
+            → decision_read words ≡ ATTESTS
             → HashesRegion D.has_taken D.digest_of hash words
             → PhaseStandsFor D.has_taken D.digest_of result words }
     {
@@ -224,6 +301,7 @@ impl<D: Digest32> Phase<D> {
     fn after_region(hash: Hmac<D>) -> Phase<D>
         ensures { (words : List ℕ)
             → length words ≡ before_inner_digest words
+            → decision_read words ≡ ATTESTS
             → HashesRegion D.has_taken D.digest_of hash words
             → PhaseStandsFor D.has_taken D.digest_of result words }
     {
@@ -247,14 +325,14 @@ impl<D: Digest32> Phase<D> {
         }
     }
 
-    fn after_mac_word(mac: DigestWords) -> Option<Phase<D>>
+    fn after_mac_word(mac: DigestWords) -> Next<D>
         ensures { (words : List ℕ) (word : ℕ)
-            → WritesDigest mac (tag_in D.digest_of words) (before_mac words) words
+            → StandsAtMac D.digest_of mac words
             → NextStandsFor D.has_taken D.digest_of result (words ++ word ∷ []) }
     {
         match mac.rest() {
-            Some(mac) => Some(Phase::WritesMac { mac }),
-            None => None,
+            Some(mac) => Next::GoesOn(Phase::WritesMac { mac }),
+            None => Next::Returns { decision: ATTESTS },
         }
     }
 }

@@ -1,7 +1,7 @@
 ghost use Rattle.std.specs.Prelude.{◌≡◌, [], IfSome};
 ghost use Rattle.bus_signals.specs.Access.{IsFormed};
 ghost use Rattle.part_definitions.specs.Part.{Answers};
-ghost use Rattle.swatt_rom.specs.RomCall.{RomCall, NoCall, InCall, rom_access, rom_pc, registers_after, after_value};
+ghost use Rattle.swatt_rom.specs.RomCall.{RomCall, NoCall, InCall, rom_access, rom_pc, registers_after, decision_after, after_value};
 
 use crate::phase::Phase;
 use crate::state::State;
@@ -52,6 +52,13 @@ impl<D: Digest32> Rom<D> {
         ensures { Answers (RomStandsFor D.has_taken D.digest_of) self.now registers_after result }
     {
         self.state.registers()
+    }
+
+    /// The decision that a call wrote: there from its last step until the next call begins.
+    pub fn decision(&self) -> Option<u16>
+        ensures { Answers (RomStandsFor D.has_taken D.digest_of) self.now decision_after result }
+    {
+        self.state.decision()
     }
 }
 

@@ -1,8 +1,9 @@
 ghost use Rattle.std.specs.Prelude.{IfSome};
 ghost use Rattle.bus_signals.specs.Access.{IsFormed};
 ghost use Rattle.part_definitions.specs.Part.{Answers};
-ghost use Rattle.swatt_rom.specs.RomCall.{RomCall, rom_access, rom_pc, registers_after, after_value};
+ghost use Rattle.swatt_rom.specs.RomCall.{RomCall, rom_access, rom_pc, registers_after, decision_after, after_value};
 
+use crate::next::Next;
 use crate::phase::Phase;
 use bus_signals::{Access, CR};
 use hmac_core::Digest32;
@@ -15,10 +16,10 @@ pub enum State<D> {
     Idle,
     /// In a call that began with this stack pointer.
     Calls { sp: u16, phase: Phase<D> },
-    /// Before the return read, at the stack pointer.
-    Returns { sp: u16 },
-    /// After the last step: PC and SP with which the processor goes on.
-    Leaves { pc: u16, sp: u16 },
+    /// Before the return read, at the stack pointer, of a call with this decision.
+    Returns { sp: u16, decision: u16 },
+    /// After the last step: PC and SP with which the processor goes on, and the decision.
+    Leaves { pc: u16, sp: u16, decision: u16 },
 }
 
 impl<D: Digest32> State<D> {
@@ -31,7 +32,7 @@ impl<D: Digest32> State<D> {
     {
         match self {
             State::Calls { phase, .. } => Some(phase.access()),
-            State::Returns { sp } => Some(Access::Read(*sp / 2 * 2, Size::Word)),
+            State::Returns { sp, .. } => Some(Access::Read(*sp / 2 * 2, Size::Word)),
             State::Idle | State::Leaves { .. } => None,
         }
     }
@@ -51,7 +52,17 @@ impl<D: Digest32> State<D> {
         ensures { Answers (StateStandsFor D.has_taken D.digest_of) self.now registers_after result }
     {
         match self {
-            State::Leaves { pc, sp } => Some((*pc, *sp)),
+            State::Leaves { pc, sp, .. } => Some((*pc, *sp)),
+            _ => None,
+        }
+    }
+
+    /// The decision, after the last step.
+    pub fn decision(&self) -> Option<u16>
+        ensures { Answers (StateStandsFor D.has_taken D.digest_of) self.now decision_after result }
+    {
+        match self {
+            State::Leaves { decision, .. } => Some(*decision),
             _ => None,
         }
     }
@@ -64,12 +75,13 @@ impl<D: Digest32> State<D> {
     {
         match self {
             State::Calls { sp, phase } => match phase.after(value) {
-                Some(phase) => State::Calls { sp, phase },
-                None => State::Returns { sp },
+                Next::GoesOn(phase) => State::Calls { sp, phase },
+                Next::Returns { decision } => State::Returns { sp, decision },
             },
-            State::Returns { sp } => State::Leaves {
+            State::Returns { sp, decision } => State::Leaves {
                 pc: value / 2 * 2,
                 sp: sp.wrapping_add(2),
+                decision,
             },
             idle => idle,
         }

@@ -7,35 +7,45 @@ use Rattle.word_arith.specs.declared.size.Size.TheVariants.{Word}
 use Rattle.bus_signals.specs.declared.access.Access.TheVariants.{Read}
 use Rattle.bus_signals.specs.declared.bounds.Bounds.{Bounds}
 use Rattle.bus_signals.specs.Bounds.{are_valid}
-use Rattle.bus_signals.specs.Map.{lies_in, mac_region}
+use Rattle.bus_signals.specs.Map.{lies_in, mac_region, metadata_region}
 use Rattle.bus_signals.proofs.ValidRange.{IsValidRange, are_valid-ranges}
-use Rattle.part_definitions.specs.Attestation.{CallItem, KeyRead, MetadataRead, DerivedKeyWrite, RegionRead, InnerDigestWrite, MacWrite, ReturnRead, words_between, executable_words, region_words, region_place, item_after}
+use Rattle.part_definitions.specs.Attestation.{CallItem, KeyRead, MetadataRead, KeptRead, KeptWrite, DecisionWrite, DerivedKeyWrite, RegionRead, InnerDigestWrite, MacWrite, ReturnRead, words_between, executable_words, region_words, region_place, item_after}
 use Rattle.device_trace.specs.Blank.{touches_secrets}
 use Rattle.trace_facts.proofs.ItemNumbers.{IsItemAt, item_after-at}
 
 -- the item after so many words that passed, and its number
 abbrev pub ItemFits : ℕ → ℕ → CallItem → Type 0
 ItemFits region count (KeyRead i) = (i < 32) × (count < 32)
-ItemFits region count (MetadataRead i) = (i < 21) × (32 ≤ count)
-ItemFits region count (DerivedKeyWrite i) = (i < 16) × (32 ≤ count)
-ItemFits region count (RegionRead i) = (i < region) × (32 ≤ count)
-ItemFits region count (InnerDigestWrite i) = (i < 16) × (32 ≤ count)
-ItemFits region count (MacWrite i) = (i < 16) × (32 ≤ count)
-ItemFits region count ReturnRead = 32 ≤ count
+ItemFits region count (MetadataRead i) = (i < 40) × (32 ≤ count) × (count < 72)
+ItemFits region count (KeptRead i) = (i < 2) × (72 ≤ count) × (count < 74)
+ItemFits region count (KeptWrite i) = (i < 2) × (74 ≤ count)
+ItemFits region count DecisionWrite = 74 ≤ count
+ItemFits region count (DerivedKeyWrite i) = (i < 16) × (74 ≤ count)
+ItemFits region count (RegionRead i) = (i < region) × (74 ≤ count)
+ItemFits region count (InnerDigestWrite i) = (i < 16) × (74 ≤ count)
+ItemFits region count (MacWrite i) = (i < 16) × (74 ≤ count)
+ItemFits region count ReturnRead = 74 ≤ count
 
-item-fits : (region count : ℕ) (item : CallItem)
-    → IsItemAt region count item → ItemFits region count item
-item-fits region count (KeyRead i) at = (at.1, omega (arith, at.0, at.1))
-item-fits region count (MetadataRead i) at = (at.1, omega (arith, at.0))
-item-fits region count (DerivedKeyWrite i) at = (at.1, omega (arith, at.0))
-item-fits region count (RegionRead i) at = (at.1, omega (arith, at.0))
-item-fits region count (InnerDigestWrite i) at = (at.1, omega (arith, at.0))
-item-fits region count (MacWrite i) at = (at.1, omega (arith, at.0))
-item-fits region count ReturnRead at = omega (arith, at)
+item-fits : (region decision count : ℕ) (item : CallItem)
+    → IsItemAt region decision count item → ItemFits region count item
+item-fits region decision count (KeyRead i) at = (at.1, omega (arith, at.0, at.1))
+item-fits region decision count (MetadataRead i) at =
+    (at.1, omega (arith, at.0), omega (arith, at.0, at.1))
+item-fits region decision count (KeptRead i) at =
+    (at.1, omega (arith, at.0), omega (arith, at.0, at.1))
+item-fits region decision count (KeptWrite i) at = (at.1, omega (arith, at.0, at.1))
+item-fits region decision count DecisionWrite at = omega (arith, at)
+item-fits region decision count (DerivedKeyWrite i) at = (at.1, omega (arith, at.0))
+item-fits region decision count (RegionRead i) at = (at.1, omega (arith, at.0))
+item-fits region decision count (InnerDigestWrite i) at = (at.1, omega (arith, at.0))
+item-fits region decision count (MacWrite i) at = (at.1, omega (arith, at.0))
+item-fits region decision count ReturnRead at = omega (arith, at.0)
 
-pub item_after-fits : (region count : ℕ) → ItemFits region count (item_after region count)
-item_after-fits region count =
-    item-fits region count (item_after region count) (item_after-at region count)
+pub item_after-fits : (region decision count : ℕ)
+    → ItemFits region count (item_after region decision count)
+item_after-fits region decision count =
+    item-fits region decision count (item_after region decision count)
+    (item_after-at region decision count)
 
 -- words of RAM and of the program are no secrets
 open_word : (place : ℕ)
@@ -45,10 +55,10 @@ open_word place (inl ram) = let low = ram.0 in let high = ram.1 in grind (arith,
 open_word place (inr program) = let low = program.0 in let high =
     program.1 in grind (arith, nat_tests)
 
-pub metadata_off : (i : ℕ) → i < 21 → touches_secrets (Read ((0x240 + 2 * i) / 2 * 2) Word) ≡ false
+pub metadata_off : (i : ℕ) → i < 40 → touches_secrets (Read ((0x240 + 2 * i) / 2 * 2) Word) ≡ false
 metadata_off i within = open_word (0x240 + 2 * i) (inl (omega arith, omega arith))
 
-word_of_region : (first last j : ℕ) → IsValidRange first last
+word_of_region : (first last j : ℕ) → IsValidRange metadata_region first last
     → j < words_between first last
     → touches_secrets (Read ((first + 2 * j) / 2 * 2) Word) ≡ false
 word_of_region first last j range within =
@@ -68,7 +78,7 @@ valid_place_off : (bounds : Bounds) (i : ℕ) → are_valid bounds ≡ true
     → i < executable_words bounds + words_between bounds.or_min bounds.or_max
     → touches_secrets (Read (region_place bounds i / 2 * 2) Word) ≡ false
 valid_place_off bounds i valid within =
-    let ranges = are_valid-ranges bounds valid in
+    let ranges = are_valid-ranges metadata_region bounds valid in
     cond_both (nat_lt i (executable_words bounds)) (bounds.er_min + 2 * i)
     (bounds.or_min + 2 * (i - executable_words bounds))
     (λ place. touches_secrets (Read (place / 2 * 2) Word) ≡ false)

@@ -8,7 +8,8 @@ use Rattle.bus_signals.specs.declared.event.Event.{Event}
 use Rattle.bus_signals.specs.Bounds.{are_valid}
 use Rattle.bus_signals.specs.Map.{metadata_region}
 use Rattle.bus_signals.specs.SeenRecord.{SeenRecord}
-use Rattle.part_definitions.specs.Flag.{accesses_in, writes_to, is_opcode_fetch, clears_e9, clears, starts_run, last_pc, records_since_clear, exec}
+use Rattle.part_definitions.specs.Flag.{accesses_in, writes_to, is_opcode_fetch, clears_e3, clears_e4, clears_e9, clears, starts_run, last_pc, records_since, exec}
+use Rattle.part_definitions.specs.TrustedFlag.{clears_aux, aux}
 use Rattle.device_trace.specs.Logs.{Logs, exec_of, logged_bounds, with_events, with_record}
 use Rattle.device_trace.specs.Start.{Start}
 use Rattle.device_trace.specs.Step.{next_record}
@@ -28,7 +29,18 @@ pub exec-more : (now : SeenRecord) (before : List SeenRecord) → exec (now ∷ 
     → (clears (last_pc before) now ≡ false) × ((starts_run now ≡ true) ⊎ (exec before ≡ true))
 unfolding exec
 exec-more now before set =
-    set_after (clears (last_pc before) now) now (records_since_clear before) set
+    set_after (clears (last_pc before) now) now (records_since clears before) set
+
+pub aux-more : (now : SeenRecord) (before : List SeenRecord) → aux (now ∷ before) ≡ true
+    → (clears_aux (last_pc before) now ≡ false)
+    × ((starts_run now ≡ true) ⊎ (aux before ≡ true))
+unfolding aux
+aux-more now before set =
+    set_after (clears_aux (last_pc before) now) now (records_since clears_aux before) set
+
+pub aux-none : aux [] ≡ true → ⊥
+unfolding aux
+aux-none set = cc
 
 pub exec-none : exec [] ≡ true → ⊥
 unfolding exec
@@ -44,7 +56,9 @@ unfolding with_record
 with_record-valid start logs entry before set =
     let now : SeenRecord = record { entry = entry; bounds = logged_bounds start logs } in
     let more = exec-more now logs.records set in
-    let last = or_parts _ (clears_e9 now) more.0 in
+    let p4 = or_parts _ (clears_e4 now) more.0 in
+    let p3 = or_parts _ (clears_e3 (last_pc logs.records) now) p4.0 in
+    let last = or_parts _ (clears_e9 now) p3.0 in
     let clean = or_parts (list_any (writes_to metadata_region) (accesses_in entry))
     (is_some entry.reset) last.1 in
     let stays : logged_bounds start (with_record start logs entry) ≡ logged_bounds start logs =

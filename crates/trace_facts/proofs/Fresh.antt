@@ -9,9 +9,9 @@ use Rattle.bus_signals.specs.declared.rule.Rule.{Rule}
 use Rattle.part_definitions.specs.Attestation.{call_item, is_return, word_passed}
 use Rattle.part_definitions.specs.CpuRegister.{pc_of}
 use Rattle.part_definitions.specs.CpuState.{CpuState, Boundary, Executing, Entering, cpu_pc, with_value, completion_or}
+use Rattle.part_definitions.specs.FirstRule.{first_rule}
 use Rattle.part_definitions.specs.Flag.{last_pc}
 use Rattle.part_definitions.specs.NextAccess.{Next, Asks, Ends}
-use Rattle.device_trace.specs.FirstRule.{first_rule}
 use Rattle.device_trace.specs.Logs.{Logs, step_progress, progress_after, with_events, with_record}
 use Rattle.device_trace.specs.Progress.{Progress, Held, Runs, InCall, next_pc_of, after_return, call_after, cpu_state_after, next_progress}
 use Rattle.device_trace.specs.Signals.{step_kind, signals_at, signals_of}

@@ -9,3 +9,7 @@ pub mod Fresh
 pub mod MissedPlace
 pub mod BoundsStay
 pub mod ExecFlag
+pub mod ProperRegisters
+pub mod OwnFetch
+pub mod ProperPlay
+pub mod OpcodeFetch

@@ -1,5 +1,5 @@
 -- Rules A1 and K3 hold in no step.
-use Rattle.std.proofs.Common.{◌≡◌, ◌+◌, ◌*◌, ◌/◌, ◌<◌, ℕ, zero, suc, Bool, true, false, not, List, [], ◌∷◌, ◌⊎◌, inl, inr, length, Option, Some, None, All, refl, sym, ◌∙◌, arith}
+use Rattle.std.proofs.Common.{◌≡◌, ◌+◌, ◌*◌, ◌/◌, ◌<◌, ℕ, zero, suc, Bool, true, false, not, List, [], ◌∷◌, ◌⊎◌, inl, inr, length, Option, Some, None, All, refl, sym, ◌∙◌, arith, lit≤}
 use Rattle.std.specs.Prelude.{◌==◌, ◌&&◌, if◌then◌else◌}
 use Rattle.std.proofs.lemmas.Bool.{cond_both, and_left, and_right, not_from_true}
 use Rattle.std.proofs.lemmas.Bool.Decides.{nat_tests}
@@ -14,12 +14,12 @@ use Rattle.bus_signals.specs.declared.signals.Signals.{Signals}
 use Rattle.bus_signals.specs.Access.{some_writes}
 use Rattle.bus_signals.specs.Kind.{is_boot}
 use Rattle.bus_signals.specs.Map.{ROM_ENTRY, ROM_BODY}
-use Rattle.part_definitions.specs.Attestation.{CallItem, KeyRead, MetadataRead, DerivedKeyWrite, RegionRead, InnerDigestWrite, MacWrite, ReturnRead, region_words, bounds_read, call_item, item_access, item_pc}
+use Rattle.part_definitions.specs.Attestation.{CallItem, KeyRead, MetadataRead, KeptRead, KeptWrite, DecisionWrite, DerivedKeyWrite, RegionRead, InnerDigestWrite, MacWrite, ReturnRead, region_words, bounds_read, decision_read, call_item, item_access, item_pc}
 use Rattle.part_definitions.specs.CpuRegister.{sp_of}
 use Rattle.part_definitions.specs.CpuState.{cpu_pc}
+use Rattle.part_definitions.specs.FirstRule.{breaks_x0, breaks_i1, rule_where, or_else, first_rule}
 use Rattle.part_definitions.specs.Flag.{last_pc}
 use Rattle.part_definitions.specs.MonitorRule.{in_rom, was_inside, leaves_stack_and_mac, breaks_a1, breaks_a2, breaks_a3, breaks_a4, breaks_k1, breaks_k2, breaks_k3, breaks_k4, breaks_k5, breaks_k6, key_rule, atomicity_rule}
-use Rattle.device_trace.specs.FirstRule.{breaks_x0, breaks_i1, rule_where, or_else, first_rule}
 use Rattle.device_trace.specs.Logs.{Logs, vector_of, step_progress, with_events}
 use Rattle.device_trace.specs.Progress.{Progress, Held, Runs, InCall, next_pc_of, kind_of, progress_within, access_of}
 use Rattle.device_trace.specs.Signals.{step_kind, signals_at, signals_of}
@@ -126,6 +126,9 @@ pub item_pc-in_rom : (item : CallItem) → in_rom (item_pc item) ≡ true
 item_pc-in_rom (KeyRead i) =
     cond_both (i == 0) ROM_ENTRY ROM_BODY (λ pc. in_rom pc ≡ true) (λ first. refl) (λ other. refl)
 item_pc-in_rom (MetadataRead i) = refl
+item_pc-in_rom (KeptRead i) = refl
+item_pc-in_rom (KeptWrite i) = refl
+item_pc-in_rom DecisionWrite = refl
 item_pc-in_rom (DerivedKeyWrite i) = refl
 item_pc-in_rom (RegionRead i) = refl
 item_pc-in_rom (InnerDigestWrite i) = refl
@@ -149,6 +152,10 @@ stack_word : (i : ℕ) → i < 16 → (number : ℕ)
     → leaves_stack_and_mac (Some (Write ((0x4000 + 2 * i) / 2 * 2) Word number)) ≡ false
 stack_word i within number = grind (arith, nat_tests)
 
+kept_word : (i : ℕ) → i < 2 → (number : ℕ)
+    → leaves_stack_and_mac (Some (Write ((0x4060 + 2 * i) / 2 * 2) Word number)) ≡ false
+kept_word i within number = grind (arith, nat_tests)
+
 inner_word : (i : ℕ) → i < 16 → (number : ℕ)
     → leaves_stack_and_mac (Some (Write ((0x4020 + 2 * i) / 2 * 2) Word number)) ≡ false
 inner_word i within number = grind (arith, nat_tests)
@@ -163,6 +170,11 @@ pub item_writes-inside : (region count sp number : ℕ) (bounds : Bounds) (item 
     && leaves_stack_and_mac (Some (item_access sp bounds item number))) ≡ false
 item_writes-inside region count sp number bounds (KeyRead i) fits = refl
 item_writes-inside region count sp number bounds (MetadataRead i) fits = refl
+item_writes-inside region count sp number bounds (KeptRead i) fits = refl
+item_writes-inside region count sp number bounds (KeptWrite i) fits =
+    kept_word i fits.0 number
+item_writes-inside region count sp number bounds DecisionWrite fits =
+    mac_word 0 (lit≤ tt) number
 item_writes-inside region count sp number bounds (DerivedKeyWrite i) fits =
     stack_word i fits.0 number
 item_writes-inside region count sp number bounds (RegionRead i) fits = refl
@@ -182,7 +194,7 @@ k3_false start releases kind (InCall regs words) within =
     and_left _ _
     (item_writes-inside (region_words (bounds_read words)) (length words) (sp_of regs)
     (start.call_word releases (call_item words) words) (bounds_read words) (call_item words)
-    (item_after-fits (region_words (bounds_read words)) (length words)))
+    (item_after-fits (region_words (bounds_read words)) (decision_read words) (length words)))
 
 no_a1 : (start : Start) (logs : Logs) (reset : Bool) → LogsAreSound logs
     → first_rule (last_pc logs.records) (signals_of start logs reset) ≡ Some A1 → ⊥

@@ -8,7 +8,7 @@ use Rattle.bus_signals.specs.declared.kind.Kind.{Kind}
 use Rattle.bus_signals.specs.declared.kind.Kind.TheVariants.{Boot, Cpu, Idle, Irq, Rom}
 use Rattle.bus_signals.specs.declared.rule.Rule.{Rule}
 use Rattle.bus_signals.specs.Map.{ROM_ENTRY}
-use Rattle.part_definitions.specs.Attestation.{CallItem, KeyRead, MetadataRead, DerivedKeyWrite, RegionRead, InnerDigestWrite, MacWrite, ReturnRead, call_item, item_pc, is_return, word_passed}
+use Rattle.part_definitions.specs.Attestation.{CallItem, KeyRead, MetadataRead, KeptRead, KeptWrite, DecisionWrite, DerivedKeyWrite, RegionRead, InnerDigestWrite, MacWrite, ReturnRead, call_item, item_pc, is_return, word_passed}
 use Rattle.part_definitions.specs.CpuRegister.{pc_of, is_asleep}
 use Rattle.part_definitions.specs.CpuState.{CpuState, Boundary, Executing, Entering, cpu_pc, with_value, completion_or}
 use Rattle.part_definitions.specs.NextAccess.{Next, Asks, Ends}
@@ -117,6 +117,9 @@ cpu_state_after-outside Rom cpu value outside =
 return_pc : (item : CallItem) → is_return item ≡ true → was_inside (Some (item_pc item)) ≡ false
 return_pc (KeyRead i) returns = absurd (cc)
 return_pc (MetadataRead i) returns = absurd (cc)
+return_pc (KeptRead i) returns = absurd (cc)
+return_pc (KeptWrite i) returns = absurd (cc)
+return_pc DecisionWrite returns = absurd (cc)
 return_pc (DerivedKeyWrite i) returns = absurd (cc)
 return_pc (RegionRead i) returns = absurd (cc)
 return_pc (InnerDigestWrite i) returns = absurd (cc)

@@ -1,8 +1,8 @@
 -- The progress is sound after every play.
 use Rattle.std.proofs.Common.{◌≡◌, Bool, List, [], ◌∷◌, None}
 use Rattle.bus_signals.specs.declared.event.Event.{Event}
+use Rattle.part_definitions.specs.FirstRule.{first_rule}
 use Rattle.part_definitions.specs.Flag.{last_pc}
-use Rattle.device_trace.specs.FirstRule.{first_rule}
 use Rattle.device_trace.specs.Logs.{Logs, vector_of, step_progress, with_events, with_record}
 use Rattle.device_trace.specs.Signals.{step_kind, signals_at, signals_of}
 use Rattle.device_trace.specs.Start.{Start}

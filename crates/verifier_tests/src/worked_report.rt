@@ -1,3 +1,4 @@
+use bus_signals::{ReportView, Version};
 use mem_map::Image;
 use report_text::read_reports;
 use report_verifier::{Decision, decide, read_policy};
@@ -82,4 +83,22 @@ fn the_first_verdict_that_holds(rt: HostRuntime) {
     let other_code = [0x92, 0x42, 0x20, 0x00, 0x02, 0x03, 0x30, 0x41];
     let answer = verdict(&rt, rt.alloc(), POLICY, REPORT, &other_code);
     assert_eq!(rt; answer, Decision::MacDiffers);
+}
+
+// The same report, as if it were of version 2: a policy of version 1 expects none.
+#[test]
+fn a_report_of_version_two_is_of_another_version(rt: HostRuntime) {
+    let Ok(reports) = read_reports(rt.alloc(), REPORT.as_bytes()) else {
+        panic!(rt; "the report is in its form");
+    };
+    let [report] = reports.as_slice() else {
+        panic!(rt; "there is one report");
+    };
+    let view = ReportView {
+        version: Version::Two,
+        ..report.view()
+    };
+    let image = image_of(&rt, rt.alloc(), &CODE);
+    let answer = decide(&[0; 64], &image, None, &view);
+    assert_eq!(rt; answer, Decision::VersionDiffers);
 }

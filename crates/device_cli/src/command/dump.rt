@@ -6,6 +6,7 @@ use crate::play_text::play_on;
 use crate::put_fault::PutFault;
 use crate::refusal::Refusal;
 use crate::task::Task;
+use bus_signals::NoFlag;
 use device_core::power_on;
 use hex_loader::write_memory;
 use hmac_core::Sha256Digest;
@@ -49,7 +50,7 @@ impl<'a> Task<'a> for Dump<'a> {
         sink: &mut W,
     ) -> Result<Ending, PutFault> {
         let ((key, image), script) = values;
-        let device = power_on::<Sha256Digest>(alloc, key, image)?;
+        let device = power_on::<Sha256Digest, NoFlag>(alloc, key, image, NoFlag::new())?;
         let live = play_on(device, script, self.arguments.steps, sink)?;
         write_memory(live.memory(), sink)?;
         Ok(Ending::Done)

@@ -6,6 +6,7 @@ use crate::play_text::play_on;
 use crate::put_fault::PutFault;
 use crate::refusal::Refusal;
 use crate::task::Task;
+use bus_signals::NoFlag;
 use device_core::power_on;
 use hmac_core::Sha256Digest;
 use outside_edge::{Shelf, Sink};
@@ -48,7 +49,7 @@ impl<'a> Task<'a> for Play<'a> {
         sink: &mut W,
     ) -> Result<Ending, PutFault> {
         let ((key, image), script) = values;
-        let device = power_on::<Sha256Digest>(alloc, key, image)?;
+        let device = power_on::<Sha256Digest, NoFlag>(alloc, key, image, NoFlag::new())?;
         play_on(device, script, self.arguments.steps, sink)?;
         Ok(Ending::Done)
     }

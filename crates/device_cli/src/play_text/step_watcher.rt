@@ -1,12 +1,13 @@
 ghost use Rattle.device_core.specs.Device.{LiveStandsFor};
 ghost use Rattle.device_cli.specs.Limit.{most_steps};
 
+use bus_signals::TraceFlag;
 use device_core::Live;
 use hmac_core::Digest32;
 use outside_edge::Sink;
 
-/// Who watches the steps of a play. It puts what there is to say of a step, and keeps a tally. Steps
-/// that send no byte, are not refused and finish no call need not be shown to it.
+/// Who watches the steps of a play. It puts what there is to say of a step, and keeps a tally.
+/// Steps that send no byte, are not refused and finish no call need not be shown to it.
 pub trait StepWatcher {
     ghost use Rattle.std.specs.Prelude.{◌≡◌, ◌<◌, ◌≤◌, ◌+◌, ◌∷◌, [], ℕ, true, List, IfOk, IfErr};
     ghost use Rattle.bus_signals.specs.declared.event.Event.{Event};
@@ -37,27 +38,27 @@ pub trait StepWatcher {
     ghost count: { Self.Tally → ℕ };
 
     /// Puts what there is to say of the last step, which has this number.
-    fn see<D: Digest32, W: Sink>(
+    fn see<D: Digest32, G: TraceFlag, W: Sink>(
         &self,
         tally: Self::Tally,
         step: u64,
-        live: &Live<D>,
+        live: &Live<D, G>,
         sink: &mut W,
     ) -> Result<Self::Tally, Self::Fault>
         requires few { count tally ≤ step }
         requires limit { step < most_steps }
         ensures tally { (start : Start) (events : List Event) (play : List (List Event))
-            → LiveStandsFor D.has_taken D.digest_of live.now start (events ∷ play)
+            → LiveStandsFor D.has_taken D.digest_of G.flag live.now start (events ∷ play)
             → tallies D.digest_of self.now start play tally
             → IfOk result (tallies D.digest_of self.now start (events ∷ play)) }
         ensures count { IfOk result (λ new. count new ≤ count tally + 1) }
         ensures puts { (start : Start) (events : List Event) (play : List (List Event))
-            → LiveStandsFor D.has_taken D.digest_of live.now start (events ∷ play)
+            → LiveStandsFor D.has_taken D.digest_of G.flag live.now start (events ∷ play)
             → tallies D.digest_of self.now start play tally
             → Puts W.stands sink.old sink.new
             (last_lines D.digest_of self.now start (events ∷ play) step) result }
         ensures stops { (start : Start) (events : List Event) (play : List (List Event))
-            → LiveStandsFor D.has_taken D.digest_of live.now start (events ∷ play)
+            → LiveStandsFor D.has_taken D.digest_of G.flag live.now start (events ∷ play)
             → tallies D.digest_of self.now start play tally
             → IfErr result (stops D.digest_of self.now start (events ∷ play)) }
         ensures counts { Blames blames W.faults sink.old sink.new result };

@@ -1,7 +1,7 @@
 ghost use Rattle.std.specs.Prelude.{◌≡◌, ◌<◌, Bool, List, Some, IfOk, IfSome, IsTrue, option_map};
-ghost use Rattle.bus_signals.specs.Bounds.{are_valid};
+ghost use Rattle.bus_signals.specs.Bounds.{are_valid_one};
 ghost use Rattle.bus_signals.specs.Report.{fields_of};
-ghost use Rattle.part_definitions.specs.Memory.{PowerOn, MemoryWrite, byte_at};
+ghost use Rattle.part_definitions.specs.Memory.{PowerOn, ShownFlags, MemoryWrite, byte_at};
 ghost use Rattle.mem_map.specs.Memory.{MemoryStandsFor};
 ghost use Rattle.outside_edge.specs.Sink.{Puts, CountsFaults};
 ghost use Rattle.report_verifier.specs.Comparison.{OutputFits};
@@ -40,21 +40,21 @@ fn print_evidence<D: Digest32, W: Sink>(
     memory: &Memory,
     sink: &mut W,
 ) -> Result<(), PutFault>
-    requires { IfSome expect (λ expect. IsTrue (are_valid expect.bounds)) }
-    ensures puts { (start : PowerOn) (exec : Bool) (writes : List MemoryWrite)
-        → MemoryStandsFor memory.now start exec writes
+    requires { IfSome expect (λ expect. IsTrue (are_valid_one expect.bounds)) }
+    ensures puts { (start : PowerOn) (flags : ShownFlags) (writes : List MemoryWrite)
+        → MemoryStandsFor memory.now start flags writes
         → (IsTrue (is_accept verdict) → IfSome expect (λ expect.
         OutputFits expect.bounds (fields_of report.now).output))
         → Puts W.stands sink.old sink.new
         (evidence_lines (judge_of D.digest_of verifier.now) expect verdict
-        (fields_of report.now).output (byte_at start exec writes)) result }
-    ensures memory { (start : PowerOn) (exec : Bool) (writes : List MemoryWrite)
-        → MemoryStandsFor memory.now start exec writes
+        (fields_of report.now).output (byte_at start flags writes)) result }
+    ensures memory { (start : PowerOn) (flags : ShownFlags) (writes : List MemoryWrite)
+        → MemoryStandsFor memory.now start flags writes
         → (IsTrue (is_accept verdict) → IfSome expect (λ expect.
         OutputFits expect.bounds (fields_of report.now).output))
         → StopsOnlyAtPair result
         (is_pair_shown (judge_of D.digest_of verifier.now) expect verdict
-        (fields_of report.now).output (byte_at start exec writes)) }
+        (fields_of report.now).output (byte_at start flags writes)) }
     ensures counts { CountsWriteFaults W.faults sink.old sink.new result }
 {
     let (Some(expect), Decision::Accept) = (expect, verdict) else {
@@ -82,17 +82,17 @@ fn judge<D: Digest32, W: Sink>(
     requires { i < most_steps }
     ensures verdict { IfOk result (λ verdict.
         verdict ≡ verdict_at (judge_of D.digest_of verifier.now) i (fields_of report.now)) }
-    ensures puts { (start : PowerOn) (exec : Bool) (writes : List MemoryWrite)
-        → MemoryStandsFor memory.now start exec writes
-        → TellsOutput (byte_at start exec writes) (Some (fields_of report.now))
+    ensures puts { (start : PowerOn) (flags : ShownFlags) (writes : List MemoryWrite)
+        → MemoryStandsFor memory.now start flags writes
+        → TellsOutput (byte_at start flags writes) (Some (fields_of report.now))
         → Puts W.stands sink.old sink.new
-        (judgement_lines (judge_of D.digest_of verifier.now) i (byte_at start exec writes)
+        (judgement_lines (judge_of D.digest_of verifier.now) i (byte_at start flags writes)
         (Some (fields_of report.now))) result }
-    ensures memory { (start : PowerOn) (exec : Bool) (writes : List MemoryWrite)
-        → MemoryStandsFor memory.now start exec writes
-        → TellsOutput (byte_at start exec writes) (Some (fields_of report.now))
+    ensures memory { (start : PowerOn) (flags : ShownFlags) (writes : List MemoryWrite)
+        → MemoryStandsFor memory.now start flags writes
+        → TellsOutput (byte_at start flags writes) (Some (fields_of report.now))
         → StopsOnlyAtPair result
-        (judgement_has_pair (judge_of D.digest_of verifier.now) i (byte_at start exec writes)
+        (judgement_has_pair (judge_of D.digest_of verifier.now) i (byte_at start flags writes)
         (Some (fields_of report.now))) }
     ensures counts { CountsWriteFaults W.faults sink.old sink.new result }
 {
@@ -117,18 +117,18 @@ pub fn judge_last<D: Digest32, W: Sink>(
     ensures tally { IfOk result (λ new.
         new ≡ tally_after (judge_of D.digest_of verifier.now) tally
         (option_map fields_of report.entry)) }
-    ensures puts { (start : PowerOn) (exec : Bool) (writes : List MemoryWrite)
-        → MemoryStandsFor memory.now start exec writes
-        → TellsOutput (byte_at start exec writes) (option_map fields_of report.entry)
+    ensures puts { (start : PowerOn) (flags : ShownFlags) (writes : List MemoryWrite)
+        → MemoryStandsFor memory.now start flags writes
+        → TellsOutput (byte_at start flags writes) (option_map fields_of report.entry)
         → Puts W.stands sink.old sink.new
         (judgement_lines (judge_of D.digest_of verifier.now) tally.verdicts
-        (byte_at start exec writes) (option_map fields_of report.entry)) result }
-    ensures memory { (start : PowerOn) (exec : Bool) (writes : List MemoryWrite)
-        → MemoryStandsFor memory.now start exec writes
-        → TellsOutput (byte_at start exec writes) (option_map fields_of report.entry)
+        (byte_at start flags writes) (option_map fields_of report.entry)) result }
+    ensures memory { (start : PowerOn) (flags : ShownFlags) (writes : List MemoryWrite)
+        → MemoryStandsFor memory.now start flags writes
+        → TellsOutput (byte_at start flags writes) (option_map fields_of report.entry)
         → StopsOnlyAtPair result
         (judgement_has_pair (judge_of D.digest_of verifier.now) tally.verdicts
-        (byte_at start exec writes) (option_map fields_of report.entry)) }
+        (byte_at start flags writes) (option_map fields_of report.entry)) }
     ensures counts { CountsWriteFaults W.faults sink.old sink.new result }
 {
     let Some(report) = report else {

@@ -9,9 +9,13 @@ returns-in-Sent-clause-puts g c =
     rw c.in-Sent.is
     (subst (λ text. Puts g.W.Sink.stands c.args.sink.now c.print_sent.new.sink text
     c.print_sent.result)
-    (sym (append-nil (line ++ []) ∙ append-nil line)) c.print_sent.ensures.puts)
+    (sym (append-nil ((line ++ []) ++ []) ∙ (append-nil (line ++ []) ∙ append-nil line)))
+    c.print_sent.ensures.puts)
 
 pub returns-in-Reset-clause-puts : goal.returns-in-Reset-clause-puts
 returns-in-Reset-clause-puts g c =
-    rw (c.in-Reset.is, append-nil (reset_line c.args.step c.in-Reset.rule))
-    c.print_reset.ensures.puts
+    let line = reset_line c.args.step c.in-Reset.rule in
+    rw c.in-Reset.is
+    (subst (λ text. Puts g.W.Sink.stands c.args.sink.now c.print_reset.new.sink text
+    c.print_reset.result)
+    (sym (append-nil (line ++ []) ∙ append-nil line)) c.print_reset.ensures.puts)

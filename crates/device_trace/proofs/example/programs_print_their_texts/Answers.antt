@@ -4,12 +4,12 @@ use Rattle.hex.specs.Hex.{encode_with}
 use Rattle.word_arith.specs.Op2.{alu_result}
 use Rattle.word_arith.specs.Op1.{shift_result}
 use Rattle.msp_decode.specs.Head.{head_of}
+use Rattle.part_definitions.specs.FirstRule.{first_rule}
 use Rattle.part_definitions.specs.NextAccess.{next_access, entry_access}
 use Rattle.part_definitions.specs.MonitorRule.{key_rule, atomicity_rule}
 use Rattle.part_definitions.specs.Flag.{exec}
 use Rattle.device_trace.specs.Logs.{with_events, with_record}
 use Rattle.device_trace.specs.Signals.{signals_at}
-use Rattle.device_trace.specs.FirstRule.{first_rule}
 use Rattle.device_trace.specs.Step.{record_of, next_record}
 use Rattle.device_trace.specs.Trace.{logs_after}
 use Rattle.device_trace.specs.Text.{lines_of, play_text}

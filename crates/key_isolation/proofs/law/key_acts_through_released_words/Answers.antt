@@ -4,5 +4,5 @@ use Rattle.key_isolation.proofs.Induction.{play_hides}
 use Rattle.key_isolation.proofs.law.key_acts_through_released_words.Goals as goal
 
 pub returns : goal.returns
-returns c digest key image play more =
-    (play_hides (with_key digest key image) _ play more refl).history
+returns c flag digest key image play more =
+    (play_hides (with_key flag digest key image) _ play more refl).history

@@ -12,40 +12,40 @@ use Rattle.device_cli.proofs.verdict.judgement.print_evidence.Goals as goal
 pub returns-in_default : goal.returns-in_default
 returns-in_default g c =
     record {
-      puts = λ start exec writes stands fits.
+      puts = λ start flags writes stands fits.
           rw (no-evidence (judge_of g.D.Digest32.digest_of c.args.verifier.now) c.args.expect
-          c.args.verdict (fields_of c.args.report.now).output (byte_at start exec writes)
+          c.args.verdict (fields_of c.args.report.now).output (byte_at start flags writes)
           c.in_default.not-Accept-1)
           (nothing-put g.W.Sink.stands c.args.sink.now tt);
-      memory = λ start exec writes stands fits. tt;
+      memory = λ start flags writes stands fits. tt;
       counts = counts-nothing g.W.Sink.faults c.args.sink.now tt;
     }
 
 pub returns-in_err-first-clause-puts : goal.returns-in_err-first-clause-puts
-returns-in_err-first-clause-puts g c = λ start exec writes stands fits.
+returns-in_err-first-clause-puts g c = λ start flags writes stands fits.
     puts-failed g.W.Sink.stands _ _ _ c.from_residual.result c.from_residual.ensures.0
     (nothing-begun g.W.Sink.stands c.args.sink.now _)
 
 pub returns-in_err-first-clause-memory : goal.returns-in_err-first-clause-memory
-returns-in_err-first-clause-memory g c = λ start exec writes stands fits.
+returns-in_err-first-clause-memory g c = λ start flags writes stands fits.
     let accept = c.in-Some-Accept in
     let output = (fields_of c.args.report.now).output in
     stops-at c.from_residual.result _
     (pair-shown_after (judge_of g.D.Digest32.digest_of c.args.verifier.now) c.args.expect
-    c.args.verdict output (byte_at start exec writes) accept.expect accept.is-0 accept.is-1
-    (c.in_err-first.ensures start exec writes stands
+    c.args.verdict output (byte_at start flags writes) accept.expect accept.is-0 accept.is-1
+    (c.in_err-first.ensures start flags writes stands
     (accepted-fits_expect c.args.expect c.args.verdict output accept.expect accept.is-0
     accept.is-1 fits)))
 
 pub returns-in_err-print_collision-in-Pair-clause-puts :
     goal.returns-in_err-print_collision-in-Pair-clause-puts
-returns-in_err-print_collision-in-Pair-clause-puts g c = λ start exec writes stands fits.
+returns-in_err-print_collision-in-Pair-clause-puts g c = λ start flags writes stands fits.
     let accept = c.in-Some-Accept in
     let output = (fields_of c.args.report.now).output in
     let shows = evidence-shown (judge_of g.D.Digest32.digest_of c.args.verifier.now) c.args.expect
-    c.args.verdict output (byte_at start exec writes) accept.expect c.in_ok-first.field-0
+    c.args.verdict output (byte_at start flags writes) accept.expect c.in_ok-first.field-0
     accept.is-0 accept.is-1
-    (c.in_ok-first.ensures start exec writes stands
+    (c.in_ok-first.ensures start flags writes stands
     (accepted-fits_expect c.args.expect c.args.verdict output accept.expect accept.is-0
     accept.is-1 fits)) in
     puts-failed g.W.Sink.stands _ _ _ c.from_residual-in_err-print_collision-in-Pair.result
@@ -58,13 +58,13 @@ returns-in_err-print_collision-in-Pair-clause-puts g c = λ start exec writes st
 
 pub returns-in_ok-print_collision-in-Pair-clause-puts :
     goal.returns-in_ok-print_collision-in-Pair-clause-puts
-returns-in_ok-print_collision-in-Pair-clause-puts g c = λ start exec writes stands fits.
+returns-in_ok-print_collision-in-Pair-clause-puts g c = λ start flags writes stands fits.
     let accept = c.in-Some-Accept in
     let output = (fields_of c.args.report.now).output in
     let shows = evidence-shown (judge_of g.D.Digest32.digest_of c.args.verifier.now) c.args.expect
-    c.args.verdict output (byte_at start exec writes) accept.expect c.in_ok-first.field-0
+    c.args.verdict output (byte_at start flags writes) accept.expect c.in_ok-first.field-0
     accept.is-0 accept.is-1
-    (c.in_ok-first.ensures start exec writes stands
+    (c.in_ok-first.ensures start flags writes stands
     (accepted-fits_expect c.args.expect c.args.verdict output accept.expect accept.is-0
     accept.is-1 fits)) in
     record {
@@ -79,17 +79,17 @@ returns-in_ok-print_collision-in-Pair-clause-puts g c = λ start exec writes sta
 pub returns-in-Same : goal.returns-in-Same
 returns-in-Same g c =
     record {
-      puts = λ start exec writes stands fits.
+      puts = λ start flags writes stands fits.
           let accept = c.in-Some-Accept in
           let output = (fields_of c.args.report.now).output in
           let shows = evidence-shown (judge_of g.D.Digest32.digest_of c.args.verifier.now)
-          c.args.expect c.args.verdict output (byte_at start exec writes) accept.expect
+          c.args.expect c.args.verdict output (byte_at start flags writes) accept.expect
           c.in_ok-first.field-0 accept.is-0 accept.is-1
-          (c.in_ok-first.ensures start exec writes stands
+          (c.in_ok-first.ensures start flags writes stands
           (accepted-fits_expect c.args.expect c.args.verdict output accept.expect accept.is-0
           accept.is-1 fits)) in
           rw (← shows, no-pair c.in_ok-first.field-0 c.in-Same.is)
           (nothing-put g.W.Sink.stands c.args.sink.now tt);
-      memory = λ start exec writes stands fits. tt;
+      memory = λ start flags writes stands fits. tt;
       counts = counts-nothing g.W.Sink.faults c.args.sink.now tt;
     }

@@ -60,8 +60,8 @@ returns-in_err-print_verdict-clause-puts g c =
 pub returns-clause-puts : goal.returns-clause-puts
 returns-clause-puts g c =
     let at = c.loop-i in
-    let none = ahead-end (judge_of g.D.Digest32.digest_of c.args.verifier.now) c.args.reports.now at.i
-    (omega (arith, c.loop-i-test.false)) in
+    let none = ahead-end (judge_of g.D.Digest32.digest_of c.args.verifier.now) c.args.reports.now
+    at.i (omega (arith, c.loop-i-test.false)) in
     let takes = at.invariant.taken in
     record {
       all = rw (← (rw (none, append-nil) at takes.2)) takes.1;
@@ -71,6 +71,6 @@ returns-clause-puts g c =
 pub returns-clause-accepted : goal.returns-clause-accepted
 returns-clause-accepted g c =
     let at = c.loop-i in
-    let none = ahead-end (judge_of g.D.Digest32.digest_of c.args.verifier.now) c.args.reports.now at.i
-    (omega (arith, c.loop-i-test.false)) in
+    let none = ahead-end (judge_of g.D.Digest32.digest_of c.args.verifier.now) c.args.reports.now
+    at.i (omega (arith, c.loop-i-test.false)) in
     sym (and-true at.all_accept) ∙ rw none at at.invariant.accepted

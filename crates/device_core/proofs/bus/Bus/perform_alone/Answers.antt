@@ -1,32 +1,37 @@
-use Rattle.std.proofs.Common.{◌≡◌, ◌∙◌, sym}
-use Rattle.device_trace.specs.Logs.{exec_of, logged_bounds, with_record}
-use Rattle.device_core.specs.Bus.{logs_performed}
+use Rattle.std.proofs.Common.{◌≡◌, ◌∷◌, None}
+use Rattle.bus_signals.specs.SeenRecord.{SeenRecord}
+use Rattle.mem_map.specs.Memory.{MemoryStandsFor}
+use Rattle.device_trace.specs.Logs.{flags_of, flags_shown, logged_bounds, memory_after, with_record}
+use Rattle.device_core.proofs.FlagsShown.{flags-kept}
 use Rattle.device_core.proofs.bus.Bus.perform_alone.Goals as goal
 
 pub returns-clause-stands : goal.returns-clause-stands
 unfolding with_record
-returns-clause-stands c = λ start logs clear stands value same_dma same_acceptance.
+returns-clause-stands g c = λ start logs line clear stands value same_dma same_acceptance.
+    let flag = g.G.TraceFlag.flag in
     let entry = c.make-entry.ensures.value start logs stands value in
-    let after = logs_performed start logs c.args.regs.now c.args.now.now in
-    let (was, is) = clear c.make-entry.result c.make-entry.ensures.pc in
-    let keeps : exec_of after ≡ exec_of logs = rw entry at (is ∙ sym was) in
-    let records = logs.records in
+    let leaves = clear.leaves c.make-entry.result c.make-entry.ensures.pc in
+    let now : SeenRecord =
+    record { entry = c.make-entry.result; bounds = logged_bounds start logs } in
+    let kept : flags_shown start (now ∷ logs.records) ≡ flags_shown start logs.records =
+    flags-kept flag start now logs.records stands.same_flag clear.unshown leaves in
+    let memory : MemoryStandsFor c.make-entry.new.self.memory start.power
+    (flags_shown start (now ∷ logs.records))
+    (memory_after None c.args.now.now.cpu c.args.now.now.dma logs.memory) =
+    rw kept
+    (c.make-entry.ensures.memory start.power (flags_of start logs) logs.memory
+    stands.same_memory) in
     record {
-      same_memory =
-          rw keeps
-          (c.make-entry.ensures.memory start.power (exec_of logs) logs.memory stands.same_memory);
+      same_memory = rw entry at memory;
       same_peripherals =
           rw entry at
-          (c.finish_step-sent.ensures.stands logs c.make-entry.ensures.reset
+          (c.finish_step.ensures logs c.make-entry.ensures.reset
           (rw c.make-entry.ensures.kind same_acceptance)
           (rw c.make-entry.ensures.peripherals stands.same_peripherals));
       same_monitors =
           rw entry at
-          (c.pass.ensures (logged_bounds start logs) records
-          (rw c.make-entry.ensures.monitors stands.same_monitors) (is ∙ sym was));
-      same_last =
-          rw entry at
-          (c.keep_record.ensures.last (logged_bounds start logs) records
-          c.make-entry.ensures.reset
-          (c.finish_step-sent.ensures.sent c.make-entry.ensures.reset));
+          (c.pass.ensures (logged_bounds start logs) logs.records
+          (rw c.make-entry.ensures.monitors stands.same_monitors) leaves);
+      same_flag = stands.same_flag;
+      same_last = rw c.keep_none.ensures line;
     }

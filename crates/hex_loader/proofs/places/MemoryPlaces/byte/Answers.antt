@@ -6,7 +6,7 @@ pub returns : goal.returns
 returns c = λ image shows.
     let span = c.in_ok-span.ensures in
     c.copied.ensures ∙ c.first.ensures.value
-    ∙ span-one shows.start shows.exec shows.writes c.args.place c.in_ok-span.field-0.now
+    ∙ span-one shows.start shows.flags shows.writes c.args.place c.in_ok-span.field-0.now
     (span.within.0 refl)
-    (span.bytes shows.start shows.exec shows.writes shows.stands)
+    (span.bytes shows.start shows.flags shows.writes shows.stands)
     ∙ ap (λ (bytes : ℕ → Option ℕ). bytes c.args.place) (sym shows.shown)

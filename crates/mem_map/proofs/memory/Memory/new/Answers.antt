@@ -1,6 +1,6 @@
 use Rattle.std.proofs.Common.{rules, arith}
-use Rattle.std.proofs.Common.{false, []}
-use Rattle.part_definitions.specs.Memory.{byte_at}
+use Rattle.std.proofs.Common.{[]}
+use Rattle.part_definitions.specs.Memory.{no_flags, byte_at}
 use Rattle.mem_map.specs.Image.{power_on_of}
 use Rattle.mem_map.proofs.Byte.{append-bytes}
 use Rattle.mem_map.proofs.memory.Memory.new.Goals as goal
@@ -10,7 +10,7 @@ loop-place-preserved c = (
   omega (arith, c.in_ok-push.ensures.len),
   rw c.in_ok-push.ensures.items
       (append-bytes
-      (byte_at (power_on_of c.args.key.now c.args.image.now) false []) c.loop-place.bytes.items
+      (byte_at (power_on_of c.args.key.now c.args.image.now) no_flags []) c.loop-place.bytes.items
       c.power_on_byte.result c.loop-place.place
       (search rules) c.loop-place.invariant.1 c.power_on_byte.ensures),
 )

@@ -1,0 +1,5 @@
+pub mod Rows
+pub mod Records
+pub mod SameSight
+pub mod Right
+pub mod SameText

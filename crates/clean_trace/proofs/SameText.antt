@@ -1,0 +1,136 @@
+-- Two keys whose released words agree give the same trace file.
+use Rattle.std.proofs.Common.{◌≡◌, ℕ, Bool, List, [], ◌∷◌, ◌++◌, Option, Some, None, refl, ap, sym, ◌∙◌}
+use Rattle.bus_signals.specs.declared.access.Access.{Access}
+use Rattle.bus_signals.specs.declared.access.Access.TheVariants.{Fetch, Read, Write}
+use Rattle.bus_signals.specs.declared.bus_record.BusRecord.{BusRecord}
+use Rattle.bus_signals.specs.declared.event.Event.{Event}
+use Rattle.device_trace.specs.Blank.{blank_record, blank_value, touches_secrets}
+use Rattle.device_trace.specs.Logs.{Logs, exec_of, logged_bounds, with_events}
+use Rattle.device_trace.specs.Signals.{word_fetched, signals_at, signals_of}
+use Rattle.device_trace.specs.Start.{Start}
+use Rattle.device_trace.specs.Step.{asks_reset, without_number, next_record, next_signals}
+use Rattle.device_trace.specs.Trace.{next_logs, logs_after, released_words}
+use Rattle.part_definitions.specs.Flag.{last_pc}
+use Rattle.trace_facts.proofs.Sound.{IsSound}
+use Rattle.trace_facts.proofs.SoundPlay.{logs_after-sound}
+use Rattle.key_isolation.specs.Agreement.{Agree}
+use Rattle.key_isolation.proofs.Bytes.{same_if, zero_either}
+use Rattle.key_isolation.proofs.FlagBlank.{exec-blank, blank_access-twice, blank_value-twice}
+use Rattle.key_isolation.proofs.Hiding.{open_start, hide, logged_bounds-hide}
+use Rattle.key_isolation.proofs.Induction.{play_hides, releases_before}
+use Rattle.key_isolation.proofs.LogsBlank.{step_hides}
+use Rattle.key_isolation.proofs.Reading.{value_read-hide}
+use Rattle.key_isolation.proofs.SignalShape.{signals_of-hide}
+use Rattle.key_isolation.proofs.TwoKeys.{SameButKey, same_seen}
+use Rattle.trace_line.specs.declared.trace_line.TraceLine.{TraceLine}
+use Rattle.trace_line.specs.LineText.{file_text}
+use Rattle.clean_trace.specs.TraceText.{word_shown, line_with, next_line, trace_lines, trace_text}
+
+-- the word that a line shows, of accesses that differ in the number of a write alone
+word_shown-hide : (start : Start) (free : List ℕ) (logs : Logs) (cpu' cpu : Option Access)
+    → without_number cpu' ≡ without_number cpu
+    → blank_value cpu' (word_fetched (open_start free start) (hide logs) cpu')
+    ≡ blank_value cpu (word_fetched start logs cpu)
+word_shown-hide start free logs None None same = refl
+word_shown-hide start free logs None (Some (Fetch place)) same = absurd (cc)
+word_shown-hide start free logs None (Some (Read place size)) same = absurd (cc)
+word_shown-hide start free logs None (Some (Write place size number)) same = absurd (cc)
+word_shown-hide start free logs (Some (Fetch place')) None same = absurd (cc)
+word_shown-hide start free logs (Some (Fetch place')) (Some (Fetch place)) same =
+    let here : place' ≡ place = cc in
+    ap
+    (λ (p : ℕ). blank_value (Some (Fetch p))
+    (word_fetched (open_start free start) (hide logs) (Some (Fetch p)))) here
+    ∙ same_if (touches_secrets (Fetch place)) 0 0
+    (word_fetched (open_start free start) (hide logs) (Some (Fetch place)))
+    (word_fetched start logs (Some (Fetch place)))
+    (λ secret. refl)
+    (λ off. value_read-hide start free logs (Fetch place) off)
+word_shown-hide start free logs (Some (Fetch place')) (Some (Read place size)) same = absurd (cc)
+word_shown-hide start free logs (Some (Fetch place')) (Some (Write place size number)) same =
+    absurd (cc)
+word_shown-hide start free logs (Some (Read place' size')) None same = absurd (cc)
+word_shown-hide start free logs (Some (Read place' size')) (Some (Fetch place)) same = absurd (cc)
+word_shown-hide start free logs (Some (Read place' size')) (Some (Read place size)) same =
+    zero_either (touches_secrets (Read place' size'))
+    ∙ sym (zero_either (touches_secrets (Read place size)))
+word_shown-hide start free logs (Some (Read place' size'))
+    (Some (Write place size number)) same =
+    absurd (cc)
+word_shown-hide start free logs (Some (Write place' size' number')) None same = absurd (cc)
+word_shown-hide start free logs (Some (Write place' size' number')) (Some (Fetch place)) same =
+    absurd (cc)
+word_shown-hide start free logs (Some (Write place' size' number')) (Some (Read place size)) same =
+    absurd (cc)
+word_shown-hide start free logs (Some (Write place' size' number'))
+    (Some (Write place size number)) same =
+    zero_either (touches_secrets (Write place' size' number'))
+    ∙ sym (zero_either (touches_secrets (Write place size number)))
+
+-- of the signals of the next step
+next_word-hide : (start : Start) (free : List ℕ) (logs : Logs) (events : List Event)
+    → word_shown (next_signals (open_start free start) (hide logs) events)
+    ≡ word_shown (next_signals start logs events)
+unfolding with_events signals_at
+next_word-hide start free logs events =
+    let after : Logs = with_events logs events in
+    let reset : Bool = asks_reset events in
+    word_shown-hide start free after (signals_of (open_start free start) (hide after) reset).cpu
+    (signals_of start after reset).cpu (signals_of-hide start free after reset).shape
+
+next_reset : (start : Start) (logs : Logs) (events : List Event)
+    → (next_signals start logs events).script_reset ≡ asks_reset events
+unfolding signals_at
+next_reset start logs events = refl
+
+-- the line of a step
+next_line-hide : (start : Start) (free more : List ℕ) (logs : Logs) (events : List Event)
+    → IsSound logs.progress (last_pc logs.records)
+    → free ≡ (next_logs start logs events).released_words ++ more
+    → next_line (open_start free start) (hide logs) events ≡ next_line start logs events
+next_line-hide start free more logs events sound split =
+    let opened : Start = open_start free start in
+    let entry : BusRecord = next_record start logs events in
+    let step = step_hides start free more logs events sound split in
+    ap
+    (λ (e : BusRecord). line_with (blank_record e) (next_signals opened (hide logs) events)
+    (logged_bounds opened (hide logs)) (exec_of (next_logs opened (hide logs) events)))
+    step.entry
+    ∙ (λ i. record {
+      kind = entry.kind;
+      pc = entry.pc;
+      cpu = blank_access-twice entry.cpu i;
+      dma = blank_access-twice entry.dma i;
+      irq = entry.irq;
+      asked = (next_reset opened (hide logs) events ∙ sym (next_reset start logs events)) i;
+      word = next_word-hide start free logs events i;
+      value = blank_value-twice entry.cpu entry.value i;
+      dma_value = blank_value-twice entry.dma entry.dma_value i;
+      bounds = logged_bounds-hide start free logs i;
+      exec = (ap exec_of step.after ∙ exec-blank (next_logs start logs events).records) i;
+      rule = entry.reset;
+    })
+
+trace_lines-hide : (start : Start) (free : List ℕ) (play : List (List Event)) (more : List ℕ)
+    → free ≡ (logs_after start play).released_words ++ more
+    → trace_lines start play ≡ trace_lines (open_start free start) play
+unfolding trace_lines logs_after
+trace_lines-hide start free [] more split = refl
+trace_lines-hide start free (events ∷ play) more split =
+    let logs : Logs = logs_after start play in
+    let opened : Start = open_start free start in
+    let rest = releases_before start free more logs events split in
+    let before = play_hides start free play rest.0 rest.1 in
+    ap (λ (lines : List TraceLine). next_line start logs events ∷ lines)
+    (trace_lines-hide start free play rest.0 rest.1)
+    ∙ ap (λ (line : TraceLine). line ∷ trace_lines opened play)
+    (sym (next_line-hide start free more logs events (logs_after-sound start play) split)
+    ∙ ap (λ (ls : Logs). next_line opened ls events) before.logs)
+
+pub same_trace_text : (left right : Start) (play : List (List Event)) → SameButKey left right
+    → Agree (released_words left play) (released_words right play)
+    → trace_text left play ≡ trace_text right play
+same_trace_text left right play same agree =
+    ap file_text
+    (same_seen (λ start. trace_lines start play) (λ start. trace_lines start play) left right play
+    (λ start free more split. trace_lines-hide start free play more split) same agree)

@@ -1,0 +1,20 @@
+use Rattle.std.proofs.Common.{refl}
+use Rattle.std.specs.Fmt.{digits}
+use Rattle.word_arith.specs.Op2.{alu_result}
+use Rattle.word_arith.specs.Op1.{shift_result}
+use Rattle.msp_decode.specs.Head.{head_of}
+use Rattle.part_definitions.specs.NextAccess.{next_access, entry_access}
+use Rattle.part_definitions.specs.MonitorRule.{key_rule, atomicity_rule}
+use Rattle.part_definitions.specs.Flag.{exec}
+use Rattle.device_trace.specs.Logs.{with_events, with_record}
+use Rattle.device_trace.specs.Signals.{signals_at}
+use Rattle.part_definitions.specs.FirstRule.{first_rule}
+use Rattle.device_trace.specs.Step.{record_of, next_record}
+use Rattle.device_trace.specs.Trace.{logs_after}
+use Rattle.device_cli.proofs.example.version_differs.Goals as goal
+
+pub returns : goal.returns
+unfolding digits alu_result shift_result head_of next_access entry_access key_rule
+    atomicity_rule exec with_events with_record signals_at first_rule record_of next_record
+    logs_after
+returns c = refl

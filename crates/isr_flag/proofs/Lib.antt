@@ -1,0 +1,2 @@
+pub mod Aux
+pub mod UnclearedStarts

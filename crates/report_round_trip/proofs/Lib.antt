@@ -1,2 +1,0 @@
-pub mod PlayLines
-pub mod PrintableReport

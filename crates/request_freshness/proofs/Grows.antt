@@ -1,0 +1,193 @@
+-- Over a play the kept counter does not fall, and the counters of attested requests grow.
+use Rattle.std.proofs.Common.{◌≡◌, ℕ, ◌-◌, ◌<◌, ◌≤◌, Bool, true, false, List, [], ◌∷◌, ◌++◌, drop, inl, inr, Option, Some, None, length, ap, sym, ◌∙◌, arith}
+use Rattle.std.specs.Prelude.{◌==◌, ◌&&◌, is_none, IsFalse, IsTrue}
+use Rattle.std.proofs.lemmas.Bool.{cases_lt, cond-true, eq-eqb}
+use Rattle.std.proofs.lemmas.List.{drop-append-le}
+use Rattle.bus_signals.specs.declared.access.Access.{Access}
+use Rattle.bus_signals.specs.declared.access.Access.TheVariants.{Fetch, Read, Write}
+use Rattle.bus_signals.specs.declared.bus_record.BusRecord.{BusRecord}
+use Rattle.bus_signals.specs.declared.event.Event.{Event}
+use Rattle.bus_signals.specs.declared.rule.Rule.{Rule}
+use Rattle.bus_signals.specs.SeenRecord.{SeenRecord}
+use Rattle.part_definitions.specs.Metadata.{counter_in, little_endian}
+use Rattle.part_definitions.specs.Request.{ATTESTS}
+use Rattle.device_trace.specs.Start.{Start, with_key}
+use Rattle.device_trace.specs.Trace.{trace}
+use Rattle.mac_coverage.specs.AttestedBytes.{AttestedBytes, counter_left, decision_of}
+use Rattle.mac_coverage.specs.Call.{ends_refused, last_call, mac_written}
+use Rattle.mac_coverage.specs.Coverage.{IsDeviceKey, IsOfBytes, call_length, contents_before, kept_before, kept_within}
+use Rattle.mac_coverage.proofs.Device.{Device, start_of}
+use Rattle.mac_coverage.proofs.KeptStored.{kept-late}
+use Rattle.mac_coverage.proofs.Outcomes.{Outcome}
+use Rattle.mac_coverage.proofs.Plays.{outcome_at}
+use Rattle.mac_coverage.proofs.PlaySteps.{LastWroteHighWord, WritesHighWord}
+use Rattle.mac_coverage.proofs.Words.{are_bytes}
+use Rattle.request_freshness.specs.Freshness.{Attests, first_word, ends_between_words, kept_counter, writes_high_word}
+use Rattle.request_freshness.proofs.CounterSteps.{attests-newer, counter_step}
+
+-- the moment between the two writes
+writes_high : (access : Option Access) → WritesHighWord access → writes_high_word access ≡ true
+writes_high None writes = absurd writes
+writes_high (Some (Fetch place)) writes = absurd writes
+writes_high (Some (Read place size)) writes = absurd writes
+writes_high (Some (Write place size number)) writes = eq-eqb place 0x4062 writes
+
+not_refused : (rule : Option Rule) (test : Bool) → rule ≡ None → test ≡ true
+    → (is_none rule && test) ≡ true
+not_refused None test none holds = holds
+not_refused (Some rule) test none holds = absurd (cc)
+
+last_wrote-between : (history : List BusRecord) → LastWroteHighWord history
+    → ends_between_words history ≡ true
+last_wrote-between [] wrote = absurd wrote
+last_wrote-between (entry ∷ history) wrote =
+    not_refused entry.reset (writes_high_word entry.cpu) wrote.0 (writes_high entry.cpu wrote.1)
+
+-- a moment from which the counter does not fall
+abbrev pub IsFirm : Device → List (List Event) → Type 0
+IsFirm device play =
+    (LastWroteHighWord (trace (start_of device) play))
+    → (call_length (start_of device) play ≡ 75) → ⊥
+
+pub never_falls : (device : Device) (later earlier : List (List Event)) → IsFirm device earlier
+    → kept_counter (start_of device) earlier ≤ kept_counter (start_of device) (later ++ earlier)
+never_falls device [] earlier firm = omega arith
+never_falls device (events ∷ []) earlier firm =
+    elim (counter_step device earlier events) [
+      | inl grows ↦ grows
+      | inr falls ↦ absurd (firm falls.0 falls.1)
+    ]
+never_falls device (events ∷ before ∷ later) earlier firm =
+    elim (counter_step device (before ∷ later ++ earlier) events) [
+      | inl grows ↦
+          (let so_far = never_falls device (before ∷ later) earlier firm in
+          omega (arith, grows, so_far))
+      | inr falls ↦
+          (let so_far = never_falls device later earlier firm in
+          let step = falls.2 in
+          omega (arith, step, so_far))
+    ]
+
+-- a device
+abbrev pub device_of : (flag : List SeenRecord → Bool) (digest : List ℕ → List ℕ) (key : List ℕ)
+    (image : ℕ → ℕ) → IsDeviceKey key → IsOfBytes image → Device
+device_of flag digest key image device_key bytes =
+    record {
+      flag = flag;
+      digest = digest;
+      key = key;
+      image = image;
+      key_size = device_key.size;
+      key_bytes = are_bytes key device_key.bytes;
+      image_bytes = bytes;
+    }
+
+pub kept_counter-never_falls : (flag : List SeenRecord → Bool) (digest : List ℕ → List ℕ)
+    (key : List ℕ) (image : ℕ → ℕ) (later earlier : List (List Event))
+    → IsDeviceKey key → IsOfBytes image
+    → IsFalse (ends_between_words (trace (with_key flag digest key image) earlier))
+    → kept_counter (with_key flag digest key image) earlier
+    ≤ kept_counter (with_key flag digest key image) (later ++ earlier)
+kept_counter-never_falls flag digest key image later earlier device_key bytes firm =
+    never_falls (device_of flag digest key image device_key bytes) later earlier
+    (λ wrote count.
+    let wrong : true ≡ false =
+    sym (last_wrote-between (trace (with_key flag digest key image) earlier) wrote) ∙ firm in
+    cc)
+
+-- what is known where a call has decided to attest
+record AttestsHere (device : Device) (play : List (List Event)) (counter : ℕ) : Type 0 where
+  -- the counter of the request is kept
+  kept : kept_counter (start_of device) play ≡ counter
+  late : 77 ≤ call_length (start_of device) play
+  -- and is greater than the one that was kept before the call
+  older :
+      kept_counter (start_of device) (drop (call_length (start_of device) play) play) < counter
+
+first_word-is : (words later rest : List ℕ) (decision first : ℕ)
+    → first_word words ≡ Some first → words ++ later ≡ decision ∷ rest
+    → (decision ≡ first) × (1 ≤ length words)
+first_word-is [] later rest decision first is same = absurd (cc)
+first_word-is (word ∷ words) later rest decision first is same = (cc, omega arith)
+
+attests-here : (device : Device) (play : List (List Event)) (counter : ℕ)
+    → Attests (start_of device) play counter → AttestsHere device play counter
+attests-here device play counter attests =
+    let start : Start = start_of device in
+    let outcome : Outcome device play = outcome_at device play attests.in_call in
+    let covers = outcome.covers in
+    let decision : ℕ = decision_of device.digest device.key covers.contents covers.kept in
+    let left : List ℕ = counter_left device.digest device.key covers.contents covers.kept in
+    let first = first_word-is (mac_written (last_call (trace start play))) covers.later _ decision
+    ATTESTS attests.decision covers.words in
+    let late : 77 ≤ call_length start play = outcome.timed first.1 in
+    let goes : (steps : ℕ) → IsTrue (ends_refused (trace start play)) → 1 ≤ steps =
+    λ steps refuses.
+    (let wrong : true ≡ false = sym refuses ∙ attests.unrefused in absurd (cc)) in
+    let request : left ≡ counter_in covers.contents.metadata =
+    cond-true (decision == ATTESTS) (counter_in covers.contents.metadata) covers.kept
+    (eq-eqb decision ATTESTS first.0) in
+    let stands : contents_before start play 0 ≡ covers.contents =
+    covers.throughout 0 (record { begun = omega (arith, late); unrefused = goes 0 }) in
+    let asked : little_endian (counter_in covers.contents.metadata) ≡ counter =
+    ap (λ (contents : AttestedBytes). little_endian (counter_in contents.metadata)) (sym stands)
+    ∙ attests.request in
+    let now : kept_before start play 0 ≡ left =
+    covers.counter 0 (record { within = omega arith; unrefused = goes 0 })
+    ∙ kept-late covers.kept left (call_length start play - 0) (omega (arith, late)) in
+    let before : kept_before start play (call_length start play) ≡ covers.kept =
+    covers.counter (call_length start play)
+    (record { within = omega arith; unrefused = goes (call_length start play) })
+    ∙ ap (kept_within covers.kept left)
+    (let none : call_length start play - call_length start play ≡ 0 = omega arith in none) in
+    let newer = attests-newer device.digest device.key covers.contents.metadata covers.kept first.0
+    in
+    let number_before = ap little_endian before in
+    record {
+      kept = ap little_endian (now ∙ request) ∙ asked;
+      late = late;
+      older = omega (arith, newer, number_before, asked);
+    }
+
+pub counters-grow : (device : Device) (later earlier : List (List Event)) (first second : ℕ)
+    → Attests (start_of device) earlier first
+    → Attests (start_of device) (later ++ earlier) second
+    → call_length (start_of device) (later ++ earlier) ≤ length later
+    → first < second
+counters-grow device later earlier first second attests attests_later begins =
+    let here = attests-here device earlier first attests in
+    let there = attests-here device (later ++ earlier) second attests_later in
+    let count : ℕ = call_length (start_of device) (later ++ earlier) in
+    let late = here.late in
+    let same = ap (kept_counter (start_of device)) (drop-append-le count later earlier begins) in
+    let grows = never_falls device (drop count later) earlier
+    (λ wrote at_high. omega (arith, late, at_high)) in
+    let kept = here.kept in
+    let older = there.older in
+    omega (arith, same, grows, kept, older)
+
+pub attested_counters-grow : (flag : List SeenRecord → Bool) (digest : List ℕ → List ℕ)
+    (key : List ℕ) (image : ℕ → ℕ) (later earlier : List (List Event)) (first second : ℕ)
+    → IsDeviceKey key → IsOfBytes image
+    → Attests (with_key flag digest key image) earlier first
+    → Attests (with_key flag digest key image) (later ++ earlier) second
+    → call_length (with_key flag digest key image) (later ++ earlier) ≤ length later
+    → first < second
+attested_counters-grow flag digest key image later earlier first second device_key bytes =
+    counters-grow (device_of flag digest key image device_key bytes) later earlier first second
+
+pub request-attested_once : (flag : List SeenRecord → Bool) (digest : List ℕ → List ℕ)
+    (key : List ℕ) (image : ℕ → ℕ) (later earlier : List (List Event)) (counter : ℕ)
+    → IsDeviceKey key → IsOfBytes image
+    → Attests (with_key flag digest key image) earlier counter
+    → Attests (with_key flag digest key image) (later ++ earlier) counter
+    → length later < call_length (with_key flag digest key image) (later ++ earlier)
+request-attested_once flag digest key image later earlier counter device_key bytes first second =
+    elim (cases_lt (length later)
+    (call_length (with_key flag digest key image) (later ++ earlier))) [
+      | inl same_call ↦ same_call
+      | inr begins ↦
+          (let wrong = attested_counters-grow flag digest key image later earlier counter counter
+          device_key bytes first second begins in
+          omega (arith, wrong))
+    ]

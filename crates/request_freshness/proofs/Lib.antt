@@ -1,0 +1,5 @@
+pub mod Untouched
+pub mod CounterSteps
+pub mod Moves
+pub mod Grows
+pub mod Reports

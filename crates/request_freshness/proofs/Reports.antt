@@ -1,0 +1,228 @@
+-- The counters in the reports of a play grow.
+use Rattle.std.proofs.Common.{◌≡◌, ℕ, suc, ◌≤◌, Bool, true, false, List, [], ◌∷◌, ◌++◌, append-nil, inl, inr, Option, Some, None, length, refl, ap, sym, ◌∙◌, arith, subst}
+use Rattle.std.specs.Prelude.{◌==◌, ◌&&◌, is_none, is_some, if◌then◌else◌}
+use Rattle.std.proofs.lemmas.Bool.{and_parts, cases_Bool, cond-true}
+use Rattle.bus_signals.specs.declared.access.Access.{Access}
+use Rattle.bus_signals.specs.declared.bus_record.BusRecord.{BusRecord}
+use Rattle.bus_signals.specs.declared.event.Event.{Event}
+use Rattle.bus_signals.specs.declared.kind.Kind.{Kind}
+use Rattle.bus_signals.specs.declared.kind.Kind.TheVariants.{Rom}
+use Rattle.bus_signals.specs.declared.rule.Rule.{Rule}
+use Rattle.bus_signals.specs.Kind.{is_rom}
+use Rattle.bus_signals.specs.Map.{ROM_EXIT}
+use Rattle.bus_signals.specs.Report.{ReportFields}
+use Rattle.bus_signals.specs.SeenRecord.{SeenRecord}
+use Rattle.part_definitions.specs.Attestation.{call_item, is_return, word_passed}
+use Rattle.device_trace.specs.Logs.{Logs, finishes_call, progress_after, step_progress, vector_of, with_events, with_record}
+use Rattle.device_trace.specs.Progress.{Progress, InCall, after_return, call_after}
+use Rattle.device_trace.specs.Signals.{step_kind}
+use Rattle.device_trace.specs.Start.{with_key}
+use Rattle.device_trace.specs.Text.{last_report}
+use Rattle.device_trace.specs.Trace.{logs_after, trace}
+use Rattle.trace_facts.proofs.Choices.{none_there}
+use Rattle.mac_coverage.specs.Call.{ends_finished, ends_in_call, last_call, mac_written}
+use Rattle.mac_coverage.specs.Coverage.{IsDeviceKey, IsOfBytes, call_length}
+use Rattle.mac_coverage.proofs.CallItems.{exit_returns}
+use Rattle.mac_coverage.proofs.Device.{Device, start_of}
+use Rattle.mac_coverage.proofs.Plays.{Reports, last_report-finishes, outcome_at, rom_kind}
+use Rattle.mac_coverage.proofs.PlaySteps.{IsTurnOfCall, entry-kind, entry-pc, entry-step, entry_at, log_at}
+use Rattle.mac_coverage.proofs.Steps.{IsOfCall, OnCall, other_step-no_call, progress-call_step, rom_step-of_call}
+use Rattle.request_freshness.specs.Freshness.{Attests, TellsNewCounter, first_word}
+use Rattle.request_freshness.proofs.CounterSteps.{later_or_first}
+use Rattle.request_freshness.proofs.Grows.{counters-grow, device_of}
+
+-- the progress after a step of a call that is not refused
+record CallProgress (device : Device) (play : List (List Event)) (events : List Event)
+    : Type 0 where
+  regs : List ℕ
+  words : List ℕ
+  word : ℕ
+  is : (logs_after (start_of device) (events ∷ play)).progress ≡ call_after regs words word
+  returns : finishes_call (entry_at device play events) ≡ true
+      → is_return (call_item words) ≡ true
+
+call-progress : (device : Device) (play : List (List Event)) (events : List Event)
+    → step_kind (log_at device play events) ≡ Rom
+    → is_some (entry_at device play events).reset ≡ false
+    → CallProgress device play events
+unfolding logs_after with_events
+call-progress device play events rom no_reset =
+    let entry : BusRecord = entry_at device play events in
+    let logs : Logs = log_at device play events in
+    let call : IsOfCall logs.progress (step_progress logs (step_kind logs)) =
+    rom_step-of_call logs.progress (vector_of logs) rom in
+    let turn : IsTurnOfCall device play events call.regs call.words =
+    record { kind = rom; progress = call.is } in
+    let step = entry-step device play events call.regs call.words turn
+    (none_there entry.reset no_reset) in
+    record {
+      regs = call.regs;
+      words = call.words;
+      word = word_passed entry.cpu entry.value;
+      is = progress-call_step (start_of device) logs call.regs call.words entry step rom call.is;
+      returns = λ finishes.
+          let parts = and_parts (is_rom entry.kind && (entry.pc == ROM_EXIT)) (is_none entry.reset)
+          finishes in
+          let place = and_parts (is_rom entry.kind) (entry.pc == ROM_EXIT) parts.0 in
+          exit_returns (call_item call.words)
+          (ap (λ (pc : ℕ). pc == ROM_EXIT)
+          (sym (entry-pc device play events call.regs call.words turn))
+          ∙ place.1);
+    }
+
+-- a call that begins after a play has made no more steps than there are since
+abbrev BeganAfter : Device → List (List Event) → List (List Event) → Type 0
+BeganAfter device later earlier =
+    OnCall (λ regs words. call_length (start_of device) (later ++ earlier) ≤ length later)
+    (logs_after (start_of device) (later ++ earlier)).progress
+
+-- after a finished call there is none
+return-no_call : (Holds : Type 0) (regs words : List ℕ) (word : ℕ)
+    → is_return (call_item words) ≡ true
+    → OnCall (λ regs words. Holds) (call_after regs words word)
+return-no_call Holds regs words word returns =
+    subst (OnCall (λ regs words. Holds))
+    (sym (cond-true (is_return (call_item words)) (after_return regs word) _ returns)) tt
+
+not_refused : (rule : Option Rule) (ends : Bool) → (ends && is_none rule) ≡ true
+    → is_some rule ≡ false
+not_refused None ends finishes = refl
+not_refused (Some rule) true finishes = absurd (cc)
+not_refused (Some rule) false finishes = absurd (cc)
+
+finished-no_call : (device : Device) (play : List (List Event))
+    → ends_finished (trace (start_of device) play) ≡ true
+    → BeganAfter device [] play
+unfolding trace
+finished-no_call device [] finishes = absurd (cc)
+finished-no_call device (events ∷ play) finishes =
+    let entry : BusRecord = entry_at device play events in
+    let both = and_parts (is_rom entry.kind && (entry.pc == ROM_EXIT)) (is_none entry.reset)
+    finishes in
+    let place = and_parts (is_rom entry.kind) (entry.pc == ROM_EXIT) both.0 in
+    let rom : step_kind (log_at device play events) ≡ Rom =
+    sym (entry-kind device play events) ∙ rom_kind entry.kind place.0 in
+    let after = call-progress device play events rom
+    (not_refused entry.reset (is_rom entry.kind && (entry.pc == ROM_EXIT)) finishes) in
+    let Holds : Type 0 = call_length (start_of device) (events ∷ play) ≤ 0 in
+    subst (OnCall (λ regs words. Holds)) (sym after.is)
+    (return-no_call Holds after.regs after.words after.word (after.returns finishes))
+
+call_after-holds : (Holds : Type 0) (regs words : List ℕ) (word : ℕ) → Holds
+    → OnCall (λ regs words. Holds) (call_after regs words word)
+call_after-holds Holds regs words word holds = by_test (is_return (call_item words))
+  where
+    by_test : (test : Bool)
+        → OnCall (λ regs words. Holds)
+        (if test then after_return regs word else InCall regs (words ++ word ∷ []))
+    by_test true = tt
+    by_test false = holds
+
+refused-no_call : (Holds : Type 0) (rule : Option Rule) (kind : Kind) (progress : Progress)
+    (access : Option Access) (value : ℕ) → is_some rule ≡ true
+    → OnCall (λ regs words. Holds) (progress_after rule kind progress access value)
+refused-no_call Holds None kind progress access value refuses = absurd (cc)
+refused-no_call Holds (Some rule) kind progress access value refuses = tt
+
+-- with one step more
+length-began : (device : Device) (later earlier : List (List Event)) (events : List Event)
+    → BeganAfter device later earlier
+    → step_kind (log_at device (later ++ earlier) events) ≡ Rom
+    → call_length (start_of device) (events ∷ later ++ earlier) ≤ suc (length later)
+length-began device later earlier events began rom =
+    elim (later_or_first device (later ++ earlier) events rom) [
+      | inl first ↦ omega (arith, first)
+      | inr more ↦
+          (let so_far : call_length (start_of device) (later ++ earlier) ≤ length later =
+          subst
+          (OnCall
+          (λ regs words. call_length (start_of device) (later ++ earlier) ≤ length later))
+          more.progress began in
+          let count = more.count in
+          omega (arith, so_far, count))
+    ]
+
+began_after : (device : Device) (later earlier : List (List Event))
+    → BeganAfter device [] earlier → BeganAfter device later earlier
+unfolding logs_after with_record
+began_after device [] earlier none = none
+began_after device (events ∷ later) earlier none =
+    let play : List (List Event) = later ++ earlier in
+    let logs : Logs = log_at device play events in
+    let entry : BusRecord = entry_at device play events in
+    let Holds : Type 0 =
+    call_length (start_of device) (events ∷ later ++ earlier) ≤ length (events ∷ later) in
+    elim (cases_Bool (is_some entry.reset)) [
+      | inl refuses ↦
+          refused-no_call Holds entry.reset entry.kind (step_progress logs entry.kind) entry.cpu
+          entry.value refuses
+      | inr no_reset ↦
+          elim (cases_Bool (is_rom (step_kind logs))) [
+            | inl rom ↦
+                let at_rom : step_kind logs ≡ Rom = rom_kind (step_kind logs) rom in
+                let after = call-progress device play events at_rom no_reset in
+                subst (OnCall (λ regs words. Holds)) (sym after.is)
+                (call_after-holds Holds after.regs after.words after.word
+                (length-began device later earlier events (began_after device later earlier none)
+                at_rom))
+            | inr other ↦
+                subst
+                (λ (kind : Kind). OnCall (λ regs words. Holds)
+                (progress_after entry.reset kind (step_progress logs kind) entry.cpu entry.value))
+                (sym (entry-kind device play events))
+                (other_step-no_call (λ regs words. Holds) logs.progress (vector_of logs)
+                entry.reset entry.cpu entry.value other)
+          ]
+    ]
+
+call-began : (device : Device) (later earlier : List (List Event))
+    → ends_finished (trace (start_of device) earlier) ≡ true
+    → 1 ≤ length later
+    → ends_in_call (trace (start_of device) (later ++ earlier)) ≡ true
+    → call_length (start_of device) (later ++ earlier) ≤ length later
+unfolding trace
+call-began device [] earlier finishes some in_call = absurd (omega (arith, some))
+call-began device (events ∷ later) earlier finishes some in_call =
+    let play : List (List Event) = later ++ earlier in
+    let rom : step_kind (log_at device play events) ≡ Rom =
+    sym (entry-kind device play events) ∙ rom_kind (entry_at device play events).kind in_call in
+    length-began device later earlier events
+    (began_after device later earlier (finished-no_call device earlier finishes)) rom
+
+-- a report tells the counter of a request that its call attests
+report-attests : (device : Device) (play : List (List Event)) (report : ReportFields)
+    → Reports (start_of device) play report → Attests (start_of device) play report.count
+report-attests device play report reports =
+    let covers = (outcome_at device play reports.in_call).covers in
+    let whole = covers.whole reports.finished in
+    let written : mac_written (last_call (trace (start_of device) play)) ≡ _ =
+    sym (append-nil (mac_written (last_call (trace (start_of device) play))))
+    ∙ (ap (λ (later : List ℕ). mac_written (last_call (trace (start_of device) play)) ++ later)
+    (sym whole)
+    ∙ covers.words) in
+    record {
+      in_call = reports.in_call;
+      unrefused = reports.refused;
+      decision =
+          ap first_word written
+          ∙ (sym (covers.told reports.finished)
+          ∙ reports.attests);
+      request = sym reports.count;
+    }
+
+pub report-new : (flag : List SeenRecord → Bool) (digest : List ℕ → List ℕ) (key : List ℕ)
+    (image : ℕ → ℕ) (play : List (List Event)) (report : ReportFields)
+    → IsDeviceKey key → IsOfBytes image
+    → last_report (with_key flag digest key image) play ≡ Some report
+    → TellsNewCounter (with_key flag digest key image) report play
+report-new flag digest key image play report device_key bytes is later earlier older parts some
+    is_older =
+    let device : Device = device_of flag digest key image device_key bytes in
+    let whole : last_report (start_of device) (later ++ earlier) ≡ Some report =
+    ap (last_report (start_of device)) (sym parts) ∙ is in
+    let reports = last_report-finishes (start_of device) earlier older is_older in
+    let reports_later = last_report-finishes (start_of device) (later ++ earlier) report whole in
+    counters-grow device later earlier older.count report.count
+    (report-attests device earlier older reports)
+    (report-attests device (later ++ earlier) report reports_later)
+    (call-began device later earlier reports.finished some reports_later.in_call)

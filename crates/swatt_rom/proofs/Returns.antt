@@ -1,0 +1,61 @@
+-- The return read of a call.
+use Rattle.std.proofs.Common.{◌≡◌, ◌+◌, ◌∙◌, ◌++◌, ◌∷◌, [], ℕ, false, List, length, inl, inr, ap, sym, subst, arith}
+use Rattle.std.specs.Prelude.{◌==◌, if◌then◌else◌}
+use Rattle.std.proofs.lemmas.Bool.{cases_Bool, eqb-true, cond-true, cond-false}
+use Rattle.std.proofs.lemmas.Bool.Decides.{nat_tests}
+use Rattle.part_definitions.specs.AddressSum.{even, plus}
+use Rattle.part_definitions.specs.Attestation.{ReturnRead, item_after, item_pc, is_return, call_item, decision_read}
+use Rattle.part_definitions.specs.Request.{ATTESTS}
+use Rattle.swatt_rom.specs.RomCall.{RomCall, NoCall, InCall, AfterCall, next_word, after_value, rom_pc}
+use Rattle.swatt_rom.specs.Phase.{IsBeforeReturn}
+use Rattle.swatt_rom.specs.State.{StateStandsFor}
+use Rattle.swatt_rom.specs.declared.state.State.TheVariants.{Returns, Leaves}
+use Rattle.swatt_rom.proofs.WordsPassed.{region_in}
+
+attests-return : (region decision count : ℕ) → decision ≡ ATTESTS → count ≡ 125 + region
+    → item_after region decision count ≡ ReturnRead
+attests-return region decision count attests at = grind (arith, nat_tests)
+
+denies-return : (region decision count : ℕ) → (decision == ATTESTS) ≡ false → count ≡ 77
+    → item_after region decision count ≡ ReturnRead
+denies-return region decision count denies at = grind (arith, nat_tests)
+
+pub return-item : (decision : ℕ) (words : List ℕ) → IsBeforeReturn decision words
+    → call_item words ≡ ReturnRead
+return-item decision words before =
+    elim (cases_Bool (decision_read words == ATTESTS)) [
+      | inl attests ↦
+          attests-return (region_in words) (decision_read words) (length words)
+          (eqb-true (decision_read words) ATTESTS attests)
+          (before.count
+          ∙ cond-true (decision_read words == ATTESTS) (125 + region_in words) 77 attests)
+      | inr denies ↦
+          denies-return (region_in words) (decision_read words) (length words) denies
+          (before.count
+          ∙ cond-false (decision_read words == ATTESTS) (125 + region_in words) 77 denies)
+    ]
+
+module _ {D : Type 0} (has_taken : D → List ℕ → Type 0) (digest : List ℕ → List ℕ) where
+  pub pc-returns : (sp decision : ℕ) (call : RomCall)
+      → StateStandsFor {D = D} has_taken digest (Returns sp decision) call
+      → 0xBFFE ≡ rom_pc call
+  pc-returns sp decision NoCall stands = absurd stands
+  pc-returns sp decision (InCall start words) stands =
+      sym (ap item_pc (return-item decision words stands.1))
+  pc-returns sp decision (AfterCall start word written) stands = absurd stands
+
+  pub after_value-leaves : (sp decision value pc next : ℕ)
+      → pc ≡ even value → next ≡ plus sp 2
+      → (call : RomCall)
+      → StateStandsFor {D = D} has_taken digest (Returns sp decision) call
+      → StateStandsFor {D = D} has_taken digest (Leaves pc next decision)
+      (after_value digest call value)
+  after_value-leaves sp decision value pc next at_pc at_sp NoCall stands = absurd stands
+  after_value-leaves sp decision value pc next at_pc at_sp (InCall start words) stands =
+      subst (StateStandsFor {D = D} has_taken digest (Leaves pc next decision))
+      (sym (ap (λ item. if is_return item then AfterCall start value (decision_read words)
+      else InCall start (words ++ next_word digest start words value ∷ []))
+      (return-item decision words stands.1)))
+      (at_pc, at_sp ∙ ap (λ begin. plus begin 2) stands.0, stands.1.same_decision)
+  after_value-leaves sp decision value pc next at_pc at_sp (AfterCall start word written) stands =
+      absurd stands

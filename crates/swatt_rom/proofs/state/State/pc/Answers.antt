@@ -1,0 +1,11 @@
+use Rattle.std.proofs.Common.{subst}
+use Rattle.swatt_rom.specs.State.{StateStandsFor}
+use Rattle.swatt_rom.proofs.Returns.{pc-returns}
+use Rattle.swatt_rom.proofs.state.State.pc.Goals as goal
+
+pub returns-in-Returns : goal.returns-in-Returns
+returns-in-Returns g c = λ call stands.
+    pc-returns g.D.Digest32.has_taken g.D.Digest32.digest_of c.in-Returns.sp c.in-Returns.decision
+    call
+    (subst (λ state. StateStandsFor g.D.Digest32.has_taken g.D.Digest32.digest_of state call)
+    c.in-Returns.is stands)

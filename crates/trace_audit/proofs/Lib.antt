@@ -1,0 +1,4 @@
+pub mod Spans
+pub mod Exec
+pub mod Clearing
+pub mod Offences

@@ -1,0 +1,6 @@
+pub mod Clean
+pub mod Offence
+pub mod AuditText
+pub mod Audit
+pub mod Span
+pub mod Disturbance

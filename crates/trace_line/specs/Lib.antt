@@ -1,0 +1,5 @@
+pub mod Spaced
+pub mod LineText
+pub mod LineGrammar
+pub mod TraceFile
+pub mod ReadBack

@@ -1,0 +1,2 @@
+pub mod RomSteps
+pub mod StillTime

@@ -1,0 +1,327 @@
+-- Through a call the second flag stays as it is.
+use Rattle.std.proofs.Common.{not, ◌≡◌, ◌&&◌, ℕ, Bool, true, false, List, [], ◌∷◌, inl, inr, Option, Some, None, map, refl, ap, sym, ◌∙◌, subst, length, is_some}
+use Rattle.std.specs.Prelude.{◌==◌, is_none}
+use Rattle.std.proofs.lemmas.Bool.{cond_both, cases_Bool, cond-true, and_left, and_right, and_parts, eq-eqb, eqb-true}
+use Rattle.bus_signals.specs.declared.access.Access.{Access}
+use Rattle.bus_signals.specs.declared.access.Access.TheVariants.{Fetch, Read, Write}
+use Rattle.bus_signals.specs.declared.bounds.Bounds.{Bounds}
+use Rattle.bus_signals.specs.declared.bus_record.BusRecord.{BusRecord}
+use Rattle.bus_signals.specs.declared.event.Event.{Event}
+use Rattle.bus_signals.specs.declared.kind.Kind.{Kind}
+use Rattle.bus_signals.specs.declared.kind.Kind.TheVariants.{Boot, Cpu, Idle, Irq, Rom}
+use Rattle.bus_signals.specs.declared.rule.Rule.{Rule}
+use Rattle.bus_signals.specs.Access.{some_writes}
+use Rattle.bus_signals.specs.Bounds.{are_valid, executable_region}
+use Rattle.bus_signals.specs.Kind.{is_rom}
+use Rattle.bus_signals.specs.Map.{lies_in, ROM_ENTRY, ROM_EXIT}
+use Rattle.bus_signals.specs.Report.{ReportFields}
+use Rattle.bus_signals.specs.SeenRecord.{SeenRecord}
+use Rattle.part_definitions.specs.Flag.{last_pc, ran_inside}
+use Rattle.part_definitions.specs.MonitorRule.{in_rom, leaves_stack_and_mac}
+use Rattle.part_definitions.specs.TrustedFlag.{aux}
+use Rattle.device_trace.specs.Blank.{blank_access, blank_record, blank_seen}
+use Rattle.device_trace.specs.Logs.{Logs, aux_of, goes_on_in_call, records_until_call, logged_bounds, vector_of, step_progress, progress_after, with_events, with_record}
+use Rattle.device_trace.specs.Progress.{Progress, Held, Runs, InCall, next_pc_of}
+use Rattle.device_trace.specs.Signals.{step_kind}
+use Rattle.device_trace.specs.Start.{Start}
+use Rattle.device_trace.specs.Step.{record_of, asks_reset, next_record}
+use Rattle.device_trace.specs.Text.{denial_where, last_report, last_decision, last_denial}
+use Rattle.device_trace.specs.Trace.{logs_after, trace}
+use Rattle.device_trace.specs.TrustedRun.{TrustedRun}
+use Rattle.mac_coverage.proofs.ExecKept.{IsRomStep}
+use Rattle.mac_coverage.proofs.Steps.{rom_step-of_call, OnCall, other_step-no_call, record_of-call, record_of-kind, record_of-pc, IsInRom}
+use Rattle.proof_of_execution.proofs.Plays.{made_where, decision_finishes}
+use Rattle.proof_of_execution.proofs.Regions.{inside-open}
+use Rattle.proof_of_execution.proofs.TrustedPlays.{last_pc-blank, play_state, aux-trusted_run}
+use Rattle.trusted_execution.specs.SeenFlag.{aux_seen}
+use Rattle.trusted_execution.proofs.RomSteps.{aux-rom_step}
+
+-- a step of the ROM, blanked
+writes-blank : (cpu : Option Access)
+    → (some_writes (blank_access cpu) && leaves_stack_and_mac (blank_access cpu))
+    ≡ (some_writes cpu && leaves_stack_and_mac cpu)
+writes-blank None = refl
+writes-blank (Some (Fetch place)) = refl
+writes-blank (Some (Read place size)) = refl
+writes-blank (Some (Write place size number)) = refl
+
+blank-rom_step : (entry : BusRecord) → IsRomStep entry → IsRomStep (blank_record entry)
+blank-rom_step entry step =
+    record {
+      kind = step.kind;
+      code = step.code;
+      none = step.none;
+      no_dma = ap blank_access step.no_dma;
+      within = writes-blank entry.cpu ∙ step.within;
+    }
+
+-- what holds in a call: the last record is in the ROM, and the flag is as it was after the first
+-- step
+record CallState (records : List SeenRecord) : Type 0 where
+  last : IsInRom (last_pc records)
+  flag : aux (map blank_seen (records_until_call records)) ≡ aux (map blank_seen records)
+
+abbrev HoldsInCall : Progress → List SeenRecord → Type 0
+HoldsInCall progress records = OnCall (λ regs words. CallState records) progress
+
+in_any : (progress : Progress) (records : List SeenRecord) → CallState records
+    → HoldsInCall progress records
+in_any Held records state = tt
+in_any (Runs cpu) records state = tt
+in_any (InCall regs words) records state = state
+
+rom_of : (kind : Kind) → is_rom kind ≡ true → kind ≡ Rom
+rom_of Boot rom = absurd (cc)
+rom_of Cpu rom = absurd (cc)
+rom_of Idle rom = absurd (cc)
+rom_of Irq rom = absurd (cc)
+rom_of Rom rom = refl
+
+none_of : {A : Type 0} (option : Option A) → is_none option ≡ true → option ≡ None
+none_of None none = refl
+none_of (Some x) none = absurd (cc)
+
+-- a first step does not go on in a call
+first-begins : (entry : BusRecord) (progress : Progress) (regs : List ℕ)
+    → entry.kind ≡ Rom → entry.pc ≡ next_pc_of progress → progress ≡ InCall regs []
+    → goes_on_in_call entry ≡ false
+first-begins entry progress regs rom pc is =
+    and_left _ (is_none entry.reset) (and_right (is_rom entry.kind) (not (entry.pc == ROM_ENTRY))
+    (ap not (eq-eqb entry.pc ROM_ENTRY (pc ∙ ap next_pc_of is))))
+
+record_flag : (start : Start) (logs : Logs) (reset : Bool)
+    → (aux_seen logs ≡ true → are_valid (logged_bounds start logs) ≡ true)
+    → HoldsInCall logs.progress logs.records
+    → (record_of start logs reset).reset ≡ None
+    → step_kind logs ≡ Rom
+    → CallState (with_record start logs (record_of start logs reset)).records
+unfolding with_record
+record_flag start logs reset valid holds none rom =
+    let entry : BusRecord = record_of start logs reset in
+    let now : SeenRecord = record { entry = entry; bounds = logged_bounds start logs } in
+    let call = rom_step-of_call logs.progress (vector_of logs) rom in
+    let step = record_of-call start logs reset call.regs call.words none rom call.is in
+    let Claim : List SeenRecord → Type 0 =
+    λ records. aux (map blank_seen records) ≡ aux (blank_seen now ∷ map blank_seen logs.records) in
+    record {
+      last = record { pc = entry.pc; is = refl; code = step.rom.code };
+      flag =
+          cond_both (goes_on_in_call entry) (records_until_call logs.records) (now ∷ logs.records)
+          Claim
+          (λ goes_on.
+          elim call.from [
+            | inl same ↦
+                let state : CallState logs.records =
+                subst (λ progress. HoldsInCall progress logs.records) same holds in
+                state.flag
+                ∙ sym (aux-rom_step state.last.pc (blank_seen now) (map blank_seen logs.records)
+                (last_pc-blank logs.records ∙ state.last.is)
+                (blank-rom_step entry step.rom) state.last.code valid)
+            | inr none_passed ↦
+                let begins : goes_on_in_call entry ≡ false =
+                first-begins entry (step_progress logs (step_kind logs)) call.regs step.rom.kind
+                (record_of-pc start logs reset)
+                (call.is ∙ ap (InCall call.regs) none_passed) in
+                let clash : true ≡ false = sym goes_on ∙ begins in
+                absurd (cc)
+          ])
+          (λ begins. refl);
+    }
+
+by_rule : (rule : Option Rule) (P : Option Rule → Type 0)
+    → (rule ≡ None → P None) → ((broken : Rule) → P (Some broken)) → P rule
+by_rule None P unbroken refused = unbroken refl
+by_rule (Some broken) P unbroken refused = refused broken
+
+record_holds : (start : Start) (logs : Logs) (reset : Bool)
+    → (aux_seen logs ≡ true → are_valid (logged_bounds start logs) ≡ true)
+    → HoldsInCall logs.progress logs.records
+    → HoldsInCall (with_record start logs (record_of start logs reset)).progress
+    (with_record start logs (record_of start logs reset)).records
+unfolding with_record
+record_holds start logs reset valid holds =
+    let entry : BusRecord = record_of start logs reset in
+    let records : List SeenRecord =
+    record { entry = entry; bounds = logged_bounds start logs } ∷ logs.records in
+    by_rule entry.reset
+    (λ rule. HoldsInCall
+    (progress_after rule entry.kind (step_progress logs entry.kind) entry.cpu entry.value) records)
+    (λ none.
+    elim (cases_Bool (is_rom (step_kind logs))) [
+      | inl rom ↦
+          in_any _ records
+          (record_flag start logs reset valid holds none (rom_of (step_kind logs) rom))
+      | inr other ↦
+          subst
+          (λ kind. HoldsInCall
+          (progress_after None kind (step_progress logs kind) entry.cpu entry.value) records)
+          (sym (record_of-kind start logs reset))
+          (other_step-no_call (λ regs words. CallState records) logs.progress (vector_of logs) None
+          entry.cpu entry.value other)
+    ])
+    (λ broken. tt)
+
+step_holds : (start : Start) (logs : Logs) (events : List Event)
+    → (aux_seen logs ≡ true → are_valid (logged_bounds start logs) ≡ true)
+    → HoldsInCall logs.progress logs.records
+    → HoldsInCall
+    (with_record start (with_events logs events) (next_record start logs events)).progress
+    (with_record start (with_events logs events) (next_record start logs events)).records
+unfolding next_record with_events
+step_holds start logs events valid holds =
+    record_holds start (with_events logs events) (asks_reset events) valid holds
+
+valid_after : (start : Start) (play : List (List Event))
+    → aux_seen (logs_after start play) ≡ true
+    → are_valid (logged_bounds start (logs_after start play)) ≡ true
+valid_after start play set = (play_state start play set).valid
+
+play_holds : (start : Start) (play : List (List Event))
+    → HoldsInCall (logs_after start play).progress (logs_after start play).records
+unfolding logs_after
+play_holds start [] = tt
+play_holds start (events ∷ play) =
+    step_holds start (logs_after start play) events (valid_after start play) (play_holds start play)
+
+-- of a step of the ROM that is not refused
+step_flag : (start : Start) (logs : Logs) (events : List Event)
+    → (aux_seen logs ≡ true → are_valid (logged_bounds start logs) ≡ true)
+    → HoldsInCall logs.progress logs.records
+    → (next_record start logs events).reset ≡ None
+    → (next_record start logs events).kind ≡ Rom
+    → CallState
+    (with_record start (with_events logs events) (next_record start logs events)).records
+unfolding next_record with_events
+step_flag start logs events valid holds none rom =
+    record_flag start (with_events logs events) (asks_reset events) valid holds none
+    (sym (record_of-kind start (with_events logs events) (asks_reset events)) ∙ rom)
+
+-- the flag over the records until the call
+abbrev aux_until : Logs → Bool
+aux_until logs = aux (map blank_seen (records_until_call logs.records))
+
+-- at each moment of a play it is that over all records
+until_after : (start : Start) (logs : Logs) (events : List Event)
+    → (aux_seen logs ≡ true → are_valid (logged_bounds start logs) ≡ true)
+    → HoldsInCall logs.progress logs.records
+    → aux_until (with_record start (with_events logs events) (next_record start logs events))
+    ≡ aux_seen (with_record start (with_events logs events) (next_record start logs events))
+unfolding with_record
+until_after start logs events valid holds =
+    let entry : BusRecord = next_record start logs events in
+    let now : SeenRecord =
+    record { entry = entry; bounds = logged_bounds start (with_events logs events) } in
+    let records : List SeenRecord = now ∷ (with_events logs events).records in
+    let Claim : List SeenRecord → Type 0 =
+    λ until. aux (map blank_seen until) ≡ aux (map blank_seen records) in
+    cond_both (goes_on_in_call entry) (records_until_call (with_events logs events).records) records
+    Claim
+    (λ goes_on.
+    let parts = and_parts (is_rom entry.kind && not (entry.pc == ROM_ENTRY)) (is_none entry.reset)
+    goes_on in
+    let rom = (and_parts (is_rom entry.kind) (not (entry.pc == ROM_ENTRY)) parts.0).0 in
+    let state : CallState records =
+    step_flag start logs events valid holds (none_of entry.reset parts.1) (rom_of entry.kind rom) in
+    ap (λ (until : List SeenRecord). aux (map blank_seen until))
+    (sym (cond-true (goes_on_in_call entry)
+    (records_until_call (with_events logs events).records) records goes_on))
+    ∙ state.flag)
+    (λ other. refl)
+
+until-is : (start : Start) (play : List (List Event))
+    → aux_until (logs_after start play) ≡ aux_seen (logs_after start play)
+unfolding logs_after
+until-is start [] = refl
+until-is start (events ∷ play) =
+    until_after start (logs_after start play) events (valid_after start play)
+    (play_holds start play)
+
+-- so memory shows the flag as it is
+pub shown-is : (start : Start) (play : List (List Event)) → start.second_flag ≡ aux
+    → aux_of start (logs_after start play) ≡ aux_seen (logs_after start play)
+shown-is start play is_aux =
+    ap (λ (flag : List SeenRecord → Bool).
+    flag (map blank_seen (records_until_call (logs_after start play).records))) is_aux
+    ∙ until-is start play
+
+-- the last record is at the ROM's exit, which is outside
+exit_outside : (bounds : Bounds) (last : Option ℕ) → are_valid bounds ≡ true → last ≡ Some ROM_EXIT
+    → ran_inside last (executable_region bounds) ≡ false
+exit_outside bounds last valid is =
+    let outside : (inside : Bool) → lies_in (executable_region bounds) ROM_EXIT ≡ inside
+    → inside ≡ false =
+    λ inside. elim inside as (λ b. lies_in (executable_region bounds) ROM_EXIT ≡ b → b ≡ false) [
+      | true ↦ λ within.
+          let apart : in_rom ROM_EXIT ≡ false = (inside-open bounds ROM_EXIT valid within).0 in
+          absurd (cc)
+      | false ↦ λ apart. refl
+    ] in
+    ap (λ pc. ran_inside pc (executable_region bounds)) is ∙ outside _ refl
+
+last_after : (start : Start) (events : List Event) (play : List (List Event))
+    → last_pc (logs_after start (events ∷ play)).records
+    ≡ Some (next_record start (logs_after start play) events).pc
+unfolding logs_after with_record
+last_after start events play = refl
+
+-- a call is finished by a step of the ROM at its exit
+finished-exit : (start : Start) (events : List Event) (play : List (List Event))
+    → is_some (last_decision start (events ∷ play)) ≡ true
+    → (next_record start (logs_after start play) events).pc ≡ ROM_EXIT
+unfolding logs_after
+finished-exit start events play finished =
+    let entry : BusRecord = next_record start (logs_after start play) events in
+    let call = and_parts (is_rom entry.kind && (entry.pc == ROM_EXIT)) (is_none entry.reset)
+    (decision_finishes start (with_events (logs_after start play) events) entry finished) in
+    eqb-true entry.pc ROM_EXIT (and_parts (is_rom entry.kind) (entry.pc == ROM_EXIT) call.0).1
+
+none_finished : (start : Start) → is_some (last_decision start []) ≡ true → ⊥
+unfolding logs_after
+none_finished start finished = cc
+
+-- after a finished call, whatever it decided
+pub finished-trusted_run : (start : Start) (play : List (List Event)) → start.second_flag ≡ aux
+    → is_some (last_decision start play) ≡ true
+    → aux_of start (logs_after start play) ≡ true
+    → TrustedRun (logged_bounds start (logs_after start play)) (trace start play)
+finished-trusted_run start [] is_aux finished set = absurd (none_finished start finished)
+finished-trusted_run start (events ∷ play) is_aux finished set =
+    let seen = sym (shown-is start (events ∷ play) is_aux) ∙ set in
+    aux-trusted_run start (events ∷ play) seen
+    (exit_outside (logged_bounds start (logs_after start (events ∷ play)))
+    (last_pc (logs_after start (events ∷ play)).records)
+    (valid_after start (events ∷ play) seen)
+    (last_after start events play ∙ ap Some (finished-exit start events play finished)))
+
+pub decision-trusted_run : (start : Start) (play : List (List Event)) (decision : ℕ)
+    → start.second_flag ≡ aux → last_decision start play ≡ Some decision
+    → aux_of start (logs_after start play) ≡ true
+    → TrustedRun (logged_bounds start (logs_after start play)) (trace start play)
+decision-trusted_run start play decision is_aux is set =
+    finished-trusted_run start play is_aux (ap (λ (one : Option ℕ). is_some one) is) set
+
+pub report-trusted_run : (start : Start) (play : List (List Event)) (report : ReportFields)
+    → start.second_flag ≡ aux → last_report start play ≡ Some report → report.aux ≡ true
+    → TrustedRun report.bounds (trace start play)
+report-trusted_run start [] report is_aux is set = absurd (cc)
+report-trusted_run start (events ∷ play) report is_aux is set =
+    let logs : Logs = logs_after start (events ∷ play) in
+    let made = made_where start logs (length play) logs.decision report is in
+    subst (λ (bounds : Bounds). TrustedRun bounds (trace start (events ∷ play)))
+    (ap (λ (r : ReportFields). r.bounds) made.1)
+    (finished-trusted_run start (events ∷ play) is_aux made.0
+    (ap (λ (r : ReportFields). r.aux) made.1 ∙ set))
+
+-- a denial has a decision
+denied_where : (decision : Option ℕ) (denial : ℕ) → denial_where decision ≡ Some denial
+    → is_some decision ≡ true
+denied_where None denial is = absurd (cc)
+denied_where (Some decision) denial is = refl
+
+pub denial-trusted_run : (start : Start) (play : List (List Event)) (denial : ℕ)
+    → start.second_flag ≡ aux → last_denial start play ≡ Some denial
+    → aux_of start (logs_after start play) ≡ true
+    → TrustedRun (logged_bounds start (logs_after start play)) (trace start play)
+denial-trusted_run start play denial is_aux is set =
+    finished-trusted_run start play is_aux
+    (denied_where (logs_after start play).decision denial is) set

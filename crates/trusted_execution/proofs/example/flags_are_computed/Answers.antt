@@ -1,0 +1,24 @@
+use Rattle.std.proofs.Common.{refl}
+use Rattle.word_arith.specs.Op2.{alu_result}
+use Rattle.word_arith.specs.Op1.{shift_result}
+use Rattle.msp_decode.specs.Head.{head_of}
+use Rattle.part_definitions.specs.FirstRule.{first_rule}
+use Rattle.part_definitions.specs.NextAccess.{next_access, entry_access}
+use Rattle.part_definitions.specs.MonitorRule.{key_rule, atomicity_rule}
+use Rattle.part_definitions.specs.Flag.{exec}
+use Rattle.part_definitions.specs.TrustedFlag.{aux}
+use Rattle.device_trace.specs.Logs.{with_events, with_record}
+use Rattle.device_trace.specs.Signals.{signals_at}
+use Rattle.device_trace.specs.Step.{record_of, next_record}
+use Rattle.device_trace.specs.Trace.{logs_after}
+use Rattle.trusted_execution.proofs.example.flags_are_computed.Goals as goal
+
+pub returns-clause-one_region : goal.returns-clause-one_region
+unfolding alu_result shift_result head_of next_access entry_access key_rule atomicity_rule exec aux
+    with_events with_record signals_at first_rule record_of next_record logs_after
+returns-clause-one_region c = refl
+
+pub returns-clause-other_regions : goal.returns-clause-other_regions
+unfolding alu_result shift_result head_of next_access entry_access key_rule atomicity_rule exec aux
+    with_events with_record signals_at first_rule record_of next_record logs_after
+returns-clause-other_regions c = refl

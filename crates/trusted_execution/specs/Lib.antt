@@ -1,0 +1,2 @@
+pub mod SeenFlag
+pub mod FlagCase
