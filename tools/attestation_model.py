@@ -32,10 +32,16 @@ def mac(key, metadata, region):
     return hmac_of(hmac_of(key, metadata[:32]), metadata + region)
 
 
-def request(key, challenge, bounds, count):
-    """The metadata with a request that has its token; both flags are 0."""
-    return (challenge + in_words(*bounds) + in_words(0, 0) + count.to_bytes(4, "little")
+def request(key, challenge, bounds, count, flags=(0, 0)):
+    """The metadata with a request that has its token, and with EXEC and AUX."""
+    return (challenge + in_words(*bounds, *flags) + count.to_bytes(4, "little")
             + token(key, challenge, count))
+
+
+def request_line(key, challenge, count):
+    """What `request` prints."""
+    return (f"request {challenge.hex()} {count} "
+            f"token {token(key, challenge, count).hex()}\n").encode()
 
 
 class Call:

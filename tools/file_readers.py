@@ -14,8 +14,10 @@ HEX = set(string.hexdigits.encode())
 RULES = [name.encode() for name in reference.RULES]
 VERDICTS = [name.encode() for name in reference.VERDICTS]
 COUNTS = {1: 0, 2: 2, 3: 4, 4: 2, 5: 4}
-# The first and the last place of the metadata, by versions. Policies and reports are of version 1.
+# The first and the last place of the metadata, by versions.
 METADATA = {1: (0x0240, 0x0269), 2: (0x0240, 0x028F)}
+FLAGS = (b"exec", b"aux", b"plain")
+MOST = 4294967295  # of a step, the number of a report, and a counter
 
 
 class Fault(Exception):
@@ -114,6 +116,9 @@ class Words:
     def is_text(self):
         return bool(self.matches) and not self.matches[0].group().startswith(b"#")
 
+    def begins_with(self, word):
+        return self.matches[0].group() == word
+
     def fault(self, kind, wanted=None):
         raise Fault(self.number, kind, self.column, wanted)
 
@@ -130,12 +135,12 @@ class Words:
         word = self.take(wanted)
         return word if word in names else self.fault("Word", wanted)
 
-    def decimal(self, most):
-        wanted = f"a decimal, 0 to {most}"
+    def decimal(self, most, least=0):
+        wanted = f"a decimal, {least} to {most}" if least < most else f"{most}"
         word = self.take(wanted)
         if not word.isdigit():
             self.fault("Digit", wanted)
-        if len(word) > 10 or int(word) > most:
+        if len(word) > 10 or not least <= int(word) <= most:
             self.fault("Range", wanted)
         return int(word)
 
@@ -216,41 +221,78 @@ def is_valid(bounds, version):
     return regions[0][1] < regions[1][0] or regions[1][1] < regions[0][0]
 
 
+class Policy(NamedTuple):
+    version: int
+    bounds: list
+    flag: str  # that is asked for; in version 1 always exec
+    requests: list  # pairs of a challenge and a counter, which is 0 in version 1
+
+
+# The lines of a policy, by versions: those that come first, in their order, and the one that may
+# come any number of times after them.
+POLICY_LINES = {1: ((b"er", b"or"), b"chal"),
+                2: ((b"version", b"er", b"or", b"flag"), b"ask")}
+
+
+def policy_value(words, kind):
+    """What a line of a policy says behind its keyword."""
+    if kind == b"version":
+        return words.decimal(2, 2)
+    if kind == b"flag":
+        return words.keyword(*FLAGS).decode()
+    if kind == b"ask":
+        return words.bytes(32), words.decimal(MOST, 1)
+    return (words.bytes(32), 0) if kind == b"chal" else [words.word(), words.word()]
+
+
 def read_policy(text):
-    """The bounds and the challenges."""
     lines, count = texts_of(text, "policy")
-    bounds, challenges = [], []
+    version = 2 if lines and lines[0].begins_with(b"version") else 1
+    firsts, last = POLICY_LINES[version]
+    # (`chal` is a keyword in version 2 too, of a line that has no place there)
+    keywords = dict.fromkeys((*firsts, b"chal", last))
+    values, requests = {}, []
     for words in lines:
-        kind = words.keyword(b"er", b"or", b"chal")
-        value = words.bytes(32) if kind == b"chal" else (words.word(), words.word())
+        kind = words.keyword(*keywords)
+        value = policy_value(words, kind)
         words.end()
-        if len(bounds) != {b"er": 0, b"or": 2, b"chal": 4}[kind]:
+        if kind != (*firsts, last)[len(values)]:
             words.fault("Order")
-        if kind == b"chal":
-            challenges.append(value)
-        else:
-            bounds.extend(value)
-        if kind == b"or" and not is_valid(bounds, 1):
+        if kind == last:
+            requests.append(value)
+            continue
+        values[kind] = value
+        if kind == b"or" and not is_valid(values[b"er"] + value, version):
             words.fault("Bounds")
-    if len(bounds) < 4:
+    if len(values) < len(firsts):
         raise Fault(count, "Missing")
-    return bounds, challenges
+    return Policy(version, values[b"er"] + values[b"or"], values.get(b"flag", "exec"), requests)
 
 
 class Report(NamedTuple):
-    """A report of version 1."""
+    version: int
     step: int
     exec: int
+    aux: int  # in version 1 it counts as 0
+    count: int  # likewise
     challenge: bytes
     bounds: list
     output: Optional[bytes]  # None where the bounds are not valid
     mac: bytes
 
 
-def read_report(words):
-    step = words.decimal(4294967295)
-    words.keyword(b"exec")
-    flag = words.decimal(1)
+def read_flag(words, name):
+    words.keyword(name)
+    return words.decimal(1)
+
+
+def read_report(words, version):
+    step = words.decimal(MOST)
+    flag, aux, count = read_flag(words, b"exec"), 0, 0
+    if version == 2:
+        aux = read_flag(words, b"aux")
+        words.keyword(b"count")
+        count = words.decimal(MOST)
     words.keyword(b"chal")
     challenge = words.bytes(32)
     words.keyword(b"er")
@@ -262,34 +304,41 @@ def read_report(words):
     words.keyword(b"mac")
     mac = words.bytes(32)
     words.end()
-    size = bounds[3] + 2 - bounds[2] if is_valid(bounds, 1) else None
+    size = bounds[3] + 2 - bounds[2] if is_valid(bounds, version) else None
     if size != (None if output is None else len(output)):
         words.fault("Output")
-    return Report(step, flag, challenge, bounds, output, mac)
+    return Report(version, step, flag, aux, count, challenge, bounds, output, mac)
+
+
+def pass_line(words, kind):
+    """A line of a report file that is no report, in its form."""
+    if kind == b"collision":
+        words.any_bytes(), words.any_bytes()
+    else:
+        words.decimal(MOST)
+    if kind == b"tx":
+        words.bytes(1)
+    elif kind == b"reset":
+        words.keyword(*RULES)
+    elif kind == b"denied":
+        words.decimal(3, 2)
+    elif kind == b"verdict":
+        words.keyword(*VERDICTS)
+    elif kind == b"end":
+        words.keyword(b"pc")
+        words.word()
+        read_flag(words, b"exec")
+    words.end()
 
 
 def read_reports(text):
     """The reports in their order."""
-    reports = []
+    versions, reports = {b"report": 1, b"report2": 2}, []
     for words in texts_of(text, "reports")[0]:
-        kind = words.keyword(b"report", b"tx", b"reset", b"verdict", b"collision", b"end")
-        if kind == b"report":
-            reports.append(read_report(words))
-            continue
-        if kind == b"collision":
-            words.any_bytes(), words.any_bytes()
+        kind = words.keyword(*versions, b"tx", b"reset", b"denied", b"verdict", b"collision",
+                             b"end")
+        if kind in versions:
+            reports.append(read_report(words, versions[kind]))
         else:
-            words.decimal(4294967295)
-        if kind == b"tx":
-            words.bytes(1)
-        elif kind == b"reset":
-            words.keyword(*RULES)
-        elif kind == b"verdict":
-            words.keyword(*VERDICTS)
-        elif kind == b"end":
-            words.keyword(b"pc")
-            words.word()
-            words.keyword(b"exec")
-            words.decimal(1)
-        words.end()
+            pass_line(words, kind)
     return reports

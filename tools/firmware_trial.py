@@ -100,17 +100,21 @@ def arithmetic(trial, files):
 
 
 def readme(trial, files):
-    """README's lines that build and run firmware print the report of which it has the beginning."""
+    """README's lines that build and run firmware print what it quotes of a report and a verdict
+    behind them.
+    """
     text = read(f"{ROOT}/README.md").decode()
     start = text.index("    cp ../foldgneiss")
+    code, told = text[start:].split("\n\n", 2)[:2]
     lines = [line.strip().replace("../foldgneiss/foldgneiss", trial.program)
-             for line in text[start:text.index("\n\n", start)].split("\n")]
-    report = re.search(r"`(report2 \d+ exec 1 .*?) \.\.`", text[start:])
+             for line in code.split("\n")]
+    quoted = re.findall(r"`((?:report2|verdict) .*?)(?: \.\.)?`", told)
     os.symlink(ROOT, files["foldgneiss"])
     os.mkdir(files["mine"])
     printed = trial.expect(0, "", "\n".join(lines), cwd=files["mine"],
                            command=["bash", "-e", "-c"]).decode()
-    if len(lines) != 10 or not report or f"\n{report[1]} " not in printed:
+    if (len(lines) != 10 or not quoted
+            or any(not re.search(f"^{re.escape(line)}\\b", printed, re.M) for line in quoted)):
         trial.fault(f"README's {len(lines)} lines: printed {printed}")
 
 

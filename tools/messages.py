@@ -15,7 +15,7 @@ sys.dont_write_bytecode = True
 import file_readers  # noqa: E402
 import reference_texts  # noqa: E402
 from readers import READERS  # noqa: E402
-from reference import COMMANDS, FAULTS, FILES, RANGES  # noqa: E402
+from reference import COMMANDS, FAULTS, FILES, VALUES  # noqa: E402
 
 WIDTH = 76
 
@@ -44,10 +44,8 @@ def wrong_words(words):
             argument.encode()
         except UnicodeEncodeError:
             return f"{word.upper()} is not UTF-8"
-        least, most = RANGES.get(word, (0, 0))
-        if word in RANGES and not (re.fullmatch("[0-9]{1,10}", argument)
-                                   and least <= int(argument) <= most):
-            return f"{word.upper()} is {argument!r}, not a number from {least} to {most}"
+        if word in VALUES and not VALUES[word].takes(argument):
+            return f"{word.upper()} is {argument!r} (wanted: {VALUES[word].about})"
     return None
 
 

@@ -4,6 +4,7 @@ The program's --help, the messages of ./foldgneiss, the tables of README.md, doc
 docs/foldgneiss.bash are written from it by tools/write-reference; tools/check-program compares them
 with it, and tries the commands that are named here.
 """
+import re
 from typing import NamedTuple
 
 
@@ -29,6 +30,31 @@ class File(NamedTuple):
     about: str
 
 
+class Decimal(NamedTuple):
+    """An argument that is a number."""
+    least: int
+    most: int
+
+    @property
+    def about(self):
+        return f"a decimal, {self.least} to {self.most}"
+
+    def takes(self, word):
+        return bool(re.fullmatch("[0-9]{1,10}", word)) and self.least <= int(word) <= self.most
+
+
+class Digits(NamedTuple):
+    """An argument that is bytes, in hexadecimal digits of either case."""
+    count: int
+
+    @property
+    def about(self):
+        return f"{self.count} hexadecimal digits"
+
+    def takes(self, word):
+        return bool(re.fullmatch(f"[0-9A-Fa-f]{{{self.count}}}", word))
+
+
 COMMANDS = {command.name: command for command in (
     Command("play", ("image", "script", "key", "steps"),
             "the bytes sent, resets, reports and denials of a run of the firmware, and its end, a "
@@ -46,17 +72,22 @@ COMMANDS = {command.name: command for command in (
             "the instructions, words and bytes of an image, one a line",
             "Prints the instructions, words and bytes of IMAGE, one a line.",
             "list image.hex"),
+    Command("request", ("key", "chal", "counter"),
+            "a request to attest: challenge, counter and token",
+            "Prints a request to attest, `request H64 N token H64`: the challenge CHAL, the "
+            "counter COUNTER, and the token of both under KEY. The device attests it where the "
+            "counter is greater than the one that it keeps.",
+            "request key.txt $(openssl rand -hex 32) 1"),
     Command("verify", ("image", "policy", "key", "reports"),
             "a verdict for each report",
             "Prints `verdict I V` for each report line in REPORTS, the I-th of which has to answer "
-            "the I-th challenge of POLICY. These are reports of version 1; a line of version 2, as "
-            "play prints it, is a fault.",
+            "the I-th request of POLICY. Fewer reports than requests are no fault: count the "
+            "verdicts.",
             "verify image.hex policy.txt key.txt reports.txt"),
     Command("round", ("image", "script", "key", "policy", "steps"),
             "what `play` prints, with a verdict after each report",
-            "Prints what play prints, and after each report its verdict, which is "
-            "`version-differs`: the device attests by version 2, and POLICY is of version 1. After "
-            "an `accept` where the device's own memory is not what was expected though the MACs "
+            "Prints what play prints, and after each report its verdict by POLICY. After an "
+            "`accept` where the device's own memory is not what was expected though the MACs "
             "agree, `collision HH.. HH..` with two inputs of one SHA-256 digest.",
             "round image.hex script.txt key.txt policy.txt 5000"),
     Command("asm", ("source",),
@@ -64,11 +95,12 @@ COMMANDS = {command.name: command for command in (
             "Prints the image of an assembler source as Intel HEX.",
             "asm firmware.asm > image.hex"),
     Command("work", ("seed",),
-            "one line on a generated workload: how many bytes sent, resets and reports `play` "
-            "would print, and the SHA-256 of its text",
-            "Runs a workload that is generated from SEED, 1000000 steps of requests without a "
-            "token, which are denied, and of disturbance. Prints one line: how many `tx`, `reset` "
-            "and `report2` lines `play` would print, and the SHA-256 of that text.",
+            "one line on a generated workload: how many bytes sent, resets, reports and denials "
+            "`play` would print, and the SHA-256 of its text",
+            "Runs a workload that is generated from SEED, 1000000 steps of requests and of "
+            "disturbance. Prints one line: how many `tx`, `reset`, `report2` and `denied` lines "
+            "`play` would print, how many of its reports have EXEC 1, and the SHA-256 of that "
+            "text.",
             "work 7"),
 )}
 
@@ -77,13 +109,18 @@ FILES = {
     "key": File(7, 256, "the device's key: 128 hexadecimal digits"),
     "image": File(8, 1048576, "firmware, as Intel HEX"),
     "script": File(9, 1048576, "events from outside, each with its step; may be empty"),
-    "policy": File(10, 65536, "the regions and challenges that reports have to answer"),
-    "reports": File(11, 1048576, "report lines of version 1"),
+    "policy": File(10, 65536, "the regions, flag and requests that reports have to answer"),
+    "reports": File(11, 1048576, "lines as play prints them, and reports of version 1"),
     "source": File(12, 1048576, "an assembler source"),
 }
 
-# The words that are numbers, with the least and the greatest.
-RANGES = {"steps": (1, 10000000), "seed": (0, 4294967295)}
+# The arguments that are no files.
+VALUES = {
+    "chal": Digits(64),
+    "counter": Decimal(1, 4294967295),
+    "steps": Decimal(1, 10000000),
+    "seed": Decimal(0, 4294967295),
+}
 
 
 class Status(NamedTuple):
@@ -98,7 +135,8 @@ STATUSES = {
               "`docs/verifier.md` says what each verdict means"),
     2: Status("words are no command",
               "the arguments are no command, STEPS is no decimal in 1..10,000,000, SEED none in "
-              "0..4,294,967,295, or an argument is not UTF-8", "compare with `--help`"),
+              "0..4,294,967,295, COUNTER none in 1..4,294,967,295, CHAL is not 64 hexadecimal "
+              "digits, or an argument is not UTF-8", "compare with `--help`"),
     3: Status("file is absent", "one of the files is not there", "look for them in this order"),
     4: Status("reading failed",
               "a file is there and cannot be read: a folder, a path through a file, a lack of "
@@ -151,8 +189,9 @@ FAULTS = {
     "script": {**IN_WORDS, "Order": "the step is less than that of an earlier line"},
     "policy": {
         **IN_WORDS,
-        "Missing": "a word is not there, or the file has no `or` line",
-        "Order": "the lines are not `er`, then `or`, then `chal` lines",
+        "Missing": "a word is not there, or the file ends before `flag`, in version 1 before `or`",
+        "Order": "the lines are not `version`, `er`, `or`, `flag`, then `ask` lines, in version 1 "
+                 "`er`, `or`, then `chal` lines",
         "Bounds": "a region is at odd places, not wholly in RAM or program, or on another, the MAC "
                   "or the metadata",
     },
@@ -187,5 +226,6 @@ RULES = {
     "I1": "an illegal instruction word was fetched",
 }
 VERSION = "0.1.0"
-VERDICTS = ("accept", "no-challenge", "version-differs", "chal-differs", "bounds-differ",
-            "exec-zero", "mac-differs")
+# In the order in which they are tried, but for the first.
+VERDICTS = ("accept", "no-challenge", "version-differs", "chal-differs", "count-differs",
+            "bounds-differ", "exec-zero", "aux-zero", "mac-differs")

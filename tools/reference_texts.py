@@ -1,7 +1,7 @@
 """The texts that are written from the table of reference.py."""
 import textwrap
 
-from reference import COMMANDS, FAULTS, FILES, RANGES, RULES, STATUSES, VERSION
+from reference import COMMANDS, FAULTS, FILES, RULES, STATUSES, VALUES, VERSION
 
 WIDTH = 80
 
@@ -23,14 +23,14 @@ def command_entry(command):
 
 
 def argument_text(word):
-    if word in RANGES:
-        return "a decimal, {} to {}".format(*RANGES[word])
+    if word in VALUES:
+        return VALUES[word].about
     return f"{FILES[word].about}; at most {FILES[word].limit} bytes"
 
 
 def words_of(commands):
     words = [word for command in commands for word in command.words]
-    return [word for word in [*FILES, *RANGES] if word in words]
+    return [word for word in [*FILES, *VALUES] if word in words]
 
 
 def arguments_of(commands):

@@ -3,8 +3,10 @@ import os
 import re
 import tempfile
 
+import attestation_model
 import verifier_model
 from assembler_model import hex_record, hex_text
+from file_readers import Policy, read_reports
 from readers import READERS, first_fault
 from reference import COMMANDS, FILES
 from trial import ROOT
@@ -39,6 +41,10 @@ class Example:
     def file(self, kind):
         return f"{self.folder}/{kind}.{'hex' if kind == 'image' else 'txt'}"
 
+    def value(self, kind):
+        """What the example's file of this kind says."""
+        return READERS[kind](read(self.file(kind)))
+
     def words(self, command, **others):
         """A command with the example's files, some of them others, and the steps that it has."""
         files = {kind: self.file(kind) for kind in COMMANDS[command].files}
@@ -49,11 +55,6 @@ class Example:
 def lengthened(text, length):
     """The text, and line ends after it up to the length."""
     return text.ljust(length, b"\n")
-
-
-def other_last_digit(text):
-    """A line with another last hexadecimal digit."""
-    return text[:-1] + (b"1" if text.endswith(b"0") else b"0")
 
 
 class SampleFiles:
@@ -72,10 +73,13 @@ class SampleFiles:
             "memory": self.letter_memory(),
             "listing": b"c000: mov #0x0041,&0x0076\nc006: jmp 0xc006\nfffe: .word 0xc000\n",
             "image": b":08C00000B24041007600FF3F51\n:02FFFE0000C041\n:00000001FF\n",
-            # The line of the workload 7, which a generator in another language drew and a play of
-            # its script gave by grep and sha256sum.
-            "work": b"work 7 steps 1000000 tx 0 resets 288 reports 0 exec 0 text "
-                    b"6776cfcffa0c3445ca420a1ed96f75c21fca1171cb1d4ab70c8d6234217b9614\n",
+            # The lines of two workloads, as a program in another language gave them that draws
+            # their scripts, plays their firmware and makes the digests by itself.
+            "work": b"work 7 steps 1000000 tx 0 resets 154 reports 404 denied 0 exec 403 text "
+                    b"9e48aa654ab9c8c5242c82bb60fe36ce69d93494d8d433ff61823e437797b8b9\n",
+            "work-last": b"work 4294967295 steps 1000000 tx 0 resets 132 reports 430 denied 0 exec "
+                         b"430 text "
+                         b"ac8c11b8b953ac1e6d12a10f7a134f69dcade64dcb960846b9ad85437fff6737\n",
         }
         self.texts["dump"] = self.texts["letter"] + self.texts["memory"]
         self.add_sources()
@@ -90,11 +94,12 @@ class SampleFiles:
         return os.path.join(self.folder, name)
 
     def words_of_round(self, command, **others):
-        """A command with the files of the example `round`, some of them others, and with a policy
-        and reports of version 1.
+        """A command with the files of the example `round` and what belongs to its report, some of
+        it other.
         """
-        return self.round.words(
-            command, **{"policy": self["policy"], "reports": self["reports"], **others})
+        return self.round.words(command, **{
+            "chal": self.report.challenge.hex(), "counter": str(self.report.count),
+            "policy": self["policy"], "reports": self["reports"], **others})
 
     def each_command(self):
         """Each command with files that it takes, and what it prints."""
@@ -102,6 +107,7 @@ class SampleFiles:
             ("play", *self.letter, "5"): self.texts["letter"],
             ("dump", *self.letter, "5"): self.texts["dump"],
             ("list", self.image): self.texts["listing"],
+            self.words_of_round("request"): self.request_line(),
             self.words_of_round("verify"): b"verdict 1 accept\n",
             self.round.words("round"): self.round.text,
             ("asm", self["letter.asm"]): self.texts["image"],
@@ -127,40 +133,49 @@ class SampleFiles:
                                b".org 0xFFFE\n.word start\n")
         self.add("mvo.asm", b"mvo r4,r5\n")
 
-    def add_verifier_files(self):
-        """Reports of version 1 that say what the example's report says, and policies that they meet
-        and do not.
-        """
-        form = rb"^report2 .* chal (\S+) er (\S+) (\S+) or (\S+) (\S+) data (\S+) .*\n"
-        printed = re.search(form, self.round.text, re.M)
-        challenge, *bounds, output = map(bytes.decode, printed.groups())
-        image, key = (READERS[kind](read(self.round.file(kind))) for kind in ("image", "key"))
+    def request_line(self):
+        return attestation_model.request_line(self.round.value("key"), self.report.challenge,
+                                              self.report.count)
 
-        def report(flag):
-            return verifier_model.report_line(verifier_model.right_report(
-                image, key, 557, flag, bytes.fromhex(challenge), [int(each, 16) for each in bounds],
-                bytes.fromhex(output)))
-        accepted = report(1)
-        self.add("reports", accepted)
-        self.add("reports-among", b"tx 4 41\nreset 5 K4\nverdict 1 version-differs\n"
-                                  b"collision 00 0102\n" + accepted + b"end 6 pc c000 exec 0\n")
-        self.add("reports-exec", report(0))
-        self.add("reports-mac", other_last_digit(accepted[:-1]) + b"\n")
-        self.add("reports-cut", re.sub(rb" mac (.{10}).*", rb" mac \1", accepted))
-        self.add("reports-two", accepted + printed[0])
-        self.add("reports-denied", accepted + b"denied 84 3\n")
-        bare = "er {} {}\nor {} {}\n".format(*bounds).encode()
-        asked = f"chal {challenge}\n".encode()
-        self.add("policy", bare + asked)
-        self.add("policy-bare", bare)
-        self.add("policy-other", bare + b"chal " + b"f" * 64 + b"\n")
-        # (behind the metadata of version 1, and in them)
-        code = bare.splitlines(keepends=True)[0]
-        self.add("policy-moved", code + b"or 026A 028E\n" + asked)
-        self.add("policy-bounds", code + b"or 0268 0268\n" + asked)
-        self.add("policy-two", b"version 2\n" + bare + b"flag exec\n")
-        self.add("policy-short", b"er C000 C002\n")
-        self.add("policy-utf8", b"# \xff\n")
+    def policy_with(self, **changes):
+        """A file with the policy that the example's report meets, in some of its values another."""
+        return self.add("policy-with", verifier_model.policy_text(self.policy._replace(**changes)))
+
+    def report_with(self, **changes):
+        """A report line that says what the example's report says, but for some of its values, and
+        that has the MAC for what it says, where it has no other.
+        """
+        report = self.report._replace(**changes)
+        if "mac" not in changes:
+            report = verifier_model.with_right_mac(
+                self.round.value("image"), self.round.value("key"), report)
+        return verifier_model.report_line(report)
+
+    def add_verifier_files(self):
+        """The report of the example `round`, the policy that it meets, and files with a fault."""
+        self.report = read_reports(self.round.text)[0]
+        self.policy = Policy(self.report.version, self.report.bounds, "exec",
+                             [(self.report.challenge, self.report.count)])
+        reports, policy = self.report_with(), verifier_model.policy_text(self.policy)
+        self.add("reports", reports)
+        self.add("reports-among", b"tx 4 41\nreset 5 K4\ndenied 84 3\nverdict 1 aux-zero\n"
+                                  b"collision 00 0102\n" + reports + b"end 6 pc c000 exec 0\n")
+        self.add("reports-cut", re.sub(rb" mac (.{10}).*", rb" mac \1", reports))
+        self.add("reports-decision", reports + b"denied 84 1\n")
+        self.add("reports-word", reports.replace(b" aux ", b" uax "))
+        self.add("policy", policy)
+        self.add("policy-utf8", b"# \xff\n" + policy)
+        lines = policy.splitlines(keepends=True)
+        self.add("policy-short", b"".join(lines[:3]))
+        self.add("policy-short-one", lines[1])
+        self.add("policy-version", b"version 3\n")
+        self.add("policy-ask", lines[1] + lines[2] + lines[4])
+        self.add("policy-chal", policy + b"chal " + b"f" * 64 + b"\n")
+        self.add("policy-flag", policy.replace(b"flag exec", b"flag exe"))
+        self.add("policy-counter", verifier_model.policy_text(
+            self.policy._replace(requests=[(self.report.challenge, 0)])))
+        self.add("policy-bounds", lines[0] + lines[1] + b"or 0270 0270\n")
+        self.add("policy-bounds-one", lines[1] + b"or 0268 0268\n")
 
     def add_faulty_files(self):
         """Files with one fault each, and keys that are in order."""
@@ -221,23 +236,24 @@ class SampleFiles:
 
     def add_largest_files(self):
         """Files of each kind up to their limits, full of lines that change nothing: records that
-        are written again, bytes that nobody reads, names that nobody uses, and one challenge again
-        and again. The numbers of challenges and of reports.
+        are written again, bytes that nobody reads, names that nobody uses, and one request again
+        and again. The numbers of requests and of reports.
         """
         lines = read(self.image).splitlines(keepends=True)
         reports, policy = read(self["reports"]), read(self["policy"])
+        asked = policy.splitlines(keepends=True)[-1]
         many = {
             "image": lines[0] * 37447 + b"".join(lines[-2:]),
             "script": b"at 4 rx 000000 \n" * 65536,
             "source": b"".join(b".equ n%05d,1\n" % number for number in range(1, 74891))
                       + read(self["letter.asm"]),
-            "policy": policy + policy.splitlines(keepends=True)[-1] * 934,
+            "policy": policy + asked * ((FILES["policy"].limit - len(policy)) // len(asked)),
             "reports": reports * (FILES["reports"].limit // len(reports)),
         }
         for kind, text in many.items():
             self.add(f"{kind}-most", lengthened(text, FILES[kind].limit))
             self.add(f"{kind}-more", lengthened(text, FILES[kind].limit + 1))
-        return many["policy"].count(b"chal"), many["reports"].count(b"report")
+        return many["policy"].count(b"ask"), many["reports"].count(b"report")
 
     def add_scattered_image(self):
         """A byte at each odd place, so that each stands alone."""

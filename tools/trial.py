@@ -5,8 +5,11 @@ import subprocess
 import sys
 from typing import NamedTuple
 
+from reference import STATUSES
+
 ROOT = os.path.dirname(os.path.dirname(os.path.realpath(__file__)))
 PROGRAM = f"{ROOT}/crates/device_cli/out/device_cli"
+WORDS, ABSENT, UNREADABLE = (STATUSES[status].line for status in (2, 3, 4))
 
 
 class Answer(NamedTuple):

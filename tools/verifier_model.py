@@ -1,65 +1,81 @@
-"""What the verifier says, apart from the program's own code.
-
-`verify` judges reports of version 1, which no device prints any more; they are made here. `round`
-judges no report of version 2 yet.
-"""
-import itertools
+"""What the verifier says of reports of both versions, apart from the program's own code."""
 import re
 
-from attestation_model import bounds_words, bytes_of, in_words, mac
-from file_readers import Report
+from attestation_model import bounds_words, bytes_of, in_words, mac, request
+from file_readers import Report, read_reports
+
+
+def metadata_of(key, report):
+    """The metadata that a report tells, with the token that its request has to have."""
+    if report.version == 1:
+        return report.challenge + in_words(*report.bounds, report.exec)
+    return request(key, report.challenge, report.bounds, report.count, (report.exec, report.aux))
 
 
 def right_mac(image, key, report):
-    """The MAC that a report of version 1 has where its code is the image's."""
-    metadata = report.challenge + in_words(*report.bounds, report.exec)
+    """The MAC that a report has where its code is the image's."""
     code = bytes_of(image, report.bounds[0], report.bounds[1] + 1)
-    return mac(key, metadata, code + (report.output or b""))
+    return mac(key, metadata_of(key, report), code + (report.output or b""))
 
 
-def right_report(image, key, *fields):
-    """A report of version 1 with these fields, and with the MAC that it has to have."""
-    report = Report(*fields, mac=b"")
+def with_right_mac(image, key, report):
     return report._replace(mac=right_mac(image, key, report))
 
 
 def report_line(report):
+    name, of_request = "report", ""
+    if report.version == 2:
+        name, of_request = "report2", f" aux {report.aux} count {report.count}"
     output = "-" if report.output is None else report.output.hex()
-    return (f"report {report.step} exec {report.exec} chal {report.challenge.hex()} "
+    return (f"{name} {report.step} exec {report.exec}{of_request} chal {report.challenge.hex()} "
             f"{bounds_words(report.bounds)} data {output} mac {report.mac.hex()}\n").encode()
 
 
+def policy_text(policy):
+    """A policy as its file has it."""
+    lines = bounds_words(policy.bounds).replace(" or", "\nor") + "\n"
+    if policy.version == 2:
+        lines = f"version 2\n{lines}flag {policy.flag}\n"
+    for challenge, count in policy.requests:
+        lines += (f"ask {challenge.hex()} {count}\n" if policy.version == 2
+                  else f"chal {challenge.hex()}\n")
+    return lines.encode()
+
+
 def verdict(image, policy, key, number, report):
-    """On the report of version 1 that has this number, from 0."""
-    bounds, challenges = policy
-    if number >= len(challenges):
+    """On the report that has this number, from 0: the first that holds."""
+    if number >= len(policy.requests):
         return "no-challenge"
-    if report.challenge != challenges[number]:
-        return "chal-differs"
-    if report.bounds != bounds:
-        return "bounds-differ"
-    if not report.exec:
-        return "exec-zero"
+    challenge, count = policy.requests[number]
+    differences = {
+        "version-differs": report.version != policy.version,
+        "chal-differs": report.challenge != challenge,
+        "count-differs": report.count != count,
+        "bounds-differ": report.bounds != policy.bounds,
+        "exec-zero": policy.flag == "exec" and not report.exec,
+        "aux-zero": policy.flag == "aux" and not report.aux,
+    }
+    for name, holds in differences.items():
+        if holds:
+            return name
     return "accept" if report.mac == right_mac(image, key, report) else "mac-differs"
 
 
-def round_text(play):
-    """What `round` prints of a play with this text, whatever the policy says."""
-    numbers = itertools.count(1)
-    return re.sub(rb"^report2 .*\n",
-                  lambda line: line[0] + b"verdict %d version-differs\n" % next(numbers),
-                  play, flags=re.M)
+def verdicts(image, policy, key, reports):
+    return [verdict(image, policy, key, number, report) for number, report in enumerate(reports)]
+
+
+def verdict_lines(names):
+    return [f"verdict {number} {name}\n".encode() for number, name in enumerate(names, 1)]
+
+
+def round_text(play, image, policy, key):
+    """What `round` prints of a play with this text, where no two inputs of one digest are found."""
+    lines = iter(verdict_lines(verdicts(image, policy, key, read_reports(play))))
+    return re.sub(rb"^report2 .*\n", lambda line: line[0] + next(lines), play, flags=re.M)
 
 
 def ending_of(text):
     """The exit status and the line on standard error after a text with verdicts."""
     others = re.search(rb"^verdict \d+ (?!accept$)", text, re.M)
     return (1, "rejected") if others else (0, "")
-
-
-def version_one(policy):
-    """A policy of version 2 in the form of version 1: its bounds, and its challenges without their
-    counters. A policy of version 1 stays as it is.
-    """
-    policy = re.sub(rb"^(version|flag) .*\n", b"", policy, flags=re.M)
-    return re.sub(rb"^ask (\S+) \d+$", rb"chal \1", policy, flags=re.M)

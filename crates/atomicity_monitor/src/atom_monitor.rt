@@ -1,4 +1,4 @@
-ghost use Rattle.std.specs.Prelude.{◌≡◌, [], true, IfSome};
+ghost use Rattle.std.specs.Prelude.{◌≡◌, [], true, false, IfSome};
 ghost use Rattle.bus_signals.specs.declared.bounds.Bounds.{Bounds};
 ghost use Rattle.bus_signals.specs.Access.{IsFormed};
 ghost use Rattle.part_definitions.specs.Flag.{last_pc};
@@ -6,13 +6,9 @@ ghost use Rattle.part_definitions.specs.Part.{Answers, Takes};
 ghost use Rattle.part_definitions.specs.MonitorRule.{in_rom, atomicity_rule};
 ghost use Rattle.part_definitions.specs.MonitorRule.{breaks_a1, breaks_a2, breaks_a3, breaks_a4};
 
-use bus_signals::{BusRecord, CR, KR, Kind, Rule, Signals, XS, some_reads, some_touches};
-
-// Where a call of the ROM begins (VRASED's CRmin).
-const ROM_ENTRY: u16 = CR.first;
-
-// Where a call of the ROM ends (VRASED's CRmax).
-const ROM_EXIT: u16 = CR.last - 1;
+use bus_signals::{
+    BusRecord, CR, KR, Kind, ROM_ENTRY, ROM_EXIT, Rule, Signals, XS, some_reads, some_touches,
+};
 
 /// The rules A1 to A4.
 #[derive(Clone, Copy, Debug)]
@@ -41,7 +37,7 @@ impl AtomMonitor {
     {
         if CR.contains(now.pc) {
             self.check_within(now)
-        } else if self.breaks_a1(now, false) {
+        } else if self.breaks_a1(now) {
             Some(Rule::A1)
         } else {
             None
@@ -57,9 +53,9 @@ impl AtomMonitor {
         ensures { Answers AtomMonitorStandsFor self.now
             (λ records. atomicity_rule (last_pc records) now.now) result }
     {
-        if breaks_a3(now, true) {
+        if breaks_a3(now) {
             Some(Rule::A3)
-        } else if self.breaks_a2(now, true) {
+        } else if self.breaks_a2(now) {
             Some(Rule::A2)
         } else if breaks_a4(now) {
             Some(Rule::A4)
@@ -77,34 +73,34 @@ impl AtomMonitor {
         self.is_inside = CR.contains(entry.pc) && entry.pc != ROM_EXIT;
     }
 
-    // A1: the ROM is left from another place than its exit.
+    // A1, outside the ROM: it is left from another place than its exit.
     #[inline(always)]
-    fn breaks_a1(&self, now: &Signals, inside: bool) -> bool
-        requires { inside ≡ in_rom now.now.pc }
+    fn breaks_a1(&self, now: &Signals) -> bool
+        requires { in_rom now.now.pc ≡ false }
         ensures { Answers AtomMonitorStandsFor self.now
             (λ records. breaks_a1 (last_pc records) now.now) result }
     {
-        self.is_inside && !inside && now.kind != Kind::Boot
+        self.is_inside && now.kind != Kind::Boot
     }
 
-    // A2: the ROM is entered at another place than its entry.
+    // A2, in the ROM: it is entered at another place than its entry.
     #[inline(always)]
-    fn breaks_a2(&self, now: &Signals, inside: bool) -> bool
-        requires { inside ≡ in_rom now.now.pc }
+    fn breaks_a2(&self, now: &Signals) -> bool
+        requires { in_rom now.now.pc ≡ true }
         ensures { Answers AtomMonitorStandsFor self.now
             (λ records. breaks_a2 (last_pc records) now.now) result }
     {
-        inside && now.pc != ROM_ENTRY && !self.is_inside
+        now.pc != ROM_ENTRY && !self.is_inside
     }
 }
 
-// A3: an interrupt could be accepted in the ROM.
+// A3, in the ROM: an interrupt could be accepted.
 #[inline(always)]
-fn breaks_a3(now: &Signals, inside: bool) -> bool
-    requires { inside ≡ in_rom now.now.pc }
+fn breaks_a3(now: &Signals) -> bool
+    requires { in_rom now.now.pc ≡ true }
     ensures { result ≡ breaks_a3 now.now }
 {
-    inside && now.irq
+    now.irq
 }
 
 // A4: the return read touches the key or the exclusive stack.

@@ -1,2 +1,0 @@
-pub mod FormedProp
-pub mod Proposal

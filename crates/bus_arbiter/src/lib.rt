@@ -1,9 +1,7 @@
-//! The arbiter of the bus: in a step two masters make at most one access each, and the second sees
-//! what the first writes.
+//! The arbiter of the bus: in a step memory takes what the processor or the ROM writes, and then
+//! makes the access of the DMA, which sees that.
 #![tactic(auto)]
 
 mod arbiter;
-mod proposal;
 
-pub use arbiter::{Values, exchange};
-pub use proposal::Proposal;
+pub use arbiter::exchange;

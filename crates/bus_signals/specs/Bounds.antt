@@ -1,11 +1,12 @@
 -- The bounds of the executable region ER and the output region OR, and which are valid. (APEX.)
-use Rattle.std.specs.Prelude.{◌+◌, ◌==◌, ◌&&◌, ◌||◌, ◌%◌, ◌^◌, ℕ, Bool, nat_le, nat_lt}
+use Rattle.std.specs.Prelude.{◌+◌, ◌==◌, ◌&&◌, ◌||◌, ◌%◌, ◌^◌, Bool, nat_le, nat_lt}
 use Rattle.bus_signals.specs.declared.region.Region.{Region}
 use Rattle.bus_signals.specs.declared.bounds.Bounds.{Bounds}
 use Rattle.bus_signals.specs.Map.{ram_region, program_region, mac_region, metadata_region, version_one_metadata}
+use Rattle.bus_signals.specs.Address.{Address}
 
 -- from one word to another, the second byte of the last among them; an end past FFFF wraps
-abbrev pub words_region : ℕ → ℕ → Region
+abbrev pub words_region : Address → Address → Region
 words_region first last = record { first = first; last = (last + 1) % 2 ^ 16 }
 
 abbrev pub executable_region : Bounds → Region
@@ -14,7 +15,7 @@ executable_region bounds = words_region bounds.er_min bounds.er_max
 abbrev pub output_region : Bounds → Region
 output_region bounds = words_region bounds.or_min bounds.or_max
 
-abbrev pub is_even : ℕ → Bool
+abbrev pub is_even : Address → Bool
 is_even place = place % 2 == 0
 
 -- one region lies wholly in another
@@ -33,11 +34,11 @@ is_free_region metadata region =
     && is_disjoint region metadata
 
 -- the same without a wrap, as validity sees it
-abbrev pub unwrapped_region : ℕ → ℕ → Region
+abbrev pub unwrapped_region : Address → Address → Region
 unwrapped_region first last = record { first = first; last = last + 1 }
 
 -- two even places in order, of such a region
-abbrev pub is_valid_region : Region → ℕ → ℕ → Bool
+abbrev pub is_valid_region : Region → Address → Address → Bool
 is_valid_region metadata first last =
     is_even first && is_even last && nat_le first last
     && is_free_region metadata (unwrapped_region first last)

@@ -1,8 +1,9 @@
 -- What an attestation report tells.
-use Rattle.std.specs.Prelude.{ℕ, Bool, List, Option, option_map}
+use Rattle.std.specs.Prelude.{ℕ, Bool, Option, option_map}
 use Rattle.bus_signals.specs.declared.bounds.Bounds.{Bounds}
 use Rattle.bus_signals.specs.declared.report_view.ReportView.{ReportView}
 use Rattle.bus_signals.specs.declared.version.Version.{Version}
+use Rattle.bus_signals.specs.Address.{Bytes}
 
 -- the version, the step that finished the call, the EXEC flag, the second flag and the counter of
 -- the request (false and 0 in version 1), the challenge, the bounds, the bytes of the output region
@@ -13,10 +14,10 @@ pub record ReportFields : Type 0 where
   pub exec : Bool
   pub aux : Bool
   pub count : ℕ
-  pub chal : List ℕ
+  pub chal : Bytes
   pub bounds : Bounds
-  pub output : Option (List ℕ)
-  pub mac : List ℕ
+  pub output : Option Bytes
+  pub mac : Bytes
 
 -- what a view of memory tells
 abbrev pub fields_of : ReportView → ReportFields

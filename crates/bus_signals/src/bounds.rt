@@ -1,7 +1,8 @@
 ghost use Rattle.std.specs.Prelude.{◌≡◌};
 ghost use Rattle.bus_signals.specs.Bounds.{words_region, executable_region, output_region, is_part_of, is_free_region, is_valid_region, are_valid_beside, are_valid, are_valid_one, is_disjoint};
 
-use crate::region::{META, META_ONE, MR, RAM, Region};
+use crate::map::{META, META_ONE, MR, PROGRAM, RAM};
+use crate::region::Region;
 
 /// The bounds of the executable region and the output region (APEX's ERmin, ERmax, ORmin, ORmax):
 /// addresses of their first and last words.
@@ -38,12 +39,6 @@ fn words_region(first: u16, last: u16) -> Region
         last: last.wrapping_add(1),
     }
 }
-
-// The program, without the vectors above it.
-const PROGRAM: Region = Region {
-    first: 0xC000,
-    last: 0xFFDF,
-};
 
 impl Region {
     fn is_part_of(self, outer: Region) -> bool

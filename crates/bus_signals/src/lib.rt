@@ -12,6 +12,7 @@ mod bus_record;
 mod event;
 mod kind;
 mod law;
+mod map;
 mod region;
 mod report_view;
 mod rule;
@@ -26,7 +27,12 @@ pub use bus_record::BusRecord;
 pub use event::Event;
 pub use kind::Kind;
 pub use law::constants_are_of_the_map;
-pub use region::{CR, KR, META, META_ONE, MR, RAM, Region, XS, some_touches, touches};
+pub use map::{
+    AUX_WORD, COUNTER, CR, DERIVED_KEY, DMA, ER_MAX, ER_MIN, EXEC_WORD, INNER_DIGEST, KEPT_COUNTER,
+    KR, META, META_ONE, MR, OR_MAX, OR_MIN, PERIPHERALS, PINS, PROGRAM, RAM, RESET_VECTOR,
+    ROM_BODY, ROM_ENTRY, ROM_EXIT, SERIAL, TIMER, VECTORS, XS,
+};
+pub use region::{Region, some_touches, touches};
 pub use report_view::ReportView;
 pub use rule::Rule;
 pub use signals::Signals;

@@ -17,6 +17,9 @@ use Rattle.device_trace.specs.Start.{Start}
 use Rattle.mac_coverage.specs.Coverage.{Gives32Bytes, IsDeviceKey, IsOfBytes}
 use Rattle.play_script.specs.Script.{TimedEvent}
 use Rattle.report_verifier.specs.Policy.{PolicyFields}
+use Rattle.report_verifier.specs.PolicyGrammar.{policy_of}
+use Rattle.report_verifier.specs.Validity.{are_valid_for}
+use Rattle.report_verifier.proofs.PolicyBounds.{policy_of-valid}
 use Rattle.device_cli.specs.Row.{DevicePlay, FileKind, Outcome, Row, Ends, Reads, go_on, read_file, value_of}
 use Rattle.device_cli.specs.Reading.{Files, Reaches}
 use Rattle.device_cli.specs.FileKind.{key_kind, image_kind, script_kind, policy_kind}
@@ -99,19 +102,26 @@ steps_row_lawful text image script key steps =
     no_judge (play_with steps key_read image_read script_read)
     (device_key key_bytes key_read key_is) (image_bytes bytes image_read image_is) refl)))
 
+valid_bounds : (bytes : List ℕ) (policy : PolicyFields) → policy_of bytes ≡ Ok policy
+    → are_valid_for policy.version policy.bounds ≡ true
+valid_bounds bytes policy is = rw is at (policy_of-valid bytes)
+
 -- with a judge
 judged : (steps : ℕ) (key : List ℕ) (image : ℕ → Option ℕ) (script : List TimedEvent)
     (policy : PolicyFields)
     → IsDeviceKey key → IsOfBytes (λ place. unwrap_or (image place) 0)
+    → are_valid_for policy.version policy.bounds ≡ true
     → IsLawful (record (play_with steps key image script) {
       judge = Some (judge_with key image policy);
     })
-judged steps key image script policy device_key bytes =
+judged steps key image script policy device_key bytes valid =
     record {
       gives = sha256_gives;
       laws = obeys_laws no_flag sha256 key (λ place. unwrap_or (image place) 0)
           (steps_of steps script) device_key bytes;
-      accepts = each_accept-has_grounds (judge_with key image policy) _ _;
+      accepts = each_accept-has_grounds no_flag (judge_with key image policy)
+          (λ place. unwrap_or (image place) 0) (steps_of steps script) device_key bytes
+          sha256_gives valid;
     }
 
 pub round_row_lawful : (image script key policy : List ℕ) (steps : ℕ)
@@ -122,7 +132,8 @@ round_row_lawful image script key policy steps =
     read-lawful script_kind script _ (λ script_read script_bytes script_is.
     read-lawful policy_kind policy _ (λ policy_read policy_bytes policy_is.
     judged steps key_read image_read script_read policy_read
-    (device_key key_bytes key_read key_is) (image_bytes bytes image_read image_is)))))
+    (device_key key_bytes key_read key_is) (image_bytes bytes image_read image_is)
+    (valid_bounds policy_bytes policy_read policy_is)))))
 
 pub load_device_key : IsDeviceKey load_key
 load_device_key =

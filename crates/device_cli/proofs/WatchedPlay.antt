@@ -4,6 +4,7 @@ use Rattle.std.specs.Prelude.{IsErrAnd}
 use Rattle.bus_signals.specs.declared.event.Event.{Event}
 use Rattle.bus_signals.specs.Flag.{Flag}
 use Rattle.outside_edge.specs.Sink.{Takes, TakesPrefix}
+use Rattle.hmac_core.specs.Hash.{Hash}
 use Rattle.device_trace.specs.Start.{Start}
 use Rattle.device_trace.specs.Trace.{play_of}
 use Rattle.play_script.specs.declared.playback.Playback.{Playback}
@@ -142,36 +143,35 @@ watched-prefix {stands} {last_lines} {old} {mid} {new} {events_at} {before} step
 
 -- the same number of steps
 pub at-count :
-    {D G : Type 0} {has_taken : D → List ℕ → Type 0} {digest : List ℕ → List ℕ} {flag : Flag G}
-    {start : Start} {one other : ℕ} (live : Live D G) (events_at : ℕ → List Event)
-    → one ≡ other → LiveStandsFor has_taken digest flag live start (play_of events_at one)
-    → LiveStandsFor has_taken digest flag live start (play_of events_at other)
-at-count {has_taken} {digest} {flag} {start} live events_at same stands =
-    subst (λ play. LiveStandsFor has_taken digest flag live start play)
+    {D G : Type 0} {hash : Hash D} {flag : Flag G} {start : Start} {one other : ℕ} (live : Live D G)
+    (events_at : ℕ → List Event)
+    → one ≡ other → LiveStandsFor hash flag live start (play_of events_at one)
+    → LiveStandsFor hash flag live start (play_of events_at other)
+at-count {hash} {flag} {start} live events_at same stands =
+    subst (λ play. LiveStandsFor hash flag live start play)
     (ap (play_of events_at) same) stands
 
 -- a device after a step, and a watcher before that step
-pub record IsToSee {D G S T : Type 0} (has_taken : D → List ℕ → Type 0)
-    (digest : List ℕ → List ℕ) (flag : Flag G) (start : Start) (stands : S → List ℕ → Type 0)
-    (tallies : List (List Event) → T → Type 0) (last_lines : List (List Event) → ℕ → List ℕ)
-    (old new : S) (events_at : ℕ → List Event) (step : ℕ) (live : Live D G) (tally : T) : Type 0
+pub record IsToSee {D G S T : Type 0} (hash : Hash D) (flag : Flag G) (start : Start)
+    (stands : S → List ℕ → Type 0) (tallies : List (List Event) → T → Type 0)
+    (last_lines : List (List Event) → ℕ → List ℕ) (old new : S) (events_at : ℕ → List Event)
+    (step : ℕ) (live : Live D G) (tally : T) : Type 0
   where
     pub made : steps_made live ≡ suc step
-    pub device : LiveStandsFor has_taken digest flag live start (play_of events_at (suc step))
+    pub device : LiveStandsFor hash flag live start (play_of events_at (suc step))
     pub watched : IsWatched stands tallies last_lines old new events_at step tally
 
 -- so it is where the device has gone on from the steps that were watched
 pub gone-to-see :
-    {D G S T : Type 0} {has_taken : D → List ℕ → Type 0} {digest : List ℕ → List ℕ}
-    {flag : Flag G} {start : Start} {stands : S → List ℕ → Type 0}
-    {tallies : List (List Event) → T → Type 0} {last_lines : List (List Event) → ℕ → List ℕ}
-    {old new : S} {events_at : ℕ → List Event} {from step : ℕ} {live : Live D G}
-    {playback : Playback} {tally : T}
+    {D G S T : Type 0} {hash : Hash D} {flag : Flag G} {start : Start}
+    {stands : S → List ℕ → Type 0} {tallies : List (List Event) → T → Type 0}
+    {last_lines : List (List Event) → ℕ → List ℕ} {old new : S} {events_at : ℕ → List Event}
+    {from step : ℕ} {live : Live D G} {playback : Playback} {tally : T}
     → PassesSilence start tallies last_lines
     → steps_made live ≡ suc step → from ≤ step
-    → HasGoneOn has_taken digest flag start events_at from live playback
+    → HasGoneOn hash flag start events_at from live playback
     → IsWatched stands tallies last_lines old new events_at from tally
-    → IsToSee has_taken digest flag start stands tallies last_lines old new events_at step live
+    → IsToSee hash flag start stands tallies last_lines old new events_at step live
     tally
 gone-to-see {start} {stands} {tallies} {last_lines} {old} {new} {events_at} {from} {step} {live}
     {tally} passes made within gone is =

@@ -2,6 +2,7 @@
 use Rattle.std.specs.Prelude.{◌≡◌, ◌≤◌, ◌-◌, ℕ, List}
 use Rattle.bus_signals.specs.declared.event.Event.{Event}
 use Rattle.bus_signals.specs.Flag.{Flag}
+use Rattle.hmac_core.specs.Hash.{Hash}
 use Rattle.device_trace.specs.Start.{Start}
 use Rattle.device_trace.specs.Trace.{play_of}
 use Rattle.play_script.specs.Playback.{events_left}
@@ -12,15 +13,13 @@ use Rattle.device_cli.specs.WatchedPlay.{AllAreSilent}
 
 -- a device that stands for a play's first steps, as many as it made; the events of the later ones
 -- are left
-pub record IsMidway {D G : Type 0} (has_taken : D → List ℕ → Type 0) (digest : List ℕ → List ℕ)
-    (flag : Flag G) (start : Start) (events_at : ℕ → List Event) (live : Live D G)
-    (playback : Playback) : Type 0 where
-  pub stands : LiveStandsFor has_taken digest flag live start (play_of events_at (steps_made live))
+pub record IsMidway {D G : Type 0} (hash : Hash D) (flag : Flag G) (start : Start)
+    (events_at : ℕ → List Event) (live : Live D G) (playback : Playback) : Type 0 where
+  pub stands : LiveStandsFor hash flag live start (play_of events_at (steps_made live))
   pub left : (later : ℕ) → steps_made live ≤ later → events_left playback later ≡ events_at later
 
 -- and it came there from this step on; of the steps that it made then, all but the last are silent
-pub record HasGoneOn {D G : Type 0} (has_taken : D → List ℕ → Type 0) (digest : List ℕ → List ℕ)
-    (flag : Flag G) (start : Start) (events_at : ℕ → List Event) (step : ℕ) (live : Live D G)
-    (playback : Playback) : Type 0 where
-  pub midway : IsMidway has_taken digest flag start events_at live playback
+pub record HasGoneOn {D G : Type 0} (hash : Hash D) (flag : Flag G) (start : Start)
+    (events_at : ℕ → List Event) (step : ℕ) (live : Live D G) (playback : Playback) : Type 0 where
+  pub midway : IsMidway hash flag start events_at live playback
   pub silent : AllAreSilent start events_at step (steps_made live - 1)

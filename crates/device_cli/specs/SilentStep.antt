@@ -1,5 +1,5 @@
 -- There is nothing to say of a silent step: two facts that the watchers of a play cite.
-use Rattle.std.specs.Prelude.{◌≡◌, ◌++◌, ◌&&◌, ℕ, Bool, true, List, [], ◌∷◌, Option, Some, None, is_none, length, refl}
+use Rattle.std.specs.Prelude.{◌≡◌, ◌++◌, ◌&&◌, ℕ, true, List, [], ◌∷◌, Option, Some, None, is_none, length, refl}
 use Rattle.std.proofs.Common.{◌∙◌, ap, sym}
 use Rattle.std.proofs.lemmas.Bool.{false≢true}
 use Rattle.bus_signals.specs.declared.event.Event.{Event}

@@ -49,7 +49,7 @@ pub fn print_last_step<D: Digest32, G: TraceFlag, W: Sink>(
     sink: &mut W,
 ) -> Result<(), Failed>
     ensures puts { (start : Start) (play : List (List Event))
-        → LiveStandsFor D.has_taken D.digest_of G.flag live.now start play
+        → LiveStandsFor D.hash G.flag live.now start play
         → Puts W.stands sink.old sink.new (last_step_lines start play step) result }
     ensures counts { CountsFaults W.faults sink.old sink.new result }
 {
@@ -110,30 +110,31 @@ pub fn play_on<D: Digest32, G: TraceFlag, W: Sink>(
     requires fresh { steps_of device ≡ 0 }
     requires few { steps ≤ most_steps }
     ensures stands { (key : List ℕ) (image : ℕ → ℕ)
-        → HeldStandsFor D.has_taken D.digest_of G.flag device
-        (with_key G.flag.value D.digest_of key image) []
-        → IfOk result (λ live. LiveStandsFor D.has_taken D.digest_of G.flag live
-        (with_key G.flag.value D.digest_of key image) (play_of (events_of script.now) steps)) }
+        → HeldStandsFor D.hash G.flag device
+        (with_key G.flag.value D.hash.digest_of key image) []
+        → IfOk result (λ live. LiveStandsFor D.hash G.flag live
+        (with_key G.flag.value D.hash.digest_of key image) (play_of (events_of script.now) steps)) }
     ensures puts { (key : List ℕ) (image : ℕ → ℕ)
-        → HeldStandsFor D.has_taken D.digest_of G.flag device
-        (with_key G.flag.value D.digest_of key image) []
+        → HeldStandsFor D.hash G.flag device
+        (with_key G.flag.value D.hash.digest_of key image) []
         → Puts W.stands sink.old sink.new
-        (play_text (with_key G.flag.value D.digest_of key image)
+        (play_text (with_key G.flag.value D.hash.digest_of key image)
         (play_of (events_of script.now) steps)) result }
     ensures hides_key { (key other : List ℕ) (image : ℕ → ℕ)
-        → HeldStandsFor D.has_taken D.digest_of G.flag device
-        (with_key G.flag.value D.digest_of key image) []
-        → ReleaseAlike (with_key G.flag.value D.digest_of key image)
-        (with_key G.flag.value D.digest_of other image)
+        → HeldStandsFor D.hash G.flag device
+        (with_key G.flag.value D.hash.digest_of key image) []
+        → ReleaseAlike (with_key G.flag.value D.hash.digest_of key image)
+        (with_key G.flag.value D.hash.digest_of other image)
         (play_of (events_of script.now) steps)
-        → Puts W.stands sink.old sink.new (play_text (with_key G.flag.value D.digest_of other image)
+        → Puts W.stands sink.old sink.new
+        (play_text (with_key G.flag.value D.hash.digest_of other image)
         (play_of (events_of script.now) steps)) result }
     ensures laws { (key : List ℕ) (image : ℕ → ℕ)
-        → HeldStandsFor D.has_taken D.digest_of G.flag device
-        (with_key G.flag.value D.digest_of key image) []
+        → HeldStandsFor D.hash G.flag device
+        (with_key G.flag.value D.hash.digest_of key image) []
         → IsDeviceKey key
         → IsOfBytes image
-        → ObeysLaws G.flag.value D.digest_of key image (play_of (events_of script.now) steps) }
+        → ObeysLaws G.flag.value D.hash.digest_of key image (play_of (events_of script.now) steps) }
     ensures counts { CountsFaults W.faults sink.old sink.new result }
 {
     let (live, _) = watch_play(device, script, steps, &LinePrinter, (), sink)?;

@@ -5,7 +5,7 @@ use Rattle.bus_signals.specs.SeenRecord.{SeenRecord}
 use Rattle.device_trace.specs.Blank.{blank_seen}
 use Rattle.device_trace.specs.Logs.{aux_shown, flags_shown, goes_on_in_call, records_until_call}
 use Rattle.device_trace.specs.Start.{Start}
-use Rattle.device_core.specs.FlagsClear.{LeavesFlagsClear}
+use Rattle.device_core.specs.FlagsKept.{LeavesFlags}
 
 until-more :
     (now : SeenRecord) (before : List SeenRecord) (stays : Bool)
@@ -28,24 +28,25 @@ aux-more start now before false is_set is same =
     ∙ ap (λ records. start.second_flag (map blank_seen records))
     (sym (until-more now before false (sym is)))
 
-both-clear :
-    (stays shown is_set : Bool)
-    → shown ≡ false → is_set ≡ false → (if stays then shown else is_set) ≡ false
-both-clear true shown is_set unshown clear = unshown
-both-clear false shown is_set unshown clear = clear
+either-same :
+    (stays shown was is : Bool)
+    → shown ≡ was → is ≡ was → (if stays then shown else is) ≡ shown
+either-same true shown was is same kept = refl
+either-same false shown was is same kept = kept ∙ sym same
 
--- steps that leave both flags clear leave what is shown
+-- steps that leave both flags as they are leave what is shown
 pub flags-kept :
     {G : Type 0} (flag : Flag G) (start : Start) (now : SeenRecord) (before : List SeenRecord)
     → start.second_flag ≡ flag.value
-    → aux_shown start before ≡ false
-    → LeavesFlagsClear flag now before
+    → aux_shown start before ≡ flag.value (map blank_seen before)
+    → LeavesFlags flag now before
     → flags_shown start (now ∷ before) ≡ flags_shown start before
-flags-kept flag start now before same unshown clear =
-    let after : start.second_flag (map blank_seen (now ∷ before)) ≡ false =
-    rw same clear.second_after in
-    let aux : aux_shown start (now ∷ before) ≡ false =
+flags-kept flag start now before same shown leaves =
+    let after :
+    start.second_flag (map blank_seen (now ∷ before)) ≡ flag.value (map blank_seen before) =
+    rw same leaves.same_second in
+    let aux : aux_shown start (now ∷ before) ≡ aux_shown start before =
     sym (aux-more start now before (goes_on_in_call now.entry)
     (start.second_flag (map blank_seen (now ∷ before))) refl refl)
-    ∙ both-clear (goes_on_in_call now.entry) _ _ unshown after in
-    rw (aux, unshown, clear.exec_before, clear.exec_after) refl
+    ∙ either-same (goes_on_in_call now.entry) _ _ _ shown after in
+    rw (aux, leaves.same_exec) refl

@@ -3,6 +3,7 @@ use Rattle.std.proofs.Common.{◌≡◌, ◌∙◌, ◌-◌, ◌&&◌, ◌||◌,
 use Rattle.bus_signals.specs.declared.event.Event.{Event}
 use Rattle.bus_signals.specs.declared.rule.Rule.{Rule}
 use Rattle.bus_signals.specs.SeenRecord.{SeenRecord}
+use Rattle.hmac_core.specs.Hash.{Hash}
 use Rattle.device_trace.specs.Logs.{finishes_call, with_events}
 use Rattle.device_trace.specs.Start.{Start}
 use Rattle.device_trace.specs.Step.{next_record, next_signals}
@@ -95,17 +96,17 @@ kept-idle start play last keeps =
     (subst (λ now. KeepsSignals last now) (sym (idle-signals start play)) keeps)
 
 pub goes-idle :
-    {D G : Type 0} (has_taken : D → List ℕ → Type 0) (digest : List ℕ → List ℕ) (flag : Flag G)
-    (stage : Stage) (machine : Machine D G) (start : Start) (steps : ℕ) (play : List (List Event))
-    → StandsAfter has_taken digest flag stage machine start
+    {D G : Type 0} (hash : Hash D) (flag : Flag G) (stage : Stage) (machine : Machine D G)
+    (start : Start) (steps : ℕ) (play : List (List Event))
+    → StandsAfter hash flag stage machine start
     (logs_after start (with_idle steps play)) false
-    → PlaysAt has_taken digest flag stage machine start (with_idle (steps + 1) play)
-goes-idle has_taken digest flag stage machine start steps play stands =
+    → PlaysAt hash flag stage machine start (with_idle (steps + 1) play)
+goes-idle hash flag stage machine start steps play stands =
     let before = with_idle steps play in
-    subst (λ here. PlaysAt has_taken digest flag stage machine start here)
+    subst (λ here. PlaysAt hash flag stage machine start here)
     (sym (idle-more steps play))
     (record {
-      same = subst (λ logs. StandsAt has_taken digest flag stage machine start logs)
+      same = subst (λ logs. StandsAt hash flag stage machine start logs)
           (sym (idle-logs start before)) stands.same;
       same_signals = kept-idle start before machine.bus.last stands.same_signals;
     })

@@ -8,7 +8,7 @@ use Rattle.bus_signals.specs.Flag.{Flag}
 use Rattle.bus_signals.specs.SeenRecord.{SeenRecord}
 use Rattle.part_definitions.specs.Dma.{dma_access}
 use Rattle.mem_map.specs.Memory.{MemoryStandsFor}
-use Rattle.device_trace.specs.Logs.{Logs, flags_of, vector_of, step_progress, accepts_timer, with_record}
+use Rattle.device_trace.specs.Logs.{Logs, flags_of, vector_of, step_progress, vector_taken, with_record}
 use Rattle.device_trace.specs.Progress.{next_pc_of, last_registers, tells_irq, fetches_opcode}
 use Rattle.device_trace.specs.Signals.{signals_of, step_kind, proposed_access, value_read}
 use Rattle.device_trace.specs.Start.{Start}
@@ -25,10 +25,13 @@ abbrev pub last_seen : List SeenRecord → Option SeenRecord
 last_seen [] = None
 last_seen (now ∷ before) = Some now
 
+-- a step that is kept, as a flag sees it
+abbrev pub seen_in : LastStep → SeenRecord
+seen_in step = record { entry = step.entry; bounds = step.bounds }
+
 -- the last step, where it was kept; one that was not has no line
 abbrev pub LastStandsFor : Option LastStep → List SeenRecord → Type 0
-LastStandsFor (Some step) records =
-    last_seen records ≡ Some (record { entry = step.entry; bounds = step.bounds })
+LastStandsFor (Some step) records = last_seen records ≡ Some (seen_in step)
 LastStandsFor None [] = Unit {0}
 LastStandsFor None (now ∷ before) = has_line now.entry ≡ false
 
@@ -52,8 +55,8 @@ pub record TurnStandsFor (regs : List ℕ) (turn : Turn) (start : Start) (logs :
   pub same_access : turn.access ≡ proposed_access start logs (step_kind logs)
   pub same_irq : turn.irq ≡ (tells_irq logs.progress && is_some (vector_of logs))
   pub same_opcode : turn.opcode ≡ fetches_opcode (step_kind logs) logs.progress
-  pub same_acceptance : turn.accepts_timer ≡ accepts_timer logs.progress (step_kind logs)
-      (vector_of logs)
+  pub same_acceptance : turn.acceptance
+      ≡ vector_taken logs.progress (step_kind logs) (vector_of logs)
 
 -- what the access of the processor read, where the step was not refused
 abbrev pub value_unless : Option Rule → ℕ → Option ℕ
@@ -104,24 +107,17 @@ logs_performed start logs regs now =
 
 -- the bus makes such a step, in which the processor's access read this value
 abbrev pub PerformsFrom :
-    {G : Type 0} → Start → Logs → Flag G → Bus G → List ℕ → Bool → Signals → ℕ → Bus G → Type 0
-PerformsFrom start logs flag old regs is_accepted now value new =
+    {G : Type 0}
+    → Start → Logs → Flag G → Bus G → List ℕ → Option ℕ → Signals → ℕ → Bus G → Type 0
+PerformsFrom start logs flag old regs acceptance now value new =
     BusStandsFor flag old start logs
     → value ≡ value_read start logs now.cpu
     → now.dma ≡ dma_access logs.peripherals.dma
-    → is_accepted ≡ accepts_timer logs.progress now.kind (vector_of logs)
+    → acceptance ≡ vector_taken logs.progress now.kind (vector_of logs)
     → BusStandsFor flag new start (logs_performed start logs regs now)
 
 abbrev pub Performs :
-    {G : Type 0} → Flag G → Bus G → List ℕ → Bool → Signals → ℕ → Bus G → Type 0
-Performs flag old regs is_accepted now value new =
+    {G : Type 0} → Flag G → Bus G → List ℕ → Option ℕ → Signals → ℕ → Bus G → Type 0
+Performs flag old regs acceptance now value new =
     (start : Start) (logs : Logs)
-    → PerformsFrom start logs flag old regs is_accepted now value new
-
--- likewise, where a step with a line is kept
-abbrev pub PerformsKept :
-    {G : Type 0} → Bool → Flag G → Bus G → List ℕ → Bool → Signals → ℕ → Bus G → Type 0
-PerformsKept keeps flag old regs is_accepted now value new =
-    (start : Start) (logs : Logs)
-    → (keeps ≡ false → has_line (record_performed start logs regs now) ≡ false)
-    → PerformsFrom start logs flag old regs is_accepted now value new
+    → PerformsFrom start logs flag old regs acceptance now value new

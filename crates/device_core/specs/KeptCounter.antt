@@ -1,25 +1,27 @@
 -- What a device keeps of the requests that it attests.
 use Rattle.std.specs.Prelude.{◌≡◌, ◌≤◌, ◌++◌, ◌∷◌, ℕ, List, IsFalse}
 use Rattle.bus_signals.specs.declared.event.Event.{Event}
+use Rattle.bus_signals.specs.Address.{Bytes}
+use Rattle.part_definitions.specs.Hmac.{Digest}
 use Rattle.device_trace.specs.Start.{Start}
 use Rattle.device_trace.specs.Trace.{trace}
+use Rattle.device_trace.specs.Play.{Play}
 use Rattle.request_freshness.specs.Freshness.{Attests, IsRightlyRequested, WasUnderWay, ends_between_words, kept_counter}
 
 -- after a play, of a device with this key
-pub record KeepsCounter (digest : List ℕ → List ℕ) (key : List ℕ) (start : Start)
-    (play : List (List Event)) : Type 0 where
+pub record KeepsCounter (digest : Digest) (key : Bytes) (start : Start) (play : Play) : Type 0 where
   -- the kept counter is not less than it was, but for the moment between its two writes
-  pub never_falls : (later earlier : List (List Event))
+  pub never_falls : (later earlier : Play)
       → play ≡ later ++ earlier
       → IsFalse (ends_between_words (trace start earlier))
       → kept_counter start earlier ≤ kept_counter start play
   -- where the last step moved it, that was a step of a call on a right request
-  pub moves_rightly : (events : List Event) (before : List (List Event))
+  pub moves_rightly : (events : List Event) (before : Play)
       → play ≡ events ∷ before
       → (kept_counter start play ≡ kept_counter start before → ⊥)
       → IsRightlyRequested digest key start play
   -- where a call has decided to attest a request, none has decided so of its counter before
-  pub attests_once : (later earlier : List (List Event)) (counter : ℕ)
+  pub attests_once : (later earlier : Play) (counter : ℕ)
       → play ≡ later ++ earlier
       → Attests start earlier counter
       → Attests start play counter

@@ -7,7 +7,7 @@ pub mod KeptCounter
 pub mod Outside
 -- What the parts within stand for, and how they make a step.
 pub mod Bus
-pub mod FlagsClear
+pub mod FlagsKept
 pub mod Machine
 pub mod Monitors
 pub mod Peripherals

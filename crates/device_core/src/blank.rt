@@ -1,8 +1,9 @@
 ghost use Rattle.std.specs.Prelude.{◌≡◌, IfSome};
 ghost use Rattle.bus_signals.specs.Access.{IsFormed};
+ghost use Rattle.bus_signals.specs.Flag.{IsRecordOf};
 ghost use Rattle.device_trace.specs.Blank.{blank_access, blank_value, blank_record};
 
-use bus_signals::{Access, BusRecord, KR, XS, touches};
+use bus_signals::{Access, BusRecord, KR, Signals, XS, touches};
 
 /// A record with the secrets blanked. Only steps of the ROM touch one.
 #[inline(always)]
@@ -19,6 +20,24 @@ pub fn blanked(entry: &BusRecord) -> BusRecord
         dma: blank_access(entry.dma),
         dma_value: blank_value(entry.dma, entry.dma_value),
         ..*entry
+    }
+}
+
+/// What a step is about to do, with the secrets blanked.
+#[inline(always)]
+pub fn blanked_signals(now: &Signals) -> Signals
+    requires cpu { IfSome now.now.cpu IsFormed }
+    requires dma { IfSome now.now.dma IsFormed }
+    ensures entry { (entry : BusRecord)
+        → IsRecordOf now.now entry
+        → IsRecordOf result (blank_record entry) }
+    ensures cpu { IfSome result.cpu IsFormed }
+    ensures dma { IfSome result.dma IsFormed }
+{
+    Signals {
+        cpu: blank_access(now.cpu),
+        dma: blank_access(now.dma),
+        ..*now
     }
 }
 

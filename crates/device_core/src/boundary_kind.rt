@@ -5,7 +5,7 @@ ghost use Rattle.part_definitions.specs.CpuState.{CpuState, registers_of};
 ghost use Rattle.msp_exec.specs.Course.{CpuStandsFor};
 ghost use Rattle.device_trace.specs.Progress.{boundary_kind};
 
-use bus_signals::{CR, Kind};
+use bus_signals::{CR, Kind, ROM_ENTRY};
 use msp_exec::Cpu;
 
 /// Whose step comes next, at a boundary: a call of the ROM, code inside the ROM, an interrupt,
@@ -44,5 +44,5 @@ fn kind_outside_rom(processor: &Cpu, vector: Option<u16>) -> Kind
 fn is_rom_entry(pc: u16) -> bool
     ensures { result ≡ (pc == ROM_ENTRY) }
 {
-    pc == CR.first
+    pc == ROM_ENTRY
 }

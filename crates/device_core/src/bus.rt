@@ -1,29 +1,30 @@
-ghost use Rattle.std.specs.Prelude.{◌≡◌, ◌∷◌, [], ℕ, Bool, true, false, List, Option, IfSome, IfOk, IsSome, None, Some, is_none, if◌then◌else◌};
+ghost use Rattle.std.specs.Prelude.{◌≡◌, ◌∷◌, [], ℕ, true, false, List, Option, IfSome, IfOk, IsSome, None, Some, is_none, if◌then◌else◌};
 ghost use Rattle.bus_signals.specs.Access.{IsFormed};
 ghost use Rattle.bus_signals.specs.declared.event.Event.{Event};
+ghost use Rattle.bus_signals.specs.Flag.{IsRecordOf};
 ghost use Rattle.bus_signals.specs.SeenRecord.{SeenRecord};
 ghost use Rattle.part_definitions.specs.Dma.{dma_access};
 ghost use Rattle.part_definitions.specs.FirstRule.{first_rule};
 ghost use Rattle.part_definitions.specs.Flag.{exec, last_pc};
-ghost use Rattle.part_definitions.specs.Memory.{PowerOn, ShownFlags, MemoryWrite, with_access};
+ghost use Rattle.part_definitions.specs.Memory.{PowerOn, ShownFlags, MemoryWrite};
 ghost use Rattle.part_definitions.specs.Part.{Takes};
 ghost use Rattle.mem_map.specs.Memory.{MemoryStandsFor};
 ghost use Rattle.mem_map.specs.Image.{power_on_of};
 ghost use Rattle.device_trace.specs.Start.{Start};
-ghost use Rattle.device_trace.specs.Logs.{Logs, power_on_logs, accepts_timer, goes_on_in_call, memory_after, with_events, with_record, flags_of, vector_of};
+ghost use Rattle.device_trace.specs.Logs.{Logs, power_on_logs, goes_on_in_call, logged_bounds, memory_after, with_events, with_record};
 ghost use Rattle.device_trace.specs.Signals.{signals_of, word_fetched, value_read};
-ghost use Rattle.device_trace.specs.Step.{is_reset, asks_reset, dma_value_read, record_from};
+ghost use Rattle.device_trace.specs.Step.{is_reset, asks_reset, record_from};
 ghost use Rattle.device_core.specs.Bus.{TurnStandsFor};
 ghost use Rattle.device_core.specs.Silence.{has_line};
 
 use crate::access::{value_read, word_fetched};
-use crate::last_step::{LastStep, keep, keep_none};
+use crate::last_step::{LastStep, keep_none};
 use crate::monitors::Monitors;
 use crate::peripherals::Peripherals;
 use crate::record::{goes_on_in_call, is_kept, record_of_refusal, record_of_step};
 use crate::turn::Turn;
-use bus_arbiter::{Proposal, exchange};
-use bus_signals::{Access, Bounds, BusMaster, BusRecord, CR, Event, Signals, TraceFlag};
+use bus_arbiter::exchange;
+use bus_signals::{Access, BusMaster, BusRecord, CR, Event, Signals, TraceFlag};
 use mem_map::{Image, Memory};
 use std::alloc::{AllocError, Global};
 
@@ -76,37 +77,6 @@ fn show_aux(memory: &mut Memory, stays: bool, is_set: bool)
     }
 }
 
-// The access of the processor, where it is a write.
-fn write_in(access: Option<Access>) -> Option<Access>
-    requires { IfSome access IsFormed }
-    ensures formed { IfSome result IsFormed }
-    ensures writes { (writes : List MemoryWrite)
-        → with_access result writes ≡ with_access access writes }
-{
-    match access {
-        Some(Access::Write(..)) => access,
-        Some(Access::Fetch(_) | Access::Read(..)) | None => None,
-    }
-}
-
-// Writes what the processor writes to memory, and makes the access of the DMA, which sees that.
-// What the DMA read, 0 for a write and for none.
-#[inline(always)]
-fn exchange_with(memory: &mut Memory, now: &Signals) -> u16
-    requires cpu { IfSome now.now.cpu IsFormed }
-    requires dma { IfSome now.now.dma IsFormed }
-    ensures value { (start : Start) (logs : Logs)
-        → MemoryStandsFor memory.old start.power (flags_of start logs) logs.memory
-        → result ≡ dma_value_read start logs now.now }
-    ensures memory { (start : PowerOn) (flags : ShownFlags) (writes : List MemoryWrite)
-        → MemoryStandsFor memory.old start flags writes
-        → MemoryStandsFor memory.new start flags
-        (memory_after None now.now.cpu now.now.dma writes) }
-{
-    let written = write_in(now.cpu);
-    exchange(memory, &Proposal::new(written), &Proposal::new(now.dma)).second
-}
-
 // What the step of this turn is about to do, whose access reads this value, and in which the DMA
 // asks for this access.
 #[inline(always)]
@@ -137,8 +107,8 @@ fn signals(turn: &Turn, value: u16, dma: Option<Access>, script_reset: bool) -> 
 
 impl<G: TraceFlag> Bus<G> {
     ghost use Rattle.device_trace.specs.Logs.{flags_shown};
-    ghost use Rattle.device_core.specs.Bus.{BusStandsFor, LastStandsFor, KeepsSignals, AnswersTurn, MakesTurn, Performs, PerformsFrom, PerformsKept, record_performed};
-    ghost use Rattle.device_core.specs.FlagsClear.{StaysClear};
+    ghost use Rattle.device_core.specs.Bus.{BusStandsFor, KeepsSignals, AnswersTurn, MakesTurn, Performs, PerformsFrom, record_performed, seen_in};
+    ghost use Rattle.device_core.specs.FlagsKept.{LeavesFlags, KeepsFlags};
     ghost use Rattle.device_core.specs.Monitors.{MonitorsStandFor};
 
     /// The bus at power-on. The flag has seen no record.
@@ -184,31 +154,28 @@ impl<G: TraceFlag> Bus<G> {
         self.peripherals.dma.ask()
     }
 
-    // The monitors see the record of a step, with the bounds before it, and memory shows the flags.
+    // The monitors see a step, memory shows the flags after it, and it is kept.
     #[inline(always)]
-    fn watch(&mut self, entry: &BusRecord, bounds: &Bounds)
-        requires cpu { IfSome entry.now.cpu IsFormed }
-        requires dma { IfSome entry.now.dma IsFormed }
-        ensures last { self.new.last ≡ self.old.last }
+    fn watch(&mut self, step: LastStep)
+        requires cpu { IfSome step.entry.cpu IsFormed }
+        requires dma { IfSome step.entry.dma IsFormed }
+        ensures last { self.new.last ≡ Some step }
         ensures peripherals { self.new.peripherals ≡ self.old.peripherals }
         ensures memory { (start : Start) (writes : List MemoryWrite) (records : List SeenRecord)
             → start.second_flag ≡ G.flag.value
             → MemoryStandsFor self.old.memory start.power (flags_shown start records) writes
             → MonitorsStandFor G.flag self.old.monitors records
             → MemoryStandsFor self.new.memory start.power
-            (flags_shown start (record { entry = entry.now; bounds = bounds.now } ∷ records))
-            writes }
-        ensures monitors { Takes (MonitorsStandFor G.flag) self.old.monitors
-            (record { entry = entry.now; bounds = bounds.now }) self.new.monitors }
+            (flags_shown start (seen_in step ∷ records)) writes }
+        ensures monitors { Takes (MonitorsStandFor G.flag) self.old.monitors (seen_in step)
+            self.new.monitors }
     {
         let was_set = self.monitors.exec();
-        self.monitors.see(entry, bounds);
+        self.monitors.see(&step.entry, &step.bounds);
         show_exec(&mut self.memory, was_set, self.monitors.exec());
-        show_aux(
-            &mut self.memory,
-            goes_on_in_call(entry),
-            self.monitors.aux(),
-        );
+        let is_still = goes_on_in_call(&step.entry);
+        show_aux(&mut self.memory, is_still, self.monitors.aux());
+        self.last = Some(step);
     }
 
     // Makes the writes of a step that breaks no rule, whose access read this value, and the DMA's
@@ -222,9 +189,7 @@ impl<G: TraceFlag> Bus<G> {
         ensures last { self.new.last ≡ self.old.last }
         ensures cpu { IfSome result.cpu IsFormed }
         ensures dma { IfSome result.dma IsFormed }
-        ensures kind { result.kind ≡ now.now.kind }
-        ensures pc { result.pc ≡ now.now.pc }
-        ensures reset { result.reset ≡ None }
+        ensures entry { IsRecordOf now.now result }
         ensures value { (start : Start) (logs : Logs)
             → BusStandsFor G.flag self.old start logs
             → value ≡ value_read start logs now.now.cpu
@@ -234,7 +199,7 @@ impl<G: TraceFlag> Bus<G> {
             → MemoryStandsFor self.new.memory start flags
             (memory_after None now.now.cpu now.now.dma writes) }
     {
-        let dma_value = exchange_with(&mut self.memory, now);
+        let dma_value = exchange(&mut self.memory, now.cpu, now.dma);
         record_of_step(regs, now, value, dma_value)
     }
 
@@ -243,7 +208,7 @@ impl<G: TraceFlag> Bus<G> {
     fn perform(
         &mut self,
         regs: &[u16; 16],
-        is_accepted: bool,
+        acceptance: Option<u16>,
         now: &Signals,
         value: u16,
         keeps: bool,
@@ -252,74 +217,96 @@ impl<G: TraceFlag> Bus<G> {
         requires dma { IfSome now.now.dma IsFormed }
         ensures kept { keeps ≡ true → IsSome self.new.last }
         ensures signals { KeepsSignals self.new.last now.now }
-        ensures stands { Performs G.flag self.old regs.now is_accepted now.now value self.new }
+        ensures stands { Performs G.flag self.old regs.now acceptance now.now value self.new }
     {
-        if is_kept(keeps, now) {
-            self.perform_watched::<true>(regs, is_accepted, *now, value);
-        } else if self.stays_clear(now.pc) {
-            self.perform_alone(regs, is_accepted, now, value);
+        if !is_kept(keeps, now) && self.keeps_flags(now) {
+            self.perform_alone(regs, acceptance, now, value);
         } else {
-            self.perform_watched::<false>(regs, is_accepted, *now, value);
+            self.perform_watched(regs, acceptance, *now, value);
         }
     }
 
-    // Whether neither flag is set or shown, and a step with this `pc` sets none.
+    // Whether memory shows the second flag as it is, and a step that is about to do this leaves
+    // both flags so.
     #[inline(always)]
-    fn stays_clear(&self, pc: u16) -> bool
+    fn keeps_flags(&self, now: &Signals) -> bool
+        requires cpu { IfSome now.now.cpu IsFormed }
+        requires dma { IfSome now.now.dma IsFormed }
         ensures { (start : Start) (logs : Logs)
             → BusStandsFor G.flag self.now start logs
             → result ≡ true
-            → StaysClear G.flag start logs pc }
+            → KeepsFlags G.flag start logs now.now }
     {
-        self.monitors.stay_clear(pc, self.memory.er_min()) && !self.memory.shows_aux()
+        self.leaves_flags(now) && self.memory.shows_aux() == self.monitors.aux()
     }
 
-    // Makes a step that breaks no rule and has no line, in which neither flag is set and both stay
-    // so. It is not kept, and nothing looks at the bounds.
+    // Whether a step that is about to do this leaves both flags as they are. Where neither is set
+    // nothing looks at the bounds.
+    #[inline(always)]
+    fn leaves_flags(&self, now: &Signals) -> bool
+        requires cpu { IfSome now.now.cpu IsFormed }
+        requires dma { IfSome now.now.dma IsFormed }
+        ensures { (start : Start) (logs : Logs) (entry : BusRecord)
+            → BusStandsFor G.flag self.now start logs
+            → IsRecordOf now.now entry
+            → result ≡ true
+            → LeavesFlags G.flag (record { entry = entry; bounds = logged_bounds start logs })
+            logs.records }
+    {
+        self.monitors.stay_clear(now.pc, self.memory.er_min())
+            || self.monitors.stay(now, &self.memory.bounds())
+    }
+
+    // Makes a step that breaks no rule and has no line, and leaves both flags as they are and as
+    // they are shown. It is not kept.
     #[inline(always)]
     #[tactic(auto, unfolding(device_trace::specs::Logs::with_record))]
-    fn perform_alone(&mut self, regs: &[u16; 16], is_accepted: bool, now: &Signals, value: u16)
+    fn perform_alone(
+        &mut self,
+        regs: &[u16; 16],
+        acceptance: Option<u16>,
+        now: &Signals,
+        value: u16,
+    )
         requires cpu { IfSome now.now.cpu IsFormed }
         requires dma { IfSome now.now.dma IsFormed }
         ensures signals { KeepsSignals self.new.last now.now }
         ensures stands { (start : Start) (logs : Logs)
             → has_line (record_performed start logs regs.now now.now) ≡ false
-            → StaysClear G.flag start logs now.now.pc
-            → PerformsFrom start logs G.flag self.old regs.now is_accepted now.now value self.new }
+            → KeepsFlags G.flag start logs now.now
+            → PerformsFrom start logs G.flag self.old regs.now acceptance now.now value self.new }
     {
         let entry = self.make(regs, now, value);
-        self.peripherals.finish_step(&entry, is_accepted);
+        self.peripherals.finish_step(&entry, acceptance);
         self.monitors.pass(&entry);
         keep_none(&mut self.last);
     }
 
-    // Makes any step that breaks no rule. The compiler makes one for steps that are kept, and one for
-    // those that are not. The signals are copied, so that other steps keep none in memory.
+    // Makes any step that breaks no rule, and keeps it. The signals are copied, so that other steps
+    // keep none in memory.
     #[inline(never)]
     #[tactic(auto, unfolding(device_trace::specs::Logs::with_record))]
-    fn perform_watched<const KEEPS: bool>(
+    fn perform_watched(
         &mut self,
         regs: &[u16; 16],
-        is_accepted: bool,
+        acceptance: Option<u16>,
         now: Signals,
         value: u16,
     )
         requires cpu { IfSome now.cpu IsFormed }
         requires dma { IfSome now.dma IsFormed }
-        ensures kept { KEEPS ≡ true → IsSome self.new.last }
+        ensures kept { IsSome self.new.last }
         ensures signals { KeepsSignals self.new.last now }
-        ensures stands { PerformsKept KEEPS G.flag self.old regs.now is_accepted now value self.new }
+        ensures stands { Performs G.flag self.old regs.now acceptance now value self.new }
     {
         let bounds = self.memory.bounds();
         let entry = self.make(regs, &now, value);
-        self.peripherals.finish_step(&entry, is_accepted);
-        self.watch(&entry, &bounds);
-        let step = LastStep {
+        self.peripherals.finish_step(&entry, acceptance);
+        self.watch(LastStep {
             signals: now,
             bounds,
             entry,
-        };
-        keep(&mut self.last, step, KEEPS);
+        });
     }
 
     // Of a step that breaks a rule: makes no access, and resets all that is reached over the bus
@@ -341,8 +328,7 @@ impl<G: TraceFlag> Bus<G> {
         let bounds = self.memory.bounds();
         self.peripherals.clear();
         let entry = record_of_refusal(regs, &now, rule);
-        self.watch(&entry, &bounds);
-        self.last = Some(LastStep {
+        self.watch(LastStep {
             signals: now,
             bounds,
             entry,
@@ -412,7 +398,7 @@ impl<G: TraceFlag> Bus<G> {
         let value = value_read(&self.memory, &self.peripherals, turn.access);
         let now = signals(turn, value, dma, script_reset);
         if self.monitors.permits(&now) {
-            self.perform(regs, turn.accepts_timer, &now, value, keeps);
+            self.perform(regs, turn.acceptance, &now, value, keeps);
             Some(value)
         } else {
             self.refuse(regs, now);

@@ -5,6 +5,7 @@ use Rattle.bus_signals.specs.declared.access.Access.TheVariants.{Write}
 use Rattle.bus_signals.specs.declared.bus_record.BusRecord.{BusRecord}
 use Rattle.bus_signals.specs.SeenRecord.{SeenRecord}
 use Rattle.bus_signals.specs.Map.{lies_in, touches, key_region, stack_region}
+use Rattle.bus_signals.specs.Address.{Contents, Address}
 
 abbrev pub touches_secrets : Access → Bool
 touches_secrets access = touches access key_region || touches access stack_region
@@ -37,9 +38,9 @@ abbrev pub blank_seen : SeenRecord → SeenRecord
 blank_seen now = record { entry = blank_record now.entry; bounds = now.bounds }
 
 -- the places of the secrets
-abbrev pub is_secret : ℕ → Bool
+abbrev pub is_secret : Address → Bool
 is_secret place = lies_in key_region place || lies_in stack_region place
 
 -- memories that are equal outside the secrets
-abbrev pub SameOutside : (ℕ → ℕ) → (ℕ → ℕ) → Type 0
-SameOutside left right = (place : ℕ) → IsFalse (is_secret place) → left place ≡ right place
+abbrev pub SameOutside : Contents → Contents → Type 0
+SameOutside left right = (place : Address) → IsFalse (is_secret place) → left place ≡ right place

@@ -1,3 +1,4 @@
+pub mod Play
 pub mod Start
 pub mod Progress
 pub mod Peripherals

@@ -1,5 +1,5 @@
 -- What happened to each part of the device, made from events and records by one projection a part.
-use Rattle.std.specs.Prelude.{◌==◌, ◌&&◌, ◌++◌, ℕ, Bool, false, not, List, [], ◌∷◌, map, Option, Some, None, is_none, if◌then◌else◌}
+use Rattle.std.specs.Prelude.{◌==◌, ◌&&◌, ◌++◌, ℕ, Bool, not, List, [], ◌∷◌, map, Option, Some, None, is_none, if◌then◌else◌}
 use Rattle.bus_signals.specs.declared.access.Access.{Access}
 use Rattle.bus_signals.specs.declared.access.Access.TheVariants.{Write}
 use Rattle.bus_signals.specs.declared.bus_record.BusRecord.{BusRecord}
@@ -15,13 +15,11 @@ use Rattle.part_definitions.specs.Attestation.{decision_read}
 use Rattle.part_definitions.specs.CpuRegister.{allows_interrupts}
 use Rattle.part_definitions.specs.CpuState.{Boundary}
 use Rattle.part_definitions.specs.Flag.{exec}
-use Rattle.part_definitions.specs.Interrupt.{TIMER_VECTOR, accepted_vector}
+use Rattle.part_definitions.specs.Interrupt.{first_vector}
 use Rattle.part_definitions.specs.Memory.{MemoryWrite, ShownFlags, with_access, byte_at}
 use Rattle.part_definitions.specs.Metadata.{bounds_in}
-use Rattle.part_definitions.specs.Serial.{serial_requests}
-use Rattle.part_definitions.specs.Timer.{timer_requests}
 use Rattle.device_trace.specs.Blank.{blank_seen}
-use Rattle.device_trace.specs.Peripherals.{Peripherals, power_on_peripherals, with_all_events, timer_after, serial_after, dma_after}
+use Rattle.device_trace.specs.Peripherals.{Peripherals, power_on_peripherals, with_all_events, requests, timer_after, serial_after, dma_after}
 use Rattle.device_trace.specs.Progress.{Progress, Held, Runs, InCall, last_registers, progress_within, next_progress}
 use Rattle.device_trace.specs.Start.{Start}
 
@@ -84,25 +82,20 @@ logged_byte start logs place = byte_at start.power (flags_of start logs) logs.me
 abbrev pub logged_bounds : Start → Logs → Bounds
 logged_bounds start logs = bounds_in (logged_byte start logs)
 
--- the vector of the interrupt that could be accepted
+-- the vector of the interrupt that could be accepted, where the processor allows any (GIE)
 abbrev pub vector_of : Logs → Option ℕ
 vector_of logs =
-    accepted_vector (allows_interrupts (last_registers logs.progress))
-    (serial_requests logs.peripherals.serial)
-    (timer_requests logs.peripherals.timer)
+    if allows_interrupts (last_registers logs.progress)
+    then first_vector (requests logs.peripherals) else None
 
 -- within a step of this kind
 abbrev pub step_progress : Logs → Kind → Progress
 step_progress logs kind = progress_within logs.progress kind (vector_of logs)
 
-abbrev pub is_timer_vector : Option ℕ → Bool
-is_timer_vector None = false
-is_timer_vector (Some vector) = vector == TIMER_VECTOR
-
--- the entry of the timer's interrupt begins in a step of this kind
-abbrev pub accepts_timer : Progress → Kind → Option ℕ → Bool
-accepts_timer (Runs (Boundary regs)) kind vector = is_irq kind && is_timer_vector vector
-accepts_timer progress kind vector = false
+-- the vector of the interrupt whose entry begins in a step of this kind
+abbrev pub vector_taken : Progress → Kind → Option ℕ → Option ℕ
+vector_taken (Runs (Boundary regs)) kind vector = if is_irq kind then vector else None
+vector_taken progress kind vector = None
 
 -- a step that breaks a rule resets the device
 abbrev pub progress_after : Option Rule → Kind → Progress → Option Access → ℕ → Progress
@@ -139,9 +132,9 @@ decision_after progress entry = if finishes_call entry then decision_in progress
 
 abbrev pub peripherals_after : Logs → BusRecord → Peripherals
 peripherals_after logs entry =
-    let accepts : Bool = accepts_timer logs.progress entry.kind (vector_of logs) in
+    let acceptance : Option ℕ = vector_taken logs.progress entry.kind (vector_of logs) in
     record {
-      timer = timer_after entry.reset accepts entry.cpu logs.peripherals.timer;
+      timer = timer_after entry.reset acceptance entry.cpu logs.peripherals.timer;
       serial = serial_after entry.reset entry.cpu logs.peripherals.serial;
       dma = dma_after entry.reset entry.cpu entry.dma entry.dma_value logs.peripherals.dma;
       pins = logs.peripherals.pins;

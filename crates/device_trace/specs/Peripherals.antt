@@ -1,26 +1,29 @@
 -- What happened to each peripheral: what the events of a step and its record add to the lists.
-use Rattle.std.specs.Prelude.{ℕ, Bool, List, [], ◌∷◌, Option, Some, None, if◌then◌else◌}
+use Rattle.std.specs.Prelude.{◌==◌, ◌++◌, ℕ, Bool, List, [], ◌∷◌, Option, Some, None, if◌then◌else◌}
 use Rattle.word_arith.specs.declared.size.Size.{Size}
 use Rattle.word_arith.specs.declared.size.Size.TheVariants.{Word}
+use Rattle.word_arith.specs.Word16.{Word16}
 use Rattle.bus_signals.specs.declared.access.Access.{Access}
 use Rattle.bus_signals.specs.declared.access.Access.TheVariants.{Fetch, Read, Write}
 use Rattle.bus_signals.specs.declared.event.Event.{Event}
 use Rattle.bus_signals.specs.declared.event.Event.TheVariants.{Rx, Pins, Dma, Reset}
 use Rattle.bus_signals.specs.declared.rule.Rule.{Rule}
 use Rattle.bus_signals.specs.Map.{lies_in, pins_region, serial_region, timer_region, dma_region}
+use Rattle.bus_signals.specs.Address.{Address}
 use Rattle.part_definitions.specs.Dma.{DmaEvent, TransferStart, DmaAccess, dma_read}
 use Rattle.part_definitions.specs.Dma as DmaEngine
+use Rattle.part_definitions.specs.Interrupt.{SERIAL_VECTOR, TIMER_VECTOR}
 use Rattle.part_definitions.specs.Pins.{pins_read}
-use Rattle.part_definitions.specs.Serial.{SerialEvent, Arrival, Load, serial_read}
+use Rattle.part_definitions.specs.Serial.{SerialEvent, Arrival, Load, serial_read, serial_requests}
 use Rattle.part_definitions.specs.Serial as SerialPort
-use Rattle.part_definitions.specs.Timer.{TimerEvent, Tick, Acceptance, timer_read}
+use Rattle.part_definitions.specs.Timer.{TimerEvent, Tick, Acceptance, timer_read, timer_requests}
 use Rattle.part_definitions.specs.Timer as IntervalTimer
 
 pub record Peripherals : Type 0 where
   pub timer : List TimerEvent
   pub serial : List SerialEvent
   pub dma : List DmaEvent
-  pub pins : List ℕ
+  pub pins : List Word16
 
 abbrev pub power_on_peripherals : Peripherals
 power_on_peripherals = record { timer = []; serial = []; dma = []; pins = [] }
@@ -39,7 +42,7 @@ with_all_events parts [] = parts
 with_all_events parts (event ∷ events) = with_all_events (with_event parts event) events
 
 -- what a read of this place gives; other places read 0
-abbrev pub peripheral_read : Peripherals → ℕ → Size → ℕ
+abbrev pub peripheral_read : Peripherals → Address → Size → ℕ
 peripheral_read parts place size =
     if lies_in serial_region place then serial_read parts.serial place size
     else if lies_in timer_region place then timer_read parts.timer place size
@@ -47,24 +50,37 @@ peripheral_read parts place size =
     else if lies_in pins_region place then pins_read parts.pins place size
     else 0
 
+-- the request of the part with this vector, where it asks for an interrupt
+abbrev pub request_at : ℕ → Bool → List ℕ
+request_at vector asks = if asks then vector ∷ [] else []
+
+-- the vectors of the interrupts that parts ask for, in the order of priority
+abbrev pub requests : Peripherals → List ℕ
+requests parts =
+    request_at SERIAL_VECTOR (serial_requests parts.serial)
+    ++ request_at TIMER_VECTOR (timer_requests parts.timer)
+
 -- the processor's access, where it is the timer's: a write to one of its registers
 abbrev pub with_timer_access : Option Access → List TimerEvent → List TimerEvent
 with_timer_access (Some (Write place size number)) events =
     if lies_in timer_region place then IntervalTimer.Store place size number ∷ events else events
 with_timer_access access events = events
 
--- the entry of its interrupt begins in this step
-abbrev pub with_acceptance : Bool → List TimerEvent → List TimerEvent
-with_acceptance accepts events = if accepts then Acceptance ∷ events else events
+-- the entry of the interrupt with this vector may begin in this step
+abbrev pub with_acceptance : Option ℕ → List TimerEvent → List TimerEvent
+with_acceptance None events = events
+with_acceptance (Some vector) events =
+    if vector == TIMER_VECTOR then Acceptance ∷ events else events
 
 -- a step ends; a refused one resets the timer
-abbrev pub timer_after : Option Rule → Bool → Option Access → List TimerEvent → List TimerEvent
-timer_after None accepts access events =
-    Tick ∷ with_acceptance accepts (with_timer_access access events)
-timer_after (Some rule) accepts access events = IntervalTimer.DeviceReset ∷ events
+abbrev pub timer_after :
+    Option Rule → Option ℕ → Option Access → List TimerEvent → List TimerEvent
+timer_after None acceptance access events =
+    Tick ∷ with_acceptance acceptance (with_timer_access access events)
+timer_after (Some rule) acceptance access events = IntervalTimer.DeviceReset ∷ events
 
 -- the processor's access, where it is the serial port's
-abbrev pub with_serial_read : ℕ → Size → List SerialEvent → List SerialEvent
+abbrev pub with_serial_read : Address → Size → List SerialEvent → List SerialEvent
 with_serial_read place size events =
     if lies_in serial_region place then Load place size ∷ events else events
 
@@ -83,11 +99,11 @@ with_dma_access (Some (Write place size number)) events =
 with_dma_access access events = events
 
 -- the engine's own access, which takes a value
-abbrev pub with_dma_value : Option Access → ℕ → List DmaEvent → List DmaEvent
+abbrev pub with_dma_value : Option Access → Word16 → List DmaEvent → List DmaEvent
 with_dma_value None value events = events
 with_dma_value (Some access) value events = DmaAccess value ∷ events
 
 abbrev pub dma_after :
-    Option Rule → Option Access → Option Access → ℕ → List DmaEvent → List DmaEvent
+    Option Rule → Option Access → Option Access → Word16 → List DmaEvent → List DmaEvent
 dma_after None cpu dma value events = with_dma_value dma value (with_dma_access cpu events)
 dma_after (Some rule) cpu dma value events = DmaEngine.DeviceReset ∷ events

@@ -2,13 +2,15 @@
 -- leads to.
 use Rattle.std.specs.Prelude.{◌==◌, ◌++◌, ℕ, Bool, true, false, List, [], ◌∷◌, Option, Some, None, is_some, if◌then◌else◌}
 use Rattle.word_arith.specs.declared.size.Size.TheVariants.{Word}
+use Rattle.word_arith.specs.Word16.{Word16}
 use Rattle.bus_signals.specs.declared.access.Access.{Access}
 use Rattle.bus_signals.specs.declared.kind.Kind.{Kind}
 use Rattle.bus_signals.specs.declared.kind.Kind.TheVariants.{Boot, Cpu, Idle, Irq, Rom}
 use Rattle.bus_signals.specs.Map.{ROM_ENTRY, RESET_VECTOR}
+use Rattle.bus_signals.specs.Address.{Address}
 use Rattle.part_definitions.specs.BusAccess.{read_at}
 use Rattle.part_definitions.specs.Attestation.{call_item, item_access, item_pc, bounds_read, is_return, word_passed}
-use Rattle.part_definitions.specs.CpuRegister.{clear_registers, pc_of, sp_of, with_pc, after_pop, is_asleep}
+use Rattle.part_definitions.specs.CpuRegister.{Registers, clear_registers, pc_of, sp_of, with_pc, after_pop, is_asleep}
 use Rattle.part_definitions.specs.CpuState.{CpuState, Boundary, Executing, Entering, registers_of, cpu_pc, cpu_access, cpu_after, entry_begun}
 use Rattle.part_definitions.specs.MonitorRule.{in_rom}
 use Rattle.device_trace.specs.Start.{Start}
@@ -19,22 +21,22 @@ pub data Progress : Type 0 where
   -- the processor runs
   Runs : CpuState → Progress
   -- in a call of the ROM: the registers at its start, and the words that passed in it, oldest first
-  InCall : List ℕ → List ℕ → Progress
+  InCall : Registers → List Word16 → Progress
 
 -- the registers at the last boundary
-abbrev pub last_registers : Progress → List ℕ
+abbrev pub last_registers : Progress → Registers
 last_registers Held = clear_registers
 last_registers (Runs cpu) = registers_of cpu
 last_registers (InCall regs words) = regs
 
 -- the `pc` of the next step
-abbrev pub next_pc_of : Progress → ℕ
+abbrev pub next_pc_of : Progress → Address
 next_pc_of Held = 0
 next_pc_of (Runs cpu) = cpu_pc cpu
 next_pc_of (InCall regs words) = item_pc (call_item words)
 
 -- at a boundary: a call of the ROM, code inside the ROM, an interrupt, sleep, or an instruction
-abbrev pub boundary_kind : List ℕ → Option ℕ → Kind
+abbrev pub boundary_kind : Registers → Option Address → Kind
 boundary_kind regs vector =
     if pc_of regs == ROM_ENTRY then Rom
     else if in_rom (pc_of regs) then Cpu
@@ -43,7 +45,7 @@ boundary_kind regs vector =
     else Cpu
 
 -- whose step comes next, where this interrupt could be accepted
-abbrev pub kind_of : Progress → Option ℕ → Kind
+abbrev pub kind_of : Progress → Option Address → Kind
 kind_of Held vector = Boot
 kind_of (Runs (Boundary regs)) vector = boundary_kind regs vector
 kind_of (Runs (Executing regs values)) vector = Cpu
@@ -51,13 +53,13 @@ kind_of (Runs (Entering regs other values)) vector = Irq
 kind_of (InCall regs words) vector = Rom
 
 -- at a boundary a step of this kind may begin a call, or the entry of this interrupt
-abbrev pub progress_from_boundary : List ℕ → Kind → Option ℕ → Progress
+abbrev pub progress_from_boundary : Registers → Kind → Option Address → Progress
 progress_from_boundary regs Rom vector = InCall regs []
 progress_from_boundary regs Irq (Some vector) = Runs (entry_begun regs vector)
 progress_from_boundary regs kind vector = Runs (Boundary regs)
 
 -- within a step of this kind, from which its access and `pc` are read
-abbrev pub progress_within : Progress → Kind → Option ℕ → Progress
+abbrev pub progress_within : Progress → Kind → Option Address → Progress
 progress_within (Runs (Boundary regs)) kind vector = progress_from_boundary regs kind vector
 progress_within progress kind vector = progress
 
@@ -68,7 +70,7 @@ tells_irq (InCall regs words) = true
 tells_irq progress = false
 
 -- the access of a call, after so many released words of the play
-abbrev pub call_access : Start → ℕ → List ℕ → List ℕ → Access
+abbrev pub call_access : Start → ℕ → Registers → List Word16 → Access
 call_access start releases regs words =
     item_access (sp_of regs) (bounds_read words) (call_item words)
     (start.call_word releases (call_item words) words)
@@ -90,10 +92,10 @@ fetches_opcode Cpu (Runs (Boundary regs)) = true
 fetches_opcode kind progress = false
 
 -- the return read gives PC, and SP is raised by 2
-abbrev pub after_return : List ℕ → ℕ → Progress
+abbrev pub after_return : Registers → Word16 → Progress
 after_return regs word = Runs (Boundary (with_pc (after_pop regs) word))
 
-abbrev pub call_after : List ℕ → List ℕ → ℕ → Progress
+abbrev pub call_after : Registers → List Word16 → Word16 → Progress
 call_after regs words word =
     if is_return (call_item words) then after_return regs word else InCall regs (words ++ word ∷ [])
 

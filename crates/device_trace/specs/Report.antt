@@ -1,26 +1,25 @@
 -- The reports of a play.
-use Rattle.std.specs.Prelude.{◌≡◌, ◌++◌, List, Some, IsTrue}
+use Rattle.std.specs.Prelude.{◌≡◌, ◌++◌, Some, IsTrue}
 use Rattle.bus_signals.specs.Report.{ReportFields}
-use Rattle.bus_signals.specs.declared.event.Event.{Event}
 use Rattle.device_trace.specs.Start.{Start}
 use Rattle.device_trace.specs.Text.{last_report}
 use Rattle.device_trace.specs.Trace.{trace}
 use Rattle.device_trace.specs.TrustedRun.{TrustedRun}
 use Rattle.device_trace.specs.WholeRun.{WholeRun}
+use Rattle.device_trace.specs.Play.{Play}
 
 -- this holds of every report that a play makes, and of the play up to it
-abbrev pub EachReport :
-    Start → List (List Event) → (ReportFields → List (List Event) → Type 0) → Type 0
+abbrev pub EachReport : Start → Play → (ReportFields → Play → Type 0) → Type 0
 EachReport start play holds =
-    (later earlier : List (List Event)) (report : ReportFields)
+    (later earlier : Play) (report : ReportFields)
     → play ≡ later ++ earlier → last_report start earlier ≡ Some report → holds report earlier
 
 -- a report whose EXEC is 1 comes after a whole run of the region that it names
-abbrev pub ExecMeansWholeRun : Start → ReportFields → List (List Event) → Type 0
+abbrev pub ExecMeansWholeRun : Start → ReportFields → Play → Type 0
 ExecMeansWholeRun start report play = IsTrue report.exec → WholeRun report.bounds (trace start play)
 
 -- and one whose AUX is 1 after a trusted run of it, where the second flag is that of trusted
 -- interrupts
-abbrev pub AuxMeansTrustedRun : Start → ReportFields → List (List Event) → Type 0
+abbrev pub AuxMeansTrustedRun : Start → ReportFields → Play → Type 0
 AuxMeansTrustedRun start report play =
     IsTrue report.aux → TrustedRun report.bounds (trace start play)

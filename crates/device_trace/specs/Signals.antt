@@ -2,11 +2,13 @@
 use Rattle.std.specs.Prelude.{◌&&◌, ℕ, Bool, Option, Some, None, is_some, length, if◌then◌else◌}
 use Rattle.word_arith.specs.declared.size.Size.{Size}
 use Rattle.word_arith.specs.declared.size.Size.TheVariants.{Word}
+use Rattle.word_arith.specs.Word16.{Word16}
 use Rattle.bus_signals.specs.declared.access.Access.{Access}
 use Rattle.bus_signals.specs.declared.access.Access.TheVariants.{Fetch, Read, Write}
 use Rattle.bus_signals.specs.declared.kind.Kind.{Kind}
 use Rattle.bus_signals.specs.declared.signals.Signals.{Signals}
 use Rattle.bus_signals.specs.Map.{lies_in, peripheral_region}
+use Rattle.bus_signals.specs.Address.{Address}
 use Rattle.part_definitions.specs.Dma.{dma_access}
 use Rattle.part_definitions.specs.Memory.{number_at}
 use Rattle.device_trace.specs.Logs.{Logs, logged_byte, vector_of, step_progress}
@@ -15,7 +17,7 @@ use Rattle.device_trace.specs.Progress.{kind_of, next_pc_of, tells_irq, access_o
 use Rattle.device_trace.specs.Start.{Start}
 
 -- what the processor reads at a place: a register of a peripheral, or memory
-abbrev pub number_read : Start → Logs → ℕ → Size → ℕ
+abbrev pub number_read : Start → Logs → Address → Size → ℕ
 number_read start logs place size =
     if lies_in peripheral_region place then peripheral_read logs.peripherals place size
     else number_at (logged_byte start logs) place size
@@ -28,7 +30,7 @@ value_read start logs (Some (Read place size)) = number_read start logs place si
 value_read start logs (Some (Write place size number)) = 0
 
 -- what a fetch would read
-abbrev pub word_fetched : Start → Logs → Option Access → ℕ
+abbrev pub word_fetched : Start → Logs → Option Access → Word16
 word_fetched start logs None = 0
 word_fetched start logs (Some (Fetch place)) = number_read start logs place Word
 word_fetched start logs (Some (Read place size)) = 0

@@ -1,21 +1,23 @@
 -- What a trace is of: what the device is powered on with, its second flag, and the words that its
 -- calls write.
 use Rattle.std.specs.Prelude.{ℕ, Bool, List, slice_index}
-use Rattle.bus_signals.specs.SeenRecord.{SeenRecord}
+use Rattle.word_arith.specs.Word16.{Word16}
+use Rattle.bus_signals.specs.SeenRecord.{SeenHistory}
+use Rattle.bus_signals.specs.Address.{Contents, Bytes}
 use Rattle.part_definitions.specs.Attestation.{CallItem, DecisionWrite, MacWrite, written_word}
 use Rattle.part_definitions.specs.Memory.{PowerOn}
+use Rattle.part_definitions.specs.Hmac.{Digest}
 
 pub record Start : Type 0 where
   pub power : PowerOn
   -- what the second flag is after these records, which are blanked
-  pub second_flag : List SeenRecord → Bool
+  pub second_flag : SeenHistory → Bool
   -- what a call writes as an item, after so many words that the play released and these words that
   -- passed in the call
-  pub call_word : ℕ → CallItem → List ℕ → ℕ
+  pub call_word : ℕ → CallItem → List Word16 → Word16
 
 -- with the device key, the calls write what the digest gives
-abbrev pub with_key :
-    (List SeenRecord → Bool) → (List ℕ → List ℕ) → List ℕ → (ℕ → ℕ) → Start
+abbrev pub with_key : (SeenHistory → Bool) → Digest → Bytes → Contents → Start
 with_key flag digest key image =
     record {
       power = record { key = λ i. slice_index key i; image = image };
@@ -25,13 +27,13 @@ with_key flag digest key image =
 
 -- the next of these words at each write of the decision or the MAC, 0 past their end; 0 is written
 -- to the stack
-abbrev pub mac_word : List ℕ → ℕ → CallItem → ℕ
+abbrev pub mac_word : List Word16 → ℕ → CallItem → Word16
 mac_word words releases DecisionWrite = slice_index words releases
 mac_word words releases (MacWrite i) = slice_index words releases
 mac_word words releases item = 0
 
 -- without a key: its bytes read as 0, and these are the words that the calls release
-abbrev pub without_key : (List SeenRecord → Bool) → List ℕ → (ℕ → ℕ) → Start
+abbrev pub without_key : (SeenHistory → Bool) → List Word16 → Contents → Start
 without_key flag words image =
     record {
       power = record { key = λ i. 0; image = image };

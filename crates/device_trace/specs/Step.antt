@@ -9,9 +9,11 @@ use Rattle.bus_signals.specs.declared.event.Event.{Event}
 use Rattle.bus_signals.specs.declared.event.Event.TheVariants.{Reset}
 use Rattle.bus_signals.specs.declared.rule.Rule.{Rule}
 use Rattle.bus_signals.specs.declared.signals.Signals.{Signals}
+use Rattle.bus_signals.specs.Address.{Contents}
 use Rattle.part_definitions.specs.FirstRule.{first_rule}
 use Rattle.part_definitions.specs.Flag.{last_pc}
 use Rattle.part_definitions.specs.Memory.{byte_at, number_at, with_access}
+use Rattle.part_definitions.specs.CpuRegister.{Registers}
 use Rattle.device_trace.specs.Logs.{Logs, flags_of, with_events}
 use Rattle.device_trace.specs.Progress.{last_registers}
 use Rattle.device_trace.specs.Signals.{value_read, signals_of}
@@ -39,7 +41,7 @@ value_recorded None value = value
 value_recorded (Some rule) value = 0
 
 -- what the DMA reads of these bytes, 0 for a write and for none; it does not see the peripherals
-abbrev pub memory_read : (ℕ → ℕ) → Option Access → ℕ
+abbrev pub memory_read : Contents → Option Access → ℕ
 memory_read bytes None = 0
 memory_read bytes (Some (Fetch place)) = number_at bytes place Word
 memory_read bytes (Some (Read place size)) = number_at bytes place size
@@ -52,7 +54,7 @@ dma_value_read start logs now =
     (byte_at start.power (flags_of start logs) (with_access now.cpu logs.memory)) now.dma
 
 -- the record of a step with these signals, from these registers, that read these values
-abbrev pub record_from : List ℕ → Signals → Option Rule → ℕ → ℕ → BusRecord
+abbrev pub record_from : Registers → Signals → Option Rule → ℕ → ℕ → BusRecord
 record_from regs now rule value dma_value =
     record {
       kind = now.kind;

@@ -4,12 +4,12 @@ use Rattle.std.specs.Prelude.{◌==◌, ◌++◌, ℕ, List, [], ◌∷◌, Opti
 use Rattle.bus_signals.specs.declared.access.Access.{Access}
 use Rattle.bus_signals.specs.declared.access.Access.TheVariants.{Write}
 use Rattle.bus_signals.specs.declared.bus_record.BusRecord.{BusRecord}
-use Rattle.bus_signals.specs.declared.event.Event.{Event}
 use Rattle.bus_signals.specs.declared.rule.Rule.{Rule}
 use Rattle.bus_signals.specs.declared.bounds.Bounds.{Bounds}
 use Rattle.bus_signals.specs.declared.version.Version.TheVariants.{Two}
 use Rattle.bus_signals.specs.Report.{ReportFields}
 use Rattle.bus_signals.specs.Bounds.{are_valid}
+use Rattle.bus_signals.specs.Address.{Contents, Bytes}
 use Rattle.part_definitions.specs.Metadata.{counter_bytes, little_endian}
 use Rattle.part_definitions.specs.Request.{ATTESTS}
 use Rattle.part_definitions.specs.Region.{challenge_bytes, mac_bytes, output_bytes}
@@ -20,6 +20,7 @@ use Rattle.device_trace.specs.Progress.{next_pc_of}
 use Rattle.device_trace.specs.Start.{Start}
 use Rattle.device_trace.specs.Step.{next_record}
 use Rattle.device_trace.specs.Trace.{logs_after}
+use Rattle.device_trace.specs.Play.{Play}
 
 -- the byte that an access which was not refused sent by the serial port
 abbrev pub byte_sent_by : Option Rule → Option Access → Option ℕ
@@ -35,7 +36,7 @@ last_byte_sent [] = None
 last_byte_sent (entry ∷ history) = byte_sent_in entry
 
 -- the bytes of OR, where the bounds are valid
-abbrev pub reported_output : (ℕ → ℕ) → Bounds → Option (List ℕ)
+abbrev pub reported_output : Contents → Bounds → Option Bytes
 reported_output bytes bounds =
     if are_valid bounds then Some (output_bytes bytes bounds) else None
 
@@ -72,51 +73,51 @@ abbrev pub denial_in : Logs → Option ℕ
 denial_in logs = denial_where logs.decision
 
 -- of the last step of a play
-abbrev pub last_report : Start → List (List Event) → Option ReportFields
+abbrev pub last_report : Start → Play → Option ReportFields
 last_report start [] = None
 last_report start (events ∷ play) =
     report_in start (logs_after start (events ∷ play)) (length play)
 
-abbrev pub last_decision : Start → List (List Event) → Option ℕ
+abbrev pub last_decision : Start → Play → Option ℕ
 last_decision start play = (logs_after start play).decision
 
-abbrev pub last_denial : Start → List (List Event) → Option ℕ
+abbrev pub last_denial : Start → Play → Option ℕ
 last_denial start play = denial_in (logs_after start play)
 
 -- the lines of one step
-abbrev pub sent_lines : ℕ → Option ℕ → List ℕ
+abbrev pub sent_lines : ℕ → Option ℕ → Bytes
 sent_lines step None = []
 sent_lines step (Some byte) = sent_line step byte
 
-abbrev pub reset_lines : ℕ → Option Rule → List ℕ
+abbrev pub reset_lines : ℕ → Option Rule → Bytes
 reset_lines step None = []
 reset_lines step (Some rule) = reset_line step rule
 
-abbrev pub report_lines : Option ReportFields → List ℕ
+abbrev pub report_lines : Option ReportFields → Bytes
 report_lines None = []
 report_lines (Some report) = report_line report
 
-abbrev pub denied_lines : ℕ → Option ℕ → List ℕ
+abbrev pub denied_lines : ℕ → Option ℕ → Bytes
 denied_lines step None = []
 denied_lines step (Some decision) = denied_line step decision
 
 -- of a step's number, its record and the logs after it
-abbrev pub step_lines : Start → ℕ → BusRecord → Logs → List ℕ
+abbrev pub step_lines : Start → ℕ → BusRecord → Logs → Bytes
 step_lines start step entry logs =
     sent_lines step (byte_sent_in entry) ++ reset_lines step entry.reset
     ++ report_lines (report_in start logs step) ++ denied_lines step (denial_in logs)
 
 -- the lines of a play in the order of its steps, which are numbered from 0
-unfoldable pub lines_of : Start → List (List Event) → List ℕ
+unfoldable pub lines_of : Start → Play → Bytes
 lines_of start [] = []
 lines_of start (events ∷ play) =
     lines_of start play
     ++ step_lines start (length play) (next_record start (logs_after start play) events)
     (logs_after start (events ∷ play))
 
-abbrev pub end_of : ℕ → Logs → List ℕ
+abbrev pub end_of : ℕ → Logs → Bytes
 end_of steps logs = end_line steps (next_pc_of logs.progress) (exec_of logs)
 
 -- the whole text of a play
-unfoldable pub play_text : Start → List (List Event) → List ℕ
+unfoldable pub play_text : Start → Play → Bytes
 play_text start play = lines_of start play ++ end_of (length play) (logs_after start play)

@@ -1,43 +1,44 @@
 -- The trace of a play: the list of the records of its steps, newest first.
 use Rattle.std.specs.Prelude.{ℕ, Bool, zero, suc, List, [], ◌∷◌, Option, Some, None}
+use Rattle.word_arith.specs.Word16.{Word16}
 use Rattle.bus_signals.specs.declared.bus_record.BusRecord.{BusRecord}
 use Rattle.bus_signals.specs.declared.event.Event.{Event}
 use Rattle.bus_signals.specs.declared.signals.Signals.{Signals}
 use Rattle.bus_signals.specs.declared.bounds.Bounds.{Bounds}
-use Rattle.bus_signals.specs.SeenRecord.{SeenRecord}
+use Rattle.bus_signals.specs.SeenRecord.{SeenHistory}
+use Rattle.bus_signals.specs.Address.{Contents}
 use Rattle.device_trace.specs.Logs.{Logs, power_on_logs, logged_byte, logged_bounds, with_events, with_record}
 use Rattle.device_trace.specs.Start.{Start, without_key}
 use Rattle.device_trace.specs.Step.{next_record, next_signals}
+use Rattle.device_trace.specs.Play.{Play}
 
 -- the logs after a step with these events
 abbrev pub next_logs : Start → Logs → List Event → Logs
 next_logs start logs events =
     with_record start (with_events logs events) (next_record start logs events)
 
--- what happened to each part of the device in a play, which is a list of event lists, one for each
--- step, the newest first
-unfoldable pub logs_after : Start → List (List Event) → Logs
+-- what happened to each part of the device in a play
+unfoldable pub logs_after : Start → Play → Logs
 logs_after start [] = power_on_logs
 logs_after start (events ∷ play) =
     let logs : Logs = logs_after start play in
     next_logs start logs events
 
 -- each step adds one record
-unfoldable pub trace : Start → List (List Event) → List BusRecord
+unfoldable pub trace : Start → Play → List BusRecord
 trace start [] = []
 trace start (events ∷ play) = next_record start (logs_after start play) events ∷ trace start play
 
 -- the trace without a key, where the calls release these words
-abbrev pub open_trace :
-    (List SeenRecord → Bool) → List ℕ → (ℕ → ℕ) → List (List Event) → List BusRecord
+abbrev pub open_trace : (SeenHistory → Bool) → List Word16 → Contents → Play → List BusRecord
 open_trace flag words image play = trace (without_key flag words image) play
 
 -- the words that the calls of a play wrote to the MAC
-abbrev pub released_words : Start → List (List Event) → List ℕ
+abbrev pub released_words : Start → Play → List Word16
 released_words start play = (logs_after start play).released_words
 
 -- the byte at a place of the memory after a play
-abbrev pub byte_after : Start → List (List Event) → ℕ → ℕ
+abbrev pub byte_after : Start → Play → Contents
 byte_after start play place = logged_byte start (logs_after start play) place
 
 -- the last record of a history
@@ -46,15 +47,15 @@ last_record [] = None
 last_record (entry ∷ history) = Some entry
 
 -- what the last step of a play was about to do, and the bounds before it
-abbrev pub last_signals : Start → List (List Event) → Option Signals
+abbrev pub last_signals : Start → Play → Option Signals
 last_signals start [] = None
 last_signals start (events ∷ play) = Some (next_signals start (logs_after start play) events)
 
-abbrev pub last_bounds : Start → List (List Event) → Option Bounds
+abbrev pub last_bounds : Start → Play → Option Bounds
 last_bounds start [] = None
 last_bounds start (events ∷ play) = Some (logged_bounds start (logs_after start play))
 
 -- the first steps of a script, which has a list of events for each step
-abbrev pub play_of : (ℕ → List Event) → ℕ → List (List Event)
+abbrev pub play_of : (ℕ → List Event) → ℕ → Play
 play_of events_at zero = []
 play_of events_at (suc steps) = events_at steps ∷ play_of events_at steps

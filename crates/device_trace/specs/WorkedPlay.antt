@@ -1,18 +1,19 @@
 -- Worked plays: what each image prints.
-use Rattle.std.specs.Prelude.{◌≡◌, ◌++◌, ℕ, List, [], ◌∷◌, map, replicate, take, drop, codes}
+use Rattle.std.specs.Prelude.{◌≡◌, ◌++◌, List, [], ◌∷◌, map, replicate, take, drop, codes}
 use Rattle.hex.specs.Hex.{encode_lower}
-use Rattle.bus_signals.specs.declared.event.Event.{Event}
 use Rattle.bus_signals.specs.declared.event.Event.TheVariants.{Rx, Pins, Dma, Reset}
+use Rattle.bus_signals.specs.Address.{Contents, Bytes}
 use Rattle.device_trace.specs.Example.{start_with, quiet_steps, event_after, arrivals, upwards, letter_a, no_image, key_reader, key_runner, attestation, attestation_of, request_part, return_through_key, return_into_rom, interrupted_call, ordinary_run, ordinary_request, guarded_region, reach_outside, overwrite, inner_entry, region_overlap, region_over_mac, echo, ticker, rewritten_program, store, kept_word, jump_into_rom}
 use Rattle.device_trace.specs.Text.{play_text}
+use Rattle.device_trace.specs.Play.{Play}
 
 -- an image, its play, and what is printed
 pub record WorkedPlay : Type 0 where
-  pub image : ℕ → ℕ
-  pub play : List (List Event)
-  pub text : List ℕ
+  pub image : Contents
+  pub play : Play
+  pub text : Bytes
 
-abbrev pub row : (ℕ → ℕ) → List (List Event) → List ℕ → WorkedPlay
+abbrev pub row : Contents → Play → Bytes → WorkedPlay
 row image play text = record { image = image; play = play; text = text }
 
 -- what the definitions print of each is its text
@@ -21,13 +22,13 @@ PrintTheirTexts rows =
     map (λ one. play_text (start_with one.image) one.play) rows ≡ map (λ one. one.text) rows
 
 -- a report on the first request: step and EXEC, the challenge, bounds and output
-abbrev pub report : List ℕ → List ℕ → List ℕ → List ℕ
+abbrev pub report : Bytes → Bytes → Bytes → Bytes
 report step challenge region =
     codes "report2 " ++ step ++ codes " aux 0 count 1 chal " ++ encode_lower challenge
     ++ codes " er " ++ region ++ codes " mac " ++ encode_lower (upwards 1 32) ++ codes "\n"
 
 -- a report of the challenge 0
-abbrev pub plain_report : List ℕ → List ℕ → List ℕ
+abbrev pub plain_report : Bytes → Bytes → Bytes
 plain_report step region = report step (replicate 32 0) region
 
 -- programs that send, sleep, are interrupted, and are reset by the script
@@ -117,7 +118,7 @@ attested_plays =
     []
 
 -- the region C020 to C022 with the output at 0300, reported with this step and EXEC
-abbrev pub two_word_report : List ℕ → List ℕ
+abbrev pub two_word_report : Bytes → Bytes
 two_word_report step = plain_report step (codes "c020 c022 or 0300 0300 data 0000")
 
 -- runs of the executable region: only one that is undisturbed sets the EXEC flag

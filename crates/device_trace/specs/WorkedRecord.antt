@@ -4,18 +4,19 @@ use Rattle.word_arith.specs.declared.size.Size.TheVariants.{Word}
 use Rattle.bus_signals.specs.declared.access.Access.{Access}
 use Rattle.bus_signals.specs.declared.access.Access.TheVariants.{Fetch, Read, Write}
 use Rattle.bus_signals.specs.declared.bus_record.BusRecord.{BusRecord}
-use Rattle.bus_signals.specs.declared.event.Event.{Event}
 use Rattle.bus_signals.specs.declared.event.Event.TheVariants.{Dma, Reset}
 use Rattle.bus_signals.specs.declared.kind.Kind.TheVariants.{Cpu}
 use Rattle.bus_signals.specs.declared.rule.Rule.{Rule}
 use Rattle.bus_signals.specs.declared.rule.Rule.TheVariants.{X0, K1, K4}
+use Rattle.bus_signals.specs.Address.{Contents}
 use Rattle.device_trace.specs.Example.{start_with, quiet_steps, event_after, letter_a, key_reader, rewritten_program}
 use Rattle.device_trace.specs.Trace.{last_record, trace}
+use Rattle.device_trace.specs.Play.{Play}
 
 -- an image, its play, and the last record
 pub record WorkedRecord : Type 0 where
-  pub image : ℕ → ℕ
-  pub play : List (List Event)
+  pub image : Contents
+  pub play : Play
   pub entry : BusRecord
 
 -- a step of the instruction at a place, where all other registers are 0
@@ -39,7 +40,7 @@ LeaveTheirRecords rows =
     map (λ one. last_record (trace (start_with one.image) one.play)) rows
     ≡ map (λ one. Some one.entry) rows
 
-abbrev pub row : (ℕ → ℕ) → List (List Event) → BusRecord → WorkedRecord
+abbrev pub row : Contents → Play → BusRecord → WorkedRecord
 row image play entry = record { image = image; play = play; entry = entry }
 
 abbrev pub worked_records : List WorkedRecord

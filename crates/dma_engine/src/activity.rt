@@ -1,7 +1,7 @@
 ghost use Rattle.std.specs.Prelude.{◌≡◌, ◌%◌, ◌<◌, IfSome};
 ghost use Rattle.bus_signals.specs.Access.{IsFormed};
-ghost use Rattle.part_definitions.specs.Dma.{Transfer, new_transfer, transfer_access, is_active, after_start, with_value};
-ghost use Rattle.part_definitions.specs.Part.{Answers};
+ghost use Rattle.part_definitions.specs.Dma.{new_transfer, transfer_access, is_active, after_start, with_value};
+ghost use Rattle.part_definitions.specs.Part.{Answers, Becomes};
 
 use bus_signals::Access;
 use word_arith::Size;
@@ -46,10 +46,8 @@ impl Activity {
 
     /// What it does after a start, which is ignored while a transfer is active.
     pub fn after_start(self, source: u16, destination: u16, words: u16) -> Activity
-        ensures { (transfer : Transfer)
-            → ActivityStandsFor self transfer
-            → ActivityStandsFor result
-            (after_start transfer (new_transfer source destination words)) }
+        ensures { Becomes ActivityStandsFor self
+            (λ transfer. after_start transfer (new_transfer source destination words)) result }
     {
         if self.is_active() {
             self
@@ -78,9 +76,8 @@ impl Activity {
     /// The access was made and gave this value: it goes on to the next one, if there is one.
     #[inline(always)]
     pub fn advance(&mut self, value: u16)
-        ensures { (transfer : Transfer)
-            → ActivityStandsFor self.old transfer
-            → ActivityStandsFor self.new (with_value transfer value) }
+        ensures { Becomes ActivityStandsFor self.old
+            (λ transfer. with_value transfer value) self.new }
     {
         match *self {
             Activity::Idle => {}

@@ -4,17 +4,17 @@ ghost use Rattle.part_definitions.specs.Part.{Takes, Answers};
 ghost use Rattle.part_definitions.specs.Dma.{DmaEvent, TransferStart, Store, DmaAccess, DeviceReset, dma_read, dma_word, dma_access, is_free};
 
 use crate::activity::Activity;
-use bus_signals::{Access, BusMaster};
+use bus_signals::{Access, BusMaster, DMA};
 use peripheral_register::{Register, covers_byte, part_of_word, register_place};
 use word_arith::Size;
 
-const DCTL: u16 = 0x01E0;
+const DCTL: u16 = DMA.first;
 
-const DSRC: u16 = 0x01E2;
+const DSRC: u16 = DMA.first + 2;
 
-const DDST: u16 = 0x01E4;
+const DDST: u16 = DMA.first + 4;
 
-const DLEN: u16 = 0x01E6;
+const DLEN: u16 = DMA.first + 6;
 
 /// The DMA engine. DCTL reads 1 while a transfer is active; a write of bit 0 starts one, from DSRC
 /// to DDST, of DLEN words. Bit 0 of both addresses is ignored, and both grow modulo 65,536.

@@ -1,5 +1,5 @@
 -- How the flag changes at a record.
-use Rattle.std.proofs.Common.{◌≡◌, ◌==◌, ◌&&◌, ◌||◌, ℕ, Bool, true, false, not, List, ◌∷◌, Option, is_some, sym, ◌∙◌, ap}
+use Rattle.std.proofs.Common.{◌≡◌, ◌==◌, ◌&&◌, ◌||◌, ℕ, Bool, true, false, not, List, ◌∷◌, Option, Some, is_some, sym, ◌∙◌, ap}
 use Rattle.bus_signals.specs.SeenRecord.{SeenRecord}
 use Rattle.bus_signals.specs.Bounds.{executable_region}
 use Rattle.std.proofs.lemmas.Bool.{and_parts}
@@ -40,3 +40,16 @@ pub exec_next : (now : SeenRecord) (before : List SeenRecord) (last : Option ℕ
     → exec (now ∷ before) ≡ ((is_some last || starts_run now) && not (clears last now))
 unfolding exec
 exec_next now before last = uncleared_run-next clears start-clears now before last
+
+-- a flag that is set stays so at a record that does not clear it
+pub exec_spared : (now : SeenRecord) (before : List SeenRecord) (last : Option ℕ) (pc : ℕ)
+    → is_some last ≡ exec before
+    → (exec before ≡ true → last ≡ last_pc before)
+    → last ≡ Some pc
+    → clears (Some pc) now ≡ false
+    → exec (now ∷ before) ≡ exec before
+exec_spared now before last pc same_flag same_last is spared =
+    exec_next now before last same_flag same_last
+    ∙ ap (λ last. (is_some last || starts_run now) && not (clears last now)) is
+    ∙ ap not spared
+    ∙ sym (sym same_flag ∙ ap is_some is)

@@ -1,18 +1,19 @@
 -- When a flag is set, in the words of a trace.
-use Rattle.std.specs.Prelude.{◌≡◌, ◌≤◌, ◌++◌, ℕ, Bool, List, ◌∷◌, Option, length, IsTrue}
-use Rattle.bus_signals.specs.SeenRecord.{SeenRecord}
+use Rattle.std.specs.Prelude.{◌≡◌, ◌≤◌, ◌++◌, Bool, List, ◌∷◌, Option, length, IsTrue}
+use Rattle.bus_signals.specs.SeenRecord.{SeenHistory, SeenRecord}
+use Rattle.bus_signals.specs.Address.{Address}
 use Rattle.part_definitions.specs.Flag.{starts_run, last_pc}
 
 -- one of these records, the newest first: those after it, itself, and those before it
-pub record Moment (records : List SeenRecord) : Type 0 where
+pub record Moment (records : SeenHistory) : Type 0 where
   pub after : List SeenRecord
   pub now : SeenRecord
   pub before : List SeenRecord
   pub whole : records ≡ after ++ now ∷ before
 
 -- a record starts a run, and neither it nor a later one clears the flag, whichever records do
-pub record UnclearedStart (clears : Option ℕ → SeenRecord → Bool)
-    (records : List SeenRecord) : Type 0 where
+pub record UnclearedStart (clears : Option Address → SeenRecord → Bool)
+    (records : SeenHistory) : Type 0 where
   pub start : Moment records
   pub starts : IsTrue (starts_run start.now)
   pub kept : (moment : Moment records)

@@ -125,14 +125,18 @@ pub fn has_write_to(region: Region, entry: &BusRecord) -> bool
     writes_to(region, entry.cpu) || writes_to(region, entry.dma)
 }
 
-fn writes_to(region: Region, access: Option<Access>) -> bool
+/// Whether there is an access, and it writes to the region.
+#[inline(always)]
+pub fn writes_to(region: Region, access: Option<Access>) -> bool
     requires { IfSome access IsFormed }
     ensures { result ≡ list_any (writes_to region) (option_to_list access) }
 {
     some_writes(access) && some_touches(access, region)
 }
 
-fn fetches_outside(region: Region, access: Option<Access>) -> bool
+/// Whether there is an access, and it fetches a word that is not wholly in the region.
+#[inline(always)]
+pub fn fetches_outside(region: Region, access: Option<Access>) -> bool
     requires { IfSome access IsFormed }
     ensures { result ≡ list_any (fetches_outside region) (option_to_list access) }
 {

@@ -5,8 +5,9 @@ ghost use Rattle.part_definitions.specs.Part.{Answers};
 ghost use Rattle.part_definitions.specs.Flag.{exec, starts_run};
 
 use crate::clearing::clears;
+use crate::sparing::spares;
 use crate::start::starts_run;
-use bus_signals::{Bounds, BusRecord, TraceFlag};
+use bus_signals::{Bounds, BusRecord, Signals, TraceFlag};
 
 /// The EXEC flag after the records seen.
 #[derive(Clone, Copy, Debug)]
@@ -75,5 +76,17 @@ impl TraceFlag for ExecFlag {
     }
 
     #[inline(always)]
-    fn pass(&mut self) {}
+    fn stays(&self, now: &Signals, bounds: &Bounds) -> bool {
+        match self.last_pc {
+            Some(last) => spares(last, now, bounds),
+            None => now.pc != bounds.er_min,
+        }
+    }
+
+    #[inline(always)]
+    fn pass(&mut self, pc: u16) {
+        if self.last_pc.is_some() {
+            self.last_pc = Some(pc);
+        }
+    }
 }

@@ -8,9 +8,11 @@
 mod clearing;
 mod exec_flag;
 mod law;
+mod sparing;
 mod start;
 
-pub use clearing::{clears_both, enters_region, has_write_to, runs_inside};
+pub use clearing::{clears_both, enters_region, has_write_to, runs_inside, writes_to};
 pub use exec_flag::ExecFlag;
 pub use law::flag_is_set_by_an_uncleared_start;
+pub use sparing::spares_both;
 pub use start::{fetches_first, starts_run};

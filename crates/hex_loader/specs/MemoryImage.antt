@@ -1,5 +1,5 @@
 -- The bytes of a memory as an image.
-use Rattle.std.specs.Prelude.{◌≡◌, ℕ, Bool, List, Option, Some, None, if◌then◌else◌}
+use Rattle.std.specs.Prelude.{◌≡◌, ℕ, List, Option, Some, None, if◌then◌else◌}
 use Rattle.part_definitions.specs.Memory.{PowerOn, ShownFlags, MemoryWrite, is_image_place, byte_at}
 use Rattle.mem_map.specs.declared.memory.Memory.{Memory}
 use Rattle.mem_map.specs.Memory.{MemoryStandsFor}

@@ -1,4 +1,4 @@
-ghost use Rattle.std.specs.Prelude.{ℕ, Bool, List, Option};
+ghost use Rattle.std.specs.Prelude.{ℕ, List, Option};
 ghost use Rattle.part_definitions.specs.Memory.{PowerOn, ShownFlags, MemoryWrite};
 ghost use Rattle.mem_map.specs.Image.{byte_in};
 ghost use Rattle.mem_map.specs.Memory.{MemoryStandsFor};

@@ -8,7 +8,7 @@ use crate::running_hmac::Hmac;
 /// a counter, the lowest first. The byte 1 before them sets these messages apart from others under
 /// the same key.
 pub fn request_token<D: Digest32>(key: &[u8], challenge: &[u8], counter: &[u8]) -> [u8; 32]
-    ensures { result ≡ request_token D.digest_of key.now challenge.now counter.now }
+    ensures { result ≡ request_token D.hash.digest_of key.now challenge.now counter.now }
 {
     let mut hash = Hmac::<D>::new(key);
     hash.update(&[1]);

@@ -2,14 +2,15 @@ ghost use Rattle.std.specs.Prelude.{◌≡◌, true, false, [], ◌∷◌, List}
 ghost use Rattle.part_definitions.specs.Part.{Takes, Answers};
 ghost use Rattle.part_definitions.specs.Timer.{TimerEvent, Tick, Store, Acceptance, DeviceReset, timer_runs, timer_read, timer_word, timer_requests};
 
+use bus_signals::TIMER;
 use peripheral_register::{Register, part_of_word, register_place};
 use word_arith::Size;
 
-const TCTL: u16 = 0x0160;
+const TCTL: u16 = TIMER.first;
 
-const TCNT: u16 = 0x0162;
+const TCNT: u16 = TIMER.first + 2;
 
-const TCMP: u16 = 0x0164;
+const TCMP: u16 = TIMER.first + 4;
 
 /// The timer. While bit 0 of TCTL is set, TCNT counts steps from 0 to TCMP and again from 0, and
 /// raises the flag where it comes to 0. Bit 1 of TCTL enables the interrupt.

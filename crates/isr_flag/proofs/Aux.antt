@@ -1,5 +1,5 @@
 -- How the second flag changes at a record.
-use Rattle.std.proofs.Common.{◌≡◌, ◌==◌, ◌&&◌, ◌||◌, ℕ, Bool, true, false, not, List, ◌∷◌, Option, is_some, sym, ◌∙◌, ap}
+use Rattle.std.proofs.Common.{◌≡◌, ◌==◌, ◌&&◌, ◌||◌, ℕ, Bool, true, false, not, List, ◌∷◌, Option, Some, is_some, sym, ◌∙◌, ap}
 use Rattle.bus_signals.specs.SeenRecord.{SeenRecord}
 use Rattle.bus_signals.specs.Bounds.{executable_region}
 use Rattle.part_definitions.specs.Flag.{starts_run, fetches_first, runs_inside, ran_inside, last_pc, clears_both}
@@ -41,3 +41,16 @@ pub aux_next : (now : SeenRecord) (before : List SeenRecord) (last : Option ℕ)
     → aux (now ∷ before) ≡ ((is_some last || starts_run now) && not (clears_aux last now))
 unfolding aux
 aux_next now before last = uncleared_run-next clears_aux start-clears now before last
+
+-- a flag that is set stays so at a record that does not clear it
+pub aux_spared : (now : SeenRecord) (before : List SeenRecord) (last : Option ℕ) (pc : ℕ)
+    → is_some last ≡ aux before
+    → (aux before ≡ true → last ≡ last_pc before)
+    → last ≡ Some pc
+    → clears_aux (Some pc) now ≡ false
+    → aux (now ∷ before) ≡ aux before
+aux_spared now before last pc same_flag same_last is spared =
+    aux_next now before last same_flag same_last
+    ∙ ap (λ last. (is_some last || starts_run now) && not (clears_aux last now)) is
+    ∙ ap not spared
+    ∙ sym (sym same_flag ∙ ap is_some is)

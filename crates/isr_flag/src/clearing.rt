@@ -1,14 +1,11 @@
-ghost use Rattle.std.specs.Prelude.{◌≡◌, IfSome};
+ghost use Rattle.std.specs.Prelude.{◌≡◌, true, false, IfSome, Some};
 ghost use Rattle.bus_signals.specs.Access.{IsFormed};
+ghost use Rattle.bus_signals.specs.Flag.{IsRecordOf};
 ghost use Rattle.part_definitions.specs.TrustedFlag.{reads_vector, handler_read, enters_elsewhere, clears_f3, clears_f4, clears_f10, clears_aux};
 
-use bus_signals::{Access, Bounds, BusRecord, Kind, Region};
-use exec_automaton::{clears_both, enters_region, fetches_first, has_write_to, runs_inside};
-
-// Where the vectors lie.
-const VECTORS: Region = Region {
-    first: 0xFFE0,
-    last: 0xFFFF,
+use bus_signals::{Access, Bounds, BusRecord, Kind, Region, Signals, VECTORS};
+use exec_automaton::{
+    clears_both, enters_region, fetches_first, has_write_to, runs_inside, spares_both, writes_to,
 };
 
 /// Whether a record, seen with these bounds after one with this `pc`, clears the flag. The bounds
@@ -24,6 +21,32 @@ pub fn clears_aux(last: Option<u16>, entry: &BusRecord, bounds: Bounds) -> bool
         || clears_f3(last, entry, bounds)
         || clears_f4(entry, bounds)
         || clears_f10(entry, bounds)
+}
+
+/// Whether a step that is about to do this, after a record with this `pc`, does not clear the flag
+/// unless it is refused. What an interrupt reads is not known before it is read.
+#[inline(always)]
+pub fn spares_aux(last: u16, now: &Signals, bounds: &Bounds) -> bool
+    requires { IfSome now.now.cpu IsFormed }
+    ensures { (entry : BusRecord)
+        → IsRecordOf now.now entry
+        → result ≡ true
+        → clears_aux (Some last) (record { entry = entry; bounds = bounds.now }) ≡ false }
+{
+    spares_both(last, now, bounds)
+        && !writes_to(VECTORS, now.cpu)
+        && !may_be_interrupted(now, bounds)
+}
+
+// A step of an interrupt's entry, in ER.
+#[inline(always)]
+fn may_be_interrupted(now: &Signals, bounds: &Bounds) -> bool
+    ensures { (entry : BusRecord)
+        → IsRecordOf now.now entry
+        → result ≡ false
+        → clears_f4 (record { entry = entry; bounds = bounds.now }) ≡ false }
+{
+    now.kind == Kind::Irq && bounds.executable_region().contains(now.pc)
 }
 
 // F3: ER is entered otherwise than by the opcode fetch at its first instruction.

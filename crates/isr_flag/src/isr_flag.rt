@@ -5,8 +5,8 @@ ghost use Rattle.part_definitions.specs.Flag.{starts_run};
 ghost use Rattle.part_definitions.specs.Part.{Answers};
 ghost use Rattle.part_definitions.specs.TrustedFlag.{aux};
 
-use crate::clearing::clears_aux;
-use bus_signals::{Bounds, BusRecord, TraceFlag};
+use crate::clearing::{clears_aux, spares_aux};
+use bus_signals::{Bounds, BusRecord, Signals, TraceFlag};
 use exec_automaton::starts_run;
 
 /// The second flag after the records seen.
@@ -76,5 +76,17 @@ impl TraceFlag for IsrFlag {
     }
 
     #[inline(always)]
-    fn pass(&mut self) {}
+    fn stays(&self, now: &Signals, bounds: &Bounds) -> bool {
+        match self.last_pc {
+            Some(last) => spares_aux(last, now, bounds),
+            None => now.pc != bounds.er_min,
+        }
+    }
+
+    #[inline(always)]
+    fn pass(&mut self, pc: u16) {
+        if self.last_pc.is_some() {
+            self.last_pc = Some(pc);
+        }
+    }
 }

@@ -5,12 +5,11 @@ use Rattle.bus_signals.specs.declared.bus_record.BusRecord.{BusRecord}
 use Rattle.bus_signals.specs.declared.kind.Kind.{Kind}
 use Rattle.part_definitions.specs.Attestation.{item_pc}
 use Rattle.part_definitions.specs.CpuRegister.{allows_interrupts}
-use Rattle.part_definitions.specs.Interrupt.{accepted_vector}
+use Rattle.part_definitions.specs.Interrupt.{first_vector}
 use Rattle.part_definitions.specs.Memory.{ShownFlags, byte_at}
-use Rattle.part_definitions.specs.Serial.{serial_requests}
-use Rattle.part_definitions.specs.Timer.{timer_requests}
 use Rattle.device_trace.specs.Blank.{is_secret, blank_record, blank_seen}
-use Rattle.device_trace.specs.Logs.{Logs, flags_of, logged_byte, logged_bounds, vector_of, step_progress, accepts_timer, finishes_call, decision_in, decision_after}
+use Rattle.device_trace.specs.Logs.{Logs, flags_of, logged_byte, logged_bounds, vector_of, step_progress, vector_taken, finishes_call, decision_in, decision_after}
+use Rattle.device_trace.specs.Peripherals.{requests}
 use Rattle.device_trace.specs.Progress.{Progress, Held, Runs, InCall, last_registers, next_pc_of, kind_of, progress_from_boundary, progress_within, tells_irq, fetches_opcode}
 use Rattle.device_trace.specs.Signals.{step_kind}
 use Rattle.device_trace.specs.Start.{Start, without_key}
@@ -61,9 +60,9 @@ pub fetches_opcode-hide : (kind : Kind) (progress : Progress)
     → fetches_opcode kind (hide_progress progress) ≡ fetches_opcode kind progress
 fetches_opcode-hide kind progress = grind arith
 
-pub accepts_timer-hide : (progress : Progress) (kind : Kind) (vector : Option ℕ)
-    → accepts_timer (hide_progress progress) kind vector ≡ accepts_timer progress kind vector
-accepts_timer-hide progress kind vector = grind arith
+pub vector_taken-hide : (progress : Progress) (kind : Kind) (vector : Option ℕ)
+    → vector_taken (hide_progress progress) kind vector ≡ vector_taken progress kind vector
+vector_taken-hide progress kind vector = grind arith
 
 from_boundary-hide : (regs : List ℕ) (kind : Kind) (vector : Option ℕ)
     → progress_from_boundary regs kind vector
@@ -86,9 +85,8 @@ decision_in-hide (InCall regs words) = ap (λ (n : ℕ). Some n) (decision_read-
 pub vector_of-hide : (logs : Logs) → vector_of (hide logs) ≡ vector_of logs
 vector_of-hide logs =
     ap
-    (λ (regs : List ℕ). accepted_vector (allows_interrupts regs)
-    (serial_requests logs.peripherals.serial)
-    (timer_requests logs.peripherals.timer))
+    (λ (regs : List ℕ).
+    if allows_interrupts regs then first_vector (requests logs.peripherals) else None)
     (last_registers-hide logs.progress)
 
 pub step_kind-hide : (logs : Logs) → step_kind (hide logs) ≡ step_kind logs

@@ -8,7 +8,7 @@ use Rattle.part_definitions.specs.FirstRule.{first_rule}
 use Rattle.part_definitions.specs.Flag.{last_pc}
 use Rattle.device_trace.specs.Blank.{blank_access, blank_value, blank_record, blank_seen}
 use Rattle.device_trace.specs.AccessesAreFormed.{AccessesAreFormed}
-use Rattle.device_trace.specs.Logs.{Logs, vector_of, step_progress, accepts_timer, progress_after, released_words_after, with_events, with_record}
+use Rattle.device_trace.specs.Logs.{Logs, vector_of, step_progress, vector_taken, progress_after, released_words_after, with_events, with_record}
 use Rattle.device_trace.specs.Peripherals.{timer_after}
 use Rattle.device_trace.specs.Progress.{Progress, last_registers, next_progress}
 use Rattle.device_trace.specs.Signals.{value_read, step_kind, proposed_access, signals_at, signals_of}
@@ -18,7 +18,7 @@ use Rattle.device_trace.specs.Trace.{next_logs}
 use Rattle.device_trace.proofs.FormedAccess.{record_of-formed}
 use Rattle.trace_facts.proofs.Sound.{IsSound}
 use Rattle.trace_facts.proofs.SoundPlay.{with_events-sound}
-use Rattle.key_isolation.proofs.Hiding.{open_start, hide_progress, hide, vector_of-hide, step_progress-hide, accepts_timer-hide, logged_bounds-hide, decision_after-hide}
+use Rattle.key_isolation.proofs.Hiding.{open_start, hide_progress, hide, vector_of-hide, step_progress-hide, vector_taken-hide, logged_bounds-hide, decision_after-hide}
 use Rattle.key_isolation.proofs.WrittenBytes.{memory_after-hide}
 use Rattle.key_isolation.proofs.Projections.{timer_after-blank, serial_after-blank, dma_after-blank, released_words_after-blank}
 use Rattle.key_isolation.proofs.RecordBlank.{SameWithoutRule, unrefused_same, record_of-hide}
@@ -36,21 +36,21 @@ pub record FollowsBlank (logs : Logs) (entry : BusRecord) : Type 0 where
 
 timer-hide : (logs : Logs) (entry : BusRecord)
     → timer_after entry.reset
-    (accepts_timer (hide_progress logs.progress) entry.kind (vector_of (hide logs)))
+    (vector_taken (hide_progress logs.progress) entry.kind (vector_of (hide logs)))
     (blank_access entry.cpu) logs.peripherals.timer
     ≡ timer_after entry.reset
-    (accepts_timer logs.progress entry.kind (vector_of logs)) entry.cpu logs.peripherals.timer
+    (vector_taken logs.progress entry.kind (vector_of logs)) entry.cpu logs.peripherals.timer
 timer-hide logs entry =
     ap
     (λ (vector : Option ℕ). timer_after entry.reset
-    (accepts_timer (hide_progress logs.progress) entry.kind vector)
+    (vector_taken (hide_progress logs.progress) entry.kind vector)
     (blank_access entry.cpu) logs.peripherals.timer)
     (vector_of-hide logs)
-    ∙ (ap (λ (accepts : Bool). timer_after entry.reset accepts
+    ∙ (ap (λ (acceptance : Option ℕ). timer_after entry.reset acceptance
     (blank_access entry.cpu) logs.peripherals.timer)
-    (accepts_timer-hide logs.progress entry.kind (vector_of logs))
+    (vector_taken-hide logs.progress entry.kind (vector_of logs))
     ∙ timer_after-blank entry.reset
-    (accepts_timer logs.progress entry.kind (vector_of logs)) entry.cpu logs.peripherals.timer)
+    (vector_taken logs.progress entry.kind (vector_of logs)) entry.cpu logs.peripherals.timer)
 
 with_record-blank : (start : Start) (free : List ℕ) (logs : Logs) (entry : BusRecord)
     → AccessesAreFormed entry → FollowsBlank logs entry

@@ -1,5 +1,5 @@
 -- What a blanked access is to the peripherals, and what it releases.
-use Rattle.std.proofs.Common.{◌≡◌, ℕ, Bool, List, [], ◌∷◌, ◌++◌, Option, Some, None, sym, ◌∙◌, arith, append-nil}
+use Rattle.std.proofs.Common.{◌≡◌, ℕ, List, [], ◌∷◌, ◌++◌, Option, Some, None, sym, ◌∙◌, arith, append-nil}
 use Rattle.std.specs.Prelude.{if◌then◌else◌}
 use Rattle.std.proofs.lemmas.Bool.{cond-true, cond-false, cases_Bool}
 use Rattle.std.proofs.lemmas.Bool.Decides.{nat_tests}
@@ -23,11 +23,11 @@ with_timer_access-blank : (access : Option Access) (events : List TimerEvent)
     → with_timer_access (blank_access access) events ≡ with_timer_access access events
 with_timer_access-blank access events = grind (arith, nat_tests)
 
-pub timer_after-blank : (rule : Option Rule) (accepts : Bool) (access : Option Access)
+pub timer_after-blank : (rule : Option Rule) (acceptance : Option ℕ) (access : Option Access)
     (events : List TimerEvent)
-    → timer_after rule accepts (blank_access access) events
-    ≡ timer_after rule accepts access events
-timer_after-blank rule accepts access events = grind (arith, with_timer_access-blank)
+    → timer_after rule acceptance (blank_access access) events
+    ≡ timer_after rule acceptance access events
+timer_after-blank rule acceptance access events = grind (arith, with_timer_access-blank)
 
 pub serial_after-blank : (rule : Option Rule) (access : Option Access) (events : List SerialEvent)
     → serial_after rule (blank_access access) events ≡ serial_after rule access events

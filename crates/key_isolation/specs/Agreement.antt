@@ -1,14 +1,15 @@
 -- Released words that agree.
 use Rattle.std.specs.Prelude.{◌≡◌, ◌<◌, ℕ, List, length, slice_index}
-use Rattle.bus_signals.specs.declared.event.Event.{Event}
+use Rattle.word_arith.specs.Word16.{Word16}
 use Rattle.device_trace.specs.Start.{Start}
 use Rattle.device_trace.specs.Trace.{released_words}
+use Rattle.device_trace.specs.Play.{Play}
 
 -- two lists of words are equal at each place that both have
-abbrev pub Agree : List ℕ → List ℕ → Type 0
+abbrev pub Agree : List Word16 → List Word16 → Type 0
 Agree left right =
     (i : ℕ) → i < length left → i < length right → slice_index left i ≡ slice_index right i
 
 -- of a play on two devices the calls release words that agree
-abbrev pub ReleaseAlike : Start → Start → List (List Event) → Type 0
+abbrev pub ReleaseAlike : Start → Start → Play → Type 0
 ReleaseAlike left right play = Agree (released_words left play) (released_words right play)

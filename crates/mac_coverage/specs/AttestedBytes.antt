@@ -1,19 +1,22 @@
 -- What a MAC is of, and what a call decides and writes on it.
-use Rattle.std.specs.Prelude.{◌==◌, ◌-◌, ◌++◌, ℕ, List, [], ◌∷◌, map, take, drop, if◌then◌else◌}
+use Rattle.std.specs.Prelude.{◌==◌, ◌-◌, ◌++◌, List, [], ◌∷◌, map, take, drop, if◌then◌else◌}
 use Rattle.std.specs.List.{range_with_len}
+use Rattle.word_arith.specs.Word16.{Word16}
 use Rattle.bus_signals.specs.Map.{EXEC_WORD, COUNTER, metadata_region}
+use Rattle.bus_signals.specs.Address.{Contents, Bytes}
 use Rattle.part_definitions.specs.Attestation.{attestation_tag, word_of_bytes}
 use Rattle.part_definitions.specs.Metadata.{counter_in}
 use Rattle.part_definitions.specs.Region.{metadata_bytes, rest_bytes}
 use Rattle.part_definitions.specs.Request.{ATTESTS, request_decision}
+use Rattle.part_definitions.specs.Hmac.{Digest}
 
 -- the metadata, and the bytes of ER and OR where the bounds are valid
 pub record AttestedBytes : Type 0 where
-  pub metadata : List ℕ
-  pub rest : List ℕ
+  pub metadata : Bytes
+  pub rest : Bytes
 
 -- as they stand in this memory
-abbrev pub attested_bytes_in : (ℕ → ℕ) → AttestedBytes
+abbrev pub attested_bytes_in : Contents → AttestedBytes
 attested_bytes_in bytes = record { metadata = metadata_bytes bytes; rest = rest_bytes bytes }
 
 -- without the EXEC word and the AUX word, behind which the counter stands
@@ -26,26 +29,26 @@ without_flag_words contents =
     }
 
 -- the tag of these bytes under a key
-abbrev pub tag_of : (List ℕ → List ℕ) → List ℕ → AttestedBytes → List ℕ
+abbrev pub tag_of : Digest → Bytes → AttestedBytes → Bytes
 tag_of digest key contents = attestation_tag digest key contents.metadata contents.rest
 
 -- as the 16 words of the MAC
-abbrev pub mac_words : (List ℕ → List ℕ) → List ℕ → AttestedBytes → List ℕ
+abbrev pub mac_words : Digest → Bytes → AttestedBytes → List Word16
 mac_words digest key contents =
     map (word_of_bytes (tag_of digest key contents)) (range_with_len 0 16)
 
 -- the decision on the request in the metadata, where these bytes of a counter are kept
-abbrev pub decision_of : (List ℕ → List ℕ) → List ℕ → AttestedBytes → List ℕ → ℕ
+abbrev pub decision_of : Digest → Bytes → AttestedBytes → Bytes → Word16
 decision_of digest key contents kept = request_decision digest key contents.metadata kept
 
 -- what a whole call writes to the MAC: the decision, and behind it the MAC where it attests
-abbrev pub call_words : (List ℕ → List ℕ) → List ℕ → AttestedBytes → List ℕ → List ℕ
+abbrev pub call_words : Digest → Bytes → AttestedBytes → Bytes → List Word16
 call_words digest key contents kept =
     decision_of digest key contents kept
     ∷ (if decision_of digest key contents kept == ATTESTS then mac_words digest key contents else
     [])
 
 -- the counter that a call leaves: the request's, where it attests
-abbrev pub counter_left : (List ℕ → List ℕ) → List ℕ → AttestedBytes → List ℕ → List ℕ
+abbrev pub counter_left : Digest → Bytes → AttestedBytes → Bytes → Bytes
 counter_left digest key contents kept =
     if decision_of digest key contents kept == ATTESTS then counter_in contents.metadata else kept

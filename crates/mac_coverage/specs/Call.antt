@@ -1,5 +1,6 @@
 -- The last call of a history, which has the newest record first.
-use Rattle.std.specs.Prelude.{◌==◌, ◌&&◌, ℕ, Bool, false, List, [], ◌∷◌, is_some, if◌then◌else◌}
+use Rattle.std.specs.Prelude.{◌==◌, ◌&&◌, Bool, false, List, [], ◌∷◌, is_some, if◌then◌else◌}
+use Rattle.word_arith.specs.Word16.{Word16}
 use Rattle.bus_signals.specs.declared.bus_record.BusRecord.{BusRecord}
 use Rattle.bus_signals.specs.Kind.{is_rom}
 use Rattle.bus_signals.specs.Map.{ROM_ENTRY}
@@ -15,7 +16,7 @@ last_call [] = []
 last_call (entry ∷ history) = entry ∷ (if begins_call entry then [] else last_call history)
 
 -- the words that records wrote to the MAC, oldest first; a refused one writes nothing
-abbrev pub mac_written : List BusRecord → List ℕ
+abbrev pub mac_written : List BusRecord → List Word16
 mac_written [] = []
 mac_written (entry ∷ older) =
     released_words_after entry.reset entry.kind entry.cpu (mac_written older)

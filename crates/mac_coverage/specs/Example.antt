@@ -1,45 +1,47 @@
 -- Closed plays at which the law is computed.
 use Rattle.std.specs.Prelude.{ℕ, List, [], ◌∷◌, length, take}
-use Rattle.bus_signals.specs.declared.event.Event.{Event}
+use Rattle.word_arith.specs.Word16.{Word16}
 use Rattle.bus_signals.specs.declared.event.Event.TheVariants.{Reset}
 use Rattle.bus_signals.specs.Map.{EXEC_WORD}
+use Rattle.bus_signals.specs.Address.{Contents, Bytes}
 use Rattle.device_trace.specs.Example.{counting_words, event_after, quiet_steps, start_with}
 use Rattle.device_trace.specs.Trace.{trace, byte_after}
+use Rattle.device_trace.specs.Play.{Play}
 use Rattle.mac_coverage.specs.Call.{last_call, mac_written}
 use Rattle.mac_coverage.specs.Coverage.{contents_before, kept_before}
 
 -- the call of `attestation` begins after 7 steps; in its step 124 it is broken off by a reset
-abbrev pub broken_call : List (List Event)
+abbrev pub broken_call : Play
 broken_call = event_after Reset (quiet_steps 130 [])
 
 -- the words of the bytes 01 to 20, behind the decision to attest, and the first seven of them
-abbrev pub all_words : List ℕ
+abbrev pub all_words : List Word16
 all_words = 1 ∷ counting_words
 
-abbrev pub first_words : List ℕ
+abbrev pub first_words : List Word16
 first_words = 1 ∷ take 7 counting_words
 
 -- how many steps the last call of a play made, and what it wrote to the MAC
-abbrev pub steps_made : (ℕ → ℕ) → List (List Event) → ℕ
+abbrev pub steps_made : Contents → Play → ℕ
 steps_made image play = length (last_call (trace (start_with image) play))
 
-abbrev pub words_written : (ℕ → ℕ) → List (List Event) → List ℕ
+abbrev pub words_written : Contents → Play → List Word16
 words_written image play = mac_written (last_call (trace (start_with image) play))
 
 -- the bytes of ER and OR that stand in memory after so many steps with no event, and the kept
 -- counter
-abbrev pub rest_standing : (ℕ → ℕ) → ℕ → List ℕ
+abbrev pub rest_standing : Contents → ℕ → Bytes
 rest_standing image steps = (contents_before (start_with image) (quiet_steps steps []) 0).rest
 
-abbrev pub kept_standing : (ℕ → ℕ) → ℕ → List ℕ
+abbrev pub kept_standing : Contents → ℕ → Bytes
 kept_standing image steps = kept_before (start_with image) (quiet_steps steps []) 0
 
 -- the EXEC word then
-abbrev pub exec_standing : (ℕ → ℕ) → ℕ → ℕ
+abbrev pub exec_standing : Contents → ℕ → ℕ
 exec_standing image steps = byte_after (start_with image) (quiet_steps steps []) EXEC_WORD
 
 -- the program C000 to C00A, and the word 0 of the output
-abbrev pub program_and_output : List ℕ
+abbrev pub program_and_output : Bytes
 program_and_output =
     0x31 ∷ 0x40 ∷ 0x00 ∷ 0x22 ∷ 0x32 ∷ 0xC2 ∷ 0xB0 ∷ 0x12 ∷ 0x00 ∷ 0xA0 ∷ 0xFF ∷ 0x3F ∷
     0x00 ∷ 0x00 ∷ []

@@ -1,7 +1,6 @@
-ghost use Rattle.std.specs.Prelude.{◌≡◌, ℕ, Bool, IsTrue, List, Some};
+ghost use Rattle.std.specs.Prelude.{◌≡◌, Bool, IsTrue, Some};
 ghost use Rattle.bus_signals.specs.Report.{ReportFields};
-ghost use Rattle.bus_signals.specs.SeenRecord.{SeenRecord};
-ghost use Rattle.bus_signals.specs.declared.event.Event.{Event};
+ghost use Rattle.bus_signals.specs.SeenRecord.{SeenHistory};
 ghost use Rattle.device_trace.specs.Report.{EachReport};
 ghost use Rattle.device_trace.specs.Start.{with_key};
 ghost use Rattle.device_trace.specs.Text.{last_report};
@@ -9,6 +8,9 @@ ghost use Rattle.device_trace.specs.Trace.{byte_after, trace};
 ghost use Rattle.mac_coverage.specs.AttestedBytes.{attested_bytes_in, tag_of};
 ghost use Rattle.mac_coverage.specs.Call.{ends_in_call};
 ghost use Rattle.mac_coverage.specs.Coverage.{Gives32Bytes, IsDeviceKey, IsOfBytes, MacCoversCall, MacCoversReport};
+ghost use Rattle.bus_signals.specs.Address.{Contents, Bytes};
+ghost use Rattle.part_definitions.specs.Hmac.{Digest};
+ghost use Rattle.device_trace.specs.Play.{Play};
 
 /// Let the last step of a play be one of a call of the ROM. Metadata and bytes of ER and OR stand
 /// in memory unchanged at each moment from the end of the call's first step to the end of its last,
@@ -19,9 +21,8 @@ ghost use Rattle.mac_coverage.specs.Coverage.{Gives32Bytes, IsDeviceKey, IsOfByt
 /// attests, the 16 words of the tag under the device key. Where the call is finished, they are all
 /// of them, and the tag stands in memory.
 pub fn mac_covers_region_throughout_call()
-    ensures { (flag : List SeenRecord → Bool) (digest : List ℕ → List ℕ) (key : List ℕ)
-        (image : ℕ → ℕ)
-        → (play : List (List Event))
+    ensures { (flag : SeenHistory → Bool) (digest : Digest) (key : Bytes) (image : Contents)
+        (play : Play)
         → IsDeviceKey key
         → IsOfBytes image
         → IsTrue (ends_in_call (trace (with_key flag digest key image) play))
@@ -32,9 +33,8 @@ pub fn mac_covers_region_throughout_call()
 /// that stand in memory as the report is made. By the law above they stood there throughout the
 /// call.
 pub fn reported_mac_is_tag()
-    ensures { (flag : List SeenRecord → Bool) (digest : List ℕ → List ℕ) (key : List ℕ)
-        (image : ℕ → ℕ)
-        → (play : List (List Event)) (report : ReportFields)
+    ensures { (flag : SeenHistory → Bool) (digest : Digest) (key : Bytes) (image : Contents)
+        (play : Play) (report : ReportFields)
         → IsDeviceKey key
         → IsOfBytes image
         → Gives32Bytes digest
@@ -45,9 +45,8 @@ pub fn reported_mac_is_tag()
 
 /// So the MAC of each report of a play covers its call.
 pub fn mac_covers_each_report()
-    ensures { (flag : List SeenRecord → Bool) (digest : List ℕ → List ℕ) (key : List ℕ)
-        (image : ℕ → ℕ)
-        (play : List (List Event))
+    ensures { (flag : SeenHistory → Bool) (digest : Digest) (key : Bytes) (image : Contents)
+        (play : Play)
         → IsDeviceKey key
         → IsOfBytes image
         → EachReport (with_key flag digest key image) play

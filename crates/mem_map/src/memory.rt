@@ -6,11 +6,8 @@ ghost use Rattle.mem_map.specs.Image.{power_on_of};
 ghost use Rattle.mem_map.specs.Span.{is_span};
 
 use crate::image::Image;
-use crate::place::{
-    AUX_WORD, ER_MAX, ER_MIN, EXEC_WORD, OR_MAX, OR_MIN, PLACES, is_image_place, is_span, rom_byte,
-    takes_write,
-};
-use bus_signals::{Bounds, CR, KR};
+use crate::place::{PLACES, is_image_place, is_span, rom_byte, takes_write};
+use bus_signals::{AUX_WORD, Bounds, CR, ER_MAX, ER_MIN, EXEC_WORD, KR, OR_MAX, OR_MIN};
 use std::alloc::{AllocError, Global};
 use word_arith::Size;
 

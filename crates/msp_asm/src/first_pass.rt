@@ -8,12 +8,10 @@ ghost use Rattle.msp_asm.specs.FirstPassState.{AnswersFault};
 use crate::space::take_places;
 use asm_bytes::{Names, Scope, address_of, characters, is_of_words, size_of, word_of};
 use asm_text::{Body, Span, Statement};
+use bus_signals::PROGRAM;
 use mem_map::Image;
 use std::alloc::{AllocError, Global};
 use text_scan::{FaultKind, WordFault};
-
-// Where the program begins.
-const PROGRAM_START: u32 = 0xC000;
 
 // The name that a body gives.
 fn constant_name(body: &Body) -> Option<Span>
@@ -94,7 +92,7 @@ impl<'a> FirstPass<'a> {
         Ok(FirstPass {
             text,
             names: Names::new(alloc),
-            place: PROGRAM_START,
+            place: u32::from(PROGRAM.first),
             occupancy: Image::new(alloc)?,
         })
     }

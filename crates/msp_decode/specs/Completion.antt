@@ -1,5 +1,6 @@
 -- Instructions, their heads and their extension words.
 use Rattle.std.specs.Prelude.{◌+◌, ◌++◌, ◌==◌, ℕ, List, [], ◌∷◌, if◌then◌else◌}
+use Rattle.word_arith.specs.Word16.{Word16}
 use Rattle.msp_decode.specs.declared.source.Source.{Source}
 use Rattle.msp_decode.specs.declared.source.Source.TheVariants.{Reg, Indexed, Indirect, IndirectInc, Immediate, Constant}
 use Rattle.msp_decode.specs.declared.dest.Dest.{Dest}
@@ -36,7 +37,7 @@ extension_count RetiHead = 0
 extension_count (JumpHead cond offset) = 0
 
 -- a source with its extension word
-abbrev pub source_completion : SourceForm → ℕ → Source
+abbrev pub source_completion : SourceForm → Word16 → Source
 source_completion (RegisterForm r) word = Reg r
 source_completion (IndexedForm r) word = Indexed r word
 source_completion (IndirectForm r) word = Indirect r
@@ -45,12 +46,12 @@ source_completion ImmediateForm word = Immediate word
 source_completion (ConstantForm g) word = Constant g
 
 -- a destination with its extension word
-abbrev pub dest_completion : DestForm → ℕ → Dest
+abbrev pub dest_completion : DestForm → Word16 → Dest
 dest_completion (DestRegisterForm r) word = DestReg r
 dest_completion (DestIndexedForm r) word = DestIndexed r word
 
 -- the instruction with its extension words, the source's before the destination's
-abbrev pub completion : Head → ℕ → ℕ → Instr
+abbrev pub completion : Head → Word16 → Word16 → Instr
 completion (TwoHead op size source dest) first second =
     Two op size (source_completion source first)
     (dest_completion dest (if source_extensions source == 0 then first else second))
@@ -80,7 +81,7 @@ head_part Reti = RetiHead
 head_part (Jump cond offset) = JumpHead cond offset
 
 -- the extension word of a source, if it has one
-abbrev pub source_words : Source → List ℕ
+abbrev pub source_words : Source → List Word16
 source_words (Reg r) = []
 source_words (Indexed r word) = word ∷ []
 source_words (Indirect r) = []
@@ -89,17 +90,17 @@ source_words (Immediate word) = word ∷ []
 source_words (Constant g) = []
 
 -- the extension word of a destination, if it has one
-abbrev pub dest_words : Dest → List ℕ
+abbrev pub dest_words : Dest → List Word16
 dest_words (DestReg r) = []
 dest_words (DestIndexed r word) = word ∷ []
 
 -- the extension words of an instruction, the source's before the destination's
-abbrev pub extension_words : Instr → List ℕ
+abbrev pub extension_words : Instr → List Word16
 extension_words (Two op size source dest) = source_words source ++ dest_words dest
 extension_words (One op size source) = source_words source
 extension_words Reti = []
 extension_words (Jump cond offset) = []
 
 -- the words of an instruction
-abbrev pub words_of : Instr → List ℕ
+abbrev pub words_of : Instr → List Word16
 words_of instr = word_of (head_part instr) ∷ extension_words instr

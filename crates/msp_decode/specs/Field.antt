@@ -1,5 +1,5 @@
 -- The meaning of each field of an instruction word, as functions that compute.
-use Rattle.std.specs.Prelude.{◌-ℤ◌, ◌==◌, ℕ, ℤ, pos, nat_lt, if◌then◌else◌}
+use Rattle.std.specs.Prelude.{◌-ℤ◌, ◌==◌, ℕ, ℤ, pos, nat_lt, List, [], ◌∷◌, if◌then◌else◌}
 use Rattle.word_arith.specs.declared.size.Size.{Size}
 use Rattle.word_arith.specs.declared.size.Size.TheVariants.{Byte, Word}
 use Rattle.word_arith.specs.declared.op2.Op2.{Op2}
@@ -15,68 +15,37 @@ use Rattle.msp_decode.specs.declared.source_form.SourceForm.{SourceForm}
 use Rattle.msp_decode.specs.declared.source_form.SourceForm.TheVariants.{Register, Indexed, Indirect, IndirectInc, Immediate, Constant}
 use Rattle.msp_decode.specs.declared.dest_form.DestForm.{DestForm}
 use Rattle.msp_decode.specs.declared.dest_form.DestForm.TheVariants.{Register as DestRegister, Indexed as DestIndexed}
+use Rattle.msp_decode.specs.Table.{reg_number, op2_number, one_number, cond_number, size_number}
+
+-- the first of some values that has a number, the last value where none of them has it
+abbrev pub value_of : {A : Type 0} → (A → ℕ) → List A → A → ℕ → A
+value_of number_of [] last n = last
+value_of number_of (value ∷ values) last n =
+    if n == number_of value then value else value_of number_of values last n
 
 -- the register of a number below 16
 abbrev pub reg_of : ℕ → Reg
 reg_of n =
-    if n == 0 then R0
-    else if n == 1 then R1
-    else if n == 2 then R2
-    else if n == 3 then R3
-    else if n == 4 then R4
-    else if n == 5 then R5
-    else if n == 6 then R6
-    else if n == 7 then R7
-    else if n == 8 then R8
-    else if n == 9 then R9
-    else if n == 10 then R10
-    else if n == 11 then R11
-    else if n == 12 then R12
-    else if n == 13 then R13
-    else if n == 14 then R14
-    else R15
+    value_of reg_number
+    (R0 ∷ R1 ∷ R2 ∷ R3 ∷ R4 ∷ R5 ∷ R6 ∷ R7 ∷ R8 ∷ R9 ∷ R10 ∷ R11 ∷ R12 ∷ R13 ∷ R14 ∷ []) R15 n
 
 -- the operation of two operands of an opcode from 4 to 15
 abbrev pub op2_of : ℕ → Op2
 op2_of n =
-    if n == 4 then Mov
-    else if n == 5 then Add
-    else if n == 6 then Addc
-    else if n == 7 then Subc
-    else if n == 8 then Sub
-    else if n == 9 then Cmp
-    else if n == 10 then Dadd
-    else if n == 11 then Bit
-    else if n == 12 then Bic
-    else if n == 13 then Bis
-    else if n == 14 then Xor
-    else And
+    value_of op2_number
+    (Mov ∷ Add ∷ Addc ∷ Subc ∷ Sub ∷ Cmp ∷ Dadd ∷ Bit ∷ Bic ∷ Bis ∷ Xor ∷ []) And n
 
 -- the operation of one operand of an opcode below 6
 abbrev pub one_of : ℕ → One
-one_of n =
-    if n == 0 then Rrc
-    else if n == 1 then Swpb
-    else if n == 2 then Rra
-    else if n == 3 then Sxt
-    else if n == 4 then Push
-    else Call
+one_of n = value_of one_number (Rrc ∷ Swpb ∷ Rra ∷ Sxt ∷ Push ∷ []) Call n
 
 -- the condition of a number below 8
 abbrev pub cond_of : ℕ → Cond
-cond_of n =
-    if n == 0 then Ne
-    else if n == 1 then Eq
-    else if n == 2 then Nc
-    else if n == 3 then C
-    else if n == 4 then N
-    else if n == 5 then Ge
-    else if n == 6 then L
-    else Always
+cond_of n = value_of cond_number (Ne ∷ Eq ∷ Nc ∷ C ∷ N ∷ Ge ∷ L ∷ []) Always n
 
 -- the size of the B/W bit
 abbrev pub size_of : ℕ → Size
-size_of bit = if bit == 0 then Word else Byte
+size_of bit = value_of size_number (Word ∷ []) Byte bit
 
 -- the source of a mode and a register
 abbrev pub source_of : ℕ → ℕ → SourceForm

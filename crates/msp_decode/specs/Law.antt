@@ -1,5 +1,6 @@
 -- The laws of spellings.
-use Rattle.std.specs.Prelude.{◌≡◌, ◌↔◌, ◌<◌, ◌^◌, ◌+◌, ℕ, List, [], ◌∷◌, take, length, slice_index, Some, None, IsNone}
+use Rattle.std.specs.Prelude.{◌≡◌, ◌↔◌, ◌<◌, ◌^◌, ◌+◌, List, [], ◌∷◌, take, length, slice_index, Some, None, IsNone}
+use Rattle.word_arith.specs.Word16.{Word16}
 use Rattle.msp_decode.specs.declared.head.Head.{Head}
 use Rattle.msp_decode.specs.declared.instr.Instr.{Instr}
 use Rattle.msp_decode.specs.Spelling.{Spells, IsIllegalWord}
@@ -10,11 +11,11 @@ use Rattle.msp_decode.specs.EncodeFault.{first_fault}
 -- the function that computes a head and the relation agree, both ways
 abbrev pub HeadsAreSpelled : Type 0
 HeadsAreSpelled =
-    (word : ℕ) (head : Head) → word < 2 ^ 16 → (head_of word ≡ Some head) ↔ Spells word head
+    (word : Word16) (head : Head) → word < 2 ^ 16 → (head_of word ≡ Some head) ↔ Spells word head
 
 -- words are read as an instruction: by the head that the first spells, by their number, and by the
 -- extension words after it
-pub record AreReadAs (words : List ℕ) (instr : Instr) : Type 0 where
+pub record AreReadAs (words : List Word16) (instr : Instr) : Type 0 where
   pub head : head_of (slice_index words 0) ≡ Some (head_part instr)
   pub count : length words ≡ 1 + extension_count (head_part instr)
   pub back : completion (head_part instr) (slice_index words 1) (slice_index words 2) ≡ instr
@@ -27,7 +28,7 @@ WordsAreRead =
 -- a legal word and its extension words are the words of the instruction that they are read as
 abbrev pub WordsAreWritten : Type 0
 WordsAreWritten =
-    (word first second : ℕ) (head : Head)
+    (word first second : Word16) (head : Head)
     → Spells word head
     → (first_fault (head_part (completion head first second)) ≡ None)
     × (words_of (completion head first second) ≡ word ∷ take (extension_count head)
@@ -35,4 +36,5 @@ WordsAreWritten =
 
 -- the illegal words are those that spell nothing
 abbrev pub IllegalWordsSpellNothing : Type 0
-IllegalWordsSpellNothing = (word : ℕ) → word < 2 ^ 16 → IsNone (head_of word) ↔ IsIllegalWord word
+IllegalWordsSpellNothing =
+    (word : Word16) → word < 2 ^ 16 → IsNone (head_of word) ↔ IsIllegalWord word

@@ -2,6 +2,7 @@
 use Rattle.std.specs.Prelude.{◌≡◌, ◌<◌, ◌≤◌, ◌⊎◌, ◌+◌, ◌*◌, ◌/◌, ◌%◌, ◌==◌, ◌&&◌, ◌||◌, ℕ, ℤ, pos, negsuc, Bool, true, false, not, nat_lt, IsTrue}
 use Rattle.word_arith.specs.declared.size.Size.{Size}
 use Rattle.word_arith.specs.declared.size.Size.TheVariants.{Byte, Word}
+use Rattle.word_arith.specs.Word16.{Word16}
 use Rattle.msp_decode.specs.declared.one.One.{One}
 use Rattle.msp_decode.specs.declared.one.One.TheVariants.{Rrc, Swpb, Rra, Sxt, Push, Call}
 use Rattle.msp_decode.specs.declared.head.Head.{Head}
@@ -66,7 +67,7 @@ is_legal Reti = true
 is_legal (Jump cond offset) = has_range offset
 
 -- the word of a head, the sum of its fields
-abbrev pub word_of : Head → ℕ
+abbrev pub word_of : Head → Word16
 word_of (Two op size source dest) =
     op2_number op * 0x1000 + source_register source * 0x100 + dest_mode dest * 0x80
     + size_number size * 0x40 + source_mode source * 0x10 + dest_register dest
@@ -77,20 +78,20 @@ word_of Reti = 0x1300
 word_of (Jump cond offset) = 0x2000 + cond_number cond * 0x400 + offset_number offset
 
 -- the word spells the head
-abbrev pub Spells : ℕ → Head → Type 0
+abbrev pub Spells : Word16 → Head → Type 0
 Spells word head = IsTrue (is_legal head) × (word ≡ word_of head)
 
 -- the opcode of one operand in a word
-abbrev pub one_field : ℕ → ℕ
+abbrev pub one_field : Word16 → ℕ
 one_field word = word / 0x80 % 8
 
 -- SWPB, SXT or CALL as a byte instruction
-abbrev pub IsByteWordOnly : ℕ → Type 0
+abbrev pub IsByteWordOnly : Word16 → Type 0
 IsByteWordOnly word =
     (word / 0x40 % 2 ≡ 1) × ((one_field word ≡ 1) ⊎ (one_field word ≡ 3) ⊎ (one_field word ≡ 5))
 
 -- an immediate, or a constant of R2 or R3
-abbrev pub IsFixedOperand : ℕ → Type 0
+abbrev pub IsFixedOperand : Word16 → Type 0
 IsFixedOperand word =
     ((word % 16 ≡ 0) × (word / 0x10 % 4 ≡ 3))
     ⊎ ((word % 16 ≡ 2) × (2 ≤ word / 0x10 % 4))
@@ -98,7 +99,7 @@ IsFixedOperand word =
 
 -- the illegal words: below 1000; from 1301 to 1FFF; SWPB, SXT and CALL of bytes; RRC, SWPB, RRA and
 -- SXT of an immediate or a constant
-abbrev pub IsIllegalWord : ℕ → Type 0
+abbrev pub IsIllegalWord : Word16 → Type 0
 IsIllegalWord word =
     (word < 0x1000)
     ⊎ ((0x1300 < word) × (word < 0x2000))

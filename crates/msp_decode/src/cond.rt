@@ -1,6 +1,7 @@
 ghost use Rattle.std.specs.Prelude.{◌≡◌, ◌<◌};
 
-/// When a jump is taken: by Z, by C, by N, by N and V, or always.
+/// When a jump is taken: by Z, by C, by N, by N and V, or always; in the order of their numbers
+/// from 0.
 #[derive(Clone, Copy, Debug, PartialEq, Eq)]
 pub enum Cond {
     /// Z is 0.
@@ -29,16 +30,7 @@ impl Cond {
         ensures value { result ≡ cond_number self }
         ensures fits { result < 8 }
     {
-        match self {
-            Cond::Ne => 0,
-            Cond::Eq => 1,
-            Cond::Nc => 2,
-            Cond::C => 3,
-            Cond::N => 4,
-            Cond::Ge => 5,
-            Cond::L => 6,
-            Cond::Always => 7,
-        }
+        self as u16
     }
 
     // The condition of a number.

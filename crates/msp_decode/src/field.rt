@@ -5,26 +5,16 @@ ghost use Rattle.msp_decode.specs.Spelling.{has_range};
 
 use word_arith::{Op2, Size};
 
+// The opcode of MOV.
+const FIRST_OPCODE: u16 = 4;
+
 // The opcode of an operation of two operands.
 pub(crate) fn op2_number(op: Op2) -> u16
     ensures value { result ≡ op2_number op }
     ensures least { 4 ≤ result }
     ensures fits { result < 16 }
 {
-    match op {
-        Op2::Mov => 0x4,
-        Op2::Add => 0x5,
-        Op2::Addc => 0x6,
-        Op2::Subc => 0x7,
-        Op2::Sub => 0x8,
-        Op2::Cmp => 0x9,
-        Op2::Dadd => 0xA,
-        Op2::Bit => 0xB,
-        Op2::Bic => 0xC,
-        Op2::Bis => 0xD,
-        Op2::Xor => 0xE,
-        Op2::And => 0xF,
-    }
+    FIRST_OPCODE + op as u16
 }
 
 // The operation of two operands of an opcode.

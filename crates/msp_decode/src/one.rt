@@ -2,7 +2,7 @@ ghost use Rattle.std.specs.Prelude.{◌≡◌, ◌<◌};
 
 use word_arith::Size;
 
-/// An operation of one operand, by its mnemonic.
+/// An operation of one operand, by its mnemonic; in the order of their opcodes from 0.
 #[derive(Clone, Copy, Debug, PartialEq, Eq)]
 pub enum One {
     Rrc,
@@ -23,14 +23,7 @@ impl One {
         ensures value { result ≡ one_number self }
         ensures fits { result < 6 }
     {
-        match self {
-            One::Rrc => 0,
-            One::Swpb => 1,
-            One::Rra => 2,
-            One::Sxt => 3,
-            One::Push => 4,
-            One::Call => 5,
-        }
+        self as u16
     }
 
     // The operation of an opcode.

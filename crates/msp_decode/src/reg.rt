@@ -31,24 +31,7 @@ impl Reg {
         ensures value { result ≡ reg_number self }
         ensures fits { result < 16 }
     {
-        match self {
-            Reg::R0 => 0,
-            Reg::R1 => 1,
-            Reg::R2 => 2,
-            Reg::R3 => 3,
-            Reg::R4 => 4,
-            Reg::R5 => 5,
-            Reg::R6 => 6,
-            Reg::R7 => 7,
-            Reg::R8 => 8,
-            Reg::R9 => 9,
-            Reg::R10 => 10,
-            Reg::R11 => 11,
-            Reg::R12 => 12,
-            Reg::R13 => 13,
-            Reg::R14 => 14,
-            Reg::R15 => 15,
-        }
+        self as u16
     }
 
     /// The register of a number.

@@ -4,6 +4,7 @@ ghost use Rattle.msp_decode.specs.Head.{head_of};
 ghost use Rattle.mem_map.specs.Image.{byte_in};
 ghost use Rattle.msp_disasm.specs.Item.{FIRST_VECTOR, word_in, instruction_item, item_at, item_size};
 
+use bus_signals::VECTORS;
 use mem_map::Image;
 use msp_decode::{Dest, Instr, Source, complete, decode, extensions};
 
@@ -14,9 +15,6 @@ pub enum Item {
     Word(u16),
     Instruction(Instr),
 }
-
-// The first place of the vectors.
-const FIRST_VECTOR: u16 = 0xFFE0;
 
 // The word at a place, where the image has both of its bytes.
 fn word_in(image: &Image, place: u16) -> Option<u16>
@@ -93,7 +91,7 @@ impl Item {
         }
         Some(match word_in(image, place) {
             None => Item::Byte(byte),
-            Some(word) if place >= FIRST_VECTOR => Item::Word(word),
+            Some(word) if place >= VECTORS.first => Item::Word(word),
             Some(word) => instruction_item(image, place, word),
         })
     }

@@ -10,6 +10,7 @@ use Rattle.part_definitions.specs.Operand.{size_of}
 use Rattle.part_definitions.specs.Instruction.{bus_access}
 use Rattle.part_definitions.specs.NextAccess.{Next, Asks, Ends, walk, is_illegal, next_access, entry_access}
 use Rattle.part_definitions.specs.CpuState.{CpuState, Boundary, Executing, Entering, registers_of, is_at_boundary, is_entering}
+use Rattle.part_definitions.specs.CpuRegister.{Registers}
 use Rattle.msp_exec.specs.declared.phase.EntryAccess.{EntryAccess}
 use Rattle.msp_exec.specs.declared.phase.EntryAccess.TheVariants.{PushPc, PushSr, ReadVector}
 use Rattle.msp_exec.specs.declared.phase.Phase.{Phase}
@@ -49,7 +50,7 @@ instruction_course head access work number values =
     walk head (access ∷ accesses_after head access) work values
 
 -- the rest of an interrupt entry; the values of its writes tell nothing
-abbrev pub entry_course : List ℕ → EntryAccess → ℕ → List ℕ → Next
+abbrev pub entry_course : Registers → EntryAccess → ℕ → List ℕ → Next
 entry_course regs PushPc vector values = entry_access regs vector values
 entry_course regs PushSr vector values = entry_access regs vector (0 ∷ values)
 entry_course regs ReadVector vector values = entry_access regs vector (0 ∷ 0 ∷ values)
@@ -80,7 +81,7 @@ pub record CpuStandsFor (cpu : Cpu) (state : CpuState) : Type 0 where
   pub same_course : (values : List ℕ) → state_course state values ≡ cpu_course cpu values
 
 -- the processor goes on with this course and these registers, or is complete
-abbrev pub GoesOnAs : Cpu → List ℕ → Bool → (List ℕ → Next) → Next → Type 0
+abbrev pub GoesOnAs : Cpu → Registers → Bool → (List ℕ → Next) → Next → Type 0
 GoesOnAs cpu regs entry course (Asks access) =
     (cpu.regs ≡ regs) × (is_boundary cpu.phase ≡ false) × (is_entry cpu.phase ≡ entry)
     × ((values : List ℕ) → course values ≡ cpu_course cpu values)
@@ -88,7 +89,7 @@ GoesOnAs cpu regs entry course (Ends after) =
     (cpu.regs ≡ after) × (cpu.work.regs ≡ after) × (cpu.phase ≡ AtBoundary)
 
 -- the processor follows this course, which began with these registers
-abbrev pub Follows : Cpu → List ℕ → Bool → (List ℕ → Next) → Type 0
+abbrev pub Follows : Cpu → Registers → Bool → (List ℕ → Next) → Type 0
 Follows cpu regs entry course = GoesOnAs cpu regs entry course (course [])
 
 -- from its registers on the processor begins the instruction of this word

@@ -1,12 +1,12 @@
 -- The end of an instruction of two operands: the form of its source does not matter any more.
-use Rattle.std.specs.Prelude.{ℕ, List}
+use Rattle.std.specs.Prelude.{ℕ}
 use Rattle.word_arith.specs.declared.size.Size.{Size}
 use Rattle.word_arith.specs.declared.flags.Flags.{Flags}
 use Rattle.word_arith.specs.declared.op2.Op2.{Op2}
 use Rattle.word_arith.specs.Op2.{alu_result}
 use Rattle.msp_decode.specs.declared.dest_form.DestForm.{DestForm}
 use Rattle.part_definitions.specs.declared.working_state.WorkingState.{WorkingState}
-use Rattle.part_definitions.specs.CpuRegister.{flags_in}
+use Rattle.part_definitions.specs.CpuRegister.{Registers, flags_in}
 use Rattle.part_definitions.specs.Operand.{destination_in}
 use Rattle.part_definitions.specs.Instruction.{after_two}
 
@@ -16,6 +16,6 @@ result_of_two op size form work =
     alu_result op size work.source (destination_in size form work) (flags_in work.regs)
 
 -- the registers that it leaves
-abbrev pub registers_after_two : Op2 → Size → DestForm → WorkingState → List ℕ
+abbrev pub registers_after_two : Op2 → Size → DestForm → WorkingState → Registers
 registers_after_two op size form work =
     after_two op form (result_of_two op size form work) work.regs

@@ -5,7 +5,7 @@ ghost use Rattle.part_definitions.specs.CpuAccess.{accesses_of};
 ghost use Rattle.part_definitions.specs.Operand.{state_at_start};
 ghost use Rattle.part_definitions.specs.NextAccess.{Asks, is_illegal, next_access, walk};
 ghost use Rattle.part_definitions.specs.CpuState.{CpuState, Boundary, clear_cpu, registers_of, cpu_pc, is_at_boundary, is_entering, cpu_access, cpu_after, cpu_takes, entry_begun};
-ghost use Rattle.part_definitions.specs.Part.{Answers};
+ghost use Rattle.part_definitions.specs.Part.{Answers, Becomes};
 ghost use Rattle.msp_exec.specs.declared.phase.Phase.TheVariants.{Boundary as AtBoundary};
 ghost use Rattle.msp_exec.specs.Order.{accesses_from};
 ghost use Rattle.msp_exec.specs.Course.{is_entry, takes_value, instruction_course, entry_course, cpu_course, CpuStandsFor, Follows, Begins};
@@ -369,9 +369,7 @@ impl BusMaster for Cpu {
 
     fn clear(&mut self)
         ensures cleared { CpuStandsFor self.new clear_cpu }
-        ensures stands { (state : CpuState)
-            → CpuStandsFor self.old state
-            → CpuStandsFor self.new clear_cpu }
+        ensures stands { Becomes CpuStandsFor self.old (λ state. clear_cpu) self.new }
     {
         *self = Cpu::new();
     }

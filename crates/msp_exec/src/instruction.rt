@@ -174,7 +174,7 @@ fn keeps_flags(op: Op2) -> bool
 }
 
 // Both operands are known. The answer is the result.
-#[inline(always)]
+#[inline(never)]
 fn end_two(work: &mut WorkingState, op: Op2, size: Size, form: DestForm) -> u16
     ensures number { result ≡ (result_of_two op size form work.old).0 }
     ensures after { work.new
@@ -192,29 +192,6 @@ fn end_two(work: &mut WorkingState, op: Op2, size: Size, form: DestForm) -> u16
     number
 }
 
-// Likewise. The compiler makes one for each operation, which is shorter than one for all.
-#[inline(never)]
-fn end_each_of_two(work: &mut WorkingState, op: Op2, size: Size, form: DestForm) -> u16
-    ensures number { result ≡ (result_of_two op size form work.old).0 }
-    ensures after { work.new
-        ≡ record work.old { regs = registers_after_two op size form work.old } }
-{
-    match op {
-        Op2::Mov => end_two(work, Op2::Mov, size, form),
-        Op2::Add => end_two(work, Op2::Add, size, form),
-        Op2::Addc => end_two(work, Op2::Addc, size, form),
-        Op2::Subc => end_two(work, Op2::Subc, size, form),
-        Op2::Sub => end_two(work, Op2::Sub, size, form),
-        Op2::Cmp => end_two(work, Op2::Cmp, size, form),
-        Op2::Dadd => end_two(work, Op2::Dadd, size, form),
-        Op2::Bit => end_two(work, Op2::Bit, size, form),
-        Op2::Bic => end_two(work, Op2::Bic, size, form),
-        Op2::Bis => end_two(work, Op2::Bis, size, form),
-        Op2::Xor => end_two(work, Op2::Xor, size, form),
-        Op2::And => end_two(work, Op2::And, size, form),
-    }
-}
-
 /// All operands are known: leaves the registers as they are after the instruction. The answer is
 /// the result, 0 of RETI and of jumps.
 #[inline(always)]
@@ -224,7 +201,7 @@ pub fn end(work: &mut WorkingState, head: &Head) -> u16
         ≡ record work.old { regs = registers_after head.now work.old } }
 {
     match *head {
-        Head::Two(op, size, _, form) => end_each_of_two(work, op, size, form),
+        Head::Two(op, size, _, form) => end_two(work, op, size, form),
         Head::One(op, size, form) => {
             let (number, flags) = operand_outcome(op, size, work.source, flags_in(&work.regs));
             leave_one(&mut work.regs, op, form, number, flags);

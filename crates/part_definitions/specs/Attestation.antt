@@ -1,14 +1,16 @@
 -- A call of the attestation ROM: its accesses, by the words that passed in it so far, those that it
 -- read and those that it wrote to the MAC. (VRASED.)
-use Rattle.std.specs.Prelude.{◌==◌, ◌++◌, ◌+◌, ◌-◌, ◌*◌, ◌/◌, ◌%◌, ℕ, Bool, true, false, not, List, [], ◌∷◌, length, take, drop, slice_index, nat_lt, if◌then◌else◌, Option, Some}
+use Rattle.std.specs.Prelude.{◌==◌, ◌++◌, ◌+◌, ◌-◌, ◌*◌, ◌/◌, ◌%◌, ℕ, Bool, true, false, List, [], ◌∷◌, length, take, drop, slice_index, nat_lt, if◌then◌else◌, Option, Some}
 use Rattle.word_arith.specs.declared.size.Size.TheVariants.{Word}
+use Rattle.word_arith.specs.Word16.{Word16}
 use Rattle.bus_signals.specs.declared.access.Access.{Access}
 use Rattle.bus_signals.specs.declared.access.Access.TheVariants.{Write}
 use Rattle.bus_signals.specs.declared.bounds.Bounds.{Bounds}
 use Rattle.bus_signals.specs.Map.{lies_in, key_region, metadata_region, mac_region, DERIVED_KEY, INNER_DIGEST, KEPT_COUNTER, ROM_ENTRY, ROM_BODY, ROM_EXIT}
 use Rattle.part_definitions.specs.BusAccess.{read_at, write_at}
 use Rattle.bus_signals.specs.Bounds.{are_valid}
-use Rattle.part_definitions.specs.Hmac.{hmac, inner_digest}
+use Rattle.bus_signals.specs.Address.{Bytes, Address}
+use Rattle.part_definitions.specs.Hmac.{Digest, hmac, inner_digest}
 use Rattle.part_definitions.specs.Metadata.{challenge_in}
 use Rattle.part_definitions.specs.Request.{request_decision, ATTESTS}
 
@@ -63,10 +65,10 @@ BEFORE_RETURN = BEFORE_MAC + 16
 
 -- a word of the metadata; the bounds are words 16 to 19 of it, behind the challenge, and the
 -- counter is words 22 and 23, behind the flags
-abbrev pub metadata_word : List ℕ → ℕ → ℕ
+abbrev pub metadata_word : List Word16 → ℕ → Word16
 metadata_word words i = slice_index words (BEFORE_METADATA + i)
 
-abbrev pub bounds_read : List ℕ → Bounds
+abbrev pub bounds_read : List Word16 → Bounds
 bounds_read words =
     record {
       er_min = metadata_word words 16;
@@ -76,7 +78,7 @@ bounds_read words =
     }
 
 -- how many words there are from one place to another
-abbrev pub words_between : ℕ → ℕ → ℕ
+abbrev pub words_between : Address → Address → ℕ
 words_between first last = (last - first) / 2 + 1
 
 abbrev pub executable_words : Bounds → ℕ
@@ -90,7 +92,7 @@ region_words bounds =
     else 0
 
 -- the decision that was written
-abbrev pub decision_read : List ℕ → ℕ
+abbrev pub decision_read : List Word16 → Word16
 decision_read words = slice_index words BEFORE_DECISION
 
 -- the accesses of a call in order, the high word of the kept counter written first: the one after
@@ -114,24 +116,24 @@ item_of_attestation region count =
     else ReturnRead
 
 -- another decision ends the call
-abbrev pub item_after : ℕ → ℕ → ℕ → CallItem
+abbrev pub item_after : ℕ → Word16 → ℕ → CallItem
 item_after region decision count =
     if nat_lt count BEFORE_DERIVED_KEY then item_until_decision count
     else if decision == ATTESTS then item_of_attestation region count
     else ReturnRead
 
-abbrev pub call_item : List ℕ → CallItem
+abbrev pub call_item : List Word16 → CallItem
 call_item words =
     item_after (region_words (bounds_read words)) (decision_read words) (length words)
 
 -- word i of ER and then of OR
-abbrev pub region_place : Bounds → ℕ → ℕ
+abbrev pub region_place : Bounds → ℕ → Address
 region_place bounds i =
     if nat_lt i (executable_words bounds) then bounds.er_min + 2 * i
     else bounds.or_min + 2 * (i - executable_words bounds)
 
 -- the access of an item, with the number that it writes, in a call with this stack pointer
-abbrev pub item_access : ℕ → Bounds → CallItem → ℕ → Access
+abbrev pub item_access : Address → Bounds → CallItem → Word16 → Access
 item_access sp bounds (KeyRead i) number = read_at Word (key_region.first + 2 * i)
 item_access sp bounds (MetadataRead i) number = read_at Word (metadata_region.first + 2 * i)
 item_access sp bounds (KeptRead i) number = read_at Word (KEPT_COUNTER + 2 * i)
@@ -144,7 +146,7 @@ item_access sp bounds (MacWrite i) number = write_at Word (mac_region.first + 2 
 item_access sp bounds ReturnRead number = read_at Word sp
 
 -- the `pc` of an item: the first read of the key is the entry, the return read is the exit
-abbrev pub item_pc : CallItem → ℕ
+abbrev pub item_pc : CallItem → Address
 item_pc (KeyRead i) = if i == 0 then ROM_ENTRY else ROM_BODY
 item_pc ReturnRead = ROM_EXIT
 item_pc item = ROM_BODY
@@ -154,61 +156,61 @@ is_return ReturnRead = true
 is_return item = false
 
 -- words as their bytes in memory order, and a word of such bytes
-abbrev pub bytes_of_words : List ℕ → List ℕ
+abbrev pub bytes_of_words : List Word16 → Bytes
 bytes_of_words [] = []
 bytes_of_words (word ∷ words) = word % 256 ∷ word / 256 ∷ bytes_of_words words
 
-abbrev pub word_of_bytes : List ℕ → ℕ → ℕ
+abbrev pub word_of_bytes : Bytes → ℕ → Word16
 word_of_bytes bytes i = slice_index bytes (2 * i) + 256 * slice_index bytes (2 * i + 1)
 
 -- what a call read, as bytes
-abbrev pub key_read : List ℕ → List ℕ
+abbrev pub key_read : List Word16 → Bytes
 key_read words = bytes_of_words (take BEFORE_METADATA words)
 
-abbrev pub metadata_read : List ℕ → List ℕ
+abbrev pub metadata_read : List Word16 → Bytes
 metadata_read words = bytes_of_words (take METADATA_WORDS (drop BEFORE_METADATA words))
 
-abbrev pub kept_read : List ℕ → List ℕ
+abbrev pub kept_read : List Word16 → Bytes
 kept_read words = bytes_of_words (take 2 (drop BEFORE_KEPT words))
 
-abbrev pub region_read : List ℕ → List ℕ
+abbrev pub region_read : List Word16 → Bytes
 region_read words =
     bytes_of_words (take (region_words (bounds_read words)) (drop BEFORE_REGION words))
 
 -- the key of one challenge
-abbrev pub derived_key : (List ℕ → List ℕ) → List ℕ → List ℕ → List ℕ
+abbrev pub derived_key : Digest → Bytes → Bytes → Bytes
 derived_key digest key metadata = hmac digest key (challenge_in metadata)
 
 -- the MAC of metadata and region
-abbrev pub attestation_tag : (List ℕ → List ℕ) → List ℕ → List ℕ → List ℕ → List ℕ
+abbrev pub attestation_tag : Digest → Bytes → Bytes → Bytes → Bytes
 attestation_tag digest key metadata rest =
     hmac digest (derived_key digest key metadata) (metadata ++ rest)
 
 -- what a call makes of the words that passed in it
-abbrev pub call_key : (List ℕ → List ℕ) → List ℕ → List ℕ
+abbrev pub call_key : Digest → List Word16 → Bytes
 call_key digest words = derived_key digest (key_read words) (metadata_read words)
 
-abbrev pub inner_in : (List ℕ → List ℕ) → List ℕ → List ℕ
+abbrev pub inner_in : Digest → List Word16 → Bytes
 inner_in digest words =
     inner_digest digest (call_key digest words) (metadata_read words ++ region_read words)
 
-abbrev pub tag_in : (List ℕ → List ℕ) → List ℕ → List ℕ
+abbrev pub tag_in : Digest → List Word16 → Bytes
 tag_in digest words =
     attestation_tag digest (key_read words) (metadata_read words) (region_read words)
 
-abbrev pub decision_in : (List ℕ → List ℕ) → List ℕ → ℕ
+abbrev pub decision_in : Digest → List Word16 → Word16
 decision_in digest words =
     request_decision digest (key_read words) (metadata_read words) (kept_read words)
 
 -- a word of the counter that is kept from now on: the request's where the call attests, else the
 -- one that was kept
-abbrev pub counter_word : List ℕ → ℕ → ℕ → ℕ
+abbrev pub counter_word : List Word16 → Word16 → ℕ → Word16
 counter_word words decision i =
     if decision == ATTESTS then metadata_word words (22 + i)
     else slice_index words (BEFORE_KEPT + i)
 
 -- the word that a call writes there, 0 where it reads
-abbrev pub written_word : (List ℕ → List ℕ) → List ℕ → CallItem → ℕ
+abbrev pub written_word : Digest → List Word16 → CallItem → Word16
 written_word digest words (KeptWrite i) = counter_word words (decision_in digest words) i
 written_word digest words DecisionWrite = decision_in digest words
 written_word digest words (DerivedKeyWrite i) = word_of_bytes (call_key digest words) i
@@ -218,7 +220,7 @@ written_word digest words item = 0
 
 -- the word that passes in a step of a call, whose access read this value: what it reads, or the
 -- word that it releases; not what it writes to the stack, which it does not read again
-abbrev pub word_passed : Option Access → ℕ → ℕ
+abbrev pub word_passed : Option Access → Word16 → Word16
 word_passed (Some (Write place size number)) value =
     if lies_in mac_region place then number else 0
 word_passed access value = value

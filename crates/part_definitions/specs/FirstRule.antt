@@ -1,8 +1,9 @@
 -- The rule that a step breaks: the first in the order in which records name them.
-use Rattle.std.specs.Prelude.{◌&&◌, ℕ, Bool, Option, Some, None, if◌then◌else◌}
+use Rattle.std.specs.Prelude.{◌&&◌, Bool, Option, Some, None, if◌then◌else◌}
 use Rattle.bus_signals.specs.declared.rule.Rule.{Rule}
 use Rattle.bus_signals.specs.declared.rule.Rule.TheVariants.{X0, I1}
 use Rattle.bus_signals.specs.declared.signals.Signals.{Signals}
+use Rattle.bus_signals.specs.Address.{Address}
 use Rattle.part_definitions.specs.NextAccess.{is_illegal}
 use Rattle.part_definitions.specs.MonitorRule.{key_rule, atomicity_rule}
 
@@ -23,7 +24,7 @@ or_else None later = later
 or_else (Some rule) later = Some rule
 
 -- X0, then A3, A2, A1, A4, then K1 to K6, then I1; of the record before, its `pc` is given
-unfoldable pub first_rule : Option ℕ → Signals → Option Rule
+unfoldable pub first_rule : Option Address → Signals → Option Rule
 first_rule last now =
     or_else (rule_where (breaks_x0 now) X0)
     (or_else (atomicity_rule last now)

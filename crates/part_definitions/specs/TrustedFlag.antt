@@ -1,6 +1,6 @@
 -- The second flag, AUX: as EXEC, but interrupts are allowed whose handlers lie in the executable
 -- region. (In the manner of ASAP.)
-use Rattle.std.specs.Prelude.{◌&&◌, ◌||◌, ◌*◌, ◌/◌, ℕ, Bool, not, List, Option}
+use Rattle.std.specs.Prelude.{◌&&◌, ◌||◌, Bool, not, Option}
 use Rattle.std.specs.List.{list_any}
 use Rattle.bus_signals.specs.declared.region.Region.{Region}
 use Rattle.bus_signals.specs.declared.bus_record.BusRecord.{BusRecord}
@@ -8,7 +8,9 @@ use Rattle.bus_signals.specs.Access.{some_reads}
 use Rattle.bus_signals.specs.Bounds.{executable_region}
 use Rattle.bus_signals.specs.Kind.{is_irq}
 use Rattle.bus_signals.specs.Map.{lies_in, vector_region}
-use Rattle.bus_signals.specs.SeenRecord.{SeenRecord}
+use Rattle.bus_signals.specs.SeenRecord.{SeenHistory, SeenRecord}
+use Rattle.bus_signals.specs.Address.{Address}
+use Rattle.part_definitions.specs.AddressSum.{even}
 use Rattle.part_definitions.specs.Flag.{accesses_in, writes_to, runs_inside, enters_region, fetches_first, starts_run, clears_both, records_since}
 
 -- an interrupt entry reads its vector
@@ -16,15 +18,15 @@ abbrev pub reads_vector : BusRecord → Bool
 reads_vector entry = is_irq entry.kind && some_reads entry.cpu
 
 -- the handler that the vector names: its word, with bit 0 cleared
-abbrev pub handler_read : BusRecord → ℕ
-handler_read entry = entry.value / 2 * 2
+abbrev pub handler_read : BusRecord → Address
+handler_read entry = even entry.value
 
 -- an interrupt whose handler is not in a region
 abbrev pub enters_elsewhere : Region → BusRecord → Bool
 enters_elsewhere region entry = reads_vector entry && not (lies_in region (handler_read entry))
 
 -- F3: ER is entered otherwise than by the opcode fetch at its first instruction
-abbrev pub clears_f3 : Option ℕ → SeenRecord → Bool
+abbrev pub clears_f3 : Option Address → SeenRecord → Bool
 clears_f3 last now = enters_region last now && not (fetches_first now.bounds now.entry)
 
 -- F4: ER is interrupted, and the handler is not in ER
@@ -36,10 +38,10 @@ abbrev pub clears_f10 : SeenRecord → Bool
 clears_f10 now = list_any (writes_to vector_region) (accesses_in now.entry)
 
 -- a record that clears the second flag; F1, F2 and F5 to F9 are E1, E2 and E5 to E9
-abbrev pub clears_aux : Option ℕ → SeenRecord → Bool
+abbrev pub clears_aux : Option Address → SeenRecord → Bool
 clears_aux last now =
     clears_both last now || clears_f3 last now || clears_f4 now || clears_f10 now
 
 -- there is a record that starts a run, and neither it nor a later one clears the second flag
-unfoldable pub aux : List SeenRecord → Bool
+unfoldable pub aux : SeenHistory → Bool
 aux records = list_any starts_run (records_since clears_aux records)

@@ -1,6 +1,7 @@
-//! Tables for the parts: vectors of the MSP430x1xx Family User's Guide (SLAU049), of FIPS 180-4 and
-//! RFC 4231, and of the tables in `docs/`, each with a right answer that a misreading of its rule
-//! would miss.
+//! Tables for the parts and the monitors: vectors of the MSP430x1xx Family User's Guide (SLAU049),
+//! of FIPS 180-4 and RFC 4231, and of the tables in `docs/`, each with a right answer that a
+//! misreading of its rule would miss. The monitors are proposed steps of every kind at every edge
+//! of the regions.
 //!
 //! The contracts say that code and definitions agree. What stands here says that both are read as
 //! they are meant: a row fails also where code and definition are changed together.
@@ -11,13 +12,17 @@ mod alu;
 #[cfg(test)]
 mod arbiter;
 #[cfg(test)]
+mod atomicity_rule;
+#[cfg(test)]
 mod digest;
 #[cfg(test)]
 mod dma;
 #[cfg(test)]
+mod flag;
+#[cfg(test)]
 mod instruction;
 #[cfg(test)]
-mod interrupt;
+mod key_rule;
 #[cfg(test)]
 mod mac;
 #[cfg(test)]
@@ -26,6 +31,8 @@ mod memory;
 mod pins;
 #[cfg(test)]
 mod processor;
+#[cfg(test)]
+mod proposal;
 #[cfg(test)]
 mod register;
 #[cfg(test)]

@@ -1,16 +1,16 @@
 -- Closed plays at which the law is computed.
-use Rattle.std.specs.Prelude.{Bool, List, [], ◌∷◌, Option, Some, None}
-use Rattle.bus_signals.specs.declared.event.Event.{Event}
+use Rattle.std.specs.Prelude.{Bool, [], ◌∷◌, Option, Some, None}
 use Rattle.bus_signals.specs.declared.event.Event.TheVariants.{Rx}
 use Rattle.bus_signals.specs.Report.{ReportFields}
 use Rattle.device_trace.specs.Example.{quiet_steps}
+use Rattle.device_trace.specs.Play.{Play}
 
 -- the region is called and then attested, with no event
-abbrev pub quiet_play : List (List Event)
+abbrev pub quiet_play : Play
 quiet_play = quiet_steps 145 []
 
 -- the same, where a byte arrives while the region runs
-abbrev pub play_with_byte : List (List Event)
+abbrev pub play_with_byte : Play
 play_with_byte = quiet_steps 142 ((Rx 0x55 ∷ []) ∷ quiet_steps 11 [])
 
 -- EXEC in a report

@@ -1,7 +1,7 @@
 -- Texts of printed lines, and the reports that are read of them.
-use Rattle.std.proofs.Common.{◌≡◌, ◌∙◌, ℕ, ◌+◌, ◌<◌, ◌≤◌, Bool, false, List, [], ◌∷◌, ◌++◌, Option, Some, None, Ok, length, length-append, append_assoc, append-nil, add-zero, refl, ap, sym, subst, arith}
+use Rattle.std.proofs.Common.{◌≡◌, ◌∙◌, ℕ, ◌+◌, ◌<◌, ◌≤◌, Bool, false, List, [], ◌∷◌, ◌++◌, ◌⊎◌, inl, inr, Option, Some, None, Ok, length, length-append, append_assoc, append-nil, add-zero, drop, refl, ap, sym, arith}
 use Rattle.std.specs.Prelude.{◌^◌, codes, IsUtf8}
-use Rattle.std.specs.Fmt.{decimal}
+use Rattle.std.specs.Fmt.{decimal, digits}
 use Rattle.std.specs.List.{join_with_byte}
 use Rattle.std.specs.Str.Lines.{lines}
 use Rattle.std.proofs.lemmas.Str.{IsUtf8-nil, IsUtf8-append, IsUtf8-from_ascii}
@@ -9,23 +9,23 @@ use Rattle.std.proofs.lemmas.Str.Ascii.{IsAscii-nil, IsAscii-cons}
 use Rattle.bus_signals.specs.Report.{ReportFields}
 use Rattle.bus_signals.specs.declared.rule.Rule.{Rule}
 use Rattle.bus_signals.specs.declared.rule.Rule.TheVariants.{X0, A1, A2, A3, A4, K1, K2, K3, K4, K5, K6, I1}
-use Rattle.printed_lines.specs.Line.{byte_digits, word_digits, flag_digit, rule_name, sent_line, reset_line, report_line, end_line}
+use Rattle.printed_lines.specs.Line.{byte_digits, word_digits, flag_digit, rule_name, sent_line, reset_line, report_line, denied_line, end_line}
 use Rattle.text_scan.specs.LineFold.{state_after, text_fold}
 use Rattle.text_scan.specs.Line.{numbered_lines}
 use Rattle.text_scan.specs.Word.{says_nothing, is_passed_over}
-use Rattle.text_scan.specs.WordValue.{place_of, block_of}
+use Rattle.text_scan.specs.WordValue.{number_of, place_of, block_of}
 use Rattle.text_scan.proofs.FirstLine.{lines-line}
 use Rattle.text_scan.proofs.PlainWords.{ArePlain, IsPlainWord, hex_bytes_of-digits, hex_word_of-digits, words_of-join, printed-join, printed_bounds, printed-ascii, plain-decimal, plain-encoded, one_byte}
 use Rattle.text_scan.proofs.TextUtf8.{utf8_of-whole}
 use Rattle.report_verifier.specs.declared.decision.Decision.{Decision}
-use Rattle.report_verifier.specs.declared.decision.Decision.TheVariants.{Accept, NoChallenge, VersionDiffers, ChalDiffers, BoundsDiffer, ExecZero, MacDiffers}
+use Rattle.report_verifier.specs.declared.decision.Decision.TheVariants.{Accept, NoChallenge, VersionDiffers, ChalDiffers, CountDiffers, BoundsDiffer, ExecZero, AuxZero, MacDiffers}
 use Rattle.report_text.specs.ReadBack.{IsPrintable, IsReadBack, IsPassedOver}
 use Rattle.report_text.specs.ReportFile.{with_report, with_line, reports_of}
-use Rattle.report_text.specs.ReportLine.{name_of, tx_line_of, reset_of, end_line_of, verdict_of, no_report_of, line_of}
+use Rattle.report_text.specs.ReportLine.{name_of, tx_line_of, reset_of, denied_of, end_line_of, verdict_of, no_report_of, line_of}
 use Rattle.report_text.specs.RuleName.{is_rule_name}
 use Rattle.report_text.specs.VerdictLine.{verdict_line}
 use Rattle.report_text.specs.VerdictName.{verdict_name, is_verdict_name}
-use Rattle.report_text.proofs.ReportWords.{one, one-same, report_words, report_line-words, line_of-words, count_of-decimal, exec_of-flag, plain-words, plain-flag, plain-place}
+use Rattle.report_text.proofs.ReportWords.{report_words, report_fields, report_line-words, line-some, line-shown, line_of-words, count_of-decimal, flag_of-digit, plain-words, plain-flag, plain-place}
 
 -- What a text says, whatever stands before and behind it: these lines, and these reports of them.
 pub record ReadsAs (text : List ℕ) (reports : List ReportFields) : Type 0 where
@@ -138,18 +138,14 @@ reads-other words text is some says plain has =
 
 -- the line of a report
 
-reads-one : (report : ReportFields) → IsPrintable report
-    → ReadsAs (report_line (one report)) (one report ∷ [])
-reads-one report printable =
-    reads-line (report_words report) (report_line (one report)) (Some (one report))
-    (one report ∷ []) (report_line-words report) (omega arith) refl (plain-words report printable)
-    (line_of-words report printable) (λ before. rw printable.fits refl)
-
 pub reads-report : (report : ReportFields) → IsPrintable report
     → ReadsAs (report_line report) (report ∷ [])
 reads-report report printable =
-    subst (λ (same : ReportFields). ReadsAs (report_line same) (same ∷ []))
-    (one-same report printable) (reads-one report printable)
+    reads-line (report_words report) (report_line report) (Some report) (report ∷ [])
+    (report_line-words report)
+    (line-some report.version (decimal report.step) (drop 1 (report_fields report)))
+    (line-shown report.version (report_fields report)) (plain-words report printable)
+    (line_of-words report printable) (λ before. rw printable.fits refl)
 
 pub read_back : IsReadBack
 read_back report printable =
@@ -227,6 +223,37 @@ reads-reset step rule within =
     )
     (line_of-reset step rule (omega (arith, within)))
 
+denied_of-decision : (step decision : ℕ) → step ≤ 4294967295 → (decision ≡ 2) ⊎ (decision ≡ 3)
+    → denied_of (decimal step ∷ decimal decision ∷ []) ≡ Ok (tt, [])
+unfolding denied_of number_of digits
+denied_of-decision step decision within (inl is) =
+    rw is (rw (count_of-decimal step (decimal 2 ∷ []) within) refl)
+denied_of-decision step decision within (inr is) =
+    rw is (rw (count_of-decimal step (decimal 3 ∷ []) within) refl)
+
+line_of-denied : (step decision : ℕ) → step ≤ 4294967295 → (decision ≡ 2) ⊎ (decision ≡ 3)
+    → line_of (codes "denied" ∷ decimal step ∷ decimal decision ∷ []) ≡ Ok None
+unfolding line_of no_report_of
+line_of-denied step decision within denies =
+    rw (denied_of-decision step decision within denies) refl
+
+plain-decision : (decision : ℕ) → (decision ≡ 2) ⊎ (decision ≡ 3) → IsPlainWord (decimal decision)
+plain-decision decision (inl is) = plain-decimal decision (omega (arith, is))
+plain-decision decision (inr is) = plain-decimal decision (omega (arith, is))
+
+pub reads-denied : (step decision : ℕ) → step < 2 ^ 32 → (decision ≡ 2) ⊎ (decision ≡ 3)
+    → ReadsAs (denied_line step decision) []
+reads-denied step decision within denies =
+    reads-other (codes "denied" ∷ decimal step ∷ decimal decision ∷ []) (denied_line step decision)
+    (three-words (codes "denied") (decimal step) (decimal decision)) (omega arith) refl (
+      (omega arith, refl),
+      (
+        plain-decimal step (omega (arith, within)),
+        (plain-decision decision denies, tt),
+      ),
+    )
+    (line_of-denied step decision (omega (arith, within)) denies)
+
 name_of-verdict : (verdict : Decision)
     → name_of is_verdict_name (verdict_name verdict ∷ []) ≡ Ok (tt, [])
 unfolding name_of
@@ -234,8 +261,10 @@ name_of-verdict Accept = refl
 name_of-verdict NoChallenge = refl
 name_of-verdict VersionDiffers = refl
 name_of-verdict ChalDiffers = refl
+name_of-verdict CountDiffers = refl
 name_of-verdict BoundsDiffer = refl
 name_of-verdict ExecZero = refl
+name_of-verdict AuxZero = refl
 name_of-verdict MacDiffers = refl
 
 plain-verdict : (verdict : Decision) → IsPlainWord (verdict_name verdict)
@@ -243,8 +272,10 @@ plain-verdict Accept = (omega arith, refl)
 plain-verdict NoChallenge = (omega arith, refl)
 plain-verdict VersionDiffers = (omega arith, refl)
 plain-verdict ChalDiffers = (omega arith, refl)
+plain-verdict CountDiffers = (omega arith, refl)
 plain-verdict BoundsDiffer = (omega arith, refl)
 plain-verdict ExecZero = (omega arith, refl)
+plain-verdict AuxZero = (omega arith, refl)
 plain-verdict MacDiffers = (omega arith, refl)
 
 line_of-verdict : (number : ℕ) (verdict : Decision) → number ≤ 4294967295
@@ -290,7 +321,7 @@ line_of-end steps pc exec within fits =
     rw (
       count_of-decimal steps (codes "pc" ∷ word_digits pc ∷ flag) within,
       place_of-digits pc flag fits,
-      exec_of-flag exec [],
+      flag_of-digit (codes "exec") exec [],
     ) refl
 
 pub reads-end : (steps pc : ℕ) (exec : Bool) → steps < 2 ^ 32 → pc < 2 ^ 16

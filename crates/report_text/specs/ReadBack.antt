@@ -1,8 +1,9 @@
 -- The line of a report is read as that report, and the line of a verdict as none.
-use Rattle.std.specs.Prelude.{◌≡◌, ◌<◌, ◌^◌, ℕ, false, List, [], ◌∷◌, length, Ok, IfSome, IsTrue}
+use Rattle.std.specs.Prelude.{◌≡◌, ◌<◌, ◌^◌, ℕ, Bool, false, List, [], ◌∷◌, length, Ok, IfSome, IsTrue}
 use Rattle.hex.specs.Hex.{IsBytes}
 use Rattle.bus_signals.specs.declared.bounds.Bounds.{Bounds}
-use Rattle.bus_signals.specs.declared.version.Version.TheVariants.{One}
+use Rattle.bus_signals.specs.declared.version.Version.{Version}
+use Rattle.bus_signals.specs.declared.version.Version.TheVariants.{One, Two}
 use Rattle.bus_signals.specs.Report.{ReportFields}
 use Rattle.printed_lines.specs.Line.{report_line}
 use Rattle.report_verifier.specs.declared.decision.Decision.{Decision}
@@ -21,16 +22,19 @@ pub record AreWords (bounds : Bounds) : Type 0 where
   pub or_min : bounds.or_min < 2 ^ 16
   pub or_max : bounds.or_max < 2 ^ 16
 
--- a report of version 1 whose numbers fit, and whose output fits its bounds
+-- the second flag and the counter of a report: in version 1 there are none
+abbrev pub IsRequest : Version → Bool → ℕ → Type 0
+IsRequest One aux count = (aux ≡ false) × (count ≡ 0)
+IsRequest Two aux count = count < 2 ^ 32
+
+-- a report whose numbers fit, and whose output fits its bounds
 pub record IsPrintable (report : ReportFields) : Type 0 where
-  pub version : report.version ≡ One
-  pub aux : report.aux ≡ false
-  pub count : report.count ≡ 0
+  pub request : IsRequest report.version report.aux report.count
   pub step : report.step < 2 ^ 32
   pub chal : IsBlock report.chal
   pub bounds : AreWords report.bounds
   pub output : IfSome report.output IsBytes
-  pub fits : IsTrue (output_fits report.bounds report.output)
+  pub fits : IsTrue (output_fits report.version report.bounds report.output)
   pub mac : IsBlock report.mac
 
 -- the file of its line is the list of that one report

@@ -2,7 +2,8 @@
 use Rattle.std.specs.Prelude.{false, ℕ, ◌==◌, Bool, List, if◌then◌else◌, Option, Some, None, Result, Ok, Err, codes}
 use Rattle.std.specs.Str.{bytes_eq}
 use Rattle.bus_signals.specs.declared.bounds.Bounds.{Bounds}
-use Rattle.bus_signals.specs.declared.version.Version.TheVariants.{One}
+use Rattle.bus_signals.specs.declared.version.Version.{Version}
+use Rattle.bus_signals.specs.declared.version.Version.TheVariants.{One, Two}
 use Rattle.bus_signals.specs.Report.{ReportFields}
 use Rattle.text_scan.specs.declared.fault_kind.FaultKind.{FaultKind}
 use Rattle.text_scan.specs.declared.fault_kind.FaultKind.TheVariants.{Word}
@@ -14,16 +15,30 @@ use Rattle.text_scan.specs.WordValue.{number_of, place_of, block_of}
 use Rattle.report_text.specs.RuleName.{is_rule_name}
 use Rattle.report_text.specs.VerdictName.{is_verdict_name}
 
--- a number of a step, of steps or of a report
+-- a number of a step, of steps, of a report or of a request
 abbrev pub count_of : List (List ℕ) → Result (ℕ × List (List ℕ)) FaultKind
 count_of words = number_of 0 4294967295 words
 
--- `exec E`
-unfoldable pub exec_of : List (List ℕ) → Result (Bool × List (List ℕ)) FaultKind
-exec_of words = do
-  rest ← keyword_of (codes "exec") words
+-- a keyword and 0 or 1
+unfoldable pub flag_of : List ℕ → List (List ℕ) → Result (Bool × List (List ℕ)) FaultKind
+flag_of keyword words = do
+  rest ← keyword_of keyword words
   flag ← number_of 0 1 rest
   Ok (flag.0 == 1, flag.1)
+
+-- `exec E`
+abbrev pub exec_of : List (List ℕ) → Result (Bool × List (List ℕ)) FaultKind
+exec_of words = flag_of (codes "exec") words
+
+-- `aux A count N`, in version 2 alone; in version 1 they count as 0
+unfoldable pub request_of :
+    Version → List (List ℕ) → Result ((Bool × ℕ) × List (List ℕ)) FaultKind
+request_of One words = Ok ((false, 0), words)
+request_of Two words = do
+  aux ← flag_of (codes "aux") words
+  rest ← keyword_of (codes "count") aux.1
+  count ← count_of rest
+  Ok ((aux.0, count.0), count.1)
 
 -- a keyword and H64
 unfoldable pub digest_of : List ℕ → List (List ℕ) → Result (List ℕ × List (List ℕ)) FaultKind
@@ -62,22 +77,24 @@ output_of words = do
   output ← output_in word.0
   Ok (output, word.1)
 
--- `report S exec E chal H64 er H4 H4 or H4 H4 data D mac H64`
-unfoldable pub report_of : List (List ℕ) → Result (ReportFields × List (List ℕ)) FaultKind
-report_of words = do
+-- `S exec E chal H64 er H4 H4 or H4 H4 data D mac H64`, with a request's words before `chal`
+unfoldable pub report_of :
+    Version → List (List ℕ) → Result (ReportFields × List (List ℕ)) FaultKind
+report_of version words = do
   step ← count_of words
   exec ← exec_of step.1
-  chal ← digest_of (codes "chal") exec.1
+  request ← request_of version exec.1
+  chal ← digest_of (codes "chal") request.1
   bounds ← bounds_of chal.1
   output ← output_of bounds.1
   mac ← digest_of (codes "mac") output.1
   Ok (
     record {
-      version = One;
+      version = version;
       step = step.0;
       exec = exec.0;
-      aux = false;
-      count = 0;
+      aux = request.0.0;
+      count = request.0.1;
       chal = chal.0;
       bounds = bounds.0;
       output = output.0;
@@ -104,6 +121,13 @@ unfoldable pub reset_of : List (List ℕ) → Result (Unit × List (List ℕ)) F
 reset_of words = do
   step ← count_of words
   name_of is_rule_name step.1
+
+-- `denied S D`: another decision than to attest is 2 or 3
+unfoldable pub denied_of : List (List ℕ) → Result (Unit × List (List ℕ)) FaultKind
+denied_of words = do
+  step ← count_of words
+  decision ← number_of 2 3 step.1
+  Ok (tt, decision.1)
 
 -- `verdict I V`
 unfoldable pub verdict_of : List (List ℕ) → Result (Unit × List (List ℕ)) FaultKind
@@ -139,6 +163,7 @@ abbrev pub other_line_of : List ℕ → List (List ℕ) → Result (Unit × List
 other_line_of keyword words =
     if bytes_eq keyword (codes "tx") then tx_line_of words
     else if bytes_eq keyword (codes "reset") then reset_of words
+    else if bytes_eq keyword (codes "denied") then denied_of words
     else if bytes_eq keyword (codes "verdict") then verdict_of words
     else if bytes_eq keyword (codes "end") then end_line_of words
     else Err Word
@@ -149,9 +174,9 @@ other_or_collision_of keyword words =
     if bytes_eq keyword (codes "collision") then collision_of words else other_line_of keyword words
 
 unfoldable pub some_report_of :
-    List (List ℕ) → Result (Option ReportFields × List (List ℕ)) FaultKind
-some_report_of words = do
-  report ← report_of words
+    Version → List (List ℕ) → Result (Option ReportFields × List (List ℕ)) FaultKind
+some_report_of version words = do
+  report ← report_of version words
   Ok (Some report.0, report.1)
 
 unfoldable pub no_report_of :
@@ -162,7 +187,9 @@ no_report_of keyword words = do
 
 abbrev pub kind_of : List ℕ → List (List ℕ) → Result (Option ReportFields × List (List ℕ)) FaultKind
 kind_of keyword words =
-    if bytes_eq keyword (codes "report") then some_report_of words else no_report_of keyword words
+    if bytes_eq keyword (codes "report") then some_report_of One words
+    else if bytes_eq keyword (codes "report2") then some_report_of Two words
+    else no_report_of keyword words
 
 -- the report of a line, none where the line is of another kind
 unfoldable pub line_of : List (List ℕ) → Result (Option ReportFields) FaultKind

@@ -2,7 +2,8 @@
 //!
 //! Each print call puts exactly one line of the text into any byte sink, and takes no memory; after
 //! a failure the sink took a prefix of the line. [`read_reports`] gives the reports of a file in
-//! order, or its first fault; lines of the other kinds are passed over in their form.
+//! order, of both versions, or its first fault; lines of the other kinds are passed over in their
+//! form. [`read_report2`] reads one line of version 2.
 #![tactic(auto)]
 
 mod collision_line;
@@ -10,6 +11,7 @@ mod law;
 mod passed_line;
 mod printed_line;
 mod report;
+mod report2;
 mod report_entry;
 mod report_line;
 mod report_list;
@@ -23,4 +25,5 @@ pub use printed_line::{print_denied, print_end, print_reset, print_sent};
 pub use report::Report;
 pub use report_line::print_report;
 pub use report_list::read_reports;
+pub use report2::read_report2;
 pub use verdict_line::print_verdict;

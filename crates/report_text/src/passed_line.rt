@@ -1,8 +1,7 @@
-ghost use Rattle.std.specs.Prelude.{◌≡◌};
 ghost use Rattle.text_scan.specs.Reader.{ReadsOn, ReadsWordOn};
-ghost use Rattle.report_text.specs.ReportLine.{tx_line_of, reset_of, verdict_of, bytes_of, collision_of, end_line_of, other_line_of, other_or_collision_of};
+ghost use Rattle.report_text.specs.ReportLine.{tx_line_of, reset_of, denied_of, verdict_of, bytes_of, collision_of, end_line_of, other_line_of, other_or_collision_of};
 
-use crate::report_entry::{read_count, read_exec};
+use crate::report_entry::{read_count, read_flag};
 use crate::rule_name::is_rule_name;
 use crate::verdict_name::is_verdict_name;
 use std::alloc::Global;
@@ -26,6 +25,9 @@ fn pass_short_line(keyword: &[u8], words: &mut Words<'_>) -> Result<(), FaultKin
     }
     if keyword == b"reset".as_slice() {
         return pass_reset(words);
+    }
+    if keyword == b"denied".as_slice() {
+        return pass_denied(words);
     }
     if keyword == b"verdict".as_slice() {
         return pass_verdict(words);
@@ -55,6 +57,15 @@ fn pass_reset(words: &mut Words<'_>) -> Result<(), FaultKind>
     } else {
         Err(FaultKind::Word)
     }
+}
+
+#[tactic(auto, unfolding(crate::specs::ReportLine::denied_of))]
+fn pass_denied(words: &mut Words<'_>) -> Result<(), FaultKind>
+    ensures { ReadsOn result words.new (denied_of words.old) }
+{
+    read_count(words)?;
+    words.number(2, 3)?;
+    Ok(())
 }
 
 #[tactic(auto, unfolding(crate::specs::ReportLine::verdict_of, crate::specs::ReportLine::name_of))]
@@ -92,6 +103,6 @@ fn pass_end(words: &mut Words<'_>) -> Result<(), FaultKind>
     read_count(words)?;
     words.keyword(b"pc")?;
     words.place()?;
-    read_exec(words)?;
+    read_flag(b"exec", words)?;
     Ok(())
 }

@@ -1,19 +1,24 @@
-ghost use Rattle.std.specs.Prelude.{◌≡◌, false};
-ghost use Rattle.bus_signals.specs.declared.version.Version.TheVariants.{One};
+ghost use Rattle.std.specs.Prelude.{◌≡◌};
 ghost use Rattle.bus_signals.specs.Report.{ReportFields, fields_of};
-ghost use Rattle.report_text.specs.ReportFile.{output_fits};
+ghost use Rattle.report_text.specs.ReportFile.{output_fits, with_output};
 
-use bus_signals::{Bounds, ReportView, Version, valid_one};
+use bus_signals::{Bounds, ReportView, Version};
+use report_verifier::valid_for;
 use std::marker::Model;
-use text_scan::Bytes;
+use text_scan::{Bytes, FaultKind};
 
-/// An attestation report of version 1, as read from a file.
+/// An attestation report, as read from a file.
 #[derive(Debug, Drop)]
 pub struct Report {
+    pub version: Version,
     /// The step that finished the call, below 2^32.
     pub step: u64,
     /// The EXEC flag.
     pub exec: bool,
+    /// The second flag, false in version 1.
+    pub aux: bool,
+    /// The counter of the request, 0 in version 1.
+    pub count: u32,
     pub chal: [u8; 32],
     pub bounds: Bounds,
     /// The bytes of the output region, where the bounds are valid.
@@ -25,11 +30,11 @@ impl Model for Report {
     ghost Value = { ReportFields };
 
     ghost view = { λ report. record {
-      version = One;
+      version = report.version;
       step = report.step;
       exec = report.exec;
-      aux = false;
-      count = 0;
+      aux = report.aux;
+      count = report.count;
       chal = report.chal;
       bounds = report.bounds;
       output = report.output;
@@ -43,11 +48,11 @@ impl Report {
         ensures { fields_of result ≡ self.now }
     {
         ReportView {
-            version: Version::One,
+            version: self.version,
             step: self.step,
             exec: self.exec,
-            aux: false,
-            count: 0,
+            aux: self.aux,
+            count: self.count,
             chal: self.chal,
             bounds: self.bounds,
             output: match &self.output {
@@ -58,18 +63,30 @@ impl Report {
         }
     }
 
-    /// Whether the report has the bytes of its output region where its bounds are valid, and else
-    /// none.
-    pub fn output_fits(&self) -> bool
-        ensures { result ≡ output_fits self.now.bounds self.now.output }
+    // Whether the report has the bytes of its output region where its bounds are valid, and else
+    // none.
+    fn output_fits(&self) -> bool
+        ensures { result ≡ output_fits self.now.version self.now.bounds self.now.output }
     {
+        let is_valid = valid_for(self.version, &self.bounds);
         match &self.output {
-            None => !valid_one(&self.bounds),
+            None => !is_valid,
             Some(bytes) => {
                 let end = usize::from(self.bounds.or_max) + 2;
-                valid_one(&self.bounds)
+                is_valid
                     && bytes.as_slice().len() == end.saturating_sub(usize::from(self.bounds.or_min))
             }
+        }
+    }
+
+    /// The report, where its output fits its bounds, else `Output`.
+    pub(crate) fn with_output(self) -> Result<Report, FaultKind>
+        ensures { result ≡ with_output self }
+    {
+        if self.output_fits() {
+            Ok(self)
+        } else {
+            Err(FaultKind::Output)
         }
     }
 }

@@ -1,14 +1,15 @@
+ghost use Rattle.std.specs.Prelude.{◌≤◌, IfOk};
 ghost use Rattle.text_scan.specs.Reader.{ReadsOn, ReadsWord, ReadsWordOn};
 ghost use Rattle.text_scan.specs.Word.{words_of};
-ghost use Rattle.report_text.specs.ReportLine.{count_of, exec_of, digest_of, bounds_of, output_in, output_of, report_of, some_report_of, no_report_of, kind_of, line_of};
+ghost use Rattle.report_text.specs.ReportLine.{count_of, flag_of, request_of, digest_of, bounds_of, output_in, output_of, report_of, some_report_of, no_report_of, kind_of, line_of};
 
 use crate::passed_line::pass_line;
 use crate::report::Report;
-use bus_signals::Bounds;
+use bus_signals::{Bounds, Version};
 use std::alloc::Global;
 use text_scan::{Bytes, FaultKind, WordFault, Words};
 
-// The greatest number of a step, of steps or of a report.
+// The greatest number of a step, of steps, of a report or of a request.
 const GREATEST: u64 = 4_294_967_295;
 
 /// The report of a line, `None` where the line is of another kind.
@@ -31,17 +32,23 @@ fn read_kind(
     ensures { ReadsWordOn result words.new (kind_of keyword.now words.old) }
 {
     if keyword == b"report".as_slice() {
-        read_some(alloc, words)
-    } else {
-        read_none(alloc, keyword, words)
+        return read_some(alloc, Version::One, words);
     }
+    if keyword == b"report2".as_slice() {
+        return read_some(alloc, Version::Two, words);
+    }
+    read_none(alloc, keyword, words)
 }
 
 #[tactic(auto, unfolding(crate::specs::ReportLine::some_report_of))]
-fn read_some(alloc: Global, words: &mut Words<'_>) -> Result<Option<Report>, WordFault>
-    ensures { ReadsWordOn result words.new (some_report_of words.old) }
+fn read_some(
+    alloc: Global,
+    version: Version,
+    words: &mut Words<'_>,
+) -> Result<Option<Report>, WordFault>
+    ensures { ReadsWordOn result words.new (some_report_of version words.old) }
 {
-    Ok(Some(read_report(alloc, words)?))
+    Ok(Some(read_report(alloc, version, words)?))
 }
 
 #[tactic(auto, unfolding(crate::specs::ReportLine::no_report_of))]
@@ -56,19 +63,28 @@ fn read_none(
     Ok(None)
 }
 
+/// What a report of a version tells, in the words behind its keyword.
 #[tactic(auto, unfolding(crate::specs::ReportLine::report_of))]
-fn read_report(alloc: Global, words: &mut Words<'_>) -> Result<Report, WordFault>
-    ensures { ReadsWordOn result words.new (report_of words.old) }
+pub fn read_report(
+    alloc: Global,
+    version: Version,
+    words: &mut Words<'_>,
+) -> Result<Report, WordFault>
+    ensures { ReadsWordOn result words.new (report_of version words.old) }
 {
     let step = read_count(words)?;
-    let exec = read_exec(words)?;
+    let exec = read_flag(b"exec", words)?;
+    let (aux, count) = read_request(version, words)?;
     let chal = read_digest(b"chal", words)?;
     let bounds = read_bounds(words)?;
     let output = read_output(alloc, words)?;
     let mac = read_digest(b"mac", words)?;
     Ok(Report {
+        version,
         step,
         exec,
+        aux,
+        count,
         chal,
         bounds,
         output,
@@ -76,20 +92,37 @@ fn read_report(alloc: Global, words: &mut Words<'_>) -> Result<Report, WordFault
     })
 }
 
-/// The number of a step, of steps or of a report.
+/// The number of a step, of steps, of a report or of a request.
 pub fn read_count(words: &mut Words<'_>) -> Result<u64, FaultKind>
-    ensures { ReadsOn result words.new (count_of words.old) }
+    ensures value { ReadsOn result words.new (count_of words.old) }
+    ensures within { IfOk result (λ count. count ≤ 4294967295) }
 {
     words.number(0, GREATEST)
 }
 
-/// `exec E`.
-#[tactic(auto, unfolding(crate::specs::ReportLine::exec_of))]
-pub fn read_exec(words: &mut Words<'_>) -> Result<bool, FaultKind>
-    ensures { ReadsOn result words.new (exec_of words.old) }
+/// A keyword, and a flag as 0 or 1.
+#[tactic(auto, unfolding(crate::specs::ReportLine::flag_of))]
+pub fn read_flag(keyword: &[u8], words: &mut Words<'_>) -> Result<bool, FaultKind>
+    ensures { ReadsOn result words.new (flag_of keyword.now words.old) }
 {
-    words.keyword(b"exec")?;
+    words.keyword(keyword)?;
     Ok(words.number(0, 1)? == 1)
+}
+
+// `aux A count N`, in version 2 alone; in version 1 they count as 0.
+#[tactic(auto, unfolding(crate::specs::ReportLine::request_of))]
+fn read_request(version: Version, words: &mut Words<'_>) -> Result<(bool, u32), FaultKind>
+    ensures { ReadsOn result words.new (request_of version words.old) }
+{
+    match version {
+        Version::One => Ok((false, 0)),
+        Version::Two => {
+            let aux = read_flag(b"aux", words)?;
+            words.keyword(b"count")?;
+            let count = read_count(words)?;
+            Ok((aux, count as u32))
+        }
+    }
 }
 
 #[tactic(auto, unfolding(crate::specs::ReportLine::digest_of))]

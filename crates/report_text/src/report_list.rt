@@ -3,14 +3,13 @@ ghost use Rattle.std.specs.Result.{result_map_both};
 ghost use Rattle.bus_signals.specs.Report.{ReportFields};
 ghost use Rattle.text_scan.specs.LineFold.{TakesLine};
 ghost use Rattle.text_scan.specs.Reader.{Reads};
-ghost use Rattle.report_text.specs.ReportFile.{output_fits, with_report, with_line, reports_of};
+ghost use Rattle.report_text.specs.ReportFile.{with_report, with_line, reports_of};
 
 use crate::report::Report;
 use crate::report_entry::read_report_entry;
-use bus_signals::valid_one;
 use std::alloc::Global;
 use std::marker::Model;
-use text_scan::{FaultKind, LineReader, TextFault, WordFault, read_text};
+use text_scan::{LineReader, TextFault, WordFault, read_text};
 
 // The reports of the lines so far.
 #[derive(Debug, Drop)]
@@ -61,13 +60,11 @@ impl ReportList {
     fn add(&mut self, report: Report) -> Result<(), WordFault>
         ensures { TakesLine result self.new (with_report self.old (Some report)) }
     {
-        if !report.output_fits() {
-            return Err(WordFault::Kind(FaultKind::Output));
-        }
+        let whole = report.with_output()?;
         if let Err(error) = self.reports.reserve(1) {
             return Err(WordFault::Memory(error));
         }
-        self.reports.push_reserved(report);
+        self.reports.push_reserved(whole);
         Ok(())
     }
 

@@ -3,13 +3,15 @@ ghost use Rattle.report_text.specs.VerdictName.{verdict_name, is_verdict_name};
 
 use report_verifier::Decision;
 
-const ALL_VERDICTS: [Decision; 7] = [
+const ALL_VERDICTS: [Decision; 9] = [
     Decision::Accept,
     Decision::NoChallenge,
     Decision::VersionDiffers,
     Decision::ChalDiffers,
+    Decision::CountDiffers,
     Decision::BoundsDiffer,
     Decision::ExecZero,
+    Decision::AuxZero,
     Decision::MacDiffers,
 ];
 
@@ -23,8 +25,10 @@ pub fn verdict_name(decision: Decision) -> &'static [u8]
         Decision::NoChallenge => b"no-challenge",
         Decision::VersionDiffers => b"version-differs",
         Decision::ChalDiffers => b"chal-differs",
+        Decision::CountDiffers => b"count-differs",
         Decision::BoundsDiffer => b"bounds-differ",
         Decision::ExecZero => b"exec-zero",
+        Decision::AuxZero => b"aux-zero",
         Decision::MacDiffers => b"mac-differs",
     }
 }

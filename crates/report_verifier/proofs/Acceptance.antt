@@ -1,49 +1,85 @@
 -- An accepted report is of the bytes that were expected, or there are two lists with one digest.
-use Rattle.std.proofs.Common.{◌≡◌, ◌∙◌, ◌+◌, ◌-◌, ◌++◌, ◌&&◌, ◌⊎◌, ap, sym, ℕ, List, Bool, true, false, Option, inl, inr, refl, length, take, drop}
-use Rattle.std.specs.Prelude.{◌==◌, not, if◌then◌else◌}
+use Rattle.std.proofs.Common.{◌≡◌, ◌∙◌, ◌+◌, ◌-◌, ◌++◌, ◌&&◌, ◌⊎◌, ap, sym, ℕ, List, Bool, true, false, Option, Some, inl, inr, refl, length, length-append, take, drop, arith}
+use Rattle.std.specs.Prelude.{◌==◌, not, if◌then◌else◌, IsTrue}
 use Rattle.std.specs.Str.{bytes_eq}
 use Rattle.std.proofs.Math.Seq.{take-append_seam, drop-append_seam}
 use Rattle.std.proofs.lemmas.Bool.{and_parts, cases_Bool, cond-true, eqb-true, false≢true}
 use Rattle.std.proofs.lemmas.Slice.Eq.{bytes_eq-Decides}
 use Rattle.bus_signals.specs.declared.bounds.Bounds.{Bounds}
-use Rattle.bus_signals.specs.Bounds.{are_valid_one}
+use Rattle.bus_signals.specs.declared.version.Version.{Version}
+use Rattle.bus_signals.specs.declared.version.Version.TheVariants.{One, Two}
+use Rattle.bus_signals.specs.Bounds.{are_valid}
 use Rattle.bus_signals.specs.Report.{ReportFields}
-use Rattle.part_definitions.specs.Attestation.{attestation_tag, derived_key}
 use Rattle.part_definitions.specs.Hmac.{hmac}
 use Rattle.part_definitions.specs.Metadata.{bounds_in}
-use Rattle.part_definitions.specs.Region.{bytes_between, challenge_bytes, output_bytes}
-use Rattle.report_verifier.specs.declared.decision.Decision.{Decision}
-use Rattle.report_verifier.specs.declared.decision.Decision.TheVariants.{Accept, VersionDiffers, ChalDiffers, BoundsDiffer, ExecZero, MacDiffers}
+use Rattle.part_definitions.specs.Region.{metadata_bytes, bounded_bytes, rest_bytes, bytes_between, challenge_bytes, output_bytes}
+use Rattle.part_definitions.proofs.BytesFrom.{length-bytes_from}
+use Rattle.report_verifier.specs.declared.decision.Decision.TheVariants.{Accept, VersionDiffers, ChalDiffers, CountDiffers, BoundsDiffer, ExecZero, AuxZero, MacDiffers}
 use Rattle.report_verifier.specs.declared.expect.Expect.{Expect}
-use Rattle.report_verifier.specs.Acceptance.{IsAccepted, StandsAsExpected}
+use Rattle.report_verifier.specs.declared.flag_kind.FlagKind.{FlagKind}
+use Rattle.report_verifier.specs.declared.flag_kind.FlagKind.TheVariants.{Exec, Aux, Plain}
+use Rattle.report_verifier.specs.Acceptance.{HasFlag, IsAccepted, StandsAsExpected}
 use Rattle.report_verifier.specs.Collision.{Collides, colliding_pair}
-use Rattle.report_verifier.specs.Comparison.{bounded_bytes, expected_key, expected_bytes, metadata_bytes, own_bytes, rest_bytes}
+use Rattle.report_verifier.specs.Comparison.{expected_key, expected_bytes, own_bytes}
 use Rattle.report_verifier.specs.Expectation.{expected_mac, expected_metadata, expected_rest, image_byte, image_code, output_of}
 use Rattle.report_verifier.specs.PolicyGrammar.{bounds_with}
-use Rattle.report_verifier.specs.Verdict.{is_version_two, same_bounds}
+use Rattle.report_verifier.specs.Verdict.{same_version, same_bounds, lacks_exec, lacks_aux, verdict}
+use Rattle.report_verifier.proofs.ExpectedMetadata.{take-chal}
 use Rattle.report_verifier.proofs.Pairs.{one_mac-collides}
-use Rattle.part_definitions.proofs.BytesFrom.{length-bytes_from}
-use Rattle.report_verifier.proofs.SixPieces.{length-metadata, take-chal}
 
--- an accept says that all four tests hold
-pub tests-hold : (chal bounds exec mac : Bool)
-    → (if not chal then ChalDiffers
+-- what an accept says of the tests
+pub record TestsHold (version chal count bounds no_exec no_aux mac : Bool) : Type 0 where
+  pub version_holds : version ≡ true
+  pub chal_holds : chal ≡ true
+  pub bounds_hold : bounds ≡ true
+  pub exec_holds : no_exec ≡ false
+  pub aux_holds : no_aux ≡ false
+  pub mac_holds : mac ≡ true
+
+tests-hold : (version chal count bounds no_exec no_aux mac : Bool)
+    → (if not version then VersionDiffers
+    else if not chal then ChalDiffers
+    else if not count then CountDiffers
     else if not bounds then BoundsDiffer
-    else if not exec then ExecZero
+    else if no_exec then ExecZero
+    else if no_aux then AuxZero
     else if not mac then MacDiffers
     else Accept) ≡ Accept
-    → (chal ≡ true) × (bounds ≡ true) × (mac ≡ true)
-tests-hold true true true true is = (refl, refl, refl)
-tests-hold true true true false is = absurd (cc)
-tests-hold true true false mac is = absurd (cc)
-tests-hold true false exec mac is = absurd (cc)
-tests-hold false bounds exec mac is = absurd (cc)
+    → TestsHold version chal count bounds no_exec no_aux mac
+tests-hold true true true true false false true is =
+    record {
+      version_holds = refl;
+      chal_holds = refl;
+      bounds_hold = refl;
+      exec_holds = refl;
+      aux_holds = refl;
+      mac_holds = refl;
+    }
+tests-hold true true true true false false false is = absurd (cc)
+tests-hold true true true true false true mac is = absurd (cc)
+tests-hold true true true true true no_aux mac is = absurd (cc)
+tests-hold true true true false no_exec no_aux mac is = absurd (cc)
+tests-hold true true false bounds no_exec no_aux mac is = absurd (cc)
+tests-hold true false count bounds no_exec no_aux mac is = absurd (cc)
+tests-hold false chal count bounds no_exec no_aux mac is = absurd (cc)
 
--- and that the report is not of version 2
-pub version-one : (two : Bool) (decision : Decision)
-    → (if two then VersionDiffers else decision) ≡ Accept → decision ≡ Accept
-version-one true decision is = absurd (cc)
-version-one false decision is = is
+same-version : (left right : Version) → same_version left right ≡ true → left ≡ right
+same-version One One same = refl
+same-version One Two same = absurd (cc)
+same-version Two One same = absurd (cc)
+same-version Two Two same = refl
+
+not-lacking : (flag : Bool) → not flag ≡ false → IsTrue flag
+not-lacking true is = refl
+not-lacking false is = absurd (cc)
+
+has-flag : (flag : FlagKind) (report : ReportFields)
+    → lacks_exec flag report.exec ≡ false
+    → lacks_aux flag report.aux ≡ false
+    → HasFlag flag report
+has-flag Exec report exec aux = not-lacking report.exec exec
+has-flag Aux report exec aux = not-lacking report.aux aux
+has-flag Plain report exec aux = tt
 
 -- bounds that are the same in each part are equal
 pub same-bounds : (left right : Bounds) → same_bounds left right ≡ true → left ≡ right
@@ -61,49 +97,56 @@ same-bounds left right same =
     both first second third fourth = rw (first, second, third, fourth) refl
 
 -- what an accept says
-record Agrees (digest : List ℕ → List ℕ) (key : List ℕ) (image : ℕ → Option ℕ) (expect : Expect)
-    (bytes : ℕ → ℕ) (report : ReportFields) : Type 0 where
-  chal : expect.chal ≡ challenge_bytes bytes
-  here : expect.bounds ≡ bounds_in bytes
-  bounds : expect.bounds ≡ report.bounds
-  mac : expected_mac digest key image expect report.output
-      ≡ attestation_tag digest key (metadata_bytes bytes) (rest_bytes bytes)
+pub record Agrees (digest : List ℕ → List ℕ) (key : List ℕ) (image : ℕ → Option ℕ)
+    (expect : Expect) (report : ReportFields) : Type 0 where
+  pub version : expect.version ≡ report.version
+  pub chal : expect.chal ≡ report.chal
+  pub bounds : expect.bounds ≡ report.bounds
+  pub flag : HasFlag expect.flag report
+  pub mac : expected_mac digest key image expect report ≡ report.mac
 
-accept-agrees : (digest : List ℕ → List ℕ) (key : List ℕ) (image : ℕ → Option ℕ)
-    (expect : Expect) (bytes : ℕ → ℕ) (report : ReportFields)
-    → IsAccepted digest key image expect bytes report
-    → Agrees digest key image expect bytes report
-accept-agrees digest key image expect bytes report is =
-    let mac : List ℕ = expected_mac digest key image expect report.output in
-    let tests = tests-hold (bytes_eq expect.chal report.chal)
-    (same_bounds expect.bounds report.bounds) report.exec (bytes_eq mac report.mac)
-    (version-one (is_version_two report.version) _ is.accepted) in
-    let bounds = same-bounds expect.bounds report.bounds tests.1 in
+pub accept-agrees : (digest : List ℕ → List ℕ) (key : List ℕ) (image : ℕ → Option ℕ)
+    (expect : Expect) (report : ReportFields)
+    → verdict digest key image (Some expect) report ≡ Accept
+    → Agrees digest key image expect report
+accept-agrees digest key image expect report accepted =
+    let mac : List ℕ = expected_mac digest key image expect report in
+    let tests = tests-hold (same_version expect.version report.version)
+    (bytes_eq expect.chal report.chal) (expect.count == report.count)
+    (same_bounds expect.bounds report.bounds) (lacks_exec expect.flag report.exec)
+    (lacks_aux expect.flag report.aux) (bytes_eq mac report.mac) accepted in
     record {
-      chal = (bytes_eq-Decides expect.chal report.chal).0 tests.0 ∙ is.of_memory.chal;
-      here = bounds ∙ is.of_memory.bounds;
-      bounds = bounds;
-      mac = (bytes_eq-Decides mac report.mac).0 tests.2 ∙ is.of_memory.mac;
+      version = same-version expect.version report.version tests.version_holds;
+      chal = (bytes_eq-Decides expect.chal report.chal).0 tests.chal_holds;
+      bounds = same-bounds expect.bounds report.bounds tests.bounds_hold;
+      flag = has-flag expect.flag report tests.exec_holds tests.aux_holds;
+      mac = (bytes_eq-Decides mac report.mac).0 tests.mac_holds;
     }
 
--- the challenge in memory is the one that is expected, so the derived keys are equal
-same-key : (digest : List ℕ → List ℕ) (key : List ℕ) (expect : Expect) (bytes : ℕ → ℕ)
+-- the challenge in memory is the one that is expected
+chal-here : (digest : List ℕ → List ℕ) (key : List ℕ) (image : ℕ → Option ℕ)
+    (expect : Expect) (bytes : ℕ → ℕ) (report : ReportFields)
+    → IsAccepted digest key image expect bytes report
     → expect.chal ≡ challenge_bytes bytes
-    → derived_key digest key (metadata_bytes bytes) ≡ expected_key digest key expect
-same-key digest key expect bytes chal =
-    let size : length expect.chal ≡ 32 = ap length chal ∙ length-bytes_from bytes 0x240 32 in
-    ap (hmac digest key) (sym chal ∙ sym (take-chal expect size))
+chal-here digest key image expect bytes report is =
+    (accept-agrees digest key image expect report is.accepted).chal ∙ is.of_memory.chal
 
 pub one_mac : (digest : List ℕ → List ℕ) (key : List ℕ) (image : ℕ → Option ℕ)
     (expect : Expect) (bytes : ℕ → ℕ) (report : ReportFields)
     → IsAccepted digest key image expect bytes report
-    → hmac digest (expected_key digest key expect) (expected_bytes image expect report.output)
+    → hmac digest (expected_key digest key expect)
+    (expected_bytes digest key image expect report)
     ≡ hmac digest (expected_key digest key expect) (own_bytes bytes)
 one_mac digest key image expect bytes report is =
-    let agrees = accept-agrees digest key image expect bytes report is in
-    agrees.mac
-    ∙ ap (λ (mac_key : List ℕ). hmac digest mac_key (own_bytes bytes))
-    (same-key digest key expect bytes agrees.chal)
+    let agrees = accept-agrees digest key image expect report is.accepted in
+    let chal = chal-here digest key image expect bytes report is in
+    let size : length expect.chal ≡ 32 = ap length chal ∙ length-bytes_from bytes 0x240 32 in
+    ap (λ (challenge : List ℕ). hmac digest (hmac digest key challenge)
+    (expected_bytes digest key image expect report))
+    (sym (take-chal digest key expect report size))
+    ∙ agrees.mac ∙ is.of_memory.mac
+    ∙ ap (λ (challenge : List ℕ). hmac digest (hmac digest key challenge) (own_bytes bytes))
+    (sym chal)
 
 -- two lists of two parts, of which the first ones have one length
 parts-same : (first second third fourth : List ℕ) → length first ≡ length third
@@ -119,41 +162,59 @@ parts-same first second third fourth size same = (
 pub expected-where : (digest : List ℕ → List ℕ) (key : List ℕ) (image : ℕ → Option ℕ)
     (expect : Expect) (bytes : ℕ → ℕ) (report : ReportFields)
     → IsAccepted digest key image expect bytes report
-    → expected_bytes image expect report.output ≡ own_bytes bytes
-    → StandsAsExpected image expect report bytes
+    → expected_bytes digest key image expect report ≡ own_bytes bytes
+    → StandsAsExpected digest key image expect report bytes
 expected-where digest key image expect bytes report is same =
-    let agrees = accept-agrees digest key image expect bytes report is in
+    let agrees = accept-agrees digest key image expect report is.accepted in
     let bounds : Bounds = expect.bounds in
+    let here : bounds ≡ bounds_in bytes = agrees.bounds ∙ is.of_memory.bounds in
+    let version : expect.version ≡ Two = agrees.version ∙ is.of_memory.version in
+    let valid : are_valid bounds ≡ true = rw version at is.valid in
+    let metadata : List ℕ = expected_metadata digest key expect report in
+    let code : List ℕ = image_code image bounds in
+    let own_code : List ℕ = bytes_between bytes bounds.er_min bounds.er_max in
+    let own_output : List ℕ = output_bytes bytes bounds in
+    let output : report.output ≡ Some own_output =
+    rw (← agrees.bounds) at (is.of_memory.output (rw agrees.bounds at valid)) in
+    let told : output_of report.output ≡ own_output = ap output_of output in
+    let rest : rest_bytes bytes ≡ own_code ++ own_output =
+    ap (bounded_bytes bytes) (sym here) ∙ cond-true (are_valid bounds) _ _ valid in
     let count : ℕ = bounds.er_max + 2 - bounds.er_min in
-    let chal : length expect.chal ≡ 32 =
-    ap length agrees.chal ∙ length-bytes_from bytes 0x240 32 in
-    let parts = parts-same (expected_metadata expect) (expected_rest image expect report.output)
-    (metadata_bytes bytes) (rest_bytes bytes)
-    (length-metadata expect chal ∙ sym (length-bytes_from bytes 0x240 42)) same in
-    let rest : rest_bytes bytes
-    ≡ bytes_between bytes bounds.er_min bounds.er_max ++ output_bytes bytes bounds =
-    ap (bounded_bytes bytes) (sym agrees.here)
-    ∙ cond-true (are_valid_one bounds) _ _ is.valid in
-    let code = parts-same (image_code image bounds) (output_of report.output)
-    (bytes_between bytes bounds.er_min bounds.er_max) (output_bytes bytes bounds)
-    (length-bytes_from (image_byte image) bounds.er_min count
-    ∙ sym (length-bytes_from bytes bounds.er_min count))
+    let code_size : length code ≡ length own_code =
+    length-bytes_from (image_byte image) bounds.er_min count
+    ∙ sym (length-bytes_from bytes bounds.er_min count) in
+    let rest_size : length (expected_rest image expect report.output)
+    ≡ length (rest_bytes bytes) =
+    length-append code (output_of report.output)
+    ∙ omega (arith, code_size, ap length told)
+    ∙ sym (length-append own_code own_output) ∙ ap length (sym rest) in
+    let size : length metadata ≡ length (metadata_bytes bytes) =
+    omega (
+      arith,
+      length-append metadata (expected_rest image expect report.output),
+      length-append (metadata_bytes bytes) (rest_bytes bytes),
+      ap length same,
+      rest_size,
+    ) in
+    let parts = parts-same metadata (expected_rest image expect report.output)
+    (metadata_bytes bytes) (rest_bytes bytes) size same in
+    let codes = parts-same code (output_of report.output) own_code own_output code_size
     (parts.1 ∙ rest) in
     record {
       metadata = sym parts.0;
-      code = sym code.0;
-      output =
-          rw (← agrees.bounds) at (sym (is.of_memory.output (rw agrees.bounds at is.valid)));
+      flag = agrees.flag;
+      code = sym codes.0;
+      output = sym output;
     }
 
 pub expected-or_collides : (digest : List ℕ → List ℕ) (key : List ℕ) (image : ℕ → Option ℕ)
     (expect : Expect) (bytes : ℕ → ℕ) (report : ReportFields)
     → IsAccepted digest key image expect bytes report
-    → StandsAsExpected image expect report bytes
+    → StandsAsExpected digest key image expect report bytes
     ⊎ Collides digest (colliding_pair digest (expected_key digest key expect)
-    (expected_bytes image expect report.output) (own_bytes bytes))
+    (expected_bytes digest key image expect report) (own_bytes bytes))
 expected-or_collides digest key image expect bytes report is =
-    let target : List ℕ = expected_bytes image expect report.output in
+    let target : List ℕ = expected_bytes digest key image expect report in
     let own : List ℕ = own_bytes bytes in
     elim (cases_Bool (bytes_eq target own)) [
       | inl same ↦

@@ -1,5 +1,6 @@
-pub mod SixPieces
+pub mod Pieces
 pub mod CodeBytes
+pub mod ExpectedMetadata
 pub mod Pairs
 pub mod Acceptance
 pub mod PolicyBounds

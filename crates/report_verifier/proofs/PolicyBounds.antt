@@ -3,7 +3,8 @@ use Rattle.std.proofs.Common.{◌≡◌, ℕ, List, [], ◌∷◌, Bool, true, f
 use Rattle.std.specs.Prelude.{if◌then◌else◌}
 use Rattle.std.specs.Str.Lines.{lines}
 use Rattle.bus_signals.specs.declared.bounds.Bounds.{Bounds}
-use Rattle.bus_signals.specs.Bounds.{are_valid_one}
+use Rattle.bus_signals.specs.declared.version.Version.{Version}
+use Rattle.bus_signals.specs.declared.version.Version.TheVariants.{One, Two}
 use Rattle.text_scan.specs.declared.fault_at.FaultAt.{FaultAt}
 use Rattle.text_scan.specs.declared.fault_kind.FaultKind.{FaultKind}
 use Rattle.text_scan.specs.declared.fault_kind.FaultKind.TheVariants as kinds
@@ -13,39 +14,77 @@ use Rattle.text_scan.specs.Reader.{◌>>=◌, in_line}
 use Rattle.text_scan.specs.Utf8.{utf8_of}
 use Rattle.text_scan.specs.Word.{is_passed_over, words_of}
 use Rattle.report_verifier.specs.declared.draft.Draft.{Draft}
-use Rattle.report_verifier.specs.declared.draft.Draft.TheVariants.{Empty, ExecutableKnown, Whole}
+use Rattle.report_verifier.specs.declared.draft.Draft.TheVariants.{Empty, VersionKnown, ExecutableKnown, BoundsKnown, Whole}
 use Rattle.report_verifier.specs.declared.policy_line.PolicyLine.{PolicyLine}
-use Rattle.report_verifier.specs.declared.policy_line.PolicyLine.TheVariants.{Executable, Output, Challenge}
-use Rattle.report_verifier.specs.PolicyGrammar.{policy_of, line_of, bounds_with, with_entry, with_line, whole_policy}
+use Rattle.report_verifier.specs.declared.policy_line.PolicyLine.TheVariants.{VersionTwo, Executable, Output, Flag, Request, Challenge}
+use Rattle.report_verifier.specs.Policy.{PolicyFields}
+use Rattle.report_verifier.specs.PolicyGrammar.{policy_of, line_of, bounds_with, draft_with, with_challenge, with_entry, with_line, whole_policy}
+use Rattle.report_verifier.specs.Validity.{are_valid_for}
 
--- the bounds that a draft has are valid
+-- the bounds that a draft has are valid in its version
+abbrev IsValidPolicy : PolicyFields → Type 0
+IsValidPolicy policy = are_valid_for policy.version policy.bounds ≡ true
+
 abbrev HasValidBounds : Draft → Type 0
-HasValidBounds (Whole policy) = are_valid_one policy.bounds ≡ true
+HasValidBounds (BoundsKnown policy) = IsValidPolicy policy
+HasValidBounds (Whole policy) = IsValidPolicy policy
 HasValidBounds draft = Unit {0}
 
-with_bounds-valid : (bounds : Bounds) (test : Bool) → are_valid_one bounds ≡ test
-    → IfOk (if test then Ok (Whole (record { bounds = bounds; challenges = [] }))
-    else Err kinds.Bounds) HasValidBounds
-with_bounds-valid bounds true valid = valid
-with_bounds-valid bounds false valid = tt
+draft_with-valid : (version : Version) (bounds : Bounds) → are_valid_for version bounds ≡ true
+    → HasValidBounds (draft_with version bounds)
+draft_with-valid One bounds valid = valid
+draft_with-valid Two bounds valid = valid
+
+with_bounds-valid : (version : Version) (bounds : Bounds) (test : Bool)
+    → are_valid_for version bounds ≡ test
+    → IfOk (if test then Ok (draft_with version bounds) else Err kinds.Bounds) HasValidBounds
+with_bounds-valid version bounds true valid = draft_with-valid version bounds valid
+with_bounds-valid version bounds false valid = tt
+
+with_challenge-valid : (version : Version) (policy : PolicyFields) (chal : List ℕ)
+    → IsValidPolicy policy → IfOk (with_challenge version policy chal) HasValidBounds
+with_challenge-valid One policy chal valid = valid
+with_challenge-valid Two policy chal valid = tt
 
 with_entry-valid : (draft : Draft) (line : PolicyLine) → HasValidBounds draft
     → IfOk (with_entry draft line) HasValidBounds
+with_entry-valid Empty VersionTwo valid = tt
 with_entry-valid Empty (Executable first last) valid = tt
 with_entry-valid Empty (Output first last) valid = tt
+with_entry-valid Empty (Flag flag) valid = tt
+with_entry-valid Empty (Request asked) valid = tt
 with_entry-valid Empty (Challenge chal) valid = tt
-with_entry-valid (ExecutableKnown er_min er_max) (Executable first last) valid = tt
-with_entry-valid (ExecutableKnown er_min er_max) (Output first last) valid =
-    with_bounds-valid (bounds_with er_min er_max first last) _ refl
-with_entry-valid (ExecutableKnown er_min er_max) (Challenge chal) valid = tt
+with_entry-valid VersionKnown VersionTwo valid = tt
+with_entry-valid VersionKnown (Executable first last) valid = tt
+with_entry-valid VersionKnown (Output first last) valid = tt
+with_entry-valid VersionKnown (Flag flag) valid = tt
+with_entry-valid VersionKnown (Request asked) valid = tt
+with_entry-valid VersionKnown (Challenge chal) valid = tt
+with_entry-valid (ExecutableKnown version er_min er_max) VersionTwo valid = tt
+with_entry-valid (ExecutableKnown version er_min er_max) (Executable first last) valid = tt
+with_entry-valid (ExecutableKnown version er_min er_max) (Output first last) valid =
+    with_bounds-valid version (bounds_with er_min er_max first last) _ refl
+with_entry-valid (ExecutableKnown version er_min er_max) (Flag flag) valid = tt
+with_entry-valid (ExecutableKnown version er_min er_max) (Request asked) valid = tt
+with_entry-valid (ExecutableKnown version er_min er_max) (Challenge chal) valid = tt
+with_entry-valid (BoundsKnown policy) VersionTwo valid = tt
+with_entry-valid (BoundsKnown policy) (Executable first last) valid = tt
+with_entry-valid (BoundsKnown policy) (Output first last) valid = tt
+with_entry-valid (BoundsKnown policy) (Flag flag) valid = valid
+with_entry-valid (BoundsKnown policy) (Request asked) valid = tt
+with_entry-valid (BoundsKnown policy) (Challenge chal) valid = tt
+with_entry-valid (Whole policy) VersionTwo valid = tt
 with_entry-valid (Whole policy) (Executable first last) valid = tt
 with_entry-valid (Whole policy) (Output first last) valid = tt
-with_entry-valid (Whole policy) (Challenge chal) valid = valid
+with_entry-valid (Whole policy) (Flag flag) valid = tt
+with_entry-valid (Whole policy) (Request asked) valid = valid
+with_entry-valid (Whole policy) (Challenge chal) valid =
+    with_challenge-valid policy.version policy chal valid
 
 with_line-valid : (draft : Draft) (line : List ℕ) → HasValidBounds draft
     → IfOk (with_line draft line) HasValidBounds
 unfolding with_line
-with_line-valid draft line valid = by_entry (line_of (words_of line))
+with_line-valid draft line valid = by_entry (line_of draft (words_of line))
   where
     by_entry : (entry : Result PolicyLine FaultKind)
         → IfOk (entry >>= (λ entry. with_entry draft entry)) HasValidBounds
@@ -74,25 +113,27 @@ state_after-valid draft (line ∷ lines) valid =
     (λ after valid_after. state_after-valid after lines valid_after)
 
 whole-valid : (last : ℕ) (draft : Draft) → HasValidBounds draft
-    → IfOk (whole_policy last draft) (λ policy. are_valid_one policy.bounds ≡ true)
+    → IfOk (whole_policy last draft) IsValidPolicy
 whole-valid last Empty valid = tt
-whole-valid last (ExecutableKnown first end) valid = tt
+whole-valid last VersionKnown valid = tt
+whole-valid last (ExecutableKnown version first end) valid = tt
+whole-valid last (BoundsKnown policy) valid = tt
 whole-valid last (Whole policy) valid = valid
 
 draft-valid : (last : ℕ) (draft : Result Draft FaultAt) → IfOk draft HasValidBounds
-    → IfOk (draft >>= whole_policy last) (λ policy. are_valid_one policy.bounds ≡ true)
+    → IfOk (draft >>= whole_policy last) IsValidPolicy
 draft-valid last (Ok after) valid = whole-valid last after valid
 draft-valid last (Err fault) valid = tt
 
 pub policy_of-valid : (text : List ℕ)
-    → IfOk (policy_of text) (λ policy. are_valid_one policy.bounds ≡ true)
+    → IfOk (policy_of text) IsValidPolicy
 unfolding policy_of text_fold
 policy_of-valid text = by_case (utf8_of text)
   where
     by_case : (sound : Result Unit FaultAt)
         → IfOk ((sound >>= (λ is. state_after with_line Empty (lines_of text)))
         >>= whole_policy (length (lines text)))
-        (λ policy. are_valid_one policy.bounds ≡ true)
+        IsValidPolicy
     by_case (Err fault) = tt
     by_case (Ok is) =
         draft-valid (length (lines text)) (state_after with_line Empty (lines_of text))

@@ -1,17 +1,47 @@
 -- What a verifier expects a report's MAC to be of.
-use Rattle.std.specs.Prelude.{◌++◌, ℕ, List, [], ◌∷◌, Option, Some, None, unwrap_or}
+use Rattle.std.specs.Prelude.{◌++◌, ℕ, Bool, true, false, List, [], ◌∷◌, Option, Some, None, unwrap_or}
+use Rattle.std.specs.Int.{w32, to_le_bytes}
 use Rattle.bus_signals.specs.declared.bounds.Bounds.{Bounds}
+use Rattle.bus_signals.specs.declared.version.Version.{Version}
+use Rattle.bus_signals.specs.declared.version.Version.TheVariants.{One, Two}
+use Rattle.bus_signals.specs.Report.{ReportFields}
 use Rattle.part_definitions.specs.Attestation.{bytes_of_words, attestation_tag}
 use Rattle.part_definitions.specs.Region.{bytes_between}
+use Rattle.part_definitions.specs.Request.{request_token}
 use Rattle.report_verifier.specs.declared.expect.Expect.{Expect}
 
--- challenge and bounds, and the EXEC word 1
-abbrev pub expected_metadata : Expect → List ℕ
-expected_metadata expect =
+abbrev pub flag_word : Bool → ℕ
+flag_word true = 1
+flag_word false = 0
+
+-- the four bytes of a counter, the lowest first
+abbrev pub count_bytes : ℕ → List ℕ
+count_bytes count = to_le_bytes w32 count
+
+-- the token that the expected request carries
+abbrev pub expected_token : (List ℕ → List ℕ) → List ℕ → Expect → List ℕ
+expected_token digest key expect = request_token digest key expect.chal (count_bytes expect.count)
+
+-- the expected challenge and bounds, and the EXEC word: the metadata of version 1
+abbrev pub first_metadata : Expect → Bool → List ℕ
+first_metadata expect exec =
     expect.chal
     ++ bytes_of_words
-    (expect.bounds.er_min ∷ expect.bounds.er_max ∷ expect.bounds.or_min ∷ expect.bounds.or_max ∷ 1
-    ∷ [])
+    (expect.bounds.er_min ∷ expect.bounds.er_max ∷ expect.bounds.or_min ∷ expect.bounds.or_max
+    ∷ flag_word exec ∷ [])
+
+-- what version 2 has behind them: the AUX word, the expected counter, and its token
+abbrev pub request_metadata : Version → (List ℕ → List ℕ) → List ℕ → Expect → Bool → List ℕ
+request_metadata One digest key expect aux = []
+request_metadata Two digest key expect aux =
+    bytes_of_words (flag_word aux ∷ [])
+    ++ (count_bytes expect.count ++ expected_token digest key expect)
+
+-- both, with the flags as the report tells them
+abbrev pub expected_metadata : (List ℕ → List ℕ) → List ℕ → Expect → ReportFields → List ℕ
+expected_metadata digest key expect report =
+    first_metadata expect report.exec
+    ++ request_metadata expect.version digest key expect report.aux
 
 -- the image's code, 0 where it has no byte
 abbrev pub image_byte : (ℕ → Option ℕ) → ℕ → ℕ
@@ -30,6 +60,7 @@ abbrev pub expected_rest : (ℕ → Option ℕ) → Expect → Option (List ℕ)
 expected_rest image expect output = image_code image expect.bounds ++ output_of output
 
 abbrev pub expected_mac :
-    (List ℕ → List ℕ) → List ℕ → (ℕ → Option ℕ) → Expect → Option (List ℕ) → List ℕ
-expected_mac digest key image expect output =
-    attestation_tag digest key (expected_metadata expect) (expected_rest image expect output)
+    (List ℕ → List ℕ) → List ℕ → (ℕ → Option ℕ) → Expect → ReportFields → List ℕ
+expected_mac digest key image expect report =
+    attestation_tag digest key (expected_metadata digest key expect report)
+    (expected_rest image expect report.output)

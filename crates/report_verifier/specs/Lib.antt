@@ -5,3 +5,4 @@ pub mod Collision
 pub mod Comparison
 pub mod Policy
 pub mod PolicyGrammar
+pub mod Validity

@@ -1,17 +1,33 @@
--- What a policy says: the bounds that reports shall name, and the challenges that were sent.
+-- What a policy says: the bounds and the flag that reports shall name, and the requests that were
+-- sent.
 use Rattle.std.specs.Prelude.{ℕ, List, Option, Some, None}
 use Rattle.std.specs.List.{slice_get}
 use Rattle.bus_signals.specs.declared.bounds.Bounds.{Bounds}
+use Rattle.bus_signals.specs.declared.version.Version.{Version}
+use Rattle.report_verifier.specs.declared.flag_kind.FlagKind.{FlagKind}
+use Rattle.report_verifier.specs.declared.asked.Asked.{Asked}
 use Rattle.report_verifier.specs.declared.expect.Expect.{Expect}
 
 pub record PolicyFields : Type 0 where
+  pub version : Version
   pub bounds : Bounds
-  pub challenges : List (List ℕ)
+  pub flag : FlagKind
+  pub requests : List Asked
+
+-- what a report on a request shall name
+abbrev pub expectation : PolicyFields → Option Asked → Option Expect
+expectation policy None = None
+expectation policy (Some asked) =
+    Some (
+    record {
+      version = policy.version;
+      chal = asked.chal;
+      count = asked.count;
+      bounds = policy.bounds;
+      flag = policy.flag;
+    }
+    )
 
 -- what report i shall name, from 0
-abbrev pub expectation : PolicyFields → Option (List ℕ) → Option Expect
-expectation policy None = None
-expectation policy (Some chal) = Some (record { chal = chal; bounds = policy.bounds })
-
 abbrev pub expect_at : PolicyFields → ℕ → Option Expect
-expect_at policy i = expectation policy (slice_get policy.challenges i)
+expect_at policy i = expectation policy (slice_get policy.requests i)

@@ -1,9 +1,11 @@
--- The grammar of a policy: `er`, then `or`, then challenges; and the first fault.
+-- The grammar of a policy, and its first fault. Version 1 is `er`, then `or`, then challenges;
+-- version 2 is `version 2`, then `er`, `or` and `flag`, then requests.
 use Rattle.std.specs.Prelude.{ℕ, List, [], ◌∷◌, ◌++◌, length, if◌then◌else◌, Result, Ok, Err, codes}
 use Rattle.std.specs.Str.{bytes_eq}
 use Rattle.std.specs.Str.Lines.{lines}
 use Rattle.bus_signals.specs.declared.bounds.Bounds.{Bounds}
-use Rattle.bus_signals.specs.Bounds.{are_valid_one}
+use Rattle.bus_signals.specs.declared.version.Version.{Version}
+use Rattle.bus_signals.specs.declared.version.Version.TheVariants.{One, Two}
 use Rattle.text_scan.specs.declared.fault_at.FaultAt.{FaultAt}
 use Rattle.text_scan.specs.declared.fault_kind.FaultKind.{FaultKind}
 use Rattle.text_scan.specs.declared.fault_kind.FaultKind.TheVariants.{Word, Missing, Order}
@@ -12,12 +14,22 @@ use Rattle.text_scan.specs.Ends.{ends_of}
 use Rattle.text_scan.specs.LineFold.{text_fold}
 use Rattle.text_scan.specs.Reader.{◌>>=◌}
 use Rattle.text_scan.specs.Word.{words_of, word_of, end_of}
-use Rattle.text_scan.specs.WordValue.{block_of}
+use Rattle.text_scan.specs.WordValue.{block_of, number_of}
+use Rattle.report_verifier.specs.declared.flag_kind.FlagKind.{FlagKind}
+use Rattle.report_verifier.specs.declared.flag_kind.FlagKind.TheVariants.{Exec, Aux, Plain}
+use Rattle.report_verifier.specs.declared.asked.Asked.{Asked}
 use Rattle.report_verifier.specs.declared.policy_line.PolicyLine.{PolicyLine}
-use Rattle.report_verifier.specs.declared.policy_line.PolicyLine.TheVariants.{Executable, Output, Challenge}
+use Rattle.report_verifier.specs.declared.policy_line.PolicyLine.TheVariants.{VersionTwo, Executable, Output, Flag, Request, Challenge}
 use Rattle.report_verifier.specs.declared.draft.Draft.{Draft}
-use Rattle.report_verifier.specs.declared.draft.Draft.TheVariants.{Empty, ExecutableKnown, Whole}
+use Rattle.report_verifier.specs.declared.draft.Draft.TheVariants.{Empty, VersionKnown, ExecutableKnown, BoundsKnown, Whole}
 use Rattle.report_verifier.specs.Policy.{PolicyFields}
+use Rattle.report_verifier.specs.Validity.{are_valid_for}
+
+-- `version 2`
+unfoldable pub version_of : List (List ℕ) → Result (PolicyLine × List (List ℕ)) FaultKind
+version_of words = do
+  version ← number_of 2 2 words
+  Ok (VersionTwo, version.1)
 
 -- `er H4 H4`
 unfoldable pub executable_of : List (List ℕ) → Result (PolicyLine × List (List ℕ)) FaultKind
@@ -31,12 +43,34 @@ output_of words = do
   ends ← ends_of words
   Ok (Output ends.0.0 ends.0.1, ends.1)
 
+abbrev pub flag_named : List ℕ → Result FlagKind FaultKind
+flag_named word =
+    if bytes_eq word (codes "exec") then Ok Exec
+    else if bytes_eq word (codes "aux") then Ok Aux
+    else if bytes_eq word (codes "plain") then Ok Plain
+    else Err Word
+
+-- `flag F`
+unfoldable pub flag_of : List (List ℕ) → Result (PolicyLine × List (List ℕ)) FaultKind
+flag_of words = do
+  word ← word_of words
+  flag ← flag_named word.0
+  Ok (Flag flag, word.1)
+
+-- `ask H64 N`
+unfoldable pub request_of : List (List ℕ) → Result (PolicyLine × List (List ℕ)) FaultKind
+request_of words = do
+  chal ← block_of 32 words
+  count ← number_of 1 4294967295 chal.1
+  Ok (Request (record { chal = chal.0; count = count.0 }), count.1)
+
 -- `chal H64`
 unfoldable pub challenge_of : List (List ℕ) → Result (PolicyLine × List (List ℕ)) FaultKind
 challenge_of words = do
   chal ← block_of 32 words
   Ok (Challenge chal.0, chal.1)
 
+-- the keywords of version 1
 abbrev pub kind_of : List ℕ → List (List ℕ) → Result (PolicyLine × List (List ℕ)) FaultKind
 kind_of keyword words =
     if bytes_eq keyword (codes "er") then executable_of words
@@ -44,39 +78,77 @@ kind_of keyword words =
     else if bytes_eq keyword (codes "chal") then challenge_of words
     else Err Word
 
--- what a line says
-unfoldable pub line_of : List (List ℕ) → Result PolicyLine FaultKind
-line_of words = do
+-- in version 2 there are three more; `chal` is read in its form there too
+abbrev pub kind_for :
+    Version → List ℕ → List (List ℕ) → Result (PolicyLine × List (List ℕ)) FaultKind
+kind_for One keyword words = kind_of keyword words
+kind_for Two keyword words =
+    if bytes_eq keyword (codes "version") then version_of words
+    else if bytes_eq keyword (codes "flag") then flag_of words
+    else if bytes_eq keyword (codes "ask") then request_of words
+    else kind_of keyword words
+
+-- the version of a policy whose next line has this keyword: the first line says it
+abbrev pub version_after : Draft → List ℕ → Version
+version_after Empty keyword = if bytes_eq keyword (codes "version") then Two else One
+version_after VersionKnown keyword = Two
+version_after (ExecutableKnown version er_min er_max) keyword = version
+version_after (BoundsKnown policy) keyword = Two
+version_after (Whole policy) keyword = policy.version
+
+-- what a line says after what was said before
+unfoldable pub line_of : Draft → List (List ℕ) → Result PolicyLine FaultKind
+line_of draft words = do
   keyword ← word_of words
-  line ← kind_of keyword.0 keyword.1
+  line ← kind_for (version_after draft keyword.0) keyword.0 keyword.1
   end ← end_of line.1
   Ok line.0
-
--- a policy with no challenge, where its bounds are valid
-abbrev pub with_bounds : Bounds → Result Draft FaultKind
-with_bounds bounds =
-    if are_valid_one bounds then Ok (Whole (record { bounds = bounds; challenges = [] }))
-    else Err kinds.Bounds
 
 abbrev pub bounds_with : ℕ → ℕ → ℕ → ℕ → Bounds
 bounds_with er_min er_max or_min or_max =
     record { er_min = er_min; er_max = er_max; or_min = or_min; or_max = or_max }
 
--- a line after what was said before; the lines come in this order
+-- a policy with no request
+abbrev pub policy_with : Version → Bounds → FlagKind → PolicyFields
+policy_with version bounds flag =
+    record { version = version; bounds = bounds; flag = flag; requests = [] }
+
+-- once the bounds are known a policy of version 1 is whole; in version 2 the flag is to come
+abbrev pub draft_with : Version → Bounds → Draft
+draft_with One bounds = Whole (policy_with One bounds Exec)
+draft_with Two bounds = BoundsKnown (policy_with Two bounds Plain)
+
+abbrev pub with_bounds : Version → Bounds → Result Draft FaultKind
+with_bounds version bounds =
+    if are_valid_for version bounds then Ok (draft_with version bounds) else Err kinds.Bounds
+
+abbrev pub with_request : PolicyFields → Asked → PolicyFields
+with_request policy asked = record policy { requests = policy.requests ++ asked ∷ [] }
+
+-- a challenge alone is a request of version 1
+abbrev pub with_challenge : Version → PolicyFields → List ℕ → Result Draft FaultKind
+with_challenge One policy chal =
+    Ok (Whole (with_request policy (record { chal = chal; count = 0 })))
+with_challenge Two policy chal = Err Order
+
+-- a line after what was said before: the lines come in this order
 abbrev pub with_entry : Draft → PolicyLine → Result Draft FaultKind
-with_entry Empty (Executable first last) = Ok (ExecutableKnown first last)
-with_entry (ExecutableKnown er_min er_max) (Output first last) =
-    with_bounds (bounds_with er_min er_max first last)
-with_entry (Whole policy) (Challenge chal) =
-    Ok (Whole (record { bounds = policy.bounds; challenges = policy.challenges ++ chal ∷ [] }))
+with_entry Empty VersionTwo = Ok VersionKnown
+with_entry Empty (Executable first last) = Ok (ExecutableKnown One first last)
+with_entry VersionKnown (Executable first last) = Ok (ExecutableKnown Two first last)
+with_entry (ExecutableKnown version er_min er_max) (Output first last) =
+    with_bounds version (bounds_with er_min er_max first last)
+with_entry (BoundsKnown policy) (Flag flag) = Ok (Whole (record policy { flag = flag }))
+with_entry (Whole policy) (Request asked) = Ok (Whole (with_request policy asked))
+with_entry (Whole policy) (Challenge chal) = with_challenge policy.version policy chal
 with_entry draft line = Err Order
 
 unfoldable pub with_line : Draft → List ℕ → Result Draft FaultKind
 with_line draft line = do
-  entry ← line_of (words_of line)
+  entry ← line_of draft (words_of line)
   with_entry draft entry
 
--- a text that ends before `or` has the fault in its last line
+-- a text that ends too early has the fault in its last line
 abbrev pub whole_policy : ℕ → Draft → Result PolicyFields FaultAt
 whole_policy last (Whole policy) = Ok policy
 whole_policy last draft = Err (record { line = last; kind = Missing })

@@ -1,14 +1,15 @@
 ghost use Rattle.std.specs.Prelude.{◌≡◌, IsTrue, option_map};
 ghost use Rattle.std.specs.Option.{ForSome};
 ghost use Rattle.sha2.specs.Sha256.{sha256};
-ghost use Rattle.bus_signals.specs.Bounds.{are_valid_one};
 ghost use Rattle.bus_signals.specs.Report.{fields_of};
 ghost use Rattle.mem_map.specs.Image.{byte_in};
-ghost use Rattle.report_verifier.specs.Verdict.{verdict, verdict_one, verdict_on};
+ghost use Rattle.report_verifier.specs.Validity.{are_valid_for};
+ghost use Rattle.report_verifier.specs.Verdict.{lacks_exec, lacks_aux, verdict_on, verdict};
 
 use crate::expect::Expect;
 use crate::expected_mac::expected_mac;
-use bus_signals::{ReportView, Version};
+use crate::flag_kind::FlagKind;
+use bus_signals::ReportView;
 use hmac_core::{Digest32, Sha256Digest, same_bytes};
 use mem_map::Image;
 
@@ -23,10 +24,15 @@ pub enum Decision {
     VersionDiffers,
     /// It answers another challenge.
     ChalDiffers,
+    /// It answers a request with another counter.
+    CountDiffers,
     /// It is of another code or output region.
     BoundsDiffer,
-    /// The code did not run whole, or code, metadata or output were touched.
+    /// EXEC is asked for and is 0: the code did not run whole, or code, metadata or output were
+    /// touched.
     ExecZero,
+    /// The second flag is asked for and is 0.
+    AuxZero,
     /// It was not made by this device's key over this code and output.
     MacDiffers,
 }
@@ -37,41 +43,48 @@ fn decide_on<D: Digest32>(
     expect: &Expect,
     report: &ReportView<'_>,
 ) -> Decision
-    requires { IsTrue (are_valid_one expect.now.bounds) }
+    requires { IsTrue (are_valid_for expect.now.version expect.now.bounds) }
     ensures { result
-        ≡ verdict_on D.digest_of key.now (byte_in image.now) expect.now (fields_of report.now) }
+        ≡ verdict_on D.hash.digest_of key.now (byte_in image.now) expect.now
+        (fields_of report.now) }
 {
+    if expect.version != report.version {
+        return Decision::VersionDiffers;
+    }
     if !same_bytes(&expect.chal, &report.chal) {
         return Decision::ChalDiffers;
+    }
+    if expect.count != report.count {
+        return Decision::CountDiffers;
     }
     if expect.bounds != report.bounds {
         return Decision::BoundsDiffer;
     }
-    if !report.exec {
+    if lacks_exec(expect.flag, report.exec) {
         return Decision::ExecZero;
     }
-    let mac = expected_mac::<D>(key, image, expect, report.output);
+    if lacks_aux(expect.flag, report.aux) {
+        return Decision::AuxZero;
+    }
+    let mac = expected_mac::<D>(key, image, expect, report);
     if !same_bytes(&mac, &report.mac) {
         return Decision::MacDiffers;
     }
     Decision::Accept
 }
 
-fn decide_one<D: Digest32>(
-    key: &[u8; 64],
-    image: &Image,
-    expect: Option<&Expect>,
-    report: &ReportView<'_>,
-) -> Decision
-    requires { ForSome expect (λ expect. IsTrue (are_valid_one expect.now.bounds)) }
-    ensures { result
-        ≡ verdict_one D.digest_of key.now (byte_in image.now)
-        (option_map (λ expect. expect.now) expect.entry) (fields_of report.now) }
+// Whether EXEC is asked for, and is 0.
+fn lacks_exec(flag: FlagKind, exec: bool) -> bool
+    ensures { result ≡ lacks_exec flag exec }
 {
-    match expect {
-        None => Decision::NoChallenge,
-        Some(expect) => decide_on::<D>(key, image, expect, report),
-    }
+    flag == FlagKind::Exec && !exec
+}
+
+// Whether the second flag is asked for, and is 0.
+fn lacks_aux(flag: FlagKind, aux: bool) -> bool
+    ensures { result ≡ lacks_aux flag aux }
+{
+    flag == FlagKind::Aux && !aux
 }
 
 /// The first verdict that holds of a report, where this is expected of it, by MACs over any digest.
@@ -81,14 +94,15 @@ pub fn decide_by<D: Digest32>(
     expect: Option<&Expect>,
     report: &ReportView<'_>,
 ) -> Decision
-    requires { ForSome expect (λ expect. IsTrue (are_valid_one expect.now.bounds)) }
+    requires { ForSome expect (λ expect.
+        IsTrue (are_valid_for expect.now.version expect.now.bounds)) }
     ensures { result
-        ≡ verdict D.digest_of key.now (byte_in image.now)
+        ≡ verdict D.hash.digest_of key.now (byte_in image.now)
         (option_map (λ expect. expect.now) expect.entry) (fields_of report.now) }
 {
-    match report.version {
-        Version::One => decide_one::<D>(key, image, expect, report),
-        Version::Two => Decision::VersionDiffers,
+    match expect {
+        None => Decision::NoChallenge,
+        Some(expect) => decide_on::<D>(key, image, expect, report),
     }
 }
 
@@ -99,7 +113,8 @@ pub fn decide(
     expect: Option<&Expect>,
     report: &ReportView<'_>,
 ) -> Decision
-    requires { ForSome expect (λ expect. IsTrue (are_valid_one expect.now.bounds)) }
+    requires { ForSome expect (λ expect.
+        IsTrue (are_valid_for expect.now.version expect.now.bounds)) }
     ensures { result
         ≡ verdict sha256 key.now (byte_in image.now)
         (option_map (λ expect. expect.now) expect.entry) (fields_of report.now) }

@@ -1,41 +1,52 @@
-ghost use Rattle.std.specs.Prelude.{◌≡◌, ◌++◌, ℕ, List, option_map, IsTrue};
-ghost use Rattle.bus_signals.specs.Bounds.{are_valid_one};
+ghost use Rattle.std.specs.Prelude.{◌≡◌, ◌≤◌, ◌+◌, ◌-◌, ◌++◌, ℕ, List, option_map, IsTrue};
+ghost use Rattle.bus_signals.specs.Report.{fields_of};
+ghost use Rattle.hmac_core.specs.Hmac.{HmacStandsFor};
 ghost use Rattle.mem_map.specs.Image.{byte_in};
 ghost use Rattle.part_definitions.specs.Hmac.{hmac};
-ghost use Rattle.hmac_core.specs.Hmac.{HmacStandsFor};
-ghost use Rattle.report_verifier.specs.Expectation.{expected_metadata, image_code, output_of, expected_mac};
+ghost use Rattle.part_definitions.specs.Memory.{bytes_from};
+ghost use Rattle.report_verifier.specs.Expectation.{image_byte, image_code, output_of, expected_mac};
+ghost use Rattle.report_verifier.specs.Validity.{are_valid_for};
 
+use crate::byte_list::ByteList;
 use crate::expect::Expect;
-use bus_signals::Bounds;
+use crate::image_code::push_code;
+use crate::metadata::expected_metadata;
+use bus_signals::ReportView;
 use hmac_core::{Digest32, Hmac, hmac};
 use mem_map::Image;
 
-// The HMAC takes the metadata that a report shall be made of.
-fn take_metadata<D: Digest32>(mac: &mut Hmac<D>, expect: &Expect)
-    ensures { (key message : List ℕ)
-        → HmacStandsFor D.has_taken D.digest_of mac.old key message
-        → HmacStandsFor D.has_taken D.digest_of mac.new key
-        (message ++ expected_metadata expect.now) }
-{
-    mac.update(&expect.chal);
-    mac.update_word(expect.bounds.er_min);
-    mac.update_word(expect.bounds.er_max);
-    mac.update_word(expect.bounds.or_min);
-    mac.update_word(expect.bounds.or_max);
-    mac.update_word(1);
-}
+// The most bytes of code that the HMAC takes at once: a block of the digest.
+const PIECE: u16 = 64;
 
 // The HMAC takes the image's code.
-fn take_code<D: Digest32>(mac: &mut Hmac<D>, image: &Image, bounds: &Bounds)
-    requires { IsTrue (are_valid_one bounds.now) }
+fn take_code<D: Digest32>(mac: &mut Hmac<D>, image: &Image, expect: &Expect)
+    requires { IsTrue (are_valid_for expect.now.version expect.now.bounds) }
     ensures { (key message : List ℕ)
-        → HmacStandsFor D.has_taken D.digest_of mac.old key message
-        → HmacStandsFor D.has_taken D.digest_of mac.new key
-        (message ++ image_code (byte_in image.now) bounds.now) }
+        → HmacStandsFor D.hash mac.old key message
+        → HmacStandsFor D.hash mac.new key
+        (message ++ image_code (byte_in image.now) expect.now.bounds) }
 {
-    for place in bounds.er_min..bounds.er_max + 2 {
-        mac.update(&[image.get(place).unwrap_or(0)]);
+    let end = expect.bounds.er_max + 2;
+    let mut place = expect.bounds.er_min;
+    while end - place > PIECE {
+        take_piece(mac, image, place, place + PIECE);
+        place += PIECE;
     }
+    take_piece(mac, image, place, end);
+}
+
+// The HMAC takes the image's bytes from one place up to another.
+fn take_piece<D: Digest32>(mac: &mut Hmac<D>, image: &Image, first: u16, end: u16)
+    requires order { first ≤ end }
+    requires few { end - first ≤ 64 }
+    ensures { (key message : List ℕ)
+        → HmacStandsFor D.hash mac.old key message
+        → HmacStandsFor D.hash mac.new key
+        (message ++ bytes_from (image_byte (byte_in image.now)) first (end - first)) }
+{
+    let mut piece = ByteList::<64>::new();
+    push_code(&mut piece, image, first, end);
+    mac.update(piece.as_slice());
 }
 
 /// No output counts as an output of no bytes.
@@ -48,38 +59,40 @@ pub fn output_bytes<'a>(output: Option<&'a [u8]>) -> &'a [u8]
     }
 }
 
-// The code under a derived key of what a report with this output shall be made of.
+// The code under a derived key of metadata, the image's code, and an output.
 fn derived_mac<D: Digest32>(
     derived_key: &[u8; 32],
+    metadata: &[u8],
     image: &Image,
     expect: &Expect,
     output: &[u8],
 ) -> [u8; 32]
-    requires { IsTrue (are_valid_one expect.now.bounds) }
-    ensures { result ≡ hmac D.digest_of derived_key.now
-        (expected_metadata expect.now
-        ++ (image_code (byte_in image.now) expect.now.bounds ++ output.now)) }
+    requires { IsTrue (are_valid_for expect.now.version expect.now.bounds) }
+    ensures { result ≡ hmac D.hash.digest_of derived_key.now
+        (metadata.now ++ (image_code (byte_in image.now) expect.now.bounds ++ output.now)) }
 {
     let mut mac = Hmac::<D>::new(derived_key);
-    take_metadata(&mut mac, expect);
-    take_code(&mut mac, image, &expect.bounds);
+    mac.update(metadata);
+    take_code(&mut mac, image, expect);
     mac.update(output);
     let (inner, outer) = mac.inner();
     outer.finish(&inner)
 }
 
-/// The MAC that a report with this output shall have.
+/// The MAC that a report shall have.
 pub fn expected_mac<D: Digest32>(
     key: &[u8; 64],
     image: &Image,
     expect: &Expect,
-    output: Option<&[u8]>,
+    report: &ReportView<'_>,
 ) -> [u8; 32]
-    requires { IsTrue (are_valid_one expect.now.bounds) }
+    requires { IsTrue (are_valid_for expect.now.version expect.now.bounds) }
     ensures { result
-        ≡ expected_mac D.digest_of key.now (byte_in image.now) expect.now
-        (option_map (λ bytes. bytes.now) output.entry) }
+        ≡ expected_mac D.hash.digest_of key.now (byte_in image.now) expect.now
+        (fields_of report.now) }
 {
     let derived_key = hmac::<D>(key, &expect.chal);
-    derived_mac::<D>(&derived_key, image, expect, output_bytes(output))
+    let metadata = expected_metadata::<D>(key, expect, report);
+    let output = output_bytes(report.output);
+    derived_mac::<D>(&derived_key, metadata.as_slice(), image, expect, output)
 }

@@ -1,6 +1,5 @@
 ghost use Rattle.std.specs.Prelude.{◌≡◌, ◌⊎◌, ℕ, List, Option, Ok, IfOk, IsTrue};
 ghost use Rattle.std.specs.declared.alloc.AllocError.{AllocError};
-ghost use Rattle.bus_signals.specs.Bounds.{are_valid_one};
 ghost use Rattle.bus_signals.specs.Report.{ReportFields};
 ghost use Rattle.part_definitions.specs.Hmac.{hmac};
 ghost use Rattle.report_verifier.specs.declared.evidence.Exhibit.TheVariants.{MacsDiffer};
@@ -9,11 +8,13 @@ ghost use Rattle.report_verifier.specs.Acceptance.{IsAccepted, StandsAsExpected}
 ghost use Rattle.report_verifier.specs.Collision.{Collides, Exhibits, HaveOneMac, colliding_pair};
 ghost use Rattle.report_verifier.specs.Comparison.{expected_bytes, expected_key, own_bytes};
 ghost use Rattle.report_verifier.specs.PolicyGrammar.{policy_of};
+ghost use Rattle.report_verifier.specs.Validity.{are_valid_for};
 
 /// The bounds of a policy that is read are valid.
 pub fn policies_have_valid_bounds()
     ensures { (text : List ℕ)
-        → IfOk (policy_of text) (λ policy. IsTrue (are_valid_one policy.bounds)) }
+        → IfOk (policy_of text) (λ policy.
+        IsTrue (are_valid_for policy.version policy.bounds)) }
 {}
 
 /// Two unequal messages with one HMAC give a pair of unequal lists with one digest.
@@ -30,18 +31,19 @@ pub fn accept_is_of_expected_bytes()
     ensures one_mac { (digest : List ℕ → List ℕ) (key : List ℕ) (image : ℕ → Option ℕ)
         (expect : Expect) (bytes : ℕ → ℕ) (report : ReportFields)
         → IsAccepted digest key image expect bytes report
-        → hmac digest (expected_key digest key expect) (expected_bytes image expect report.output)
+        → hmac digest (expected_key digest key expect)
+        (expected_bytes digest key image expect report)
         ≡ hmac digest (expected_key digest key expect) (own_bytes bytes) }
     ensures expected { (digest : List ℕ → List ℕ) (key : List ℕ) (image : ℕ → Option ℕ)
         (expect : Expect) (bytes : ℕ → ℕ) (report : ReportFields)
         → IsAccepted digest key image expect bytes report
-        → StandsAsExpected image expect report bytes
+        → StandsAsExpected digest key image expect report bytes
         ⊎ Collides digest (colliding_pair digest (expected_key digest key expect)
-        (expected_bytes image expect report.output) (own_bytes bytes)) }
+        (expected_bytes digest key image expect report) (own_bytes bytes)) }
     ensures compared { (digest : List ℕ → List ℕ) (key : List ℕ) (image : ℕ → Option ℕ)
         (expect : Expect) (bytes : ℕ → ℕ) (report : ReportFields)
         → IsAccepted digest key image expect bytes report
         → Exhibits {Fault = AllocError} digest (expected_key digest key expect)
-        (expected_bytes image expect report.output) (own_bytes bytes) (Ok MacsDiffer)
+        (expected_bytes digest key image expect report) (own_bytes bytes) (Ok MacsDiffer)
         → ⊥ }
 {}

@@ -1,13 +1,17 @@
 //! The verifier: policies, the verdict on a report, and pairs of lists that collide.
 //!
 //! A verifier has the device's key, the image that the device shall run, and a policy: the bounds
-//! that a report shall name, and the challenges that were sent. [`decide`] gives the first verdict
-//! that holds; a report is accepted exactly where it meets the policy and its MAC is the one that
-//! VRASED and APEX prescribe (USENIX Security 2019 and 2020). [`exhibit`] shows what it would take
-//! to be wrong: two unequal lists with equal digests.
+//! that a report shall name, the flag that it shall have, and the requests that were sent.
+//! [`decide`] gives the first verdict that holds; a report is accepted exactly where it meets the
+//! policy and its MAC is the one that VRASED and APEX prescribe (USENIX Security 2019 and 2020).
+//! [`exhibit`] shows what it would take to be wrong: two unequal lists with equal digests.
+//!
+//! In version 1 a request is a challenge. In version 2 it carries a counter and a [`token`] too,
+//! which are among the metadata that a report's MAC is of.
 #![tactic(auto)]
 
-mod attested_bytes;
+mod asked;
+mod byte_list;
 mod collision;
 mod comparison;
 mod decision;
@@ -15,16 +19,25 @@ mod draft;
 mod evidence;
 mod expect;
 mod expected_mac;
+mod flag_kind;
+mod image_code;
 mod law;
+mod metadata;
 mod policy;
 mod policy_line;
 mod policy_reader;
+mod request_token;
+mod validity;
 
+pub use asked::Asked;
 pub use collision::exhibit;
 pub use comparison::compare;
 pub use decision::{Decision, decide, decide_by};
 pub use evidence::Exhibit;
 pub use expect::Expect;
+pub use flag_kind::FlagKind;
 pub use law::{accept_is_of_expected_bytes, one_mac_gives_collision, policies_have_valid_bounds};
 pub use policy::Policy;
 pub use policy_reader::read_policy;
+pub use request_token::token;
+pub use validity::valid_for;

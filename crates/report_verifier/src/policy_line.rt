@@ -1,34 +1,45 @@
 ghost use Rattle.std.specs.Prelude.{◌≡◌};
 ghost use Rattle.text_scan.specs.Reader.{ReadsOn};
-ghost use Rattle.text_scan.specs.Word.{words_of};
-ghost use Rattle.report_verifier.specs.PolicyGrammar.{executable_of, output_of, challenge_of, kind_of, line_of};
+ghost use Rattle.report_verifier.specs.PolicyGrammar.{version_of, executable_of, output_of, flag_named, flag_of, request_of, challenge_of, kind_of, kind_for};
 
+use crate::asked::Asked;
+use crate::flag_kind::FlagKind;
+use bus_signals::Version;
 use text_scan::{FaultKind, Words};
 
 /// What a line of a policy says.
 #[derive(Clone, Copy, Debug, PartialEq, Eq)]
 pub enum PolicyLine {
+    /// The policy is of version 2.
+    VersionTwo,
     /// The first and the last word of the executable region.
     Executable(u16, u16),
     /// The first and the last word of the output region.
     Output(u16, u16),
-    /// A challenge that was sent.
+    /// Which flag is asked for.
+    Flag(FlagKind),
+    /// A request that was sent.
+    Request(Asked),
+    /// A challenge that was sent alone, as in version 1.
     Challenge([u8; 32]),
 }
 
-/// What a line says, or its first fault.
-#[tactic(auto, unfolding(crate::specs::PolicyGrammar::line_of))]
-pub fn read_policy_line(line: &[u8]) -> Result<PolicyLine, FaultKind>
-    ensures { result ≡ line_of (words_of line.now) }
+/// What a line behind its keyword says in a policy of that version, or its first fault.
+pub fn read_kind(
+    version: Version,
+    keyword: &[u8],
+    words: &mut Words<'_>,
+) -> Result<PolicyLine, FaultKind>
+    ensures { ReadsOn result words.new (kind_for version keyword.now words.old) }
 {
-    let mut words = Words::new(line);
-    let keyword = words.word()?;
-    let entry = read_kind(keyword, &mut words)?;
-    words.end()?;
-    Ok(entry)
+    match version {
+        Version::One => read_one(keyword, words),
+        Version::Two => read_two(keyword, words),
+    }
 }
 
-fn read_kind(keyword: &[u8], words: &mut Words<'_>) -> Result<PolicyLine, FaultKind>
+// The keywords of version 1.
+fn read_one(keyword: &[u8], words: &mut Words<'_>) -> Result<PolicyLine, FaultKind>
     ensures { ReadsOn result words.new (kind_of keyword.now words.old) }
 {
     match keyword {
@@ -37,6 +48,30 @@ fn read_kind(keyword: &[u8], words: &mut Words<'_>) -> Result<PolicyLine, FaultK
         b"chal" => read_challenge(words),
         _ => Err(FaultKind::Word),
     }
+}
+
+// In version 2 there are three more.
+fn read_two(keyword: &[u8], words: &mut Words<'_>) -> Result<PolicyLine, FaultKind>
+    ensures { ReadsOn result words.new (kind_for Version.Two keyword.now words.old) }
+{
+    if keyword == b"version".as_slice() {
+        return read_version(words);
+    }
+    if keyword == b"flag".as_slice() {
+        return read_flag(words);
+    }
+    if keyword == b"ask".as_slice() {
+        return read_request(words);
+    }
+    read_one(keyword, words)
+}
+
+#[tactic(auto, unfolding(crate::specs::PolicyGrammar::version_of))]
+fn read_version(words: &mut Words<'_>) -> Result<PolicyLine, FaultKind>
+    ensures { ReadsOn result words.new (version_of words.old) }
+{
+    words.number(2, 2)?;
+    Ok(PolicyLine::VersionTwo)
 }
 
 #[tactic(auto, unfolding(crate::specs::PolicyGrammar::executable_of))]
@@ -53,6 +88,36 @@ fn read_output(words: &mut Words<'_>) -> Result<PolicyLine, FaultKind>
 {
     let (first, last) = words.ends()?;
     Ok(PolicyLine::Output(first, last))
+}
+
+#[tactic(auto, unfolding(crate::specs::PolicyGrammar::flag_of))]
+fn read_flag(words: &mut Words<'_>) -> Result<PolicyLine, FaultKind>
+    ensures { ReadsOn result words.new (flag_of words.old) }
+{
+    Ok(PolicyLine::Flag(flag_named(words.word()?)?))
+}
+
+fn flag_named(word: &[u8]) -> Result<FlagKind, FaultKind>
+    ensures { result ≡ flag_named word.now }
+{
+    match word {
+        b"exec" => Ok(FlagKind::Exec),
+        b"aux" => Ok(FlagKind::Aux),
+        b"plain" => Ok(FlagKind::Plain),
+        _ => Err(FaultKind::Word),
+    }
+}
+
+#[tactic(auto, unfolding(crate::specs::PolicyGrammar::request_of))]
+fn read_request(words: &mut Words<'_>) -> Result<PolicyLine, FaultKind>
+    ensures { ReadsOn result words.new (request_of words.old) }
+{
+    let chal = words.block::<32>()?;
+    let count = words.number(1, 4_294_967_295)?;
+    Ok(PolicyLine::Request(Asked {
+        chal,
+        count: count as u32,
+    }))
 }
 
 #[tactic(auto, unfolding(crate::specs::PolicyGrammar::challenge_of))]

@@ -1,25 +1,28 @@
 -- The counter that the device keeps, and the requests that it attests, over a whole play.
 use Rattle.std.specs.Prelude.{◌≡◌, ◌<◌, ◌≤◌, ◌==◌, ◌&&◌, ◌+◌, ◌/◌, ◌++◌, ℕ, Bool, false, List, [], ◌∷◌, length, Option, Some, None, IsTrue, IsFalse, is_none}
+use Rattle.word_arith.specs.Word16.{Word16}
 use Rattle.bus_signals.specs.declared.access.Access.{Access}
 use Rattle.bus_signals.specs.declared.access.Access.TheVariants.{Write}
 use Rattle.bus_signals.specs.declared.bus_record.BusRecord.{BusRecord}
-use Rattle.bus_signals.specs.declared.event.Event.{Event}
 use Rattle.bus_signals.specs.Map.{KEPT_COUNTER}
 use Rattle.part_definitions.specs.Metadata.{counter_bytes, kept_bytes, little_endian, token_in}
 use Rattle.part_definitions.specs.Region.{metadata_bytes}
 use Rattle.part_definitions.specs.Request.{ATTESTS, right_token}
+use Rattle.part_definitions.specs.Hmac.{Digest}
 use Rattle.bus_signals.specs.Report.{ReportFields}
+use Rattle.bus_signals.specs.Address.{Bytes}
 use Rattle.device_trace.specs.Start.{Start}
 use Rattle.device_trace.specs.Text.{last_report}
 use Rattle.device_trace.specs.Trace.{trace, byte_after}
+use Rattle.device_trace.specs.Play.{Play}
 use Rattle.mac_coverage.specs.Call.{ends_in_call, ends_refused, last_call, mac_written}
 use Rattle.mac_coverage.specs.Coverage.{call_length}
 
 -- the counter that is kept after a play, and the one of the request in the metadata
-abbrev pub kept_counter : Start → List (List Event) → ℕ
+abbrev pub kept_counter : Start → Play → ℕ
 kept_counter start play = little_endian (kept_bytes (byte_after start play))
 
-abbrev pub request_counter : Start → List (List Event) → ℕ
+abbrev pub request_counter : Start → Play → ℕ
 request_counter start play = little_endian (counter_bytes (byte_after start play))
 
 -- the high word of the kept counter is written at the higher of its two places
@@ -33,35 +36,35 @@ ends_between_words [] = false
 ends_between_words (entry ∷ history) = is_none entry.reset && writes_high_word entry.cpu
 
 -- the first word that a call writes to the MAC is its decision
-abbrev pub first_word : List ℕ → Option ℕ
+abbrev pub first_word : List Word16 → Option Word16
 first_word [] = None
 first_word (word ∷ words) = Some word
 
 -- the last step of a play is one of a call that has decided to attest the request with this counter
-pub record Attests (start : Start) (play : List (List Event)) (counter : ℕ) : Type 0 where
+pub record Attests (start : Start) (play : Play) (counter : ℕ) : Type 0 where
   pub in_call : IsTrue (ends_in_call (trace start play))
   pub unrefused : IsFalse (ends_refused (trace start play))
   pub decision : first_word (mac_written (last_call (trace start play))) ≡ Some ATTESTS
   pub request : request_counter start play ≡ counter
 
 -- the call that a longer play ends in began after a shorter one, or was under way at its end
-abbrev pub BeganAfter : Start → List (List Event) → List (List Event) → Type 0
+abbrev pub BeganAfter : Start → Play → Play → Type 0
 BeganAfter start later earlier = call_length start (later ++ earlier) ≤ length later
 
-abbrev pub WasUnderWay : Start → List (List Event) → List (List Event) → Type 0
+abbrev pub WasUnderWay : Start → Play → Play → Type 0
 WasUnderWay start later earlier = length later < call_length start (later ++ earlier)
 
 -- every report that a play made before its last step tells a lesser counter than this one
-abbrev pub TellsNewCounter : Start → ReportFields → List (List Event) → Type 0
+abbrev pub TellsNewCounter : Start → ReportFields → Play → Type 0
 TellsNewCounter start report play =
-    (later earlier : List (List Event)) (older : ReportFields)
+    (later earlier : Play) (older : ReportFields)
     → play ≡ later ++ earlier → 1 ≤ length later → last_report start earlier ≡ Some older
     → older.count < report.count
 
 -- the last step of a play is one of a call on a request with the right token, and the high word of
 -- the kept counter is not above that of the request
-pub record IsRightlyRequested (digest : List ℕ → List ℕ) (key : List ℕ) (start : Start)
-    (play : List (List Event)) : Type 0 where
+pub record IsRightlyRequested (digest : Digest) (key : Bytes) (start : Start) (play : Play)
+    : Type 0 where
   pub in_call : IsTrue (ends_in_call (trace start play))
   pub token :
       token_in (metadata_bytes (byte_after start play))

@@ -1,11 +1,12 @@
 ghost use Rattle.std.specs.Prelude.{◌≡◌};
 ghost use Rattle.part_definitions.specs.Serial.{byte_sent};
 
+use bus_signals::SERIAL;
 use peripheral_register::covers_byte;
 use word_arith::Size;
 
 // The register that sends a byte.
-const STXD: u16 = 0x0076;
+const STXD: u16 = SERIAL.first + 6;
 
 /// The byte that a write of the processor sends: one that covers the low byte of STXD.
 #[inline(always)]

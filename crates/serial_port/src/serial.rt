@@ -3,16 +3,17 @@ ghost use Rattle.part_definitions.specs.Part.{Takes, Answers};
 ghost use Rattle.part_definitions.specs.Serial.{Arrival, Load, Store, DeviceReset, waiting_bytes, oldest_byte, has_room, serial_read, serial_word, serial_status, serial_requests, byte_sent};
 
 use crate::sent_byte::byte_sent;
+use bus_signals::SERIAL;
 use circular_buffer::HeapCircularBuffer;
 use peripheral_register::{Register, covers_byte, part_of_word, register_place};
 use std::alloc::{AllocError, Global};
 use word_arith::Size;
 
-const SCTL: u16 = 0x0070;
+const SCTL: u16 = SERIAL.first;
 
-const SSTAT: u16 = 0x0072;
+const SSTAT: u16 = SERIAL.first + 2;
 
-const SRXD: u16 = 0x0074;
+const SRXD: u16 = SERIAL.first + 4;
 
 // How many received bytes can wait.
 const ROOM: usize = 64;

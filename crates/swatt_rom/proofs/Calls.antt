@@ -1,6 +1,7 @@
 -- The engine's states, as a value is taken.
 use Rattle.std.proofs.Common.{◌≡◌, ◌++◌, ◌∷◌, [], ℕ, List, if◌then◌else◌, subst, sym, ap}
 use Rattle.part_definitions.specs.Attestation.{decision_read}
+use Rattle.hmac_core.specs.Hash.{Hash}
 use Rattle.swatt_rom.specs.RomCall.{RomCall, NoCall, InCall, AfterCall, next_word, after_step, after_value}
 use Rattle.swatt_rom.specs.Phase.{PhaseStandsFor, IsBeforeReturn}
 use Rattle.swatt_rom.specs.State.{StateStandsFor}
@@ -8,29 +9,29 @@ use Rattle.swatt_rom.specs.declared.phase.Phase.{Phase}
 use Rattle.swatt_rom.specs.declared.state.State.TheVariants.{Calls, Returns}
 use Rattle.swatt_rom.proofs.Accesses.{is_return-phase}
 
-module _ {D : Type 0} (has_taken : D → List ℕ → Type 0) (digest : List ℕ → List ℕ) where
+module _ {D : Type 0} (hash : Hash D) where
   -- a step that is not the return read goes on with the call
   after_step-phase :
       (phase : Phase D) (sp : ℕ) (words : List ℕ) (value : ℕ)
-      → PhaseStandsFor has_taken digest phase words
-      → InCall sp (words ++ next_word digest sp words value ∷ [])
-      ≡ after_step digest sp words value
+      → PhaseStandsFor hash phase words
+      → InCall sp (words ++ next_word hash.digest_of sp words value ∷ [])
+      ≡ after_step hash.digest_of sp words value
   after_step-phase phase sp words value stands =
       sym (ap (λ returns. if returns then AfterCall sp value (decision_read words)
-      else InCall sp (words ++ next_word digest sp words value ∷ []))
-      (is_return-phase has_taken digest phase words stands))
+      else InCall sp (words ++ next_word hash.digest_of sp words value ∷ []))
+      (is_return-phase hash phase words stands))
 
   pub after_value-calls :
       (sp value : ℕ) (phase next : Phase D)
       → ((start : ℕ) (words : List ℕ)
-      → PhaseStandsFor has_taken digest phase words
-      → PhaseStandsFor has_taken digest next (words ++ next_word digest start words value ∷ []))
+      → PhaseStandsFor hash phase words
+      → PhaseStandsFor hash next (words ++ next_word hash.digest_of start words value ∷ []))
       → (call : RomCall)
-      → StateStandsFor has_taken digest (Calls sp phase) call
-      → StateStandsFor has_taken digest (Calls sp next) (after_value digest call value)
+      → StateStandsFor hash (Calls sp phase) call
+      → StateStandsFor hash (Calls sp next) (after_value hash.digest_of call value)
   after_value-calls sp value phase next step NoCall stands = absurd stands
   after_value-calls sp value phase next step (InCall start words) stands =
-      subst (StateStandsFor has_taken digest (Calls sp next))
+      subst (StateStandsFor hash (Calls sp next))
       (after_step-phase phase start words value stands.1)
       (stands.0, step start words stands.1)
   after_value-calls sp value phase next step (AfterCall start word written) stands = absurd stands
@@ -38,15 +39,15 @@ module _ {D : Type 0} (has_taken : D → List ℕ → Type 0) (digest : List ℕ
   pub after_value-returns :
       (sp value decision : ℕ) (phase : Phase D)
       → ((start : ℕ) (words : List ℕ)
-      → PhaseStandsFor has_taken digest phase words
-      → IsBeforeReturn decision (words ++ next_word digest start words value ∷ []))
+      → PhaseStandsFor hash phase words
+      → IsBeforeReturn decision (words ++ next_word hash.digest_of start words value ∷ []))
       → (call : RomCall)
-      → StateStandsFor has_taken digest (Calls sp phase) call
-      → StateStandsFor {D = D} has_taken digest
-      (Returns sp decision) (after_value digest call value)
+      → StateStandsFor hash (Calls sp phase) call
+      → StateStandsFor {D = D} hash
+      (Returns sp decision) (after_value hash.digest_of call value)
   after_value-returns sp value decision phase step NoCall stands = absurd stands
   after_value-returns sp value decision phase step (InCall start words) stands =
-      subst (StateStandsFor {D = D} has_taken digest (Returns sp decision))
+      subst (StateStandsFor {D = D} hash (Returns sp decision))
       (after_step-phase phase start words value stands.1)
       (stands.0, step start words stands.1)
   after_value-returns sp value decision phase step (AfterCall start word written) stands =

@@ -1,21 +1,12 @@
 -- The accesses of a call, by the number of words that passed.
 use Rattle.std.proofs.Common.{◌≡◌, ◌<◌, ◌+◌, ℕ, arith}
 use Rattle.std.proofs.lemmas.Bool.Decides.{nat_tests}
-use Rattle.part_definitions.specs.Attestation.{KeyRead, MetadataRead, KeptRead, KeptWrite, DecisionWrite, DerivedKeyWrite, RegionRead, InnerDigestWrite, MacWrite, item_after}
+use Rattle.part_definitions.specs.Attestation.{KeptWrite, DecisionWrite, DerivedKeyWrite, RegionRead, InnerDigestWrite, MacWrite, item_until_decision, item_after}
 use Rattle.part_definitions.specs.Request.{ATTESTS}
 
-pub item_after-key : (region decision i : ℕ) → i < 32 → item_after region decision i ≡ KeyRead i
-item_after-key region decision i within = grind (arith, nat_tests)
-
-pub item_after-metadata :
-    (region decision count i : ℕ) → i < 40 → count ≡ 32 + i
-    → item_after region decision count ≡ MetadataRead i
-item_after-metadata region decision count i within at = grind (arith, nat_tests)
-
-pub item_after-kept :
-    (region decision count i : ℕ) → i < 2 → count ≡ 72 + i
-    → item_after region decision count ≡ KeptRead i
-item_after-kept region decision count i within at = grind (arith, nat_tests)
+pub item_after-request : (region decision count : ℕ) → count < 77
+    → item_after region decision count ≡ item_until_decision count
+item_after-request region decision count within = grind (arith, nat_tests)
 
 pub item_after-high : (region decision count : ℕ) → count ≡ 74
     → item_after region decision count ≡ KeptWrite 1

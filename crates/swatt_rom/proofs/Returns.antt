@@ -6,6 +6,7 @@ use Rattle.std.proofs.lemmas.Bool.Decides.{nat_tests}
 use Rattle.part_definitions.specs.AddressSum.{even, plus}
 use Rattle.part_definitions.specs.Attestation.{ReturnRead, item_after, item_pc, is_return, call_item, decision_read}
 use Rattle.part_definitions.specs.Request.{ATTESTS}
+use Rattle.hmac_core.specs.Hash.{Hash}
 use Rattle.swatt_rom.specs.RomCall.{RomCall, NoCall, InCall, AfterCall, next_word, after_value, rom_pc}
 use Rattle.swatt_rom.specs.Phase.{IsBeforeReturn}
 use Rattle.swatt_rom.specs.State.{StateStandsFor}
@@ -35,9 +36,9 @@ return-item decision words before =
           ∙ cond-false (decision_read words == ATTESTS) (125 + region_in words) 77 denies)
     ]
 
-module _ {D : Type 0} (has_taken : D → List ℕ → Type 0) (digest : List ℕ → List ℕ) where
+module _ {D : Type 0} (hash : Hash D) where
   pub pc-returns : (sp decision : ℕ) (call : RomCall)
-      → StateStandsFor {D = D} has_taken digest (Returns sp decision) call
+      → StateStandsFor {D = D} hash (Returns sp decision) call
       → 0xBFFE ≡ rom_pc call
   pc-returns sp decision NoCall stands = absurd stands
   pc-returns sp decision (InCall start words) stands =
@@ -47,14 +48,14 @@ module _ {D : Type 0} (has_taken : D → List ℕ → Type 0) (digest : List ℕ
   pub after_value-leaves : (sp decision value pc next : ℕ)
       → pc ≡ even value → next ≡ plus sp 2
       → (call : RomCall)
-      → StateStandsFor {D = D} has_taken digest (Returns sp decision) call
-      → StateStandsFor {D = D} has_taken digest (Leaves pc next decision)
-      (after_value digest call value)
+      → StateStandsFor {D = D} hash (Returns sp decision) call
+      → StateStandsFor {D = D} hash (Leaves pc next decision)
+      (after_value hash.digest_of call value)
   after_value-leaves sp decision value pc next at_pc at_sp NoCall stands = absurd stands
   after_value-leaves sp decision value pc next at_pc at_sp (InCall start words) stands =
-      subst (StateStandsFor {D = D} has_taken digest (Leaves pc next decision))
+      subst (StateStandsFor {D = D} hash (Leaves pc next decision))
       (sym (ap (λ item. if is_return item then AfterCall start value (decision_read words)
-      else InCall start (words ++ next_word digest start words value ∷ []))
+      else InCall start (words ++ next_word hash.digest_of start words value ∷ []))
       (return-item decision words stands.1)))
       (at_pc, at_sp ∙ ap (λ begin. plus begin 2) stands.0, stands.1.same_decision)
   after_value-leaves sp decision value pc next at_pc at_sp (AfterCall start word written) stands =

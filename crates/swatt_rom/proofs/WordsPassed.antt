@@ -1,10 +1,9 @@
 -- What the words that passed in a call mean, as more of them pass.
 use Rattle.std.proofs.Common.{◌≡◌, ◌<◌, ◌≤◌, ◌+◌, ◌++◌, ◌∷◌, ◌∙◌, [], ℕ, List, length, length-append, take, drop, ap, sym, arith}
 use Rattle.std.proofs.Math.ListN.{get_or-append}
-use Rattle.std.proofs.Math.Seq.{take-append_seam, drop-append_seam}
-use Rattle.std.proofs.lemmas.List.{take-append-le, drop-append-le, take_all, drop_all, length-drop, get_or-append-add}
+use Rattle.std.proofs.lemmas.List.{take-append-le, drop-append-le, take_all, drop_all, length-drop}
 use Rattle.part_definitions.specs.Attestation.{bounds_read, region_words, bytes_of_words, key_read, metadata_read, region_read, kept_read, decision_read, decision_in, counter_word, metadata_word, derived_key, call_key, inner_in, tag_in}
-use Rattle.part_definitions.specs.Request.{ATTESTS, request_decision}
+use Rattle.part_definitions.specs.Request.{ATTESTS}
 use Rattle.std.specs.Prelude.{◌==◌, slice_index, if◌then◌else◌}
 use Rattle.swatt_rom.proofs.WordBytes.{bytes_of_words-append}
 
@@ -126,74 +125,3 @@ tag_in-append digest xs ys over =
       metadata_read-append xs ys (omega arith),
       region_read-append xs ys over,
     )
-
--- key and metadata were read
-pub key_read-whole :
-    (key metadata : List ℕ)
-    → length key ≡ 32
-    → key_read (key ++ metadata) ≡ bytes_of_words key
-key_read-whole key metadata size =
-    ap bytes_of_words
-    (ap (λ n. take n (key ++ metadata)) (sym size) ∙ take-append_seam key metadata)
-
-pub metadata_read-whole :
-    (key metadata : List ℕ)
-    → length key ≡ 32
-    → length metadata ≡ 40
-    → metadata_read (key ++ metadata) ≡ bytes_of_words metadata
-metadata_read-whole key metadata size rest =
-    ap (λ n. bytes_of_words (take 40 (drop n (key ++ metadata)))) (sym size)
-    ∙ ap (λ words. bytes_of_words (take 40 words)) (drop-append_seam key metadata)
-    ∙ ap bytes_of_words (take_all 40 metadata (omega arith))
-
--- the kept counter was read after them
-pub kept_read-whole :
-    (key metadata kept : List ℕ)
-    → length key ≡ 32
-    → length metadata ≡ 40
-    → length kept ≡ 2
-    → kept_read ((key ++ metadata) ++ kept) ≡ bytes_of_words kept
-kept_read-whole key metadata kept size rest two =
-    let passed : length (key ++ metadata) ≡ 72 = omega (arith, length-append key metadata) in
-    ap (λ n. bytes_of_words (take 2 (drop n ((key ++ metadata) ++ kept)))) (sym passed)
-    ∙ ap (λ words. bytes_of_words (take 2 words)) (drop-append_seam (key ++ metadata) kept)
-    ∙ ap bytes_of_words (take_all 2 kept (omega arith))
-
-pub decision_in-whole :
-    (digest : List ℕ → List ℕ) (key metadata kept : List ℕ)
-    → length key ≡ 32
-    → length metadata ≡ 40
-    → length kept ≡ 2
-    → decision_in digest ((key ++ metadata) ++ kept)
-    ≡ request_decision digest (bytes_of_words key) (bytes_of_words metadata) (bytes_of_words kept)
-decision_in-whole digest key metadata kept size rest two =
-    let passed : length (key ++ metadata) ≡ 72 = omega (arith, length-append key metadata) in
-    cc (
-      key_read-append (key ++ metadata) kept (omega arith),
-      key_read-whole key metadata size,
-      metadata_read-append (key ++ metadata) kept (omega arith),
-      metadata_read-whole key metadata size rest,
-      kept_read-whole key metadata kept size rest two,
-    )
-
--- its words, and those of the request's counter
-pub kept_word-whole :
-    (key metadata kept : List ℕ) (i : ℕ)
-    → length key ≡ 32
-    → length metadata ≡ 40
-    → slice_index ((key ++ metadata) ++ kept) (72 + i) ≡ slice_index kept i
-kept_word-whole key metadata kept i size rest =
-    let passed : length (key ++ metadata) ≡ 72 = omega (arith, length-append key metadata) in
-    ap (λ n. slice_index ((key ++ metadata) ++ kept) (n + i)) (sym passed)
-    ∙ get_or-append-add (key ++ metadata) kept i 0
-
-pub metadata_word-whole :
-    (key metadata kept : List ℕ) (i : ℕ)
-    → length key ≡ 32
-    → length metadata ≡ 40
-    → i < 40
-    → metadata_word ((key ++ metadata) ++ kept) i ≡ slice_index metadata i
-metadata_word-whole key metadata kept i size rest within =
-    get_or-append (key ++ metadata) kept 0 (32 + i) (omega (arith, length-append key metadata))
-    ∙ ap (λ n. slice_index (key ++ metadata) (n + i)) (sym size)
-    ∙ get_or-append-add key metadata i 0

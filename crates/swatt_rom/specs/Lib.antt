@@ -1,4 +1,5 @@
 pub mod RomCall
+pub mod RequestWords
 pub mod DigestWords
 pub mod Phase
 pub mod State

@@ -1,19 +1,10 @@
-ghost use Rattle.std.specs.Prelude.{◌≡◌, ◌≤◌, ◌==◌, length, slice_index, if◌then◌else◌};
-ghost use Rattle.std.specs.Str.{bytes_eq};
-ghost use Rattle.part_definitions.specs.Attestation.{bytes_of_words};
+ghost use Rattle.std.specs.Prelude.{◌≡◌, ◌≤◌, length, slice_index};
+ghost use Rattle.part_definitions.specs.Attestation.{decision_in, counter_word};
 ghost use Rattle.part_definitions.specs.Metadata.{challenge_in, counter_in, token_in, little_endian};
-ghost use Rattle.part_definitions.specs.Request.{ATTESTS, request_decision, right_token};
+ghost use Rattle.part_definitions.specs.Request.{request_decision, right_token};
 
-use crate::word_bytes::bytes_of;
-use arrayvec::ArrayVec;
+use crate::request_words::{REQUEST_WORDS, kept_bytes, key_bytes, metadata_bytes};
 use hmac_core::{Digest32, request_token, same_bytes};
-
-/// The words of the key.
-pub const KEY_WORDS: usize = 32;
-
-/// The words of the metadata: sixteen of the challenge, four bounds, the words of the two flags,
-/// two of the counter and sixteen of the token.
-pub const METADATA_WORDS: usize = 40;
 
 /// The decision of a call that attests.
 pub const ATTESTS: u16 = 1;
@@ -23,12 +14,11 @@ const COUNTER_IS_OLD: u16 = 2;
 
 const TOKEN_DIFFERS: u16 = 3;
 
-/// What a call has decided, with all that it goes on with: key and metadata as they were read, and
-/// the counter that is kept from now on, its low word first.
+/// What a call has decided, with all that it goes on with: the words that it read, and the counter
+/// that is kept from now on, its low word first.
 #[derive(Clone, Copy, Debug)]
 pub struct Decided {
-    pub key: [u16; KEY_WORDS],
-    pub metadata: [u16; METADATA_WORDS],
+    pub words: [u16; REQUEST_WORDS],
     pub counter: [u16; 2],
     pub decision: u16,
 }
@@ -43,7 +33,8 @@ fn challenge_of(metadata: &[u8]) -> &[u8]
 
 fn counter_of(metadata: &[u8]) -> &[u8]
     requires { length metadata.now ≡ 80 }
-    ensures { result.now ≡ counter_in metadata.now }
+    ensures counter { result.now ≡ counter_in metadata.now }
+    ensures length { length result.now ≡ 4 }
 {
     &metadata[44..48]
 }
@@ -59,59 +50,55 @@ fn token_of(metadata: &[u8]) -> &[u8]
 // The token that a request with these metadata should carry.
 fn right_token<D: Digest32>(key: &[u8], metadata: &[u8]) -> [u8; 32]
     requires { length metadata.now ≡ 80 }
-    ensures { result ≡ right_token D.digest_of key.now metadata.now }
+    ensures { result ≡ right_token D.hash.digest_of key.now metadata.now }
 {
     request_token::<D>(key, challenge_of(metadata), counter_of(metadata))
 }
 
-// The number of a counter, of its low and its high word.
-fn counter_number(words: [u16; 2]) -> u32
-    ensures { result ≡ little_endian (bytes_of_words words) }
+// The number of a counter, of its four bytes.
+fn counter_number(bytes: &[u8]) -> u32
+    requires { length bytes.now ≡ 4 }
+    ensures { result ≡ little_endian bytes.now }
 {
-    u32::from(words[0]) + 65536 * u32::from(words[1])
+    let low = u32::from(bytes[0]) + 256 * u32::from(bytes[1]);
+    let high = u32::from(bytes[2]) + 256 * u32::from(bytes[3]);
+    low + 65536 * high
 }
 
-// What a call decides on a request with this counter, where this one is kept.
-fn decision_on<D: Digest32>(key: &[u8], metadata: &[u8], counter: [u16; 2], kept: [u16; 2]) -> u16
-    requires size { length metadata.now ≡ 80 }
-    requires counter { counter_in metadata.now ≡ bytes_of_words counter }
-    ensures { result
-        ≡ request_decision D.digest_of key.now metadata.now (bytes_of_words kept) }
+// What a call decides on a request where this counter is kept.
+fn decision_on<D: Digest32>(key: &[u8], metadata: &[u8], kept: &[u8]) -> u16
+    requires metadata { length metadata.now ≡ 80 }
+    requires kept { length kept.now ≡ 4 }
+    ensures { result ≡ request_decision D.hash.digest_of key.now metadata.now kept.now }
 {
     let token = right_token::<D>(key, metadata);
     if !same_bytes(token_of(metadata), &token) {
         TOKEN_DIFFERS
-    } else if counter_number(counter) <= counter_number(kept) {
+    } else if counter_number(counter_of(metadata)) <= counter_number(kept) {
         COUNTER_IS_OLD
     } else {
         ATTESTS
     }
 }
 
-/// The decision of a call that read these words.
-pub fn decide<D: Digest32>(
-    key: [u16; KEY_WORDS],
-    metadata: [u16; METADATA_WORDS],
-    kept: [u16; 2],
-) -> Decided
-    ensures key { result.key ≡ key }
-    ensures metadata { result.metadata ≡ metadata }
-    ensures decision { result.decision
-        ≡ request_decision D.digest_of (bytes_of_words key) (bytes_of_words metadata)
-        (bytes_of_words kept) }
-    ensures low { slice_index result.counter 0
-        ≡ (if result.decision == ATTESTS then slice_index metadata 22 else slice_index kept 0) }
-    ensures high { slice_index result.counter 1
-        ≡ (if result.decision == ATTESTS then slice_index metadata 23 else slice_index kept 1) }
+/// The decision of a call that read these words. Words 54 and 55 are the counter of the request,
+/// the last two the kept one.
+pub fn decide<D: Digest32>(words: [u16; REQUEST_WORDS]) -> Decided
+    ensures words { result.words ≡ words }
+    ensures decision { result.decision ≡ decision_in D.hash.digest_of words }
+    ensures low { slice_index result.counter 0 ≡ counter_word words result.decision 0 }
+    ensures high { slice_index result.counter 1 ≡ counter_word words result.decision 1 }
 {
-    let key_bytes: ArrayVec<u8, 64> = bytes_of(&key);
-    let metadata_bytes: ArrayVec<u8, 80> = bytes_of(&metadata);
-    let requested = [metadata[22], metadata[23]];
-    let decision = decision_on::<D>(&key_bytes, &metadata_bytes, requested, kept);
+    let key = key_bytes(&words);
+    let metadata = metadata_bytes(&words);
+    let decision = decision_on::<D>(&key, &metadata, &kept_bytes(&words));
     Decided {
-        key,
-        metadata,
-        counter: if decision == ATTESTS { requested } else { kept },
+        words,
+        counter: if decision == ATTESTS {
+            [words[54], words[55]]
+        } else {
+            [words[72], words[73]]
+        },
         decision,
     }
 }

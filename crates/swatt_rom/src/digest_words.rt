@@ -1,4 +1,4 @@
-ghost use Rattle.std.specs.Prelude.{◌≡◌, ◌<◌, ◌≤◌, ◌+◌, ◌*◌, ◌%◌, ◌^◌, ◌↔◌, IsNone, IfSome};
+ghost use Rattle.std.specs.Prelude.{◌≡◌, ◌<◌, ◌≤◌, ◌+◌, ◌*◌, ◌%◌, ◌^◌, ◌↔◌, IsNone, IsSome};
 ghost use Rattle.word_arith.specs.declared.size.Size.TheVariants.{Word};
 ghost use Rattle.bus_signals.specs.Access.{IsFormed};
 ghost use Rattle.part_definitions.specs.BusAccess.{write_at};
@@ -37,18 +37,16 @@ impl DigestWords {
         Access::Write(first + low as u16, Size::Word, word)
     }
 
-    /// What is left after the next word, `None` where it was the last.
-    pub fn rest(self) -> Option<DigestWords>
-        ensures last { IsNone result ↔ (self.next + 1 ≡ 16) }
-        ensures bytes { IfSome result (λ rest. rest.bytes ≡ self.bytes) }
-        ensures next { IfSome result (λ rest. rest.next ≡ self.next + 1) }
+    /// Goes on to the word after the next, `Some` where that was the last.
+    pub fn pass(&mut self) -> Option<()>
+        ensures last { IsSome result ↔ (self.old.next + 1 ≡ 16) }
+        ensures bytes { self.new.bytes ≡ self.old.bytes }
+        ensures next { IsNone result → self.new.next ≡ self.old.next + 1 }
     {
-        let bytes = self.bytes;
-        let next = self.next + 1;
-        if next < 16 {
-            Some(DigestWords { bytes, next })
-        } else {
-            None
+        if self.next + 1 == 16 {
+            return Some(());
         }
+        self.next += 1;
+        None
     }
 }

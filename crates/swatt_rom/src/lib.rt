@@ -7,12 +7,11 @@
 
 mod decided;
 mod digest_words;
-mod next;
 mod phase;
 mod region_words;
+mod request_words;
 mod rom;
 mod state;
-mod word_buffer;
 mod word_bytes;
 
 pub use decided::ATTESTS;

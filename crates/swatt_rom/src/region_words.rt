@@ -1,4 +1,4 @@
-ghost use Rattle.std.specs.Prelude.{◌≡◌, ◌<◌, ◌≤◌, ◌+◌, ◌%◌, ◌↔◌, true, IsNone, IfSome};
+ghost use Rattle.std.specs.Prelude.{◌≡◌, ◌<◌, ◌≤◌, ◌+◌, ◌%◌, ◌↔◌, true, IsNone, IsSome, IfSome};
 ghost use Rattle.word_arith.specs.declared.size.Size.TheVariants.{Word};
 ghost use Rattle.bus_signals.specs.Access.{IsFormed};
 ghost use Rattle.bus_signals.specs.Bounds.{are_valid};
@@ -62,21 +62,19 @@ impl RegionWords {
         }
     }
 
-    /// What is left after the next word, `None` where it was the last.
+    /// Goes on to the word after the next, `Some` where that was the last.
     #[tactic(auto, using(crate::proofs::ValidBounds::valid_bounds))]
-    pub fn rest(self) -> Option<RegionWords>
-        ensures last { IsNone result ↔ (self.next + 1 ≡ region_words self.bounds) }
-        ensures bounds { IfSome result (λ rest. rest.bounds ≡ self.bounds) }
-        ensures next { IfSome result (λ rest. rest.next ≡ self.next + 1) }
+    pub fn pass(&mut self) -> Option<()>
+        ensures last { IsSome result ↔ (self.old.next + 1 ≡ region_words self.old.bounds) }
+        ensures bounds { self.new.bounds ≡ self.old.bounds }
+        ensures next { IsNone result → self.new.next ≡ self.old.next + 1 }
     {
-        let bounds = self.bounds;
-        let executable = words_between(bounds.er_min, bounds.er_max);
-        let output = words_between(bounds.or_min, bounds.or_max);
-        let next = self.next + 1;
-        if next < executable + output {
-            Some(RegionWords { bounds, next })
-        } else {
-            None
+        let executable = words_between(self.bounds.er_min, self.bounds.er_max);
+        let output = words_between(self.bounds.or_min, self.bounds.or_max);
+        if self.next + 1 == executable + output {
+            return Some(());
         }
+        self.next += 1;
+        None
     }
 }

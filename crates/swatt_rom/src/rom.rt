@@ -1,13 +1,12 @@
 ghost use Rattle.std.specs.Prelude.{◌≡◌, [], IfSome};
 ghost use Rattle.bus_signals.specs.Access.{IsFormed};
-ghost use Rattle.part_definitions.specs.Part.{Answers};
+ghost use Rattle.part_definitions.specs.Part.{Answers, Becomes};
 ghost use Rattle.swatt_rom.specs.RomCall.{RomCall, NoCall, InCall, rom_access, rom_pc, registers_after, decision_after, after_value};
 
 use crate::phase::Phase;
 use crate::state::State;
 use bus_signals::{Access, BusMaster};
 use hmac_core::{Digest32, Sha256Digest};
-use std::mem;
 
 /// The engine that makes the steps of a call. It gives each word of the region to a running hash as
 /// it reads it, and keeps no list of them.
@@ -23,7 +22,7 @@ impl<D: Digest32> Rom<D> {
 
     /// An engine in no call.
     pub fn new() -> Rom<D>
-        ensures stands { RomStandsFor D.has_taken D.digest_of result NoCall }
+        ensures stands { RomStandsFor D.hash result NoCall }
         ensures idle { result ≡ idle_rom }
     {
         Rom { state: State::Idle }
@@ -31,7 +30,7 @@ impl<D: Digest32> Rom<D> {
 
     /// Begins a call, with the processor's stack pointer. What went before is forgotten.
     pub fn begin(&mut self, sp: u16)
-        ensures { RomStandsFor D.has_taken D.digest_of self.new (InCall sp []) }
+        ensures { RomStandsFor D.hash self.new (InCall sp []) }
     {
         self.state = State::Calls {
             sp,
@@ -42,21 +41,21 @@ impl<D: Digest32> Rom<D> {
     /// The `pc` of the next step of a call: A000 in the first, BFFE in the last and A002 in the
     /// others; 0 where no call is in progress.
     pub fn pc(&self) -> u16
-        ensures { Answers (RomStandsFor D.has_taken D.digest_of) self.now rom_pc result }
+        ensures { Answers (RomStandsFor D.hash) self.now rom_pc result }
     {
         self.state.pc()
     }
 
     /// PC and SP after a call: there from its last step until the next call begins.
     pub fn done(&self) -> Option<(u16, u16)>
-        ensures { Answers (RomStandsFor D.has_taken D.digest_of) self.now registers_after result }
+        ensures { Answers (RomStandsFor D.hash) self.now registers_after result }
     {
         self.state.registers()
     }
 
     /// The decision that a call wrote: there from its last step until the next call begins.
     pub fn decision(&self) -> Option<u16>
-        ensures { Answers (RomStandsFor D.has_taken D.digest_of) self.now decision_after result }
+        ensures { Answers (RomStandsFor D.hash) self.now decision_after result }
     {
         self.state.decision()
     }
@@ -67,35 +66,33 @@ impl<D: Digest32> BusMaster for Rom<D> {
 
     ghost Meaning = { RomCall };
 
-    ghost stands = { RomStandsFor D.has_taken D.digest_of };
+    ghost stands = { RomStandsFor D.hash };
 
-    ghost asks = { rom_access D.digest_of };
+    ghost asks = { rom_access D.hash.digest_of };
 
     ghost takes = { λ call value. Unit {0} };
 
-    ghost after_take = { after_value D.digest_of };
+    ghost after_take = { after_value D.hash.digest_of };
 
     ghost after_clear = { λ call. NoCall };
 
     fn ask(&self) -> Option<Access>
-        ensures access { Answers (RomStandsFor D.has_taken D.digest_of) self.now
-            (rom_access D.digest_of) result }
+        ensures access { Answers (RomStandsFor D.hash) self.now
+            (rom_access D.hash.digest_of) result }
         ensures formed { IfSome result IsFormed }
     {
         self.state.access()
     }
 
     fn take(&mut self, value: u16)
-        ensures { (call : RomCall)
-            → RomStandsFor D.has_taken D.digest_of self.old call
-            → RomStandsFor D.has_taken D.digest_of self.new (after_value D.digest_of call value) }
+        ensures { Becomes (RomStandsFor D.hash) self.old
+            (λ call. after_value D.hash.digest_of call value) self.new }
     {
-        let state = mem::replace(&mut self.state, State::Idle);
-        self.state = state.after(value);
+        self.state.take(value);
     }
 
     fn clear(&mut self)
-        ensures stands { RomStandsFor D.has_taken D.digest_of self.new NoCall }
+        ensures stands { RomStandsFor D.hash self.new NoCall }
         ensures idle { self.new ≡ idle_rom }
     {
         *self = Rom::new();

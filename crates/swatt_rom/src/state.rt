@@ -1,11 +1,10 @@
 ghost use Rattle.std.specs.Prelude.{IfSome};
 ghost use Rattle.bus_signals.specs.Access.{IsFormed};
-ghost use Rattle.part_definitions.specs.Part.{Answers};
-ghost use Rattle.swatt_rom.specs.RomCall.{RomCall, rom_access, rom_pc, registers_after, decision_after, after_value};
+ghost use Rattle.part_definitions.specs.Part.{Answers, Becomes};
+ghost use Rattle.swatt_rom.specs.RomCall.{rom_access, rom_pc, registers_after, decision_after, after_value};
 
-use crate::next::Next;
 use crate::phase::Phase;
-use bus_signals::{Access, CR};
+use bus_signals::{Access, ROM_EXIT};
 use hmac_core::Digest32;
 use word_arith::Size;
 
@@ -26,8 +25,8 @@ impl<D: Digest32> State<D> {
     ghost use Rattle.swatt_rom.specs.State.{StateStandsFor};
 
     pub fn access(&self) -> Option<Access>
-        ensures access { Answers (StateStandsFor D.has_taken D.digest_of) self.now
-            (rom_access D.digest_of) result }
+        ensures access { Answers (StateStandsFor D.hash) self.now
+            (rom_access D.hash.digest_of) result }
         ensures formed { IfSome result IsFormed }
     {
         match self {
@@ -38,18 +37,18 @@ impl<D: Digest32> State<D> {
     }
 
     pub fn pc(&self) -> u16
-        ensures { Answers (StateStandsFor D.has_taken D.digest_of) self.now rom_pc result }
+        ensures { Answers (StateStandsFor D.hash) self.now rom_pc result }
     {
         match self {
             State::Calls { phase, .. } => phase.pc(),
-            State::Returns { .. } => CR.last - 1,
+            State::Returns { .. } => ROM_EXIT,
             State::Idle | State::Leaves { .. } => 0,
         }
     }
 
     /// PC and SP after the last step.
     pub fn registers(&self) -> Option<(u16, u16)>
-        ensures { Answers (StateStandsFor D.has_taken D.digest_of) self.now registers_after result }
+        ensures { Answers (StateStandsFor D.hash) self.now registers_after result }
     {
         match self {
             State::Leaves { pc, sp, .. } => Some((*pc, *sp)),
@@ -59,7 +58,7 @@ impl<D: Digest32> State<D> {
 
     /// The decision, after the last step.
     pub fn decision(&self) -> Option<u16>
-        ensures { Answers (StateStandsFor D.has_taken D.digest_of) self.now decision_after result }
+        ensures { Answers (StateStandsFor D.hash) self.now decision_after result }
     {
         match self {
             State::Leaves { decision, .. } => Some(*decision),
@@ -67,23 +66,24 @@ impl<D: Digest32> State<D> {
         }
     }
 
-    /// Where it stands after the access read this value.
-    pub fn after(self, value: u16) -> State<D>
-        ensures { (call : RomCall)
-            → StateStandsFor D.has_taken D.digest_of self call
-            → StateStandsFor D.has_taken D.digest_of result (after_value D.digest_of call value) }
+    /// Takes the value that the access read.
+    pub fn take(&mut self, value: u16)
+        ensures { Becomes (StateStandsFor D.hash) self.old
+            (λ call. after_value D.hash.digest_of call value) self.new }
     {
         match self {
-            State::Calls { sp, phase } => match phase.after(value) {
-                Next::GoesOn(phase) => State::Calls { sp, phase },
-                Next::Returns { decision } => State::Returns { sp, decision },
+            State::Calls { sp, phase } => match phase.take(value) {
+                None => {}
+                Some(decision) => *self = State::Returns { sp: *sp, decision },
             },
-            State::Returns { sp, decision } => State::Leaves {
-                pc: value / 2 * 2,
-                sp: sp.wrapping_add(2),
-                decision,
-            },
-            idle => idle,
+            State::Returns { sp, decision } => {
+                *self = State::Leaves {
+                    pc: value / 2 * 2,
+                    sp: sp.wrapping_add(2),
+                    decision: *decision,
+                };
+            }
+            State::Idle | State::Leaves { .. } => {}
         }
     }
 }

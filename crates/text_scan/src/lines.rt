@@ -3,6 +3,7 @@ ghost use Rattle.std.specs.Iterator.{YieldsFirstBy, item_count};
 ghost use Rattle.std.specs.Str.Lines.{lines, strip_carriage_return};
 ghost use Rattle.text_scan.specs.Line.{numbered_lines, lines_of};
 
+use memchr::memchr;
 use std::marker::Model;
 
 /// The lines of a text with their numbers from 1. Lines end at LF or CRLF, and the last may have
@@ -81,9 +82,7 @@ fn line_len(text: &[u8]) -> usize
     ensures before { (k : ℕ) → k < result → slice_index text.now k ≢ 10 }
     ensures end { result < length text.now → slice_index text.now result ≡ 10 }
 {
-    text.iter()
-        .position(|byte| *byte == b'\n')
-        .unwrap_or(text.len())
+    memchr(b'\n', text).unwrap_or(text.len())
 }
 
 // The line without the carriage return at its end, where it has one.

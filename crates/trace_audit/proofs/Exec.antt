@@ -1,5 +1,5 @@
 -- How the flag changes at a record.
-use Rattle.std.proofs.Common.{◌≡◌, ◌==◌, ◌&&◌, ◌||◌, Bool, true, false, not, List, [], ◌∷◌, sym, ◌∙◌, ap, refl, if◌then◌else◌}
+use Rattle.std.proofs.Common.{◌≡◌, ◌&&◌, ◌||◌, Bool, true, false, not, List, [], ◌∷◌, sym, ◌∙◌, if◌then◌else◌}
 use Rattle.std.proofs.Math.Bool.{and-true, and-false, or_comm}
 use Rattle.std.specs.List.{list_any}
 use Rattle.bus_signals.specs.SeenRecord.{SeenRecord}

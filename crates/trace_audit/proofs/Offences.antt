@@ -1,7 +1,6 @@
 -- A list of lines has no offence exactly where it is clean.
-use Rattle.std.proofs.Common.{◌≡◌, ◌↔◌, ◌∙◌, ℕ, Bool, true, false, not, List, [], ◌∷◌, Option, Some, None, length, refl, ap, sym}
-use Rattle.std.specs.Str.{bytes_eq}
-use Rattle.std.specs.Prelude.{codes, if◌then◌else◌}
+use Rattle.std.proofs.Common.{◌≡◌, ◌↔◌, ◌∙◌, ℕ, Bool, true, false, List, [], ◌∷◌, Option, Some, None, length, refl, ap, sym}
+use Rattle.std.specs.Prelude.{if◌then◌else◌}
 use Rattle.std.proofs.lemmas.Slice.Eq.{bytes_eq-Decides}
 use Rattle.text_scan.specs.declared.fault_kind.FaultKind.{FaultKind}
 use Rattle.bus_signals.specs.declared.rule.Rule.{Rule}
@@ -13,7 +12,7 @@ use Rattle.trace_line.specs.declared.trace_line.TraceLine.{TraceLine}
 use Rattle.trace_audit.specs.declared.offence.Offence.{Offence}
 use Rattle.trace_audit.specs.declared.offence.Offence.TheVariants.{RuleIs, ExecIs}
 use Rattle.trace_audit.specs.Clean.{right_rule, right_exec, IsRight, IsClean}
-use Rattle.trace_audit.specs.Offence.{is_same_rule, is_same_flag, difference, offence_of, or_first, first_offence, CleanHasNoOffence}
+use Rattle.trace_audit.specs.Offence.{is_same_rule, is_same_flag, offence_of, or_first, first_offence, CleanHasNoOffence}
 
 -- the name of a rule tells it
 rule_in-word : (rule : Option Rule) → rule_in (rule_word rule) ≡ Ok rule

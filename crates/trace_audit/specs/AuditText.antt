@@ -1,5 +1,5 @@
 -- What the audit prints of a list of lines.
-use Rattle.std.specs.Prelude.{◌++◌, ℕ, Bool, List, length, Option, Some, None, codes, is_none}
+use Rattle.std.specs.Prelude.{◌++◌, ℕ, List, length, Option, Some, None, codes}
 use Rattle.std.specs.Fmt.{decimal}
 use Rattle.printed_lines.specs.Line.{flag_digit}
 use Rattle.trace_line.specs.LineText.{rule_word}

@@ -6,7 +6,7 @@ use Rattle.trace_line.specs.LineText.{rule_word}
 use Rattle.trace_line.specs.declared.trace_line.TraceLine.{TraceLine}
 use Rattle.trace_audit.specs.declared.offence.Offence.{Offence}
 use Rattle.trace_audit.specs.declared.offence.Offence.TheVariants.{RuleIs, ExecIs}
-use Rattle.trace_audit.specs.Clean.{right_rule, right_exec, IsRight, IsClean}
+use Rattle.trace_audit.specs.Clean.{right_rule, right_exec, IsClean}
 
 -- rules are told apart by their words
 abbrev pub is_same_rule : Option Rule → Option Rule → Bool

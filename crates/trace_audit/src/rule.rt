@@ -1,4 +1,4 @@
-ghost use Rattle.std.specs.Prelude.{◌≡◌, ◌&&◌, true, false, List, not, map, IfSome};
+ghost use Rattle.std.specs.Prelude.{◌≡◌, ◌&&◌, true, false, IfSome};
 ghost use Rattle.bus_signals.specs.Access.{IsFormed, some_writes, some_reads};
 ghost use Rattle.part_definitions.specs.FirstRule.{first_rule, breaks_i1};
 ghost use Rattle.part_definitions.specs.MonitorRule.{key_rule, atomicity_rule, in_rom, was_inside, leaves_stack_and_mac};

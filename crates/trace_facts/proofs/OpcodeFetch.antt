@@ -1,6 +1,6 @@
 -- Of every step the signal `opcode` tells what kind and access tell: the processor fetches at its
 -- `pc`.
-use Rattle.std.proofs.Common.{◌≡◌, ℕ, Bool, List, [], ◌∷◌, Option, length, refl}
+use Rattle.std.proofs.Common.{◌≡◌, ℕ, Bool, [], ◌∷◌, Option, length, refl}
 use Rattle.std.specs.Prelude.{◌&&◌}
 use Rattle.bus_signals.specs.declared.kind.Kind.{Kind}
 use Rattle.bus_signals.specs.declared.kind.Kind.TheVariants.{Boot, Cpu, Idle, Irq, Rom}

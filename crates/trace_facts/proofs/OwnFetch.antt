@@ -1,5 +1,5 @@
 -- An instruction fetches at its own address its opcode alone.
-use Rattle.std.proofs.Common.{◌≡◌, ◌⊎◌, ℕ, ◌+◌, ◌/◌, ◌*◌, ◌%◌, Bool, true, false, List, [], ◌∷◌, ◌++◌, Option, Some, None, refl, sym, ap, ◌∙◌, arith, inl, inr}
+use Rattle.std.proofs.Common.{◌≡◌, ◌⊎◌, ℕ, ◌+◌, ◌%◌, true, false, List, [], ◌∷◌, ◌++◌, Option, Some, None, refl, ap, arith, inl, inr}
 use Rattle.std.specs.Prelude.{◌==◌}
 use Rattle.std.proofs.lemmas.Bool.{ne_eqb, eq-eqb}
 use Rattle.bus_signals.specs.declared.access.Access.{Access}
@@ -19,14 +19,14 @@ use Rattle.msp_decode.specs.Head.{head_of}
 use Rattle.word_arith.specs.declared.op2.Op2.{Op2}
 use Rattle.word_arith.specs.declared.op2.Op2.TheVariants.{Mov, Add, Addc, Subc, Sub, Cmp, Dadd, Bit, Bic, Bis, Xor, And}
 use Rattle.part_definitions.specs.AddressSum.{plus, even}
-use Rattle.part_definitions.specs.BusAccess.{fetch_at, read_at, write_at}
-use Rattle.part_definitions.specs.CpuRegister.{pc_of, with_register, after_word, word_in}
+use Rattle.part_definitions.specs.BusAccess.{read_at, write_at}
+use Rattle.part_definitions.specs.CpuRegister.{pc_of, after_word}
 use Rattle.part_definitions.specs.CpuState.{ask_of}
 use Rattle.part_definitions.specs.Flag.{fetches_at}
 use Rattle.part_definitions.specs.Instruction.{bus_access, after_value}
 use Rattle.part_definitions.specs.NextAccess.{walk, walk_head, next_access}
-use Rattle.part_definitions.specs.Operand.{size_of, state_at_start, increment, after_increment}
-use Rattle.part_definitions.specs.CpuAccess.{source_accesses, result_accesses, destination_accesses, operand_accesses, write_back, accesses_of}
+use Rattle.part_definitions.specs.Operand.{size_of, state_at_start, after_increment}
+use Rattle.part_definitions.specs.CpuAccess.{source_accesses, result_accesses, destination_accesses, operand_accesses, write_back}
 use Rattle.part_definitions.specs.declared.cpu_access.CpuAccess.{CpuAccess}
 use Rattle.part_definitions.specs.declared.cpu_access.CpuAccess.TheVariants.{FetchImmediate, FetchSourceIndex, ReadSource, ReadIncrementing, FetchDestinationIndex, ReadDestination, WriteResult, PushSource, PushPc, PopSr, PopPc}
 use Rattle.part_definitions.specs.declared.working_state.WorkingState.{WorkingState}

@@ -1,5 +1,5 @@
 -- After every play the registers of the progress have an even PC.
-use Rattle.std.proofs.Common.{◌≡◌, ℕ, Bool, List, [], ◌∷◌, Option, Some, None, refl}
+use Rattle.std.proofs.Common.{ℕ, Bool, List, [], ◌∷◌, Option, Some, None, refl}
 use Rattle.std.proofs.lemmas.Bool.{cond_both}
 use Rattle.bus_signals.specs.declared.access.Access.{Access}
 use Rattle.bus_signals.specs.declared.event.Event.{Event}
@@ -9,7 +9,7 @@ use Rattle.bus_signals.specs.declared.rule.Rule.{Rule}
 use Rattle.msp_decode.specs.declared.reg.Reg.TheVariants.{R1}
 use Rattle.part_definitions.specs.Attestation.{call_item, is_return, word_passed}
 use Rattle.part_definitions.specs.CpuRegister.{clear_registers, after_pop}
-use Rattle.part_definitions.specs.CpuState.{CpuState, Boundary, Executing, Entering, entry_begun}
+use Rattle.part_definitions.specs.CpuState.{CpuState, Boundary, Executing, Entering}
 use Rattle.part_definitions.specs.FirstRule.{first_rule}
 use Rattle.part_definitions.specs.Flag.{last_pc}
 use Rattle.device_trace.specs.Logs.{Logs, vector_of, step_progress, progress_after, with_events, with_record}

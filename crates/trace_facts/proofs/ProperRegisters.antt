@@ -1,10 +1,7 @@
 -- Registers whose PC is even, as every write to PC leaves them.
-use Rattle.std.proofs.Common.{◌≡◌, ℕ, ◌/◌, ◌*◌, ◌%◌, Bool, List, [], ◌∷◌, Option, Some, None, refl, arith}
-use Rattle.std.specs.Prelude.{if◌then◌else◌}
+use Rattle.std.proofs.Common.{◌≡◌, ℕ, ◌/◌, ◌*◌, ◌%◌, List, [], ◌∷◌, Option, Some, None, refl, arith}
 use Rattle.std.proofs.lemmas.Bool.{cond_both}
-use Rattle.word_arith.specs.declared.size.Size.{Size}
 use Rattle.word_arith.specs.declared.flags.Flags.{Flags}
-use Rattle.msp_decode.specs.declared.cond.Cond.{Cond}
 use Rattle.msp_decode.specs.declared.dest_form.DestForm.{DestForm}
 use Rattle.msp_decode.specs.declared.dest_form.DestForm.TheVariants.{Register as DestRegister, Indexed as DestIndexed}
 use Rattle.msp_decode.specs.declared.head.Head.{Head}
@@ -15,11 +12,10 @@ use Rattle.msp_decode.specs.declared.reg.Reg.{Reg}
 use Rattle.msp_decode.specs.declared.reg.Reg.TheVariants.{R0, R1, R2, R3, R4, R5, R6, R7, R8, R9, R10, R11, R12, R13, R14, R15}
 use Rattle.msp_decode.specs.declared.source_form.SourceForm.{SourceForm}
 use Rattle.msp_decode.specs.declared.source_form.SourceForm.TheVariants.{Register, Indexed, Indirect, IndirectInc, Immediate, Constant}
-use Rattle.word_arith.specs.declared.op2.Op2.{Op2}
 use Rattle.part_definitions.specs.AddressSum.{minus}
-use Rattle.part_definitions.specs.CpuRegister.{pc_of, sp_of, sr_of, with_register, with_pc, with_sp, with_sr, with_flags, after_word, after_push, after_pop, flags_in, handler_status}
+use Rattle.part_definitions.specs.CpuRegister.{pc_of, sp_of, with_register, with_pc, with_sp, with_flags, after_word, after_pop, flags_in}
 use Rattle.part_definitions.specs.CpuState.{CpuState, Boundary, Executing, Entering, cpu_next, with_value, completion_or, cpu_after}
-use Rattle.part_definitions.specs.Instruction.{has_result, result_of, with_destination, with_operand, after_one, after_two, after_jump, after_result, is_taken, jump_target, registers_after, after_value}
+use Rattle.part_definitions.specs.Instruction.{has_result, result_of, with_destination, with_operand, after_one, after_result, is_taken, jump_target, after_value}
 use Rattle.part_definitions.specs.NextAccess.{Next, Asks, Ends, walk, walk_head, next_access, entry_access}
 use Rattle.part_definitions.specs.Operand.{state_at_start}
 use Rattle.part_definitions.specs.CpuAccess.{accesses_of}

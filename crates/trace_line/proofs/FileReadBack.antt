@@ -1,13 +1,11 @@
 -- The text of a trace file is read as its lines.
-use Rattle.std.proofs.Common.{suc, ◌≡◌, ◌∙◌, ℕ, ◌+◌, ◌<◌, ◌≤◌, ◌^◌, Bool, true, false, List, [], ◌∷◌, ◌++◌, Ok, length, append-nil, append_assoc, refl, ap, sym, arith}
+use Rattle.std.proofs.Common.{suc, ◌≡◌, ◌∙◌, ℕ, ◌+◌, ◌<◌, ◌≤◌, ◌^◌, List, [], ◌∷◌, ◌++◌, Ok, length, append-nil, append_assoc, refl, ap, sym, arith}
 use Rattle.std.specs.Str.Lines.{lines}
-use Rattle.text_scan.specs.Line.{lines_of, numbered_lines}
-use Rattle.text_scan.specs.Word.{words_of}
+use Rattle.text_scan.specs.Line.{numbered_lines}
 use Rattle.text_scan.proofs.FirstLine.{lines-line}
 use Rattle.text_scan.proofs.PlainWords.{printed_bounds, printed-join}
 use Rattle.trace_line.specs.declared.trace_line.TraceLine.{TraceLine}
 use Rattle.trace_line.specs.LineText.{line_words, line_text, trace_line, file_text}
-use Rattle.trace_line.specs.LineGrammar.{line_of}
 use Rattle.trace_line.specs.ReadBack.{IsPrintable, ArePrintable, FilesReadBack}
 use Rattle.trace_line.specs.TraceFile.{lines_after, trace_of}
 use Rattle.trace_line.proofs.ReadBack.{plain-words, line_reads_back}

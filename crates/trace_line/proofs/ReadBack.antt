@@ -1,11 +1,11 @@
 -- The text of a line is read as that line.
-use Rattle.std.proofs.Common.{◌≡◌, ◌∙◌, ℕ, ◌/◌, ◌%◌, ◌^◌, ◌<◌, ◌≤◌, Bool, true, false, List, [], ◌∷◌, ◌++◌, Option, Some, None, IfSome, Ok, length, refl, ap, sym, arith}
-use Rattle.std.specs.Prelude.{◌==◌, ◌&&◌, codes}
+use Rattle.std.proofs.Common.{◌≡◌, ◌∙◌, ℕ, ◌/◌, ◌%◌, ◌^◌, ◌<◌, Bool, true, false, List, [], ◌∷◌, ◌++◌, Option, Some, None, IfSome, Ok, refl, ap, arith}
+use Rattle.std.specs.Prelude.{◌==◌}
 use Rattle.std.specs.Fmt.{decimal}
 use Rattle.std.specs.List.{list_all}
 use Rattle.std.proofs.lemmas.Bool.{and_from, eq-eqb}
 use Rattle.std.proofs.lemmas.List.Folds.{list_all-append}
-use Rattle.hex.specs.Hex.{encode_with, encode_lower}
+use Rattle.hex.specs.Hex.{encode_with}
 use Rattle.word_arith.specs.declared.size.Size.TheVariants.{Byte, Word}
 use Rattle.bus_signals.specs.declared.access.Access.{Access}
 use Rattle.bus_signals.specs.declared.access.Access.TheVariants.{Fetch, Read, Write}
@@ -15,12 +15,10 @@ use Rattle.bus_signals.specs.declared.kind.Kind.TheVariants.{Boot, Cpu, Idle, Ir
 use Rattle.bus_signals.specs.declared.rule.Rule.{Rule}
 use Rattle.bus_signals.specs.declared.rule.Rule.TheVariants.{X0, A1, A2, A3, A4, K1, K2, K3, K4, K5, K6, I1}
 use Rattle.printed_lines.specs.Line.{byte_digits, word_digits, flag_digit}
-use Rattle.text_scan.specs.Hexadecimal.{hex_bytes_of, hex_word_of}
-use Rattle.text_scan.specs.Word.{words_of}
 use Rattle.text_scan.specs.WordValue.{number_of, place_of}
 use Rattle.text_scan.proofs.PlainWords.{ArePlain, IsPlainWord, is_plain, one_byte, two_bytes, decimal_of-decimal, hex_bytes_of-digits, hex_word_of-digits, words_of-join, plain-decimal, plain-encoded}
 use Rattle.trace_line.specs.declared.trace_line.TraceLine.{TraceLine}
-use Rattle.trace_line.specs.LineText.{kind_name, access_word, rule_word, line_words, line_text}
+use Rattle.trace_line.specs.LineText.{kind_name, access_word, rule_word, line_words}
 use Rattle.trace_line.specs.LineGrammar.{LAST_STEP, fetch_in, read_in, write_in, access_in, kind_in, rule_in, named_of, flag_of, bounds_of, fields_of, line_of}
 use Rattle.trace_line.specs.ReadBack.{IsAllowed, AreWords, IsPrintable, LinesReadBack}
 

@@ -1,5 +1,5 @@
 -- The grammar of a trace line: what it says, and its first fault.
-use Rattle.std.specs.Prelude.{ℕ, ◌==◌, ◌%◌, Bool, true, List, [], ◌∷◌, take, drop, slice_index, if◌then◌else◌, Option, Some, None, Result, Ok, Err, codes}
+use Rattle.std.specs.Prelude.{ℕ, ◌==◌, ◌%◌, Bool, true, List, take, drop, slice_index, if◌then◌else◌, Option, Some, None, Result, Ok, Err, codes}
 use Rattle.std.specs.Str.{bytes_eq}
 use Rattle.word_arith.specs.declared.size.Size.{Size}
 use Rattle.word_arith.specs.declared.size.Size.TheVariants.{Byte, Word}

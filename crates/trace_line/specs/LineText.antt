@@ -5,7 +5,6 @@ use Rattle.std.specs.List.{join_with_byte}
 use Rattle.word_arith.specs.declared.size.Size.TheVariants.{Byte, Word}
 use Rattle.bus_signals.specs.declared.access.Access.{Access}
 use Rattle.bus_signals.specs.declared.access.Access.TheVariants.{Fetch, Read, Write}
-use Rattle.bus_signals.specs.declared.bounds.Bounds.{Bounds}
 use Rattle.bus_signals.specs.declared.kind.Kind.{Kind}
 use Rattle.bus_signals.specs.declared.kind.Kind.TheVariants.{Boot, Cpu, Idle, Irq, Rom}
 use Rattle.bus_signals.specs.declared.rule.Rule.{Rule}

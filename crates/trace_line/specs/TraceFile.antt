@@ -1,5 +1,5 @@
 -- A trace file: the lines of its steps, or its first fault.
-use Rattle.std.specs.Prelude.{ℕ, Bool, true, false, List, [], ◌∷◌, length, if◌then◌else◌, Result, Ok, Err}
+use Rattle.std.specs.Prelude.{ℕ, Bool, true, false, List, [], ◌∷◌, length, if◌then◌else◌, Result, Ok}
 use Rattle.text_scan.specs.declared.fault_at.FaultAt.{FaultAt}
 use Rattle.text_scan.specs.Line.{lines_of}
 use Rattle.text_scan.specs.Reader.{◌>>=◌, in_line}

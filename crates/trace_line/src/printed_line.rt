@@ -1,7 +1,7 @@
 ghost use Rattle.std.specs.Prelude.{◌≡◌, ◌≤◌, ◌+◌, ◌++◌, ◌∷◌, [], length, codes, IfSome};
 ghost use Rattle.bus_signals.specs.Access.{IsFormed};
 ghost use Rattle.outside_edge.specs.Sink.{Puts, CountsFaults};
-ghost use Rattle.printed_lines.specs.Line.{word_digits, flag_digit, rule_name};
+ghost use Rattle.printed_lines.specs.Line.{word_digits, flag_digit};
 ghost use Rattle.trace_line.specs.LineText.{access_word, kind_name, rule_word, trace_line};
 ghost use Rattle.std.specs.Fmt.{decimal};
 ghost use Rattle.trace_line.specs.Spaced.{spaced};

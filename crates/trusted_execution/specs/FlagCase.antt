@@ -1,7 +1,9 @@
 -- Plays at which both flags are computed, and what another program says of them.
 use Rattle.std.specs.Prelude.{◌≡◌, ◌==◌, ℕ, Bool, true, false, List, [], ◌∷◌, map, if◌then◌else◌}
+use Rattle.word_arith.specs.Word16.{Word16}
 use Rattle.bus_signals.specs.declared.event.Event.{Event}
 use Rattle.bus_signals.specs.declared.event.Event.TheVariants.{Rx, Dma}
+use Rattle.bus_signals.specs.Address.{Contents, Address}
 use Rattle.device_trace.specs.Example.{counting_digest, upwards, program_of, bounds_part}
 use Rattle.part_definitions.specs.TrustedFlag.{aux}
 use Rattle.device_trace.specs.Logs.{Logs, exec_of, aux_of}
@@ -10,12 +12,12 @@ use Rattle.device_trace.specs.Trace.{logs_after, play_of}
 
 -- an image, the events of some steps, the number of steps, and AUX and EXEC after the last
 pub record FlagCase : Type 0 where
-  pub image : ℕ → ℕ
+  pub image : Contents
   pub script : List (ℕ × List Event)
   pub steps : ℕ
   pub flags : Bool × Bool
 
-abbrev pub row : (ℕ → ℕ) → List (ℕ × List Event) → ℕ → Bool × Bool → FlagCase
+abbrev pub row : Contents → List (ℕ × List Event) → ℕ → Bool × Bool → FlagCase
 row image script steps flags =
     record { image = image; script = script; steps = steps; flags = flags }
 
@@ -44,7 +46,7 @@ vector_write step = (step, Dma 0x0500 0xFFF4 1 ∷ [])
 
 -- ER from C020 to C02A: NOP; a jump to C02A; at C024 a handler, MOV.B &SRXD,R6 and RETI; at C02A
 -- RET. With OR at 0300, a program at C000, a vector of the serial port, and further words
-abbrev pub region_with : List ℕ → ℕ → List (ℕ × List ℕ) → ℕ → ℕ
+abbrev pub region_with : List Word16 → Address → List (Address × List Word16) → Contents
 region_with program vector parts =
     program_of program
     (bounds_part (0xC020 ∷ 0xC02A ∷ 0x0300 ∷ 0x0300 ∷ []) ∷
@@ -53,7 +55,7 @@ region_with program vector parts =
 
 -- MOV #2200,SP; MOV #1,&SCTL; EINT; CALL #C020; MOV.B &AUX,&STXD; a jump to itself. A byte that
 -- arrives interrupts. Where none does, the region runs in steps 10 to 13, ERmax in the last two
-abbrev pub called_region : ℕ → List (ℕ × List ℕ) → ℕ → ℕ
+abbrev pub called_region : Address → List (Address × List Word16) → Contents
 called_region vector parts =
     region_with
     (0x4031 ∷ 0x2200 ∷ 0x4392 ∷ 0x0070 ∷ 0xD232 ∷ 0x12B0 ∷ 0xC020 ∷ 0x42D2 ∷ 0x026A ∷ 0x0076 ∷

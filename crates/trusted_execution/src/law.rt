@@ -1,7 +1,6 @@
-ghost use Rattle.std.specs.Prelude.{◌≡◌, ℕ, IsFalse, IsTrue, List, Some};
+ghost use Rattle.std.specs.Prelude.{◌≡◌, ℕ, IsFalse, IsTrue, Some};
 ghost use Rattle.bus_signals.specs.Bounds.{executable_region};
 ghost use Rattle.bus_signals.specs.Report.{ReportFields};
-ghost use Rattle.bus_signals.specs.declared.event.Event.{Event};
 ghost use Rattle.part_definitions.specs.Flag.{last_pc, ran_inside};
 ghost use Rattle.part_definitions.specs.TrustedFlag.{aux};
 ghost use Rattle.device_trace.specs.Logs.{aux_of, logged_bounds};
@@ -11,11 +10,12 @@ ghost use Rattle.device_trace.specs.Text.{last_decision, last_denial, last_repor
 ghost use Rattle.device_trace.specs.Trace.{logs_after, trace};
 ghost use Rattle.device_trace.specs.TrustedRun.{TrustedRun};
 ghost use Rattle.trusted_execution.specs.SeenFlag.{aux_seen};
+ghost use Rattle.device_trace.specs.Play.{Play};
 
 /// Where the second flag is set after a play and the last record is outside the executable region,
 /// its bounds are valid, and the play has a trusted run of it.
 pub fn aux_outside_means_trusted_run()
-    ensures { (start : Start) (play : List (List Event))
+    ensures { (start : Start) (play : Play)
         → IsTrue (aux_seen (logs_after start play))
         → IsFalse (ran_inside (last_pc (logs_after start play).records)
         (executable_region (logged_bounds start (logs_after start play))))
@@ -24,7 +24,7 @@ pub fn aux_outside_means_trusted_run()
 
 /// At each moment of every play memory shows the flag as it is: a call does not change it.
 pub fn calls_leave_aux()
-    ensures { (start : Start) (play : List (List Event))
+    ensures { (start : Start) (play : Play)
         → start.second_flag ≡ aux
         → aux_of start (logs_after start play) ≡ aux_seen (logs_after start play) }
 {}
@@ -32,7 +32,7 @@ pub fn calls_leave_aux()
 /// Where the last step of a play finishes a call, whatever it decides, and AUX is 1, the play has a
 /// trusted run of the executable region.
 pub fn aux_after_call_means_trusted_run()
-    ensures { (start : Start) (play : List (List Event)) (decision : ℕ)
+    ensures { (start : Start) (play : Play) (decision : ℕ)
         → start.second_flag ≡ aux
         → last_decision start play ≡ Some decision
         → IsTrue (aux_of start (logs_after start play))
@@ -41,7 +41,7 @@ pub fn aux_after_call_means_trusted_run()
 
 /// So where it makes a report whose AUX is 1, of the region that the report names.
 pub fn aux_in_report_means_trusted_run()
-    ensures { (start : Start) (play : List (List Event)) (report : ReportFields)
+    ensures { (start : Start) (play : Play) (report : ReportFields)
         → start.second_flag ≡ aux
         → last_report start play ≡ Some report
         → IsTrue report.aux
@@ -50,7 +50,7 @@ pub fn aux_in_report_means_trusted_run()
 
 /// And where it denies.
 pub fn aux_at_denial_means_trusted_run()
-    ensures { (start : Start) (play : List (List Event)) (denial : ℕ)
+    ensures { (start : Start) (play : Play) (denial : ℕ)
         → start.second_flag ≡ aux
         → last_denial start play ≡ Some denial
         → IsTrue (aux_of start (logs_after start play))
@@ -59,7 +59,7 @@ pub fn aux_at_denial_means_trusted_run()
 
 /// Each report of a play whose AUX is 1 comes after a trusted run of the region that it names.
 pub fn each_aux_means_trusted_run()
-    ensures { (start : Start) (play : List (List Event))
+    ensures { (start : Start) (play : Play)
         → start.second_flag ≡ aux
         → EachReport start play (AuxMeansTrustedRun start) }
 {}

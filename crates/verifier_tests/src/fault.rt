@@ -1,8 +1,8 @@
-use report_text::read_reports;
+use report_text::{read_report2, read_reports};
 use report_verifier::read_policy;
 use std::alloc::{AllocError, Global};
 use std::test::Fail;
-use text_scan::{FaultAt, FaultKind, TextFault};
+use text_scan::{FaultAt, FaultKind, TextFault, WordFault};
 
 // A text with 64 zeros in the place of each `@`.
 fn with_zeros(alloc: Global, text: &str) -> Result<Vec<u8>, AllocError> {
@@ -65,6 +65,169 @@ fn faulty_policies(rt: HostRuntime) -> Result<(), Fail> {
         };
         assert_eq!(rt; fault, Some(FaultAt { line, kind }), "in {text}");
     }
+    Ok(())
+}
+
+#[test]
+fn faulty_policies_of_version_two(rt: HostRuntime) -> Result<(), Fail> {
+    for (text, line, kind) in [
+        ("version", 1, FaultKind::Missing),
+        ("# two\n\nversion 2", 3, FaultKind::Missing),
+        ("version 2\ner c020 c022", 2, FaultKind::Missing),
+        (
+            "version 2\ner c020 c022\nor 0300 0300\n",
+            3,
+            FaultKind::Missing,
+        ),
+        (
+            "version 2\ner c020 c022\nor 0300 0300\nflag",
+            4,
+            FaultKind::Missing,
+        ),
+        (
+            "version 2\ner c020 c022\nor 0300 0300\nflag aux\nask @",
+            5,
+            FaultKind::Missing,
+        ),
+        ("version 1", 1, FaultKind::Range),
+        ("version 3\nversion 2", 1, FaultKind::Range),
+        ("version two", 1, FaultKind::Digit),
+        ("version 2 2", 1, FaultKind::Extra),
+        ("version 2\nversion 2", 2, FaultKind::Order),
+        ("version 2\nor 0300 0300", 2, FaultKind::Order),
+        ("version 2\nflag exec", 2, FaultKind::Order),
+        ("version 2\nask @ 1", 2, FaultKind::Order),
+        ("version 2\ner c020 c022\nflag exec", 3, FaultKind::Order),
+        (
+            "version 2\ner c020 c022\nor 0300 0300\nask @ 1",
+            4,
+            FaultKind::Order,
+        ),
+        (
+            "version 2\ner c020 c022\nor 0300 0300\nflag exec\nflag aux",
+            5,
+            FaultKind::Order,
+        ),
+        (
+            "version 2\ner c020 c022\nor 0300 0300\nflag exec\nchal @",
+            5,
+            FaultKind::Order,
+        ),
+        (
+            "version 2\ner c020 c022\nor 0300 0300\nflag exec\nchal 0",
+            5,
+            FaultKind::Count,
+        ),
+        (
+            "version 2\ner c020 c022\nor 0300 0300\nflag none",
+            4,
+            FaultKind::Word,
+        ),
+        (
+            "version 2\ner c020 c022\nor 0300 0300\nflag exec 1",
+            4,
+            FaultKind::Extra,
+        ),
+        (
+            "version 2\ner c020 c022\nor 0300 0300\nflag exec\nask @ 0",
+            5,
+            FaultKind::Range,
+        ),
+        (
+            "version 2\ner c020 c022\nor 0300 0300\nflag exec\nask @ 4294967296",
+            5,
+            FaultKind::Range,
+        ),
+        (
+            "version 2\ner c020 c022\nor 0300 0300\nflag exec\nask @ one",
+            5,
+            FaultKind::Digit,
+        ),
+        (
+            "version 2\ner c020 c022\nor 0300 0300\nflag exec\nask 00 1",
+            5,
+            FaultKind::Count,
+        ),
+        (
+            "version 2\ner c020 c022\nor 0300 0300\nflag exec\nask @ 1 2",
+            5,
+            FaultKind::Extra,
+        ),
+        // the request's words lie behind the metadata of version 1
+        (
+            "version 2\ner c020 c022\nor 026c 026c",
+            3,
+            FaultKind::Bounds,
+        ),
+        (
+            "version 2\ner 0270 0272\nor 0300 0300",
+            3,
+            FaultKind::Bounds,
+        ),
+        // the further words are no keywords in version 1
+        ("er c020 c022\nversion 2", 2, FaultKind::Word),
+        ("flag exec", 1, FaultKind::Word),
+        ("er c020 c022\nor 0300 0300\nflag exec", 3, FaultKind::Word),
+        ("er c020 c022\nor 0300 0300\nask @ 1", 3, FaultKind::Word),
+    ] {
+        let bytes = with_zeros(rt.alloc(), text)?;
+        let fault = match read_policy(rt.alloc(), bytes.as_slice()) {
+            Err(TextFault::At(fault)) => Some(fault),
+            _ => None,
+        };
+        assert_eq!(rt; fault, Some(FaultAt { line, kind }), "in {text}");
+    }
+    Ok(())
+}
+
+// What valid bounds are depends on the version.
+#[test]
+fn output_behind_the_metadata_of_version_one(rt: HostRuntime) {
+    assert!(rt; read_policy(rt.alloc(), b"er c020 c022\nor 026c 026c\n").is_ok());
+    let two = b"version 2\ner c020 c022\nor 0290 0290\nflag plain\n";
+    assert!(rt; read_policy(rt.alloc(), two).is_ok());
+}
+
+#[test]
+fn faulty_lines_of_version_two(rt: HostRuntime) -> Result<(), Fail> {
+    for (line, kind) in [
+        ("", FaultKind::Missing),
+        ("# note", FaultKind::Word),
+        ("report 1 exec 1", FaultKind::Word),
+        ("report2 1 exec 1 chal @", FaultKind::Word),
+        ("report2 1 exec 1 aux 2", FaultKind::Range),
+        ("report2 1 exec 1 aux no", FaultKind::Digit),
+        ("report2 1 exec 1 aux 1 chal @", FaultKind::Word),
+        ("report2 1 exec 1 aux 1 count", FaultKind::Missing),
+        ("report2 1 exec 1 aux 1 count 4294967296", FaultKind::Range),
+        (
+            "report2 1 exec 1 aux 1 count 1 chal @ er c020 c022 or 0300 0300 data 0000 mac @ 1",
+            FaultKind::Extra,
+        ),
+        (
+            "report2 1 exec 1 aux 1 count 1 chal @ er c020 c022 or 0300 0300 data - mac @",
+            FaultKind::Output,
+        ),
+        (
+            "report2 1 exec 1 aux 1 count 1 chal @ er c020 c022 or 026c 026c data 0000 mac @",
+            FaultKind::Output,
+        ),
+    ] {
+        let bytes = with_zeros(rt.alloc(), line)?;
+        let fault = match read_report2(rt.alloc(), bytes.as_slice()) {
+            Err(WordFault::Kind(kind)) => Some(kind),
+            _ => None,
+        };
+        assert_eq!(rt; fault, Some(kind), "in {line}");
+    }
+    let whole = "report2 1 exec 0 aux 1 count 4294967295 chal @ er c020 c022 or 026c 026c data - \
+         mac @";
+    let bytes = with_zeros(rt.alloc(), whole)?;
+    let Ok(report) = read_report2(rt.alloc(), bytes.as_slice()) else {
+        panic!(rt; "the line is in its form");
+    };
+    assert!(rt; !report.exec && report.aux);
+    assert_eq!(rt; report.count, 4_294_967_295);
     Ok(())
 }
 
@@ -175,6 +338,26 @@ fn faulty_report_files(rt: HostRuntime) -> Result<(), Fail> {
             1,
             FaultKind::Output,
         ),
+        (
+            "report 1 exec 1 aux 0 count 1 chal @ er c020 c022 or 0300 0300 data 0000 mac @",
+            1,
+            FaultKind::Word,
+        ),
+        (
+            "report2 1 exec 1 chal @ er c020 c022 or 0300 0300 data 0000 mac @",
+            1,
+            FaultKind::Word,
+        ),
+        // valid bounds of version 1 alone
+        (
+            "report 1 exec 1 chal @ er c020 c022 or 026c 026c data - mac @",
+            1,
+            FaultKind::Output,
+        ),
+        ("denied 1", 1, FaultKind::Missing),
+        ("denied 1 1", 1, FaultKind::Range),
+        ("denied 1 4", 1, FaultKind::Range),
+        ("denied 1 2 3", 1, FaultKind::Extra),
         ("tx 1", 1, FaultKind::Missing),
         ("tx 1 4", 1, FaultKind::Count),
         ("tx 1 4g", 1, FaultKind::Digit),
@@ -192,9 +375,9 @@ fn faulty_report_files(rt: HostRuntime) -> Result<(), Fail> {
         ("end 5 pc c06 exec 0", 1, FaultKind::Count),
         ("end 5 pc c006 exec 3", 1, FaultKind::Range),
         (
-            "tx 4 41\nreset 5 X0\nverdict 0 accept\ncollision 00 1122\nend 9 pc c006 exec 1\n# \
-             note\n\nend",
-            8,
+            "tx 4 41\nreset 5 X0\ndenied 6 2\nverdict 0 count-differs\nverdict 1 aux-zero\n\
+             collision 00 1122\nend 9 pc c006 exec 1\n# note\n\nend",
+            10,
             FaultKind::Missing,
         ),
     ] {

@@ -1,6 +1,6 @@
-//! Tests of the verifier with the texts that it reads: a worked attestation judged under right and
-//! wrong policies, collisions under two digests, a device's own memory beside what is expected of
-//! it, and tables of faulty policies and report files.
+//! Tests of the verifier with the texts that it reads: a worked attestation of each version judged
+//! under right and wrong policies, the token of a request, collisions under two digests, a device's
+//! own memory beside what is expected of it, and tables of faulty policies and report files.
 #![tactic(auto)]
 
 #[cfg(test)]

@@ -1,9 +1,9 @@
-use bus_signals::{ReportView, Version};
 use mem_map::Image;
 use report_text::read_reports;
-use report_verifier::{Decision, decide, read_policy};
+use report_verifier::{Decision, decide, read_policy, token};
 use std::alloc::Global;
 use std::process::Abort;
+use std::test::Fail;
 
 // A device with the key 00 to 3f copied its pins to the output region by this code, and attested.
 const CODE: [u8; 8] = [0x92, 0x42, 0x20, 0x00, 0x00, 0x03, 0x30, 0x41];
@@ -38,12 +38,16 @@ fn verdict(rt: &impl Abort, alloc: Global, policy: &str, report: &str, code: &[u
     let [report] = reports.as_slice() else {
         panic!(rt; "there is one report");
     };
+    let image = image_of(rt, alloc, code);
+    decide(&key(), &image, policy.expect(0).as_ref(), &report.view())
+}
+
+fn key() -> [u8; 64] {
     let mut key = [0; 64];
     for (byte, number) in key.iter_mut().zip(0..64) {
         *byte = number;
     }
-    let image = image_of(rt, alloc, code);
-    decide(&key, &image, policy.expect(0).as_ref(), &report.view())
+    key
 }
 
 #[test]
@@ -85,20 +89,133 @@ fn the_first_verdict_that_holds(rt: HostRuntime) {
     assert_eq!(rt; answer, Decision::MacDiffers);
 }
 
-// The same report, as if it were of version 2: a policy of version 1 expects none.
+// The same run attested for requests of version 2, with the counters 1 and 16909060 and with the
+// flags that are named. The MACs and the token are of Python's hmac and hashlib.
+const REPORT2: &str = "report2 1189 exec 1 aux 0 count 1 chal \
+     000102030405060708090a0b0c0d0e0f101112131415161718191a1b1c1d1e1f er c040 c046 or 0300 0300 \
+     data 3412 mac 12df0a4dda0e05e0dcaa4fac98d4e4a01ca875b3cd4c88de014608a06e1b105f\n";
+
+const EXEC_ZERO: &str = "report2 1189 exec 0 aux 0 count 1 chal \
+     000102030405060708090a0b0c0d0e0f101112131415161718191a1b1c1d1e1f er c040 c046 or 0300 0300 \
+     data 3412 mac 6c3c37a12cb16dc40c66afd7ad83a216b0abd541527c29109f91068de30fe001\n";
+
+const AUX_ONE: &str = "report2 1189 exec 0 aux 1 count 1 chal \
+     000102030405060708090a0b0c0d0e0f101112131415161718191a1b1c1d1e1f er c040 c046 or 0300 0300 \
+     data 3412 mac fc6e6a4f35d47b3e77128aa572f26822d097e8018a9ab79fc27d5771fa06295e\n";
+
+const LATER_COUNT: &str = "report2 1189 exec 1 aux 0 count 16909060 chal \
+     000102030405060708090a0b0c0d0e0f101112131415161718191a1b1c1d1e1f er c040 c046 or 0300 0300 \
+     data 3412 mac 284a4c654e823ab29ab18b69f83ecd5e68b0a66a20de7095da50145ce7adf2e1\n";
+
+// The report for the counter 1, with another counter in its place.
+const COUNT_CHANGED: &str = "report2 1189 exec 1 aux 0 count 16909060 chal \
+     000102030405060708090a0b0c0d0e0f101112131415161718191a1b1c1d1e1f er c040 c046 or 0300 0300 \
+     data 3412 mac 12df0a4dda0e05e0dcaa4fac98d4e4a01ca875b3cd4c88de014608a06e1b105f\n";
+
+// The report with both flags 0, which tells that they are 1.
+const FLAGS_CHANGED: &str = "report2 1189 exec 1 aux 1 count 1 chal \
+     000102030405060708090a0b0c0d0e0f101112131415161718191a1b1c1d1e1f er c040 c046 or 0300 0300 \
+     data 3412 mac 6c3c37a12cb16dc40c66afd7ad83a216b0abd541527c29109f91068de30fe001\n";
+
+const ASK: &str = "ask 000102030405060708090a0b0c0d0e0f101112131415161718191a1b1c1d1e1f 1\n";
+
+const ASK_LATER: &str =
+    "ask 000102030405060708090a0b0c0d0e0f101112131415161718191a1b1c1d1e1f 16909060\n";
+
 #[test]
-fn a_report_of_version_two_is_of_another_version(rt: HostRuntime) {
-    let Ok(reports) = read_reports(rt.alloc(), REPORT.as_bytes()) else {
-        panic!(rt; "the report is in its form");
-    };
-    let [report] = reports.as_slice() else {
-        panic!(rt; "there is one report");
-    };
-    let view = ReportView {
-        version: Version::Two,
-        ..report.view()
-    };
-    let image = image_of(&rt, rt.alloc(), &CODE);
-    let answer = decide(&[0; 64], &image, None, &view);
+fn the_first_verdict_that_holds_in_version_two(rt: HostRuntime) -> Result<(), Fail> {
+    let other_chal = "ask ffffffffffffffffffffffffffffffffffffffffffffffffffffffffffffffff 1\n";
+    for (regions, flag, ask, report, decision) in [
+        ("or 0300 0300", "exec", ASK, REPORT2, Decision::Accept),
+        ("or 0300 0300", "plain", ASK, REPORT2, Decision::Accept),
+        ("or 0300 0300", "plain", ASK, EXEC_ZERO, Decision::Accept),
+        ("or 0300 0300", "aux", ASK, AUX_ONE, Decision::Accept),
+        (
+            "or 0300 0300",
+            "exec",
+            ASK_LATER,
+            LATER_COUNT,
+            Decision::Accept,
+        ),
+        ("or 0300 0300", "exec", "", REPORT2, Decision::NoChallenge),
+        ("or 0300 0300", "exec", "", REPORT, Decision::NoChallenge),
+        (
+            "or 0300 0300",
+            "exec",
+            ASK,
+            REPORT,
+            Decision::VersionDiffers,
+        ),
+        (
+            "or 0300 0300",
+            "exec",
+            other_chal,
+            LATER_COUNT,
+            Decision::ChalDiffers,
+        ),
+        (
+            "or 0300 0302",
+            "exec",
+            ASK_LATER,
+            REPORT2,
+            Decision::CountDiffers,
+        ),
+        ("or 0300 0302", "aux", ASK, REPORT2, Decision::BoundsDiffer),
+        ("or 0300 0300", "exec", ASK, EXEC_ZERO, Decision::ExecZero),
+        ("or 0300 0300", "exec", ASK, AUX_ONE, Decision::ExecZero),
+        ("or 0300 0300", "aux", ASK, REPORT2, Decision::AuxZero),
+        ("or 0300 0300", "aux", ASK, EXEC_ZERO, Decision::AuxZero),
+        (
+            "or 0300 0300",
+            "exec",
+            ASK_LATER,
+            COUNT_CHANGED,
+            Decision::MacDiffers,
+        ),
+        (
+            "or 0300 0300",
+            "exec",
+            ASK,
+            FLAGS_CHANGED,
+            Decision::MacDiffers,
+        ),
+        (
+            "or 0300 0300",
+            "aux",
+            ASK,
+            FLAGS_CHANGED,
+            Decision::MacDiffers,
+        ),
+        (
+            "or 0300 0300",
+            "plain",
+            ASK,
+            FLAGS_CHANGED,
+            Decision::MacDiffers,
+        ),
+    ] {
+        let policy = format!(in rt.alloc();
+            "version 2\ner C040 C046\n{regions}\nflag {flag}\n{ask}"
+        )?;
+        let answer = verdict(&rt, rt.alloc(), policy.as_str(), report, &CODE);
+        assert_eq!(rt; answer, decision, "of {report} under {policy}");
+    }
+    let answer = verdict(&rt, rt.alloc(), POLICY, REPORT2, &CODE);
     assert_eq!(rt; answer, Decision::VersionDiffers);
+    Ok(())
+}
+
+#[test]
+fn a_request_has_its_token(rt: HostRuntime) {
+    let mut chal = [0; 32];
+    for (byte, number) in chal.iter_mut().zip(0..32) {
+        *byte = number;
+    }
+    let token = token(&key(), &chal, 0x0102_0304);
+    let want = [
+        0xB5, 0x87, 0x57, 0x49, 0x20, 0x94, 0xE3, 0x63, 0x03, 0x65, 0x67, 0x96, 0xAE, 0xC0, 0x2E,
+        0x11, 0xC8, 0x73, 0x18, 0xD1, 0xE9, 0x63, 0x4C, 0xE0, 0x90, 0xAA, 0xF0, 0x16, 0xCF, 0x9E,
+        0xD7, 0xE2,
+    ];
+    assert_eq!(rt; token, want);
 }

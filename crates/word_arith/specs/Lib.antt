@@ -1,3 +1,4 @@
+pub mod Word16
 pub mod Number
 pub mod Flags
 pub mod Sum

@@ -2,6 +2,7 @@
 use Rattle.std.specs.Prelude.{◌-◌, ◌/◌, ◌%◌, ℕ, Bool, true, false, nat_le}
 use Rattle.word_arith.specs.declared.size.Size.{Size}
 use Rattle.word_arith.specs.declared.size.Size.TheVariants.{Byte, Word}
+use Rattle.word_arith.specs.Word16.{Word16}
 
 -- how many numbers there are of a size: an operand is below it
 abbrev pub modulus : Size → ℕ
@@ -9,7 +10,7 @@ modulus Byte = 256
 modulus Word = 65536
 
 -- the operand of a size in a word: the low byte, or the whole word
-abbrev pub low_part : Size → ℕ → ℕ
+abbrev pub low_part : Size → Word16 → ℕ
 low_part size word = word % modulus size
 
 -- all bits inverted

@@ -7,16 +7,17 @@ use Rattle.word_arith.specs.declared.op1.Op1.{Op1}
 use Rattle.word_arith.specs.declared.op1.Op1.TheVariants.{Rrc, Swpb, Rra, Sxt}
 use Rattle.word_arith.specs.Number.{modulus, low_part, is_negative, number_of}
 use Rattle.word_arith.specs.Flags.{flags_of}
+use Rattle.word_arith.specs.Word16.{Word16}
 
 -- half the operand, with a bit put in at the top; C is the bit that leaves, and V is 0
-abbrev pub shift_of : Size → ℕ → Bool → ℕ × Flags
+abbrev pub shift_of : Size → Word16 → Bool → ℕ × Flags
 shift_of size dst top =
     let operand : ℕ = low_part size dst in
     let outcome : ℕ = operand / 2 + number_of top * (modulus size / 2) in
     (outcome, flags_of size outcome (operand % 2 == 1) false)
 
 -- the low byte with bit 7 copied to bits 8 to 15; C says that the word is not 0, and V is 0
-abbrev pub extend_of : ℕ → ℕ × Flags
+abbrev pub extend_of : Word16 → ℕ × Flags
 extend_of dst =
     let low : ℕ = low_part Byte dst in
     let outcome : ℕ = if is_negative Byte low then low + 0xFF00 else low in
@@ -31,7 +32,7 @@ shifted_size Sxt size = Word
 
 -- RRC shifts the carry in, RRA keeps the top bit, SWPB exchanges the bytes, SXT extends the low
 -- byte
-unfoldable pub shift_result : Op1 → Size → ℕ → Flags → ℕ × Flags
+unfoldable pub shift_result : Op1 → Size → Word16 → Flags → ℕ × Flags
 shift_result Rrc size dst flags = shift_of size dst flags.c
 shift_result Swpb size dst flags = (dst % 256 * 256 + dst / 256, flags)
 shift_result Rra size dst flags = shift_of size dst (is_negative size (low_part size dst))

@@ -8,6 +8,7 @@ use Rattle.word_arith.specs.Number.{low_part, inverse, is_negative}
 use Rattle.word_arith.specs.Flags.{flags_of}
 use Rattle.word_arith.specs.Sum.{sum_of}
 use Rattle.word_arith.specs.Decimal.{decimal_sum}
+use Rattle.word_arith.specs.Word16.{Word16}
 
 -- a result whose carry says that it is not 0
 abbrev pub test_of : Size → ℕ → Bool → ℕ × Flags
@@ -36,5 +37,5 @@ alu_of Xor size src dst flags =
 alu_of And size src dst flags = test_of size (bit_and dst src) false
 
 -- result and flags for words, of which a byte operation takes the low bytes
-unfoldable pub alu_result : Op2 → Size → ℕ → ℕ → Flags → ℕ × Flags
+unfoldable pub alu_result : Op2 → Size → Word16 → Word16 → Flags → ℕ × Flags
 alu_result op size src dst flags = alu_of op size (low_part size src) (low_part size dst) flags

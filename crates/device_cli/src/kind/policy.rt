@@ -7,7 +7,7 @@ use text_scan::{FaultAt, TextFault};
 // The most bytes of a policy.
 const POLICY_LIMIT: usize = 65_536;
 
-/// What reports are expected to name: regions and challenges.
+/// What reports are expected to name: regions, a flag and requests.
 #[derive(Clone, Copy, Debug)]
 pub struct Policy;
 

@@ -43,6 +43,8 @@ fn print_tail<W: Sink>(counts: LineCounts, digest: &[u8; 32], sink: &mut W) -> R
     let mut line = LineBuffer::new();
     line.push(b" reports ");
     line.push_decimal(counts.reports);
+    line.push(b" denied ");
+    line.push_decimal(counts.denials);
     line.push(b" exec ");
     line.push_decimal(counts.with_exec);
     line.push(b" text ");

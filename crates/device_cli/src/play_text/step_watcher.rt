@@ -48,19 +48,19 @@ pub trait StepWatcher {
         requires few { count tally ≤ step }
         requires limit { step < most_steps }
         ensures tally { (start : Start) (events : List Event) (play : List (List Event))
-            → LiveStandsFor D.has_taken D.digest_of G.flag live.now start (events ∷ play)
-            → tallies D.digest_of self.now start play tally
-            → IfOk result (tallies D.digest_of self.now start (events ∷ play)) }
+            → LiveStandsFor D.hash G.flag live.now start (events ∷ play)
+            → tallies D.hash.digest_of self.now start play tally
+            → IfOk result (tallies D.hash.digest_of self.now start (events ∷ play)) }
         ensures count { IfOk result (λ new. count new ≤ count tally + 1) }
         ensures puts { (start : Start) (events : List Event) (play : List (List Event))
-            → LiveStandsFor D.has_taken D.digest_of G.flag live.now start (events ∷ play)
-            → tallies D.digest_of self.now start play tally
+            → LiveStandsFor D.hash G.flag live.now start (events ∷ play)
+            → tallies D.hash.digest_of self.now start play tally
             → Puts W.stands sink.old sink.new
-            (last_lines D.digest_of self.now start (events ∷ play) step) result }
+            (last_lines D.hash.digest_of self.now start (events ∷ play) step) result }
         ensures stops { (start : Start) (events : List Event) (play : List (List Event))
-            → LiveStandsFor D.has_taken D.digest_of G.flag live.now start (events ∷ play)
-            → tallies D.digest_of self.now start play tally
-            → IfErr result (stops D.digest_of self.now start (events ∷ play)) }
+            → LiveStandsFor D.hash G.flag live.now start (events ∷ play)
+            → tallies D.hash.digest_of self.now start play tally
+            → IfErr result (stops D.hash.digest_of self.now start (events ∷ play)) }
         ensures counts { Blames blames W.faults sink.old sink.new result };
 
     /// There is nothing to say of a silent step.

@@ -43,9 +43,9 @@ fn play_more<D: Digest32, G: TraceFlag>(
     ensures made { steps_made live < steps_made result }
     ensures within { steps_made result ≤ steps }
     ensures plays { (key : List ℕ) (image : ℕ → ℕ) (events_at : ℕ → List Event)
-        → IsMidway D.has_taken D.digest_of G.flag (with_key G.flag.value D.digest_of key image)
+        → IsMidway D.hash G.flag (with_key G.flag.value D.hash.digest_of key image)
         events_at live playback.old
-        → HasGoneOn D.has_taken D.digest_of G.flag (with_key G.flag.value D.digest_of key image)
+        → HasGoneOn D.hash G.flag (with_key G.flag.value D.hash.digest_of key image)
         events_at (steps_made live) result playback.new }
 {
     let step = live.steps();
@@ -72,30 +72,34 @@ pub fn watch_play<O: StepWatcher, D: Digest32, G: TraceFlag, W: Sink>(
     requires few { steps ≤ most_steps }
     requires none { O.count tally ≡ 0 }
     ensures stands { (key : List ℕ) (image : ℕ → ℕ)
-        → HeldStandsFor D.has_taken D.digest_of G.flag device
-        (with_key G.flag.value D.digest_of key image) []
-        → IfOk result (λ end. LiveStandsFor D.has_taken D.digest_of G.flag end.0
-        (with_key G.flag.value D.digest_of key image) (play_of (events_of script.now) steps)) }
+        → HeldStandsFor D.hash G.flag device
+        (with_key G.flag.value D.hash.digest_of key image) []
+        → IfOk result (λ end. LiveStandsFor D.hash G.flag end.0
+        (with_key G.flag.value D.hash.digest_of key image) (play_of (events_of script.now) steps)) }
     ensures tally { (key : List ℕ) (image : ℕ → ℕ)
-        → HeldStandsFor D.has_taken D.digest_of G.flag device
-        (with_key G.flag.value D.digest_of key image) []
-        → O.tallies D.digest_of watcher.now (with_key G.flag.value D.digest_of key image) [] tally
-        → IfOk result (λ end. O.tallies D.digest_of watcher.now
-        (with_key G.flag.value D.digest_of key image) (play_of (events_of script.now) steps)
+        → HeldStandsFor D.hash G.flag device
+        (with_key G.flag.value D.hash.digest_of key image) []
+        → O.tallies D.hash.digest_of watcher.now (with_key G.flag.value D.hash.digest_of key image)
+        [] tally
+        → IfOk result (λ end. O.tallies D.hash.digest_of watcher.now
+        (with_key G.flag.value D.hash.digest_of key image) (play_of (events_of script.now) steps)
         end.1) }
     ensures puts { (key : List ℕ) (image : ℕ → ℕ)
-        → HeldStandsFor D.has_taken D.digest_of G.flag device
-        (with_key G.flag.value D.digest_of key image) []
-        → O.tallies D.digest_of watcher.now (with_key G.flag.value D.digest_of key image) [] tally
+        → HeldStandsFor D.hash G.flag device
+        (with_key G.flag.value D.hash.digest_of key image) []
+        → O.tallies D.hash.digest_of watcher.now (with_key G.flag.value D.hash.digest_of key image)
+        [] tally
         → Puts W.stands sink.old sink.new
-        (watched_lines (O.last_lines D.digest_of watcher.now
-        (with_key G.flag.value D.digest_of key image)) (events_of script.now) steps) result }
+        (watched_lines (O.last_lines D.hash.digest_of watcher.now
+        (with_key G.flag.value D.hash.digest_of key image)) (events_of script.now) steps) result }
     ensures stops { (key : List ℕ) (image : ℕ → ℕ)
-        → HeldStandsFor D.has_taken D.digest_of G.flag device
-        (with_key G.flag.value D.digest_of key image) []
-        → O.tallies D.digest_of watcher.now (with_key G.flag.value D.digest_of key image) [] tally
+        → HeldStandsFor D.hash G.flag device
+        (with_key G.flag.value D.hash.digest_of key image) []
+        → O.tallies D.hash.digest_of watcher.now (with_key G.flag.value D.hash.digest_of key image)
+        [] tally
         → IfErr result (λ fault. IsSoAfterSome
-        (λ play. O.stops D.digest_of watcher.now (with_key G.flag.value D.digest_of key image) play
+        (λ play. O.stops D.hash.digest_of watcher.now
+        (with_key G.flag.value D.hash.digest_of key image) play
         fault) (events_of script.now) steps) }
     ensures counts { Blames O.blames W.faults sink.old sink.new result }
 {

@@ -1,11 +1,11 @@
-ghost use Rattle.std.specs.Prelude.{◌≡◌, ◌<◌, Bool, List, Some, IfOk, IfSome, IsTrue, option_map};
-ghost use Rattle.bus_signals.specs.Bounds.{are_valid_one};
+ghost use Rattle.std.specs.Prelude.{◌≡◌, ◌<◌, List, Some, IfOk, IfSome, IsTrue, option_map};
 ghost use Rattle.bus_signals.specs.Report.{fields_of};
 ghost use Rattle.part_definitions.specs.Memory.{PowerOn, ShownFlags, MemoryWrite, byte_at};
 ghost use Rattle.mem_map.specs.Memory.{MemoryStandsFor};
-ghost use Rattle.outside_edge.specs.Sink.{Puts, CountsFaults};
+ghost use Rattle.outside_edge.specs.Sink.{Puts};
 ghost use Rattle.report_verifier.specs.Comparison.{OutputFits};
-ghost use Rattle.device_cli.specs.Judgement.{judge_of, exhibit_lines, own_bytes_collide, comparison_lines, evidence_lines, is_pair_shown, judgement_lines, judgement_has_pair, TellsOutput, tally_after};
+ghost use Rattle.report_verifier.specs.Validity.{are_valid_for};
+ghost use Rattle.device_cli.specs.Judgement.{judge_of, evidence_lines, is_pair_shown, judgement_lines, judgement_has_pair, TellsOutput, tally_after};
 ghost use Rattle.device_cli.specs.Judge.{verdict_at};
 ghost use Rattle.device_cli.specs.Limit.{most_steps};
 ghost use Rattle.device_cli.specs.Verify.{is_accept};
@@ -17,7 +17,7 @@ use crate::verdict::verifier::Verifier;
 use bus_signals::ReportView;
 use hmac_core::Digest32;
 use mem_map::Memory;
-use outside_edge::{Failed, Sink};
+use outside_edge::Sink;
 use report_text::{print_collision, print_verdict};
 use report_verifier::{Decision, Exhibit, Expect, compare};
 use std::alloc::Global;
@@ -40,28 +40,29 @@ fn print_evidence<D: Digest32, W: Sink>(
     memory: &Memory,
     sink: &mut W,
 ) -> Result<(), PutFault>
-    requires { IfSome expect (λ expect. IsTrue (are_valid_one expect.bounds)) }
+    requires { IfSome expect (λ expect.
+        IsTrue (are_valid_for expect.version expect.bounds)) }
     ensures puts { (start : PowerOn) (flags : ShownFlags) (writes : List MemoryWrite)
         → MemoryStandsFor memory.now start flags writes
         → (IsTrue (is_accept verdict) → IfSome expect (λ expect.
         OutputFits expect.bounds (fields_of report.now).output))
         → Puts W.stands sink.old sink.new
-        (evidence_lines (judge_of D.digest_of verifier.now) expect verdict
-        (fields_of report.now).output (byte_at start flags writes)) result }
+        (evidence_lines (judge_of D.hash.digest_of verifier.now) expect verdict
+        (fields_of report.now) (byte_at start flags writes)) result }
     ensures memory { (start : PowerOn) (flags : ShownFlags) (writes : List MemoryWrite)
         → MemoryStandsFor memory.now start flags writes
         → (IsTrue (is_accept verdict) → IfSome expect (λ expect.
         OutputFits expect.bounds (fields_of report.now).output))
         → StopsOnlyAtPair result
-        (is_pair_shown (judge_of D.digest_of verifier.now) expect verdict
-        (fields_of report.now).output (byte_at start flags writes)) }
+        (is_pair_shown (judge_of D.hash.digest_of verifier.now) expect verdict
+        (fields_of report.now) (byte_at start flags writes)) }
     ensures counts { CountsWriteFaults W.faults sink.old sink.new result }
 {
     let (Some(expect), Decision::Accept) = (expect, verdict) else {
         return Ok(());
     };
-    let (key, image, output) = (verifier.key, verifier.image, report.output);
-    match compare::<D>(alloc, key, image, &expect, output, memory)? {
+    let (key, image) = (verifier.key, verifier.image);
+    match compare::<D>(alloc, key, image, &expect, report, memory)? {
         Exhibit::Pair(first, second) => {
             print_collision(first.as_slice(), second.as_slice(), sink)?;
             Ok(())
@@ -81,18 +82,18 @@ fn judge<D: Digest32, W: Sink>(
 ) -> Result<Decision, PutFault>
     requires { i < most_steps }
     ensures verdict { IfOk result (λ verdict.
-        verdict ≡ verdict_at (judge_of D.digest_of verifier.now) i (fields_of report.now)) }
+        verdict ≡ verdict_at (judge_of D.hash.digest_of verifier.now) i (fields_of report.now)) }
     ensures puts { (start : PowerOn) (flags : ShownFlags) (writes : List MemoryWrite)
         → MemoryStandsFor memory.now start flags writes
         → TellsOutput (byte_at start flags writes) (Some (fields_of report.now))
         → Puts W.stands sink.old sink.new
-        (judgement_lines (judge_of D.digest_of verifier.now) i (byte_at start flags writes)
+        (judgement_lines (judge_of D.hash.digest_of verifier.now) i (byte_at start flags writes)
         (Some (fields_of report.now))) result }
     ensures memory { (start : PowerOn) (flags : ShownFlags) (writes : List MemoryWrite)
         → MemoryStandsFor memory.now start flags writes
         → TellsOutput (byte_at start flags writes) (Some (fields_of report.now))
         → StopsOnlyAtPair result
-        (judgement_has_pair (judge_of D.digest_of verifier.now) i (byte_at start flags writes)
+        (judgement_has_pair (judge_of D.hash.digest_of verifier.now) i (byte_at start flags writes)
         (Some (fields_of report.now))) }
     ensures counts { CountsWriteFaults W.faults sink.old sink.new result }
 {
@@ -115,19 +116,19 @@ pub fn judge_last<D: Digest32, W: Sink>(
 ) -> Result<Tally, PutFault>
     requires { tally.verdicts < most_steps }
     ensures tally { IfOk result (λ new.
-        new ≡ tally_after (judge_of D.digest_of verifier.now) tally
+        new ≡ tally_after (judge_of D.hash.digest_of verifier.now) tally
         (option_map fields_of report.entry)) }
     ensures puts { (start : PowerOn) (flags : ShownFlags) (writes : List MemoryWrite)
         → MemoryStandsFor memory.now start flags writes
         → TellsOutput (byte_at start flags writes) (option_map fields_of report.entry)
         → Puts W.stands sink.old sink.new
-        (judgement_lines (judge_of D.digest_of verifier.now) tally.verdicts
+        (judgement_lines (judge_of D.hash.digest_of verifier.now) tally.verdicts
         (byte_at start flags writes) (option_map fields_of report.entry)) result }
     ensures memory { (start : PowerOn) (flags : ShownFlags) (writes : List MemoryWrite)
         → MemoryStandsFor memory.now start flags writes
         → TellsOutput (byte_at start flags writes) (option_map fields_of report.entry)
         → StopsOnlyAtPair result
-        (judgement_has_pair (judge_of D.digest_of verifier.now) tally.verdicts
+        (judgement_has_pair (judge_of D.hash.digest_of verifier.now) tally.verdicts
         (byte_at start flags writes) (option_map fields_of report.entry)) }
     ensures counts { CountsWriteFaults W.faults sink.old sink.new result }
 {

@@ -18,9 +18,9 @@ pub fn print_verdicts<D: Digest32, W: Sink>(
     sink: &mut W,
 ) -> Result<bool, Failed>
     ensures puts { Puts W.stands sink.old sink.new
-        (lines_from 1 (verdicts (judge_of D.digest_of verifier.now) reports.now)) result }
+        (lines_from 1 (verdicts (judge_of D.hash.digest_of verifier.now) reports.now)) result }
     ensures accepted { IfOk result (λ all. all
-        ≡ all_accept (verdicts (judge_of D.digest_of verifier.now) reports.now)) }
+        ≡ all_accept (verdicts (judge_of D.hash.digest_of verifier.now) reports.now)) }
     ensures counts { CountsFaults W.faults sink.old sink.new result }
 {
     let mut all_accept = true;
@@ -35,7 +35,7 @@ pub fn print_verdicts<D: Digest32, W: Sink>(
 // The verdict on a report of the list, numbered from 0.
 fn verdict_at<D: Digest32>(verifier: &Verifier<'_>, reports: &[Report], i: usize) -> Decision
     requires { i < length reports.now }
-    ensures { Some result ≡ option_map (verdict_at (judge_of D.digest_of verifier.now) i)
+    ensures { Some result ≡ option_map (verdict_at (judge_of D.hash.digest_of verifier.now) i)
         (slice_get reports.now i) }
 {
     verifier.verdict::<D>(i, &reports[i].view())

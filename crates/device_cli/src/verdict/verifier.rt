@@ -18,10 +18,11 @@ impl Verifier<'_> {
     ghost use Rattle.device_cli.specs.Judge.{verdict_at};
     ghost use Rattle.device_cli.specs.Judgement.{judge_of};
 
-    /// The verdict on a report, numbered from 0: it is expected to answer the challenge of its
+    /// The verdict on a report, numbered from 0: it is expected to answer the request of its
     /// number.
     pub fn verdict<D: Digest32>(&self, i: usize, report: &ReportView<'_>) -> Decision
-        ensures { result ≡ verdict_at (judge_of D.digest_of self.now) i (fields_of report.now) }
+        ensures { result ≡ verdict_at (judge_of D.hash.digest_of self.now) i
+            (fields_of report.now) }
     {
         let expect = self.policy.expect(i);
         decide_by::<D>(self.key, self.image, expect.as_ref(), report)

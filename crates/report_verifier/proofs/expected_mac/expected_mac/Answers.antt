@@ -1,20 +1,27 @@
-use Rattle.std.proofs.Common.{rules, ◌∙◌, ap, sym, ◌++◌, take}
+use Rattle.std.proofs.Common.{rules, ◌∙◌, ap, sym, ◌++◌, List, ℕ}
+use Rattle.bus_signals.specs.Report.{fields_of}
 use Rattle.mem_map.specs.Image.{byte_in}
+use Rattle.part_definitions.specs.Attestation.{derived_key}
 use Rattle.part_definitions.specs.Hmac.{hmac}
 use Rattle.report_verifier.specs.Expectation.{expected_metadata, image_code}
-use Rattle.report_verifier.proofs.SixPieces.{take-chal}
+use Rattle.report_verifier.proofs.ExpectedMetadata.{take-chal}
 use Rattle.report_verifier.proofs.expected_mac.expected_mac.Goals as goal
 
 pub returns : goal.returns
 returns g c =
-    let digest = g.D.Digest32.digest_of in
+    let digest = g.D.Digest32.hash.digest_of in
+    let key = c.args.key.now in
     let expect = c.args.expect.now in
-    let message = expected_metadata expect ++
-    (image_code (byte_in c.args.image.now) expect.bounds ++ c.output_bytes.result.now) in
-    let same_key = c.hmac-derived_key.ensures ∙ ap (hmac digest c.args.key.now)
-    (sym (take-chal expect (search rules))) in
+    let report = fields_of c.args.report.now in
+    let metadata = expected_metadata digest key expect report in
+    let code = image_code (byte_in c.args.image.now) expect.bounds in
+    let same_key = c.hmac-derived_key.ensures
+    ∙ ap (hmac digest key) (sym (take-chal digest key expect report (search rules))) in
     c.derived_mac.ensures
-    ∙ ap (λ key. hmac digest key message) same_key
-    ∙ ap (λ output. hmac digest (hmac digest c.args.key.now (take 32 (expected_metadata expect)))
-    (expected_metadata expect ++ (image_code (byte_in c.args.image.now) expect.bounds ++ output)))
-    c.output_bytes.ensures
+    ∙ ap (λ (mac_key : List ℕ). hmac digest mac_key
+    (c.as_slice.result.now ++ (code ++ c.output_bytes-output.result.now))) same_key
+    ∙ ap (λ (bytes : List ℕ). hmac digest (derived_key digest key metadata)
+    (bytes ++ (code ++ c.output_bytes-output.result.now)))
+    (c.as_slice.ensures ∙ c.expected_metadata-metadata.ensures.metadata)
+    ∙ ap (λ (output : List ℕ). hmac digest (derived_key digest key metadata)
+    (metadata ++ (code ++ output))) c.output_bytes-output.ensures

@@ -31,6 +31,6 @@ loop-lap-preserved c =
 
 pub returns : goal.returns
 returns c =
-    let all : c.loop-lap.lap ≡ 1000 =
+    let all : c.loop-lap.lap ≡ 500 =
     omega (arith, c.loop-lap-test.false, c.loop-lap.auto.lap-end) in
     rw all at c.loop-lap.invariant.events

@@ -12,19 +12,19 @@ use Rattle.device_cli.proofs.play_text.watch_play.watch_play.Goals as goal
 -- what `see` is told: the device after the last step, the tally and the sink before it
 to-see :
     (g : Over) (c : After-see g) (key : List ℕ) (image : ℕ → ℕ)
-    → let digest = g.D.Digest32.digest_of in
+    → let digest = g.D.Digest32.hash.digest_of in
     let flag = g.G.TraceFlag.flag in
     let watcher = g.O.StepWatcher in
     let start = with_key flag.value digest key image in
-    HeldStandsFor g.D.Digest32.has_taken digest flag c.args.device start []
+    HeldStandsFor g.D.Digest32.hash flag c.args.device start []
     → watcher.tallies digest c.args.watcher.now start [] c.args.tally
-    → IsToSee g.D.Digest32.has_taken digest flag start g.W.Sink.stands
+    → IsToSee g.D.Digest32.hash flag start g.W.Sink.stands
     (watcher.tallies digest c.args.watcher.now start)
     (watcher.last_lines digest c.args.watcher.now start) c.args.sink.now c.loop-playback.sink
     (events_of c.args.script.now) (c.steps-in-loop-playback.result - 1) c.play_more-live.result
     c.loop-playback.tally
 to-see g c key image holds begins =
-    let digest = g.D.Digest32.digest_of in
+    let digest = g.D.Digest32.hash.digest_of in
     let start : Start = with_key g.G.TraceFlag.flag.value digest key image in
     let made = c.play_more-live.ensures.made in
     let count = c.steps-in-loop-playback.ensures.made in

@@ -5,8 +5,8 @@ use Rattle.device_cli.proofs.round_text.JudgingStepWatcher.see.Goals as goal
 
 pub returns-clause-tally : goal.returns-clause-tally
 returns-clause-tally g c = λ start events play live is.
-    tally-answered (judge_of g.D.Digest32.digest_of c.args.self.now.verifier.now) start events play
-    c.args.tally c.print_judged_step.result is
+    tally-answered (judge_of g.D.Digest32.hash.digest_of c.args.self.now.verifier.now)
+    start events play c.args.tally c.print_judged_step.result is
     (c.print_judged_step.ensures.tally start (events ∷ play) live)
 
 pub returns-clause-puts : goal.returns-clause-puts

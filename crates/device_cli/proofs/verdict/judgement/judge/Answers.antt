@@ -10,7 +10,7 @@ use Rattle.device_cli.proofs.verdict.judgement.judge.Goals as goal
 
 pub returns-in_err-print_verdict-clause-puts : goal.returns-in_err-print_verdict-clause-puts
 returns-in_err-print_verdict-clause-puts g c = λ start flags writes stands tells.
-    let judge : Judge = judge_of g.D.Digest32.digest_of c.args.verifier.now in
+    let judge : Judge = judge_of g.D.Digest32.hash.digest_of c.args.verifier.now in
     let report = fields_of c.args.report.now in
     let is = is-judged judge c.args.i report c.expect-expect.ensures.expectation
     c.verdict-verdict.ensures in
@@ -20,7 +20,7 @@ returns-in_err-print_verdict-clause-puts g c = λ start flags writes stands tell
 
 pub returns-in_err-print_evidence-clause-puts : goal.returns-in_err-print_evidence-clause-puts
 returns-in_err-print_evidence-clause-puts g c = λ start flags writes stands tells.
-    let judge : Judge = judge_of g.D.Digest32.digest_of c.args.verifier.now in
+    let judge : Judge = judge_of g.D.Digest32.hash.digest_of c.args.verifier.now in
     let report = fields_of c.args.report.now in
     let bytes = byte_at start flags writes in
     let is = is-judged judge c.args.i report c.expect-expect.ensures.expectation
@@ -34,7 +34,7 @@ returns-in_err-print_evidence-clause-puts g c = λ start flags writes stands tel
 
 pub returns-in_err-print_evidence-clause-memory : goal.returns-in_err-print_evidence-clause-memory
 returns-in_err-print_evidence-clause-memory g c = λ start flags writes stands tells.
-    let judge : Judge = judge_of g.D.Digest32.digest_of c.args.verifier.now in
+    let judge : Judge = judge_of g.D.Digest32.hash.digest_of c.args.verifier.now in
     let report = fields_of c.args.report.now in
     let bytes = byte_at start flags writes in
     let is = is-judged judge c.args.i report c.expect-expect.ensures.expectation
@@ -47,7 +47,7 @@ returns-in_err-print_evidence-clause-memory g c = λ start flags writes stands t
 
 pub returns-clause-puts : goal.returns-clause-puts
 returns-clause-puts g c = λ start flags writes stands tells.
-    let judge : Judge = judge_of g.D.Digest32.digest_of c.args.verifier.now in
+    let judge : Judge = judge_of g.D.Digest32.hash.digest_of c.args.verifier.now in
     let report = fields_of c.args.report.now in
     let bytes = byte_at start flags writes in
     let is = is-judged judge c.args.i report c.expect-expect.ensures.expectation

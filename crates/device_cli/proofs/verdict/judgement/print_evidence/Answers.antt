@@ -13,8 +13,8 @@ pub returns-in_default : goal.returns-in_default
 returns-in_default g c =
     record {
       puts = λ start flags writes stands fits.
-          rw (no-evidence (judge_of g.D.Digest32.digest_of c.args.verifier.now) c.args.expect
-          c.args.verdict (fields_of c.args.report.now).output (byte_at start flags writes)
+          rw (no-evidence (judge_of g.D.Digest32.hash.digest_of c.args.verifier.now) c.args.expect
+          c.args.verdict (fields_of c.args.report.now) (byte_at start flags writes)
           c.in_default.not-Accept-1)
           (nothing-put g.W.Sink.stands c.args.sink.now tt);
       memory = λ start flags writes stands fits. tt;
@@ -29,24 +29,25 @@ returns-in_err-first-clause-puts g c = λ start flags writes stands fits.
 pub returns-in_err-first-clause-memory : goal.returns-in_err-first-clause-memory
 returns-in_err-first-clause-memory g c = λ start flags writes stands fits.
     let accept = c.in-Some-Accept in
-    let output = (fields_of c.args.report.now).output in
+    let report = fields_of c.args.report.now in
     stops-at c.from_residual.result _
-    (pair-shown_after (judge_of g.D.Digest32.digest_of c.args.verifier.now) c.args.expect
-    c.args.verdict output (byte_at start flags writes) accept.expect accept.is-0 accept.is-1
+    (pair-shown_after (judge_of g.D.Digest32.hash.digest_of c.args.verifier.now) c.args.expect
+    c.args.verdict report (byte_at start flags writes) accept.expect accept.is-0 accept.is-1
     (c.in_err-first.ensures start flags writes stands
-    (accepted-fits_expect c.args.expect c.args.verdict output accept.expect accept.is-0
+    (accepted-fits_expect c.args.expect c.args.verdict report.output accept.expect accept.is-0
     accept.is-1 fits)))
 
 pub returns-in_err-print_collision-in-Pair-clause-puts :
     goal.returns-in_err-print_collision-in-Pair-clause-puts
 returns-in_err-print_collision-in-Pair-clause-puts g c = λ start flags writes stands fits.
     let accept = c.in-Some-Accept in
-    let output = (fields_of c.args.report.now).output in
-    let shows = evidence-shown (judge_of g.D.Digest32.digest_of c.args.verifier.now) c.args.expect
-    c.args.verdict output (byte_at start flags writes) accept.expect c.in_ok-first.field-0
+    let report = fields_of c.args.report.now in
+    let shows = evidence-shown (judge_of g.D.Digest32.hash.digest_of c.args.verifier.now)
+    c.args.expect
+    c.args.verdict report (byte_at start flags writes) accept.expect c.in_ok-first.field-0
     accept.is-0 accept.is-1
     (c.in_ok-first.ensures start flags writes stands
-    (accepted-fits_expect c.args.expect c.args.verdict output accept.expect accept.is-0
+    (accepted-fits_expect c.args.expect c.args.verdict report.output accept.expect accept.is-0
     accept.is-1 fits)) in
     puts-failed g.W.Sink.stands _ _ _ c.from_residual-in_err-print_collision-in-Pair.result
     c.from_residual-in_err-print_collision-in-Pair.ensures.0
@@ -60,12 +61,13 @@ pub returns-in_ok-print_collision-in-Pair-clause-puts :
     goal.returns-in_ok-print_collision-in-Pair-clause-puts
 returns-in_ok-print_collision-in-Pair-clause-puts g c = λ start flags writes stands fits.
     let accept = c.in-Some-Accept in
-    let output = (fields_of c.args.report.now).output in
-    let shows = evidence-shown (judge_of g.D.Digest32.digest_of c.args.verifier.now) c.args.expect
-    c.args.verdict output (byte_at start flags writes) accept.expect c.in_ok-first.field-0
+    let report = fields_of c.args.report.now in
+    let shows = evidence-shown (judge_of g.D.Digest32.hash.digest_of c.args.verifier.now)
+    c.args.expect
+    c.args.verdict report (byte_at start flags writes) accept.expect c.in_ok-first.field-0
     accept.is-0 accept.is-1
     (c.in_ok-first.ensures start flags writes stands
-    (accepted-fits_expect c.args.expect c.args.verdict output accept.expect accept.is-0
+    (accepted-fits_expect c.args.expect c.args.verdict report.output accept.expect accept.is-0
     accept.is-1 fits)) in
     record {
       all = subst (λ (lines : List ℕ). Takes g.W.Sink.stands c.args.sink.now
@@ -81,12 +83,12 @@ returns-in-Same g c =
     record {
       puts = λ start flags writes stands fits.
           let accept = c.in-Some-Accept in
-          let output = (fields_of c.args.report.now).output in
-          let shows = evidence-shown (judge_of g.D.Digest32.digest_of c.args.verifier.now)
-          c.args.expect c.args.verdict output (byte_at start flags writes) accept.expect
+          let report = fields_of c.args.report.now in
+          let shows = evidence-shown (judge_of g.D.Digest32.hash.digest_of c.args.verifier.now)
+          c.args.expect c.args.verdict report (byte_at start flags writes) accept.expect
           c.in_ok-first.field-0 accept.is-0 accept.is-1
           (c.in_ok-first.ensures start flags writes stands
-          (accepted-fits_expect c.args.expect c.args.verdict output accept.expect accept.is-0
+          (accepted-fits_expect c.args.expect c.args.verdict report.output accept.expect accept.is-0
           accept.is-1 fits)) in
           rw (← shows, no-pair c.in_ok-first.field-0 c.in-Same.is)
           (nothing-put g.W.Sink.stands c.args.sink.now tt);

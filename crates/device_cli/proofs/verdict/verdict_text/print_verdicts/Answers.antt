@@ -19,7 +19,7 @@ loop-i-init g c = record {
 pub loop-i-preserved : goal.loop-i-preserved
 loop-i-preserved g c =
     let at = c.loop-i in
-    let judge = judge_of g.D.Digest32.digest_of c.args.verifier.now in
+    let judge = judge_of g.D.Digest32.hash.digest_of c.args.verifier.now in
     let reports = c.args.reports.now in
     let decision = c.verdict_at-decision.result in
     let line = verdict_line (at.i + 1) decision in
@@ -40,7 +40,7 @@ loop-i-preserved g c =
 pub returns-in_err-print_verdict-clause-puts : goal.returns-in_err-print_verdict-clause-puts
 returns-in_err-print_verdict-clause-puts g c =
     let at = c.loop-i in
-    let judge = judge_of g.D.Digest32.digest_of c.args.verifier.now in
+    let judge = judge_of g.D.Digest32.hash.digest_of c.args.verifier.now in
     let reports = c.args.reports.now in
     let decision = c.verdict_at-decision.result in
     let line = verdict_line (at.i + 1) decision in
@@ -60,8 +60,8 @@ returns-in_err-print_verdict-clause-puts g c =
 pub returns-clause-puts : goal.returns-clause-puts
 returns-clause-puts g c =
     let at = c.loop-i in
-    let none = ahead-end (judge_of g.D.Digest32.digest_of c.args.verifier.now) c.args.reports.now
-    at.i (omega (arith, c.loop-i-test.false)) in
+    let none = ahead-end (judge_of g.D.Digest32.hash.digest_of c.args.verifier.now)
+    c.args.reports.now at.i (omega (arith, c.loop-i-test.false)) in
     let takes = at.invariant.taken in
     record {
       all = rw (← (rw (none, append-nil) at takes.2)) takes.1;
@@ -71,6 +71,6 @@ returns-clause-puts g c =
 pub returns-clause-accepted : goal.returns-clause-accepted
 returns-clause-accepted g c =
     let at = c.loop-i in
-    let none = ahead-end (judge_of g.D.Digest32.digest_of c.args.verifier.now) c.args.reports.now
-    at.i (omega (arith, c.loop-i-test.false)) in
+    let none = ahead-end (judge_of g.D.Digest32.hash.digest_of c.args.verifier.now)
+    c.args.reports.now at.i (omega (arith, c.loop-i-test.false)) in
     sym (and-true at.all_accept) ∙ rw none at at.invariant.accepted

@@ -8,7 +8,7 @@ use Rattle.device_cli.proofs.verdict.verdict_text.print_verdicts.Given as goal
 -- the lines so far and those ahead are the whole text
 abbrev pub invariant-loop-i : goal.invariant-loop-i
 invariant-loop-i g l =
-    let judge = judge_of g.D.Digest32.digest_of l.verifier in
+    let judge = judge_of g.D.Digest32.hash.digest_of l.verifier in
     record {
       taken : (before : List ℕ) × Takes g.W.Sink.stands l.fn.sink l.sink before
           × (before ++ lines_from (l.i + 1) (verdicts_ahead judge l.reports l.i)

@@ -7,14 +7,14 @@ use Rattle.device_core.proofs.bus.Bus.perform_alone.Goals as goal
 
 pub returns-clause-stands : goal.returns-clause-stands
 unfolding with_record
-returns-clause-stands g c = λ start logs line clear stands value same_dma same_acceptance.
+returns-clause-stands g c = λ start logs line keeps stands value same_dma same_acceptance.
     let flag = g.G.TraceFlag.flag in
     let entry = c.make-entry.ensures.value start logs stands value in
-    let leaves = clear.leaves c.make-entry.result c.make-entry.ensures.pc in
+    let leaves = keeps.leaves c.make-entry.result c.make-entry.ensures.entry in
     let now : SeenRecord =
     record { entry = c.make-entry.result; bounds = logged_bounds start logs } in
     let kept : flags_shown start (now ∷ logs.records) ≡ flags_shown start logs.records =
-    flags-kept flag start now logs.records stands.same_flag clear.unshown leaves in
+    flags-kept flag start now logs.records stands.same_flag keeps.shown leaves in
     let memory : MemoryStandsFor c.make-entry.new.self.memory start.power
     (flags_shown start (now ∷ logs.records))
     (memory_after None c.args.now.now.cpu c.args.now.now.dma logs.memory) =
@@ -25,8 +25,8 @@ returns-clause-stands g c = λ start logs line clear stands value same_dma same_
       same_memory = rw entry at memory;
       same_peripherals =
           rw entry at
-          (c.finish_step.ensures logs c.make-entry.ensures.reset
-          (rw c.make-entry.ensures.kind same_acceptance)
+          (c.finish_step.ensures logs c.make-entry.ensures.entry.unrefused
+          (rw c.make-entry.ensures.entry.same_kind same_acceptance)
           (rw c.make-entry.ensures.peripherals stands.same_peripherals));
       same_monitors =
           rw entry at

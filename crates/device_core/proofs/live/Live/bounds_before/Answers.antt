@@ -3,5 +3,5 @@ use Rattle.device_core.proofs.live.Live.bounds_before.Goals as goal
 
 pub returns : goal.returns
 returns g c = λ start play stands.
-    live-bounds g.D.Digest32.has_taken g.D.Digest32.digest_of g.G.TraceFlag.flag c.args.self.now
+    live-bounds g.D.Digest32.hash g.G.TraceFlag.flag c.args.self.now
     start play c.last.result.now c.last.ensures stands

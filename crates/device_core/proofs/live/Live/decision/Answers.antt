@@ -7,7 +7,7 @@ use Rattle.device_core.proofs.live.Live.decision.Goals as goal
 
 pub returns-in-Some : goal.returns-in-Some
 returns-in-Some g c = λ start play stands.
-    let last = live-kept g.D.Digest32.has_taken g.D.Digest32.digest_of g.G.TraceFlag.flag
+    let last = live-kept g.D.Digest32.hash g.G.TraceFlag.flag
     c.args.self.now start play c.in-Some.step (rw c.machine-machine.ensures at c.in-Some.is) stands
     in
     let some : is_some (last_decision start play) ≡ true =
@@ -18,7 +18,7 @@ returns-in-Some g c = λ start play stands.
 
 pub returns-in_default : goal.returns-in_default
 returns-in_default g c = λ start play stands.
-    let last = live-kept g.D.Digest32.has_taken g.D.Digest32.digest_of g.G.TraceFlag.flag
+    let last = live-kept g.D.Digest32.hash g.G.TraceFlag.flag
     c.args.self.now start play c.in-Some.step (rw c.machine-machine.ensures at c.in-Some.is) stands
     in
     let none : is_some (last_decision start play) ≡ false =
@@ -29,5 +29,5 @@ returns-in_default g c = λ start play stands.
 pub returns-in_default-2 : goal.returns-in_default-2
 returns-in_default-2 g c = λ start play stands.
     sym (silent-parts start play
-    (live-unkept g.D.Digest32.has_taken g.D.Digest32.digest_of g.G.TraceFlag.flag c.args.self.now
+    (live-unkept g.D.Digest32.hash g.G.TraceFlag.flag c.args.self.now
     start play (rw c.machine-machine.ensures at c.in_default.is) stands)).2

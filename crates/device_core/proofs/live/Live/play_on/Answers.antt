@@ -5,10 +5,10 @@ use Rattle.device_core.proofs.live.Live.play_on.Goals as goal
 
 pub returns : goal.returns
 returns g c =
-    is_played_on g.D.Digest32.has_taken g.D.Digest32.digest_of g.G.TraceFlag.flag
+    is_played_on g.D.Digest32.hash g.G.TraceFlag.flag
     c.stage-stage.result c.play_on-stage.result.0 (machine_of c.args.self) c.deref_mut.result.now _
     (steps_made c.args.self) c.args.steps c.play_on-stage.result.1
-    (LiveStandsFor g.D.Digest32.has_taken g.D.Digest32.digest_of g.G.TraceFlag.flag c.args.self)
+    (LiveStandsFor g.D.Digest32.hash g.G.TraceFlag.flag c.args.self)
     c.at.result
     (λ start play here. rw c.stage-stage.ensures here)
     (c.deref_mut.ensures.value ∙ c.into_machine-machine.ensures)

@@ -9,10 +9,10 @@ loop-made-init g c = λ key image play stands. (stands, tt)
 
 pub loop-made-preserved : goal.loop-made-preserved
 loop-made-preserved g c = λ key image play stands.
-    let start : Start = with_key g.G.TraceFlag.flag.value g.D.Digest32.digest_of key image in
+    let start : Start = with_key g.G.TraceFlag.flag.value g.D.Digest32.hash.digest_of key image in
     let made = c.loop-made.made in
     let (here, all) = c.loop-made.invariant key image play stands in
-    let next = goes-idle g.D.Digest32.has_taken g.D.Digest32.digest_of g.G.TraceFlag.flag _ _ start
+    let next = goes-idle g.D.Digest32.hash g.G.TraceFlag.flag _ _ start
     made play
     (c.go_undisturbed-stage.ensures key image _ here.same.same here.same.same_stage) in (
       next,
@@ -24,15 +24,15 @@ loop-made-preserved g c = λ key image play stands.
 
 pub returns-then-is_some-clause-stands : goal.returns-then-is_some-clause-stands
 returns-then-is_some-clause-stands g c = λ key image play stands.
-    let start : Start = with_key g.G.TraceFlag.flag.value g.D.Digest32.digest_of key image in
+    let start : Start = with_key g.G.TraceFlag.flag.value g.D.Digest32.hash.digest_of key image in
     let (here, all) = c.loop-made.invariant key image play stands in
-    goes-idle g.D.Digest32.has_taken g.D.Digest32.digest_of g.G.TraceFlag.flag _ _ start
+    goes-idle g.D.Digest32.hash g.G.TraceFlag.flag _ _ start
     c.loop-made.made play
     (c.go_undisturbed-stage.ensures key image _ here.same.same here.same.same_stage)
 
 pub returns-then-is_some-clause-silent : goal.returns-then-is_some-clause-silent
 returns-then-is_some-clause-silent g c = λ key image play stands.
-    let start : Start = with_key g.G.TraceFlag.flag.value g.D.Digest32.digest_of key image in
+    let start : Start = with_key g.G.TraceFlag.flag.value g.D.Digest32.hash.digest_of key image in
     silent-less start c.loop-made.made play (c.loop-made.invariant key image play stands).1
 
 pub returns-clause-stands : goal.returns-clause-stands
@@ -42,7 +42,7 @@ returns-clause-stands g c = λ key image play stands.
 
 pub returns-clause-silent : goal.returns-clause-silent
 returns-clause-silent g c = λ key image play stands.
-    let start : Start = with_key g.G.TraceFlag.flag.value g.D.Digest32.digest_of key image in
+    let start : Start = with_key g.G.TraceFlag.flag.value g.D.Digest32.hash.digest_of key image in
     let same : c.loop-made.made ≡ c.args.steps = omega arith in
     rw (← same) (fewer-silent start c.loop-made.made play
     (c.loop-made.invariant key image play stands).1)

@@ -9,7 +9,7 @@ pub returns-clause-stands : goal.returns-clause-stands
 unfolding logs_after next_record with_events
 returns-clause-stands g c = λ key image play stands.
     let start : Start =
-    with_key g.G.TraceFlag.flag.value g.D.Digest32.digest_of key image in
+    with_key g.G.TraceFlag.flag.value g.D.Digest32.hash.digest_of key image in
     let logs = logs_after start play in
     let bus = c.take_events-script_reset.ensures.stands start logs stands.same.same.same_bus in
     let after = rw c.take_events-script_reset.ensures.reset at

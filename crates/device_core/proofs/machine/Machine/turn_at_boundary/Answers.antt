@@ -6,7 +6,7 @@ use Rattle.device_core.proofs.machine.Machine.turn_at_boundary.Goals as goal
 
 pub returns-in-Rom-clause-turn : goal.returns-in-Rom-clause-turn
 returns-in-Rom-clause-turn g c = λ key image logs stands here.
-    let start : Start = with_key g.G.TraceFlag.flag.value g.D.Digest32.digest_of key image in
+    let start : Start = with_key g.G.TraceFlag.flag.value g.D.Digest32.hash.digest_of key image in
     let regs = last_registers logs.progress in
     let vector = c.vector-vector.ensures start logs stands in
     let kind = c.boundary_kind-kind.ensures _ (rw here at stands.same_progress.same_processor)
@@ -19,7 +19,8 @@ returns-in-Boot g c =
     record {
       formed = c.turn_from_boundary.ensures.formed;
       turn = λ key image logs stands here.
-          let start : Start = with_key g.G.TraceFlag.flag.value g.D.Digest32.digest_of key image in
+          let start : Start =
+          with_key g.G.TraceFlag.flag.value g.D.Digest32.hash.digest_of key image in
           let regs = last_registers logs.progress in
           let vector = c.vector-vector.ensures start logs stands in
           let kind = c.boundary_kind-kind.ensures _

@@ -6,7 +6,7 @@ use Rattle.device_core.proofs.machine.Machine.turn_in_call.Goals as goal
 
 pub returns-clause-turn : goal.returns-clause-turn
 returns-clause-turn g c = λ key image logs stands stage.
-    let start : Start = with_key g.G.TraceFlag.flag.value g.D.Digest32.digest_of key image in
+    let start : Start = with_key g.G.TraceFlag.flag.value g.D.Digest32.hash.digest_of key image in
     let regs = last_registers logs.progress in
     let words = words_of logs.progress in
     let calls = stage-InRom logs.progress stage in

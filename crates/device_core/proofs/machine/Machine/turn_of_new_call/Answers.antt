@@ -7,7 +7,7 @@ use Rattle.device_core.proofs.machine.Machine.turn_of_new_call.Goals as goal
 
 pub returns-clause-turn : goal.returns-clause-turn
 returns-clause-turn g c = λ key image logs stands here irq rom.
-    let start : Start = with_key g.G.TraceFlag.flag.value g.D.Digest32.digest_of key image in
+    let start : Start = with_key g.G.TraceFlag.flag.value g.D.Digest32.hash.digest_of key image in
     let regs = last_registers logs.progress in
     let parts = rw here at stands.same_progress in
     let begins = sym (boundary-step logs regs here) ∙ rom in

@@ -1,4 +1,4 @@
-use Rattle.std.proofs.Common.{map}
+use Rattle.std.proofs.Common.{◌∙◌, map, sym}
 use Rattle.device_trace.specs.Blank.{blank_seen}
 use Rattle.device_core.proofs.monitors.Monitors.stay_clear.Goals as goal
 
@@ -10,8 +10,6 @@ returns-then-stays_clear g c = λ now records stands pc er_min clear.
     c.stays_clear-then-stays_clear.ensures (blank_seen now) (map blank_seen records)
     stands.same_second pc er_min clear in
     record {
-      exec_before = exec.0;
-      exec_after = exec.1;
-      second_before = second.0;
-      second_after = second.1;
+      same_exec = exec.1 ∙ sym exec.0;
+      same_second = second.1 ∙ sym second.0;
     }

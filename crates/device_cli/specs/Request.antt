@@ -1,0 +1,47 @@
+-- The command `request`: a request for an attestation, with its token.
+use Rattle.std.specs.Prelude.{◌++◌, ℕ, List, [], ◌∷◌, Option, Some, None, Result, Ok, codes}
+use Rattle.std.specs.Fmt.{decimal}
+use Rattle.std.specs.Result.{result_ok}
+use Rattle.hex.specs.Hex.{encode_lower}
+use Rattle.sha2.specs.Sha256.{sha256}
+use Rattle.text_scan.specs.declared.fault_kind.FaultKind.{FaultKind}
+use Rattle.text_scan.specs.Decimal.{decimal_of}
+use Rattle.text_scan.specs.Hexadecimal.{hex_bytes_of}
+use Rattle.text_scan.specs.Reader.{◌>>=◌}
+use Rattle.part_definitions.specs.Request.{request_token}
+use Rattle.report_verifier.specs.Expectation.{count_bytes}
+use Rattle.device_cli.specs.FileKind.{key_kind}
+use Rattle.device_cli.specs.Limit.{most_count}
+use Rattle.device_cli.specs.Row.{Row, plain, put, read_file}
+
+-- its challenge, its counter and its token
+abbrev pub request_line : List ℕ → ℕ → List ℕ → List ℕ
+request_line chal count token =
+    codes "request " ++ encode_lower chal ++ codes " " ++ decimal count
+    ++ codes " token " ++ encode_lower token ++ codes "\n"
+
+-- the token is that of the device's key
+abbrev pub request_text : List ℕ → ℕ → List ℕ → List ℕ
+request_text chal count key =
+    request_line chal count (request_token sha256 key chal (count_bytes count))
+
+-- `request KEY CHAL COUNTER`
+abbrev pub request_row : List ℕ → List ℕ → ℕ → Row
+request_row key chal count =
+    read_file key_kind key (λ key. put (plain (request_text chal count key)))
+
+-- a challenge of 64 hexadecimal digits, and a counter in 1..4,294,967,295
+abbrev pub request_of : List ℕ → List ℕ → Result (List ℕ × ℕ) FaultKind
+request_of chal count = do
+  bytes ← hex_bytes_of 32 chal
+  number ← decimal_of 1 most_count count
+  Ok (bytes, number)
+
+abbrev pub row_with : List ℕ → Option (List ℕ × ℕ) → Option Row
+row_with key (Some request) = Some (request_row key request.0 request.1)
+row_with key None = None
+
+-- the row that the arguments after `request` spell
+abbrev pub request_row_of : List (List ℕ) → Option Row
+request_row_of (key ∷ chal ∷ count ∷ []) = row_with key (result_ok (request_of chal count))
+request_row_of arguments = None

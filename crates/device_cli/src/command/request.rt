@@ -1,0 +1,67 @@
+use crate::ending::Ending;
+use crate::file::File;
+use crate::inputs::Inputs;
+use crate::kind::key::Key;
+use crate::put_fault::PutFault;
+use crate::refusal::Refusal;
+use crate::request_line::print_request;
+use crate::task::Task;
+use outside_edge::{Shelf, Sink};
+use report_verifier::token;
+use std::alloc::Global;
+use text_scan::{decimal, hex_bytes};
+
+// The greatest counter of a request.
+const MOST_COUNT: u64 = 4_294_967_295;
+
+/// The command `request KEY CHAL COUNTER`: a request for an attestation.
+#[derive(Clone, Copy, Debug)]
+pub struct Request<'a> {
+    pub key: File<'a, Key>,
+    pub chal: [u8; 32],
+    pub count: u32,
+}
+
+impl<'a> Task<'a> for Request<'a> {
+    ghost use Rattle.device_cli.specs.Request.{request_row, request_row_of, request_text};
+    ghost use Rattle.device_cli.specs.Row.{plain};
+
+    type Values = [u8; 64];
+
+    ghost row_of = { request_row_of };
+
+    ghost command_row = { λ request. request_row request.key.name.now request.chal request.count };
+
+    ghost outcome = { λ request key. plain (request_text request.chal request.count key) };
+
+    /// CHAL has 64 hexadecimal digits, COUNTER is a decimal in 1..4,294,967,295.
+    fn from_arguments(arguments: &'a [String]) -> Option<Request<'a>> {
+        let [key, chal, count] = arguments else {
+            return None;
+        };
+        let mut challenge = [0; 32];
+        hex_bytes(chal.as_bytes(), &mut challenge).ok()?;
+        let count = decimal(count.as_bytes(), 1, MOST_COUNT).ok()?;
+        let key = File::new(key.as_str(), Key);
+        Some(Request {
+            key,
+            chal: challenge,
+            count: count as u32,
+        })
+    }
+
+    fn read<S: Shelf>(&self, alloc: Global, shelf: &mut S) -> Result<[u8; 64], Refusal> {
+        self.key.read(alloc, shelf)
+    }
+
+    fn put<W: Sink>(
+        &self,
+        _alloc: Global,
+        key: &[u8; 64],
+        sink: &mut W,
+    ) -> Result<Ending, PutFault> {
+        let token = token(key, &self.chal, self.count);
+        print_request(&self.chal, self.count, &token, sink)?;
+        Ok(Ending::Done)
+    }
+}

@@ -1,0 +1,26 @@
+-- Steps that leave both flags as they are.
+use Rattle.std.specs.Prelude.{◌≡◌, ◌∷◌, map}
+use Rattle.bus_signals.specs.declared.bus_record.BusRecord.{BusRecord}
+use Rattle.bus_signals.specs.declared.signals.Signals.{Signals}
+use Rattle.bus_signals.specs.Flag.{Flag, IsRecordOf}
+use Rattle.bus_signals.specs.SeenRecord.{SeenHistory, SeenRecord}
+use Rattle.part_definitions.specs.Flag.{exec}
+use Rattle.device_trace.specs.Blank.{blank_seen}
+use Rattle.device_trace.specs.Logs.{Logs, aux_of, logged_bounds}
+use Rattle.device_trace.specs.Start.{Start}
+
+-- a record of such a step, behind these
+pub record LeavesFlags {G : Type 0} (flag : Flag G) (now : SeenRecord)
+    (records : SeenHistory) : Type 0 where
+  pub same_exec : exec (now ∷ records) ≡ exec records
+  pub same_second : flag.value (blank_seen now ∷ map blank_seen records)
+      ≡ flag.value (map blank_seen records)
+
+-- memory shows the second flag as it is, and a step that is about to do this is such a step,
+-- unless it is refused
+pub record KeepsFlags {G : Type 0} (flag : Flag G) (start : Start) (logs : Logs) (now : Signals)
+    : Type 0 where
+  pub shown : aux_of start logs ≡ flag.value (map blank_seen logs.records)
+  pub leaves : (entry : BusRecord)
+      → IsRecordOf now entry
+      → LeavesFlags flag (record { entry = entry; bounds = logged_bounds start logs }) logs.records

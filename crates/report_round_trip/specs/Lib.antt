@@ -1,0 +1,2 @@
+pub mod PlayReports
+pub mod ReadBack

@@ -1,0 +1,153 @@
+"""Trials of the verifier's side: requests, verdicts, and rounds."""
+import re
+
+import attestation_model
+import verifier_model
+from readers import READERS
+from sample_files import read
+from trial import ABSENT, UNREADABLE, WORDS
+
+NO_EXEC, AUX, BOTH = {"exec": 0}, {"exec": 0, "aux": 1}, {"aux": 1}
+OTHER_MAC, OTHER_CHALLENGE = {"mac": bytes(32)}, {"challenge": bytes(32)}
+OTHER_PLACES = {"bounds": [0xC040, 0xC046, 0x0302, 0x0302]}
+
+# What of a policy is other than what the report of the example `round` meets, what of the report is
+# other, and the verdict: the first that holds.
+VERDICTS = (
+    ({}, {}, "accept"),
+    ({}, BOTH, "accept"),
+    ({"flag": "aux"}, AUX, "accept"),
+    ({"flag": "aux"}, BOTH, "accept"),
+    ({"flag": "plain"}, {}, "accept"),
+    ({"flag": "plain"}, NO_EXEC, "accept"),
+    ({"flag": "plain"}, AUX, "accept"),
+    ({}, OTHER_MAC, "mac-differs"),
+    ({"flag": "plain"}, {**NO_EXEC, **OTHER_MAC}, "mac-differs"),
+    ({"flag": "aux"}, {}, "aux-zero"),
+    ({"flag": "aux"}, {**NO_EXEC, **OTHER_MAC}, "aux-zero"),
+    ({}, NO_EXEC, "exec-zero"),
+    ({}, {**AUX, **OTHER_MAC}, "exec-zero"),
+    (OTHER_PLACES, {}, "bounds-differ"),
+    (OTHER_PLACES, {**NO_EXEC, **OTHER_MAC}, "bounds-differ"),
+    ({}, {"count": 2}, "count-differs"),
+    (OTHER_PLACES, {**NO_EXEC, "count": 0}, "count-differs"),
+    ({}, OTHER_CHALLENGE, "chal-differs"),
+    (OTHER_PLACES, {**NO_EXEC, **OTHER_CHALLENGE, "count": 2}, "chal-differs"),
+    ({}, {"version": 1}, "version-differs"),
+    (OTHER_PLACES, {**NO_EXEC, **OTHER_CHALLENGE, "version": 1}, "version-differs"),
+    ({"version": 1}, {}, "version-differs"),
+    ({"version": 1, "requests": []}, NO_EXEC, "no-challenge"),
+    ({"requests": []}, OTHER_MAC, "no-challenge"),
+)
+# Both of version 1, which has neither counters nor a second flag.
+VERDICTS_ONE = (
+    ({}, {}, "accept"),
+    ({}, OTHER_MAC, "mac-differs"),
+    ({}, NO_EXEC, "exec-zero"),
+    # (bounds that are valid beside the metadata of version 1 alone)
+    ({"bounds": [0xC040, 0xC046, 0x026A, 0x028E]}, NO_EXEC, "bounds-differ"),
+    (OTHER_PLACES, OTHER_CHALLENGE, "chal-differs"),
+    ({"requests": []}, {}, "no-challenge"),
+)
+
+# The first fault of files in SampleFiles, each by the end of its name.
+POLICY_FAULTS = {"short": "3: Missing", "short-one": "1: Missing", "version": "1: Range",
+                 "ask": "3: Word", "chal": "6: Order", "flag": "4: Word", "counter": "5: Range",
+                 "utf8": "1: Utf8", "bounds": "3: Bounds", "bounds-one": "2: Bounds"}
+REPORT_FAULTS = {"cut": "1: Count", "decision": "2: Range", "word": "1: Word"}
+
+
+def prints_verdicts(trial, text, *words):
+    """A call that prints this text with verdicts, and ends as they say."""
+    status, line = verifier_model.ending_of(text)
+    trial.prints(text, *words, status=status, line=line)
+
+
+def request_lines(trial, files):
+    """The lines of requests, and words that spell none."""
+    key, challenge = files.round.value("key"), bytes(range(0xE0, 0x100))
+    digits = challenge.hex()
+    for count, counter in ((1, "1"), (12, "0000000012"), (4294967295, "4294967295")):
+        line = attestation_model.request_line(key, challenge, count)
+        for chal in (digits, digits.upper()):
+            trial.prints(line, *files.words_of_round("request", chal=chal, counter=counter))
+    for chal in ("", digits[1:], digits[2:], f"{digits}0", f"{digits}00", f"{digits[1:]}g",
+                 f" {digits[1:]}", f"0x{digits[2:]}"):
+        trial.expect(2, WORDS, *files.words_of_round("request", chal=chal))
+    for counter in ("", "0", "-1", "+1", "4294967296", "00000000001", "0x1"):
+        # (the words are judged before the key is looked for)
+        trial.expect(2, WORDS,
+                     *files.words_of_round("request", key=files["none"], counter=counter))
+    words = files.words_of_round("request")
+    trial.expect(2, WORDS, *words[:-1])
+    trial.expect(2, WORDS, *words, "1")
+    trial.expect(3, ABSENT, *files.words_of_round("request", key=files["none"]))
+    trial.expect(4, UNREADABLE, *files.words_of_round("request", key=files.folder))
+    trial.expect(7, "bad key: line 1: Digit",
+                 *files.words_of_round("request", key=files["key-digit"]))
+
+
+def verify(trial, files):
+    """The verdicts on one report, by each policy of the tables and by MACs of something else."""
+    def verdict(name, policy, report):
+        prints_verdicts(trial, f"verdict 1 {name}\n".encode(), *files.words_of_round(
+            "verify", policy=files.policy_with(**policy),
+            reports=files.add("reports-with", files.report_with(**report))))
+
+    for policy, report, name in VERDICTS:
+        verdict(name, policy, report)
+    for policy, report, name in VERDICTS_ONE:
+        verdict(name, {**policy, "version": 1}, {**report, "version": 1})
+    for report in (NO_EXEC, BOTH, {"output": bytes(2)}):
+        verdict("mac-differs", {"flag": "plain"}, {**report, "mac": files.report.mac})
+
+
+def report_files(trial, files):
+    """Files of several reports and of none, and policies and reports that are refused."""
+    def verdicts(names, **others):
+        prints_verdicts(trial, b"".join(verifier_model.verdict_lines(names)),
+                        *files.words_of_round("verify", **others))
+
+    def refused(status, line, **others):
+        trial.expect(status, line, *files.words_of_round("verify", **others))
+
+    verdicts(["accept"], reports=files["reports-among"])
+    verdicts([], reports=files["empty"])
+    # Each answers the request of its number.
+    first, second = files.policy.requests[0], (files.policy.requests[0][0], 2)
+    answers = [files.report_with(), files.report_with(version=1), files.report_with(count=2)]
+    verdicts(["accept", "version-differs", "accept", "count-differs", "no-challenge"],
+             policy=files.policy_with(requests=[first, first, second, first]),
+             reports=files.add("reports-with", b"".join(answers + answers[2:] * 2)))
+    for name, fault in REPORT_FAULTS.items():
+        refused(11, f"bad reports: line {fault}", reports=files[f"reports-{name}"])
+    for name, fault in POLICY_FAULTS.items():
+        refused(10, f"bad policy: line {fault}", policy=files[f"policy-{name}"])
+    refused(3, ABSENT, policy=files["none"])
+    refused(3, ABSENT, reports=files["none"])
+    refused(4, UNREADABLE, reports=files.folder)
+    refused(7, "bad key: line 1: Missing", key=files["empty"])
+    refused(10, "bad policy: line 3: Missing",
+            policy=files["policy-short"], reports=files["reports-cut"])
+    trial.expect(2, WORDS, *files.words_of_round("verify")[:-1])
+
+
+def rounds(trial, files):
+    """What the example's round prints, by its own policy, by those of the table, and by one that is
+    refused; what it prints is a file of reports.
+    """
+    example = files.round
+    prints_verdicts(trial, example.text, *example.words("round"))
+    play = re.sub(rb"^verdict .*\n", b"", example.text, flags=re.M)
+    for changes, _, _ in VERDICTS:
+        name = files.policy_with(**changes)
+        text = verifier_model.round_text(play, example.value("image"),
+                                         READERS["policy"](read(name)), example.value("key"))
+        prints_verdicts(trial, text, *example.words("round", policy=name))
+    prints_verdicts(trial, b"verdict 1 accept\n",
+                    *files.words_of_round("verify", reports=files.add("printed", example.text)))
+    trial.expect(2, WORDS, *example.words("round")[:-1])
+    trial.expect(3, ABSENT, *example.words("round", policy=files["none"]))
+    for name, fault in POLICY_FAULTS.items():
+        trial.expect(10, f"bad policy: line {fault}",
+                     *example.words("round", policy=files[f"policy-{name}"]))
