@@ -67,9 +67,14 @@ store:  mov.b   @r12, 0(r13)            ; bytes of the request, to r13 and up to
 ; The executable region is entered at its first instruction alone, and left at its last. It has a
 ; stack of its own: whoever calls it may have put theirs on the output.
         .section .er.entry, "ax"
-er_min: mov     r1, &caller_stack
+        .weak   er_min                  ; a guard in .er.guard takes this name, and goes to er_entry
+        .globl  er_entry, er_leave, er_max
+er_min:
+er_entry:
+        mov     r1, &caller_stack
         mov     #region_stack, r1
         call    #region
+er_leave:
         mov     &caller_stack, r1
         br      #er_max
 

@@ -11,7 +11,7 @@ MEMORY
 SECTIONS
 {
     .text : { *(.start) *(.text .text.*) *(.rodata .rodata.*) . = ALIGN(2); } > program
-    .er : { *(.er.entry) *(.er) *(.er.exit) } > program
+    .er DEFINED(er_place) ? er_place : . : { *(.er.guard) *(.er.entry) *(.er) *(.er.exit) } > program
     .data : { data_start = .; *(.data .data.*) . = ALIGN(2); data_end = .; } > ram AT > program
     .bss (NOLOAD) : { *(.bss .bss.* COMMON) . = ALIGN(2); bss_end = .; } > ram
     .or (NOLOAD) : ALIGN(2) { or_min = .; KEEP(*(.or)) . = ALIGN(2); or_max = . - 2; } > ram

@@ -20,9 +20,9 @@
 #define DDST FOLDGNEISS_WORD(0x01E4)
 #define DLEN FOLDGNEISS_WORD(0x01E6)
 
-// In the metadata, 0240 to 028F, where every write clears the EXEC flag.
+// In the metadata, 0240 to 028F, where every write clears both flags.
 #define EXEC FOLDGNEISS_WORD(0x0268)            // the EXEC flag, which no write sets
-#define AUX FOLDGNEISS_WORD(0x026A)             // a second flag; it is always 0
+#define AUX FOLDGNEISS_WORD(0x026A)             // the flag of a region with handlers, likewise
 #define COUNTER (*(volatile uint32_t *)0x026C)  // the counter of the request
 #define TOKEN ((volatile uint8_t *)0x0270)      // 32 bytes: its token
 
@@ -42,7 +42,7 @@ static inline void sleep(void) { __asm__ volatile("bis #0x18, r2" ::: "memory");
 // The code whose run a report proves is `region`, which the firmware defines, and the functions
 // that it calls, each with the word REGION; a call out of the region ends the proof (EXEC becomes
 // 0). What it proves is the value of the variables with the word OUTPUT, which only this code may
-// write. Its stack has 128 bytes.
+// write. Its stack has 128 bytes. Interrupts are off in it; examples/pump has one that allows them.
 #define REGION __attribute__((section(".er"), noinline))
 #define OUTPUT volatile __attribute__((section(".or")))
 void region(void);

@@ -8,7 +8,7 @@ from sample_files import read
 from trial import ROOT
 
 # The commands that cases are of.
-TRIED = ("play", "dump", "request", "verify", "round")
+TRIED = ("play", "dump", "trace", "request", "verify", "round", "audit")
 
 
 class Case:
@@ -36,6 +36,9 @@ class Case:
         return "round" if command == "verify" and not self.has("reports") else command
 
     def is_of(self, command):
+        """An audit is tried on every trace, those of devices among them, which are clean."""
+        if command in ("trace", "audit"):
+            return self.has("trace") and (command == "audit" or self.has("hex"))
         return self.has("dump.sha256" if command == "dump" else self.end_of(command))
 
     def words(self, command):
@@ -49,6 +52,8 @@ class Case:
         """What the command prints; of a dump the beginning."""
         if command == "dump":
             return self.read("play")
+        if command == "audit" and not self.has("audit"):
+            return b"clean %d\n" % self.read("trace").count(b"\n")
         text = self.read(self.end_of(command))
         return b"".join(re.findall(rb"^verdict .*\n", text, re.M)) if command == "verify" else text
 

@@ -331,6 +331,67 @@ def pass_line(words, kind):
     words.end()
 
 
+KINDS = (b"boot", b"cpu", b"idle", b"irq", b"rom")
+# The form of an access, by its letter: how many digits a write has behind `=`.
+ACCESSES = {b"f": None, b"r": None, b"b": None, b"w": 4, b"c": 2}
+
+
+class Access(NamedTuple):
+    letter: bytes
+    place: int
+    number: Optional[int]  # of a write
+
+
+def read_access(words):
+    """An access, None for `-`."""
+    wanted = "- or fHHHH, rHHHH, bHHHH, wHHHH=HHHH or cHHHH=HH"
+    word = words.take(wanted)
+    if word == b"-":
+        return None
+    match = re.fullmatch(rb"([frbwc])([0-9A-Fa-f]{4})(?:=([0-9A-Fa-f]+))?", word)
+    if not match or len(match[3] or b"") != (ACCESSES[match[1]] or 0):
+        words.fault("Word", wanted)
+    place = int(match[2], 16)
+    if place % 2 and match[1] in b"frw":
+        words.fault("Range", "an even address")
+    return Access(match[1], place, int(match[3], 16) if match[3] else None)
+
+
+class TraceLine(NamedTuple):
+    kind: bytes
+    pc: int
+    cpu: Optional[Access]
+    dma: Optional[Access]
+    irq: int
+    asked: int
+    word: int
+    value: int
+    dma_value: int
+    bounds: list
+    exec: int
+    rule: bytes  # `-` for none
+
+
+def read_trace(text):
+    """The lines in their order. Empty lines are passed over, and no others."""
+    trace = []
+    for number, line in lines_of(within_limit(text, "trace")):
+        if not line:
+            continue
+        words = Words(number, line)
+        words.keyword(b"t")
+        step = words.decimal(MOST)
+        entry = TraceLine(words.keyword(*KINDS), words.word(), read_access(words),
+                          read_access(words), words.decimal(1), words.decimal(1), words.word(),
+                          words.word(), words.word(), [words.word() for _ in range(4)],
+                          words.decimal(1), words.keyword(b"-", *RULES))
+        words.end()
+        if step != len(trace):
+            words.fault("Order", f"the step {len(trace)}")
+        trace.append(entry)
+    return trace
+
+
 def read_reports(text):
     """The reports in their order."""
     versions, reports = {b"report": 1, b"report2": 2}, []

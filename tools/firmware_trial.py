@@ -8,6 +8,9 @@ import tempfile
 from sample_files import EXAMPLES, read, write
 from trial import ROOT
 
+# The folders of examples/pump with the sources of their images.
+PUMPS = {"stop": ("dose.c", "guard.s", "pump.c"), "forged": ("dose.c", "forger.s"),
+         "guarded": ("dose.c", "forger.s", "guard.s")}
 # The operators that clang calls functions for, and the types of C with their bits.
 OPERATORS = ("*", "/", "%", "<<", ">>")
 TYPES = {"uint16_t": 16, "int16_t": 16, "uint32_t": 32, "int32_t": 32}
@@ -38,13 +41,13 @@ def is_compiler_there():
     return all(map(shutil.which, ("make", "clang", "ld.lld", "llvm-objcopy", "llvm-nm")))
 
 
-def image_of(trial, sources):
+def image_of(trial, sources, *options):
     """The image that the Makefile makes of these sources, or None."""
     with tempfile.TemporaryDirectory() as folder:
         for name, text in sources.items():
             write(f"{folder}/{name}", text)
         trial.expect(0, "", "-s", "-C", folder, "-f", f"{ROOT}/firmware/Makefile",
-                     command=["make"])
+                     *options, command=["make"])
         name = f"{folder}/image.hex"
         return read(name) if os.path.exists(name) else None
 
@@ -120,12 +123,15 @@ def readme(trial, files):
 
 def examples(trial):
     """Each example's image is what the kit makes of its sources."""
-    for name in ("letter-a", "echo", "attest", "sensor"):
-        folder = f"{EXAMPLES}/{name}"
-        sources = {source: read(f"{folder}/{source}") for source in os.listdir(folder)
-                   if source.endswith((".c", ".s"))}
-        if image_of(trial, sources) != read(f"{folder}/image.hex"):
+    def try_image(name, folder, names, *options):
+        sources = {source: read(f"{EXAMPLES}/{folder}/{source}") for source in names}
+        if image_of(trial, sources, *options) != read(f"{EXAMPLES}/{name}/image.hex"):
             trial.fault(f"{name}: not the image that firmware/Makefile makes")
+    for name in ("letter-a", "echo", "attest", "sensor"):
+        try_image(name, name, [source for source in os.listdir(f"{EXAMPLES}/{name}")
+                               if source.endswith((".c", ".s"))])
+    for name, names in PUMPS.items():
+        try_image(f"pump/{name}", "pump", names, "LDFLAGS=--defsym=er_place=0xD000")
 
 
 def firmware(trial, files):

@@ -76,8 +76,8 @@ def device():
                 fill=PAPER)
     picture.add("path", d="M20 88H8V291H18", fill="none", stroke=INK, stroke_width=1.5,
                 marker_end="url(#head)")
-    picture.box(170, 362, 630, 40, "EXEC flag, shown in the metadata",
-                "1 where the named region ran whole and undisturbed, and nothing touched it since",
+    picture.box(170, 362, 630, 40, "EXEC and AUX, shown in the metadata",
+                "1 where the region ran whole: undisturbed (EXEC), or with its own handlers alone (AUX)",
                 fill="#dcfce7", stroke="#166534")
     picture.arrow(235, 362, 235, 334)
     return picture.svg()

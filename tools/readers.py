@@ -9,6 +9,7 @@ READERS = {
     "policy": file_readers.read_policy,
     "reports": file_readers.read_reports,
     "source": assembler_model.assemble,
+    "trace": file_readers.read_trace,
 }
 
 

@@ -68,6 +68,17 @@ COMMANDS = {command.name: command for command in (
             "the same, and then RAM, program and vectors as Intel HEX",
             "Prints what play prints, and then RAM, program and vectors as Intel HEX.",
             "dump image.hex script.txt key.txt 5000"),
+    Command("trace", ("image", "script", "key", "steps"),
+            "a line for each bus step of a run: what was proposed, read and written, which rule it "
+            "broke, and EXEC",
+            "Runs the firmware for STEPS bus steps and prints a trace file: a line for each step, "
+            "in which what lies in the key or in the exclusive stack stands as 0.",
+            "trace image.hex script.txt key.txt 5000 > trace.txt"),
+    Command("wave", ("image", "script", "key", "steps"),
+            "the same as a waveform, for GTKWave and other viewers",
+            "Prints what trace says of a run as a value change dump (IEEE 1364), in which one unit "
+            "of time is one bus step.",
+            "wave image.hex script.txt key.txt 5000 > wave.vcd"),
     Command("list", ("image",),
             "the instructions, words and bytes of an image, one a line",
             "Prints the instructions, words and bytes of IMAGE, one a line.",
@@ -90,6 +101,12 @@ COMMANDS = {command.name: command for command in (
             "`accept` where the device's own memory is not what was expected though the MACs "
             "agree, `collision HH.. HH..` with two inputs of one SHA-256 digest.",
             "round image.hex script.txt key.txt policy.txt 5000"),
+    Command("audit", ("trace",),
+            "whether each line of a trace file names the right rule and EXEC",
+            "Prints `clean N` where each of the N lines of TRACE names the first rule that its "
+            "step breaks and EXEC after it; else, of the first line that does not, `offence S rule "
+            "R` or `offence S exec E` with the right rule or value. TRACE may be of any device.",
+            "audit trace.txt"),
     Command("asm", ("source",),
             "the image of an assembler source, as Intel HEX",
             "Prints the image of an assembler source as Intel HEX.",
@@ -112,6 +129,7 @@ FILES = {
     "policy": File(10, 65536, "the regions, flag and requests that reports have to answer"),
     "reports": File(11, 1048576, "lines as play prints them, and reports of version 1"),
     "source": File(12, 1048576, "an assembler source"),
+    "trace": File(13, 67108864, "lines as trace prints them"),
 }
 
 # The arguments that are no files.
@@ -131,8 +149,11 @@ class Status(NamedTuple):
 
 STATUSES = {
     0: Status("", "all of the text was printed", ""),
-    1: Status("rejected", "all of the text was printed, and a verdict in it is not `accept`",
-              "`docs/verifier.md` says what each verdict means"),
+    1: Status("rejected",
+              "all of the text was printed, and a verdict in it is not `accept`, or `audit` found "
+              "an offence",
+              "`docs/verifier.md` says what each verdict means, `docs/formats.md` what an offence "
+              "is"),
     2: Status("words are no command",
               "the arguments are no command, STEPS is no decimal in 1..10,000,000, SEED none in "
               "0..4,294,967,295, COUNTER none in 1..4,294,967,295, CHAL is not 64 hexadecimal "
@@ -146,7 +167,8 @@ STATUSES = {
     6: Status("no memory",
               "the system refused memory; nothing was printed, or in `round` a prefix that ends "
               "before a `collision` line",
-              "the program needs a few MiB, and for the largest sources some 40"),
+              "the program needs a few MiB, and for the largest sources some 40, the largest "
+              "trace files some 70"),
     7: Status("bad key: line L: K", "the key is not 128 hexadecimal digits in one line",
               "`--help` says what K means"),
     8: Status("bad image: line L: K", "the image's first fault", "likewise"),
@@ -154,6 +176,7 @@ STATUSES = {
     10: Status("bad policy: line L: K", "the policy's first fault", "likewise"),
     11: Status("bad reports: line L: K", "the first fault of the reports", "likewise"),
     12: Status("bad source: line L: K", "the source's first fault", "likewise"),
+    13: Status("bad trace: line L: K", "the first fault of the trace file", "likewise"),
 }
 
 # What a fault's kind means, of each file.
@@ -207,6 +230,16 @@ FAULTS = {
         "Range": "a value is out of range, or a jump is odd or goes too far",
         "Place": "a byte outside 0200..21FF and C000..FFFF, or a word at an odd address",
         "Overlap": "there is a byte at this address already",
+    },
+    "trace": {
+        **TOO_LONG,
+        "Missing": "a word is not there",
+        "Word": "no `t`, or no kind of step, access or rule",
+        "Digit": "a character is no digit",
+        "Count": "a wrong number of hexadecimal digits",
+        "Range": "a number is out of range, or a word is at an odd address",
+        "Extra": "a word too many",
+        "Order": "the number of the step is not that of the lines before it",
     },
 }
 

@@ -71,18 +71,23 @@ class SampleFiles:
         self.texts = {
             "letter": read(f"{EXAMPLES}/letter-a/expected.txt"),
             "memory": self.letter_memory(),
+            "trace": b"t 0 boot 0000 rfffe - 0 0 0000 c000 0000 0000 0000 0000 0000 0 -\n"
+                     b"t 1 cpu c000 fc000 - 0 0 40b2 40b2 0000 0000 0000 0000 0000 0 -\n",
             "listing": b"c000: mov #0x0041,&0x0076\nc006: jmp 0xc006\nfffe: .word 0xc000\n",
             "image": b":08C00000B24041007600FF3F51\n:02FFFE0000C041\n:00000001FF\n",
-            # The lines of two workloads, as a program in another language gave them that draws
-            # their scripts, plays their firmware and makes the digests by itself.
+            # The lines of two workloads. The texts that they are of were computed with AUX 0 by a
+            # program in another language, which drew the scripts and played the firmware. Into
+            # these texts AUX was put, which is EXEC as no interrupt comes, and the MACs with it by
+            # Python's hmac.
             "work": b"work 7 steps 1000000 tx 0 resets 154 reports 404 denied 0 exec 403 text "
-                    b"9e48aa654ab9c8c5242c82bb60fe36ce69d93494d8d433ff61823e437797b8b9\n",
+                    b"5937bd3f5d554b9f2cf65cad1a11fbe2070160fe6e51deb217fec34a436dae66\n",
             "work-last": b"work 4294967295 steps 1000000 tx 0 resets 132 reports 430 denied 0 exec "
                          b"430 text "
-                         b"ac8c11b8b953ac1e6d12a10f7a134f69dcade64dcb960846b9ad85437fff6737\n",
+                         b"54e1a94b42d2e1d96e564785412fb97ada18aa3c9ae64b3320f0d5d87afdb915\n",
         }
         self.texts["dump"] = self.texts["letter"] + self.texts["memory"]
         self.add_sources()
+        self.add_traces()
         self.add_verifier_files()
         self.add_faulty_files()
         self.add_cut_files()
@@ -106,10 +111,13 @@ class SampleFiles:
         return {
             ("play", *self.letter, "5"): self.texts["letter"],
             ("dump", *self.letter, "5"): self.texts["dump"],
+            ("trace", *self.letter, "2"): self.texts["trace"],
+            ("wave", *self.letter, "5"): read(f"{EXAMPLES}/wave/letter-a.vcd"),
             ("list", self.image): self.texts["listing"],
             self.words_of_round("request"): self.request_line(),
             self.words_of_round("verify"): b"verdict 1 accept\n",
             self.round.words("round"): self.round.text,
+            ("audit", self["trace"]): b"clean 2\n",
             ("asm", self["letter.asm"]): self.texts["image"],
             ("work", "7"): self.texts["work"],
         }
@@ -132,6 +140,22 @@ class SampleFiles:
         self.add("letter.asm", b".org 0xC000\nstart: mov #0x41,&0x76\nstop: jmp stop\n"
                                b".org 0xFFFE\n.word start\n")
         self.add("mvo.asm", b"mvo r4,r5\n")
+
+    def add_traces(self):
+        """The trace of the letter's first steps, with an offence or a fault in its last line, and
+        in part.
+        """
+        trace = self.texts["trace"]
+        first, last = trace.splitlines(keepends=True)
+        self.add("trace", trace)
+        self.add("trace-crlf", b"\n" + trace.replace(b"\n", b"\r\n")[:-2])
+        self.add("trace-rule", trace[:-2] + b"K1\n")
+        self.add("trace-exec", trace[:-4] + b"1 -\n")
+        self.add("trace-last", last)
+        self.add("trace-cut", first[:35])
+        self.add("trace-blank", first + b" \n")
+        self.add("trace-comment", b"# a trace\n" + trace)
+        self.add("trace-place", trace.replace(b"fc000", b"fc001"))
 
     def request_line(self):
         return attestation_model.request_line(self.round.value("key"), self.report.challenge,
@@ -203,7 +227,8 @@ class SampleFiles:
 
     def add_cut_files(self):
         """Real files cut in the middle, where that is a fault; the faults by their kinds."""
-        own = {"policy": self["policy"], "reports": self["reports"], "source": self["letter.asm"]}
+        own = {"policy": self["policy"], "reports": self["reports"], "source": self["letter.asm"],
+               "trace": self["trace"]}
         self.cut_faults = {}
         for kind in FILES:
             text = read(own.get(kind) or self.round.file(kind))
@@ -254,6 +279,20 @@ class SampleFiles:
             self.add(f"{kind}-most", lengthened(text, FILES[kind].limit))
             self.add(f"{kind}-more", lengthened(text, FILES[kind].limit + 1))
         return many["policy"].count(b"ask"), many["reports"].count(b"report")
+
+    def add_largest_traces(self):
+        """A trace file up to its limit, and a longer one: after a boot a device that sleeps. The
+        number of lines.
+        """
+        line = b"t %d idle c000 - - 0 0 0000 0000 0000 0000 0000 0000 0000 0 -\n"
+        lines, length, limit = [], 0, FILES["trace"].limit
+        while length + len(line) + 6 < limit:
+            lines.append(line % len(lines) if lines else self.texts["trace"].splitlines(True)[0])
+            length += len(lines[-1])
+        text = b"".join(lines)
+        self.add("trace-most", lengthened(text, limit))
+        self.add("trace-more", lengthened(text, limit + 1))
+        return len(lines)
 
     def add_scattered_image(self):
         """A byte at each odd place, so that each stands alone."""

@@ -7,26 +7,26 @@ from readers import READERS
 from sample_files import read
 from trial import ABSENT, UNREADABLE, WORDS
 
-NO_EXEC, AUX, BOTH = {"exec": 0}, {"exec": 0, "aux": 1}, {"aux": 1}
+NO_EXEC, NO_AUX, NEITHER = {"exec": 0}, {"aux": 0}, {"exec": 0, "aux": 0}
 OTHER_MAC, OTHER_CHALLENGE = {"mac": bytes(32)}, {"challenge": bytes(32)}
 OTHER_PLACES = {"bounds": [0xC040, 0xC046, 0x0302, 0x0302]}
 
-# What of a policy is other than what the report of the example `round` meets, what of the report is
-# other, and the verdict: the first that holds.
+# What of a policy is other than what the report of the example `round` meets, what of the report,
+# in which both flags are 1, is other, and the verdict: the first that holds.
 VERDICTS = (
     ({}, {}, "accept"),
-    ({}, BOTH, "accept"),
-    ({"flag": "aux"}, AUX, "accept"),
-    ({"flag": "aux"}, BOTH, "accept"),
+    ({}, NO_AUX, "accept"),
+    ({"flag": "aux"}, {}, "accept"),
+    ({"flag": "aux"}, NO_EXEC, "accept"),
     ({"flag": "plain"}, {}, "accept"),
     ({"flag": "plain"}, NO_EXEC, "accept"),
-    ({"flag": "plain"}, AUX, "accept"),
+    ({"flag": "plain"}, NEITHER, "accept"),
     ({}, OTHER_MAC, "mac-differs"),
-    ({"flag": "plain"}, {**NO_EXEC, **OTHER_MAC}, "mac-differs"),
-    ({"flag": "aux"}, {}, "aux-zero"),
-    ({"flag": "aux"}, {**NO_EXEC, **OTHER_MAC}, "aux-zero"),
+    ({"flag": "plain"}, {**NEITHER, **OTHER_MAC}, "mac-differs"),
+    ({"flag": "aux"}, NO_AUX, "aux-zero"),
+    ({"flag": "aux"}, {**NEITHER, **OTHER_MAC}, "aux-zero"),
     ({}, NO_EXEC, "exec-zero"),
-    ({}, {**AUX, **OTHER_MAC}, "exec-zero"),
+    ({}, {**NEITHER, **OTHER_MAC}, "exec-zero"),
     (OTHER_PLACES, {}, "bounds-differ"),
     (OTHER_PLACES, {**NO_EXEC, **OTHER_MAC}, "bounds-differ"),
     ({}, {"count": 2}, "count-differs"),
@@ -98,7 +98,7 @@ def verify(trial, files):
         verdict(name, policy, report)
     for policy, report, name in VERDICTS_ONE:
         verdict(name, {**policy, "version": 1}, {**report, "version": 1})
-    for report in (NO_EXEC, BOTH, {"output": bytes(2)}):
+    for report in (NO_EXEC, NO_AUX, {"output": bytes(2)}):
         verdict("mac-differs", {"flag": "plain"}, {**report, "mac": files.report.mac})
 
 

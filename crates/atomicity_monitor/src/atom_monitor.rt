@@ -1,6 +1,5 @@
-ghost use Rattle.std.specs.Prelude.{◌≡◌, [], true, false, IfSome};
+ghost use Rattle.std.specs.Prelude.{◌≡◌, [], true, false};
 ghost use Rattle.bus_signals.specs.declared.bounds.Bounds.{Bounds};
-ghost use Rattle.bus_signals.specs.Access.{IsFormed};
 ghost use Rattle.part_definitions.specs.Flag.{last_pc};
 ghost use Rattle.part_definitions.specs.Part.{Answers, Takes};
 ghost use Rattle.part_definitions.specs.MonitorRule.{in_rom, atomicity_rule};
@@ -31,7 +30,6 @@ impl AtomMonitor {
     #[inline(always)]
     #[tactic(auto, unfolding(part_definitions::specs::MonitorRule::atomicity_rule))]
     pub fn check(&self, now: &Signals) -> Option<Rule>
-        requires { IfSome now.now.cpu IsFormed }
         ensures { Answers AtomMonitorStandsFor self.now
             (λ records. atomicity_rule (last_pc records) now.now) result }
     {
@@ -48,8 +46,7 @@ impl AtomMonitor {
     #[inline(always)]
     #[tactic(auto, unfolding(part_definitions::specs::MonitorRule::atomicity_rule))]
     fn check_within(&self, now: &Signals) -> Option<Rule>
-        requires formed { IfSome now.now.cpu IsFormed }
-        requires inside { in_rom now.now.pc ≡ true }
+        requires { in_rom now.now.pc ≡ true }
         ensures { Answers AtomMonitorStandsFor self.now
             (λ records. atomicity_rule (last_pc records) now.now) result }
     {
@@ -106,7 +103,6 @@ fn breaks_a3(now: &Signals) -> bool
 // A4: the return read touches the key or the exclusive stack.
 #[inline(always)]
 fn breaks_a4(now: &Signals) -> bool
-    requires { IfSome now.now.cpu IsFormed }
     ensures { result ≡ breaks_a4 now.now }
 {
     now.pc == ROM_EXIT

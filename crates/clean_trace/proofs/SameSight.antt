@@ -77,25 +77,11 @@ first_rule-sight last line real same =
 -- an access as it is recorded and blanked
 pub shape-told : (rule : Option Rule) (access : Option Access)
     → without_number (blank_access (access_recorded rule access)) ≡ without_number access
-shape-told None None = refl
-shape-told None (Some (Fetch place)) = refl
-shape-told None (Some (Read place size)) = refl
-shape-told None (Some (Write place size number)) = refl
-shape-told (Some rule) None = refl
-shape-told (Some rule) (Some (Fetch place)) = refl
-shape-told (Some rule) (Some (Read place size)) = refl
-shape-told (Some rule) (Some (Write place size number)) = refl
+shape-told rule access = grind (arith, nat_tests)
 
 pub fetches_at-told : (rule : Option Rule) (access : Option Access) (pc : ℕ)
     → fetches_at (blank_access (access_recorded rule access)) pc ≡ fetches_at access pc
-fetches_at-told None None pc = refl
-fetches_at-told None (Some (Fetch place)) pc = refl
-fetches_at-told None (Some (Read place size)) pc = refl
-fetches_at-told None (Some (Write place size number)) pc = refl
-fetches_at-told (Some rule) None pc = refl
-fetches_at-told (Some rule) (Some (Fetch place)) pc = refl
-fetches_at-told (Some rule) (Some (Read place size)) pc = refl
-fetches_at-told (Some rule) (Some (Write place size number)) pc = refl
+fetches_at-told rule access pc = grind (arith, nat_tests)
 
 -- an opcode fetch that breaks no key rule is of no secret
 fetch_apart : (place pc : ℕ) → place ≡ pc

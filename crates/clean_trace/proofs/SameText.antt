@@ -14,7 +14,7 @@ use Rattle.part_definitions.specs.Flag.{last_pc}
 use Rattle.trace_facts.proofs.Sound.{IsSound}
 use Rattle.trace_facts.proofs.SoundPlay.{logs_after-sound}
 use Rattle.key_isolation.specs.Agreement.{Agree}
-use Rattle.key_isolation.proofs.Bytes.{same_if, zero_either}
+use Rattle.key_isolation.proofs.Bytes.{same_if}
 use Rattle.key_isolation.proofs.FlagBlank.{exec-blank, blank_access-twice, blank_value-twice}
 use Rattle.key_isolation.proofs.Hiding.{open_start, hide, logged_bounds-hide}
 use Rattle.key_isolation.proofs.Induction.{play_hides, releases_before}
@@ -26,46 +26,40 @@ use Rattle.trace_line.specs.declared.trace_line.TraceLine.{TraceLine}
 use Rattle.trace_line.specs.LineText.{file_text}
 use Rattle.clean_trace.specs.TraceText.{word_shown, line_with, next_line, trace_lines, trace_text}
 
--- the word that a line shows, of accesses that differ in the number of a write alone
-word_shown-hide : (start : Start) (free : List ℕ) (logs : Logs) (cpu' cpu : Option Access)
-    → without_number cpu' ≡ without_number cpu
-    → blank_value cpu' (word_fetched (open_start free start) (hide logs) cpu')
-    ≡ blank_value cpu (word_fetched start logs cpu)
-word_shown-hide start free logs None None same = refl
-word_shown-hide start free logs None (Some (Fetch place)) same = absurd (cc)
-word_shown-hide start free logs None (Some (Read place size)) same = absurd (cc)
-word_shown-hide start free logs None (Some (Write place size number)) same = absurd (cc)
-word_shown-hide start free logs (Some (Fetch place')) None same = absurd (cc)
-word_shown-hide start free logs (Some (Fetch place')) (Some (Fetch place)) same =
-    let here : place' ≡ place = cc in
-    ap
-    (λ (p : ℕ). blank_value (Some (Fetch p))
-    (word_fetched (open_start free start) (hide logs) (Some (Fetch p)))) here
-    ∙ same_if (touches_secrets (Fetch place)) 0 0
+-- the word that a line shows of a proposed access
+abbrev word_at : Start → Logs → Option Access → ℕ
+word_at start logs cpu = blank_value cpu (word_fetched start logs cpu)
+
+-- the number of a write does not matter
+word_at-number : (start : Start) (logs : Logs) (cpu : Option Access)
+    → word_at start logs (without_number cpu) ≡ word_at start logs cpu
+word_at-number start logs None = refl
+word_at-number start logs (Some (Fetch place)) = refl
+word_at-number start logs (Some (Read place size)) = refl
+word_at-number start logs (Some (Write place size number)) = refl
+
+word_at-hide : (start : Start) (free : List ℕ) (logs : Logs) (cpu : Option Access)
+    → word_at (open_start free start) (hide logs) cpu ≡ word_at start logs cpu
+word_at-hide start free logs None = refl
+word_at-hide start free logs (Some (Fetch place)) =
+    same_if (touches_secrets (Fetch place)) 0 0
     (word_fetched (open_start free start) (hide logs) (Some (Fetch place)))
     (word_fetched start logs (Some (Fetch place)))
     (λ secret. refl)
     (λ off. value_read-hide start free logs (Fetch place) off)
-word_shown-hide start free logs (Some (Fetch place')) (Some (Read place size)) same = absurd (cc)
-word_shown-hide start free logs (Some (Fetch place')) (Some (Write place size number)) same =
-    absurd (cc)
-word_shown-hide start free logs (Some (Read place' size')) None same = absurd (cc)
-word_shown-hide start free logs (Some (Read place' size')) (Some (Fetch place)) same = absurd (cc)
-word_shown-hide start free logs (Some (Read place' size')) (Some (Read place size)) same =
-    zero_either (touches_secrets (Read place' size'))
-    ∙ sym (zero_either (touches_secrets (Read place size)))
-word_shown-hide start free logs (Some (Read place' size'))
-    (Some (Write place size number)) same =
-    absurd (cc)
-word_shown-hide start free logs (Some (Write place' size' number')) None same = absurd (cc)
-word_shown-hide start free logs (Some (Write place' size' number')) (Some (Fetch place)) same =
-    absurd (cc)
-word_shown-hide start free logs (Some (Write place' size' number')) (Some (Read place size)) same =
-    absurd (cc)
-word_shown-hide start free logs (Some (Write place' size' number'))
-    (Some (Write place size number)) same =
-    zero_either (touches_secrets (Write place' size' number'))
-    ∙ sym (zero_either (touches_secrets (Write place size number)))
+word_at-hide start free logs (Some (Read place size)) = refl
+word_at-hide start free logs (Some (Write place size number)) = refl
+
+-- of accesses that differ in the number of a write alone
+word_at-same : (start : Start) (free : List ℕ) (logs : Logs) (cpu' cpu : Option Access)
+    → without_number cpu' ≡ without_number cpu
+    → word_at (open_start free start) (hide logs) cpu' ≡ word_at start logs cpu
+word_at-same start free logs cpu' cpu same =
+    let opened : Start = open_start free start in
+    sym (word_at-number opened (hide logs) cpu')
+    ∙ ap (word_at opened (hide logs)) same
+    ∙ word_at-number opened (hide logs) cpu
+    ∙ word_at-hide start free logs cpu
 
 -- of the signals of the next step
 next_word-hide : (start : Start) (free : List ℕ) (logs : Logs) (events : List Event)
@@ -75,7 +69,7 @@ unfolding with_events signals_at
 next_word-hide start free logs events =
     let after : Logs = with_events logs events in
     let reset : Bool = asks_reset events in
-    word_shown-hide start free after (signals_of (open_start free start) (hide after) reset).cpu
+    word_at-same start free after (signals_of (open_start free start) (hide after) reset).cpu
     (signals_of start after reset).cpu (signals_of-hide start free after reset).shape
 
 next_reset : (start : Start) (logs : Logs) (events : List Event)
@@ -127,10 +121,15 @@ trace_lines-hide start free (events ∷ play) more split =
     (sym (next_line-hide start free more logs events (logs_after-sound start play) split)
     ∙ ap (λ (ls : Logs). next_line opened ls events) before.logs)
 
+pub same_trace_lines : (left right : Start) (play : List (List Event)) → SameButKey left right
+    → Agree (released_words left play) (released_words right play)
+    → trace_lines left play ≡ trace_lines right play
+same_trace_lines left right play same agree =
+    same_seen (λ start. trace_lines start play) (λ start. trace_lines start play) left right play
+    (λ start free more split. trace_lines-hide start free play more split) same agree
+
 pub same_trace_text : (left right : Start) (play : List (List Event)) → SameButKey left right
     → Agree (released_words left play) (released_words right play)
     → trace_text left play ≡ trace_text right play
 same_trace_text left right play same agree =
-    ap file_text
-    (same_seen (λ start. trace_lines start play) (λ start. trace_lines start play) left right play
-    (λ start free more split. trace_lines-hide start free play more split) same agree)
+    ap file_text (same_trace_lines left right play same agree)

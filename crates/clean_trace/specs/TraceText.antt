@@ -1,5 +1,5 @@
 -- The trace file of a play: a line for each step, with the secrets blanked.
-use Rattle.std.specs.Prelude.{ℕ, Bool, List, [], ◌∷◌}
+use Rattle.std.specs.Prelude.{ℕ, Bool, List, [], ◌∷◌, Option, Some, None}
 use Rattle.bus_signals.specs.declared.bounds.Bounds.{Bounds}
 use Rattle.bus_signals.specs.declared.bus_record.BusRecord.{BusRecord}
 use Rattle.bus_signals.specs.declared.event.Event.{Event}
@@ -45,6 +45,11 @@ unfoldable pub trace_lines : Start → List (List Event) → List TraceLine
 trace_lines start [] = []
 trace_lines start (events ∷ play) =
     next_line start (logs_after start play) events ∷ trace_lines start play
+
+-- the line of the last step of a play
+abbrev pub last_line : Start → List (List Event) → Option TraceLine
+last_line start [] = None
+last_line start (events ∷ play) = Some (next_line start (logs_after start play) events)
 
 -- their text in the order of the steps, which are numbered from 0
 abbrev pub trace_text : Start → List (List Event) → List ℕ

@@ -1,10 +1,10 @@
 -- What a row puts is put of a lawful play.
 use Rattle.std.proofs.Common.{◌≡◌, ◌<◌, ℕ, Bool, true, false, List, Option, Some, None, IfSome, Result, Ok, Err, refl, length, unwrap_or, arith}
 use Rattle.std.specs.Prelude.{if◌then◌else◌, nat_lt}
+use Rattle.bus_signals.specs.declared.event.Event.{Event}
 use Rattle.std.proofs.lemmas.List.Elements.{All-from_get_or}
 use Rattle.std.proofs.lemmas.List.FromFn.{get_or-range_with_len}
-use Rattle.bus_signals.specs.declared.event.Event.{Event}
-use Rattle.bus_signals.specs.SeenRecord.{no_flag}
+use Rattle.part_definitions.specs.TrustedFlag.{aux}
 use Rattle.text_scan.specs.Key.{key_of}
 use Rattle.text_scan.specs.declared.fault_at.FaultAt.{FaultAt}
 use Rattle.text_scan.proofs.HexBytes.{key_of-ok}
@@ -26,7 +26,7 @@ use Rattle.device_cli.specs.FileKind.{key_kind, image_kind, script_kind, policy_
 use Rattle.device_cli.specs.Load.{load_key, load_image}
 use Rattle.device_cli.specs.PlayLaws.{IsLawful, IsLawfulRow}
 use Rattle.device_cli.specs.Judge.{judge_with}
-use Rattle.device_cli.specs.Play.{play_with, steps_of, steps_row}
+use Rattle.device_cli.specs.Play.{PlayOutcome, play_with, start_of, steps_of, steps_row}
 use Rattle.device_cli.specs.Round.{round_row}
 use Rattle.device_cli.specs.Work.{load_play, work_row}
 use Rattle.device_cli.proofs.Grounds.{each_accept-has_grounds}
@@ -84,7 +84,7 @@ no_judge : (device_play : DevicePlay) → IsDeviceKey device_play.key → IsOfBy
 no_judge device_play device_key bytes none =
     record {
       gives = sha256_gives;
-      laws = obeys_laws no_flag sha256 device_play.key device_play.image device_play.play
+      laws = obeys_laws aux sha256 device_play.key device_play.image device_play.play
           device_key bytes;
       accepts = rw none tt;
     }
@@ -93,14 +93,19 @@ image_bytes : (bytes : List ℕ) (image : ℕ → Option ℕ) → image_of bytes
     → IsOfBytes (λ place. unwrap_or (image place) 0)
 image_bytes bytes image is = λ place. rw is at (image_of-bytes bytes place)
 
-pub steps_row_lawful : (text : Start → List (List Event) → List ℕ) (image script key : List ℕ)
-    (steps : ℕ) → IsLawfulRow (steps_row text image script key steps)
-steps_row_lawful text image script key steps =
+-- what is put of a play that nobody judges
+pub steps_row_lawful : (outcome : PlayOutcome) (image script key : List ℕ) (steps : ℕ)
+    → ((device_play : DevicePlay) (start : Start) (play : List (List Event))
+    → (outcome device_play start play).device_play ≡ Some device_play)
+    → IsLawfulRow (steps_row outcome image script key steps)
+steps_row_lawful outcome image script key steps plays =
     read-lawful key_kind key _ (λ key_read key_bytes key_is.
     read-lawful image_kind image _ (λ image_read bytes image_is.
     read-lawful script_kind script _ (λ script_read script_bytes script_is.
-    no_judge (play_with steps key_read image_read script_read)
-    (device_key key_bytes key_read key_is) (image_bytes bytes image_read image_is) refl)))
+    rw (plays (play_with steps key_read image_read script_read) (start_of key_read image_read)
+    (steps_of steps script_read))
+    (no_judge (play_with steps key_read image_read script_read)
+    (device_key key_bytes key_read key_is) (image_bytes bytes image_read image_is) refl))))
 
 valid_bounds : (bytes : List ℕ) (policy : PolicyFields) → policy_of bytes ≡ Ok policy
     → are_valid_for policy.version policy.bounds ≡ true
@@ -117,9 +122,9 @@ judged : (steps : ℕ) (key : List ℕ) (image : ℕ → Option ℕ) (script : L
 judged steps key image script policy device_key bytes valid =
     record {
       gives = sha256_gives;
-      laws = obeys_laws no_flag sha256 key (λ place. unwrap_or (image place) 0)
+      laws = obeys_laws aux sha256 key (λ place. unwrap_or (image place) 0)
           (steps_of steps script) device_key bytes;
-      accepts = each_accept-has_grounds no_flag (judge_with key image policy)
+      accepts = each_accept-has_grounds aux (judge_with key image policy)
           (λ place. unwrap_or (image place) 0) (steps_of steps script) device_key bytes
           sha256_gives valid;
     }

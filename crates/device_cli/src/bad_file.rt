@@ -16,4 +16,6 @@ pub enum BadFile {
     Reports(FaultAt),
     #[error("bad source: {0}")]
     Source(FaultAt),
+    #[error("bad trace: {0}")]
+    Trace(FaultAt),
 }

@@ -4,6 +4,7 @@ pub mod policy;
 pub mod reports;
 pub mod script;
 pub mod source;
+pub mod trace;
 
 use crate::bad_file::BadFile;
 use std::alloc::Global;

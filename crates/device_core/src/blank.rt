@@ -8,11 +8,7 @@ use bus_signals::{Access, BusRecord, KR, Signals, XS, touches};
 /// A record with the secrets blanked. Only steps of the ROM touch one.
 #[inline(always)]
 pub fn blanked(entry: &BusRecord) -> BusRecord
-    requires cpu { IfSome entry.now.cpu IsFormed }
-    requires dma { IfSome entry.now.dma IsFormed }
-    ensures value { result ≡ blank_record entry.now }
-    ensures cpu { IfSome result.cpu IsFormed }
-    ensures dma { IfSome result.dma IsFormed }
+    ensures { result ≡ blank_record entry.now }
 {
     BusRecord {
         cpu: blank_access(entry.cpu),
@@ -26,13 +22,9 @@ pub fn blanked(entry: &BusRecord) -> BusRecord
 /// What a step is about to do, with the secrets blanked.
 #[inline(always)]
 pub fn blanked_signals(now: &Signals) -> Signals
-    requires cpu { IfSome now.now.cpu IsFormed }
-    requires dma { IfSome now.now.dma IsFormed }
-    ensures entry { (entry : BusRecord)
+    ensures { (entry : BusRecord)
         → IsRecordOf now.now entry
         → IsRecordOf result (blank_record entry) }
-    ensures cpu { IfSome result.cpu IsFormed }
-    ensures dma { IfSome result.dma IsFormed }
 {
     Signals {
         cpu: blank_access(now.cpu),
@@ -41,12 +33,11 @@ pub fn blanked_signals(now: &Signals) -> Signals
     }
 }
 
-// 0 for the number of a write to the exclusive stack.
+/// 0 for the number of a write to the exclusive stack.
 #[inline(always)]
-fn blank_access(access: Option<Access>) -> Option<Access>
-    requires { IfSome access IsFormed }
+pub fn blank_access(access: Option<Access>) -> Option<Access>
     ensures value { result ≡ blank_access access }
-    ensures formed { IfSome result IsFormed }
+    ensures formed { IfSome access IsFormed → IfSome result IsFormed }
 {
     match access {
         Some(Access::Write(place, size, number)) => {
@@ -60,10 +51,9 @@ fn blank_access(access: Option<Access>) -> Option<Access>
     }
 }
 
-// 0 for the value of a read that touches the key or the stack.
+/// 0 for the value of a read that touches the key or the stack.
 #[inline(always)]
-fn blank_value(access: Option<Access>, value: u16) -> u16
-    requires { IfSome access IsFormed }
+pub fn blank_value(access: Option<Access>, value: u16) -> u16
     ensures { result ≡ blank_value access value }
 {
     match access {

@@ -1,5 +1,4 @@
-ghost use Rattle.std.specs.Prelude.{◌≡◌, ◌∷◌, [], ℕ, true, false, List, Option, IfSome, IfOk, IsSome, None, Some, is_none, if◌then◌else◌};
-ghost use Rattle.bus_signals.specs.Access.{IsFormed};
+ghost use Rattle.std.specs.Prelude.{◌≡◌, ◌∷◌, [], ℕ, true, false, List, Option, IfOk, IsSome, None, Some, is_none, if◌then◌else◌};
 ghost use Rattle.bus_signals.specs.declared.event.Event.{Event};
 ghost use Rattle.bus_signals.specs.Flag.{IsRecordOf};
 ghost use Rattle.bus_signals.specs.SeenRecord.{SeenRecord};
@@ -82,10 +81,6 @@ fn show_aux(memory: &mut Memory, stays: bool, is_set: bool)
 #[inline(always)]
 #[tactic(auto, unfolding(device_trace::specs::Signals::signals_at))]
 fn signals(turn: &Turn, value: u16, dma: Option<Access>, script_reset: bool) -> Signals
-    requires formed { IfSome turn.now.access IsFormed }
-    requires dma_formed { IfSome dma IsFormed }
-    ensures cpu { IfSome result.cpu IsFormed }
-    ensures dma { IfSome result.dma IsFormed }
     ensures access { result.cpu ≡ turn.now.access }
     ensures signals { (start : Start) (logs : Logs) (regs : List ℕ)
         → TurnStandsFor regs turn.now start logs
@@ -146,8 +141,7 @@ impl<G: TraceFlag> Bus<G> {
     /// The access that the DMA asks for in the next step.
     #[inline(always)]
     pub fn dma_access(&self) -> Option<Access>
-        ensures formed { IfSome result IsFormed }
-        ensures access { (start : Start) (logs : Logs)
+        ensures { (start : Start) (logs : Logs)
             → BusStandsFor G.flag self.now start logs
             → result ≡ dma_access logs.peripherals.dma }
     {
@@ -157,8 +151,6 @@ impl<G: TraceFlag> Bus<G> {
     // The monitors see a step, memory shows the flags after it, and it is kept.
     #[inline(always)]
     fn watch(&mut self, step: LastStep)
-        requires cpu { IfSome step.entry.cpu IsFormed }
-        requires dma { IfSome step.entry.dma IsFormed }
         ensures last { self.new.last ≡ Some step }
         ensures peripherals { self.new.peripherals ≡ self.old.peripherals }
         ensures memory { (start : Start) (writes : List MemoryWrite) (records : List SeenRecord)
@@ -182,13 +174,9 @@ impl<G: TraceFlag> Bus<G> {
     // read. Its record.
     #[inline(always)]
     fn make(&mut self, regs: &[u16; 16], now: &Signals, value: u16) -> BusRecord
-        requires cpu { IfSome now.now.cpu IsFormed }
-        requires dma { IfSome now.now.dma IsFormed }
         ensures peripherals { self.new.peripherals ≡ self.old.peripherals }
         ensures monitors { self.new.monitors ≡ self.old.monitors }
         ensures last { self.new.last ≡ self.old.last }
-        ensures cpu { IfSome result.cpu IsFormed }
-        ensures dma { IfSome result.dma IsFormed }
         ensures entry { IsRecordOf now.now result }
         ensures value { (start : Start) (logs : Logs)
             → BusStandsFor G.flag self.old start logs
@@ -213,8 +201,6 @@ impl<G: TraceFlag> Bus<G> {
         value: u16,
         keeps: bool,
     )
-        requires cpu { IfSome now.now.cpu IsFormed }
-        requires dma { IfSome now.now.dma IsFormed }
         ensures kept { keeps ≡ true → IsSome self.new.last }
         ensures signals { KeepsSignals self.new.last now.now }
         ensures stands { Performs G.flag self.old regs.now acceptance now.now value self.new }
@@ -230,8 +216,6 @@ impl<G: TraceFlag> Bus<G> {
     // both flags so.
     #[inline(always)]
     fn keeps_flags(&self, now: &Signals) -> bool
-        requires cpu { IfSome now.now.cpu IsFormed }
-        requires dma { IfSome now.now.dma IsFormed }
         ensures { (start : Start) (logs : Logs)
             → BusStandsFor G.flag self.now start logs
             → result ≡ true
@@ -244,8 +228,6 @@ impl<G: TraceFlag> Bus<G> {
     // nothing looks at the bounds.
     #[inline(always)]
     fn leaves_flags(&self, now: &Signals) -> bool
-        requires cpu { IfSome now.now.cpu IsFormed }
-        requires dma { IfSome now.now.dma IsFormed }
         ensures { (start : Start) (logs : Logs) (entry : BusRecord)
             → BusStandsFor G.flag self.now start logs
             → IsRecordOf now.now entry
@@ -268,8 +250,6 @@ impl<G: TraceFlag> Bus<G> {
         now: &Signals,
         value: u16,
     )
-        requires cpu { IfSome now.now.cpu IsFormed }
-        requires dma { IfSome now.now.dma IsFormed }
         ensures signals { KeepsSignals self.new.last now.now }
         ensures stands { (start : Start) (logs : Logs)
             → has_line (record_performed start logs regs.now now.now) ≡ false
@@ -293,8 +273,6 @@ impl<G: TraceFlag> Bus<G> {
         now: Signals,
         value: u16,
     )
-        requires cpu { IfSome now.cpu IsFormed }
-        requires dma { IfSome now.dma IsFormed }
         ensures kept { IsSome self.new.last }
         ensures signals { KeepsSignals self.new.last now }
         ensures stands { Performs G.flag self.old regs.now acceptance now value self.new }
@@ -314,8 +292,6 @@ impl<G: TraceFlag> Bus<G> {
     #[inline(never)]
     #[tactic(auto, unfolding(device_trace::specs::Logs::with_record))]
     fn refuse(&mut self, regs: &[u16; 16], now: Signals)
-        requires cpu { IfSome now.cpu IsFormed }
-        requires dma { IfSome now.dma IsFormed }
         ensures kept { IsSome self.new.last }
         ensures signals { KeepsSignals self.new.last now }
         ensures stands { (start : Start) (logs : Logs) (value dma_value : ℕ)
@@ -347,8 +323,6 @@ impl<G: TraceFlag> Bus<G> {
         script_reset: bool,
         keeps: bool,
     ) -> Option<u16>
-        requires formed { IfSome turn.now.access IsFormed }
-        requires dma_formed { IfSome dma IsFormed }
         ensures kept { keeps ≡ true → IsSome self.new.last }
         ensures answer { AnswersTurn G.flag self.old regs.now turn.now dma script_reset result }
         ensures stands { MakesTurn G.flag self.old regs.now turn.now dma script_reset self.new }
@@ -370,8 +344,6 @@ impl<G: TraceFlag> Bus<G> {
         script_reset: bool,
         keeps: bool,
     ) -> Option<u16>
-        requires formed { IfSome turn.access IsFormed }
-        requires dma_formed { IfSome dma IsFormed }
         ensures kept { keeps ≡ true → IsSome self.new.last }
         ensures answer { AnswersTurn G.flag self.old regs.now turn dma script_reset result }
         ensures stands { MakesTurn G.flag self.old regs.now turn dma script_reset self.new }
@@ -389,8 +361,6 @@ impl<G: TraceFlag> Bus<G> {
         script_reset: bool,
         keeps: bool,
     ) -> Option<u16>
-        requires formed { IfSome turn.now.access IsFormed }
-        requires dma_formed { IfSome dma IsFormed }
         ensures kept { keeps ≡ true → IsSome self.new.last }
         ensures answer { AnswersTurn G.flag self.old regs.now turn.now dma script_reset result }
         ensures stands { MakesTurn G.flag self.old regs.now turn.now dma script_reset self.new }

@@ -54,7 +54,7 @@ peripheral_read parts place size =
 abbrev pub request_at : ℕ → Bool → List ℕ
 request_at vector asks = if asks then vector ∷ [] else []
 
--- the vectors of the interrupts that parts ask for, in the order of priority
+-- the vectors of the interrupts that parts ask for; the greatest is accepted first (SLAU049)
 abbrev pub requests : Peripherals → List ℕ
 requests parts =
     request_at SERIAL_VECTOR (serial_requests parts.serial)

@@ -1,7 +1,7 @@
--- How a flag changes at a record, whichever records clear it.
-use Rattle.std.proofs.Common.{◌≡◌, ◌==◌, ◌&&◌, ◌||◌, ◌+◌, ◌%◌, ◌^◌, ℕ, Bool, true, false, not, List, [], ◌∷◌, Option, is_some, inl, inr, sym, ◌∙◌, ap, refl, arith, if◌then◌else◌}
+-- How a flag of a run changes at a record, whichever records clear it.
+use Rattle.std.proofs.Common.{◌≡◌, ◌==◌, ◌&&◌, ◌||◌, ◌+◌, ◌%◌, ◌^◌, ℕ, Bool, true, false, not, List, [], ◌∷◌, Option, Some, is_some, inl, inr, sym, ◌∙◌, ap, refl, arith, if◌then◌else◌}
 use Rattle.std.specs.Prelude.{nat_le}
-use Rattle.std.proofs.lemmas.Bool.{and_parts, and_from, cases_Bool, le-leb, eqb-true}
+use Rattle.std.proofs.lemmas.Bool.{and_parts, and_from, or_cases, le-leb, eqb-true}
 use Rattle.bus_signals.specs.declared.bounds.Bounds.{Bounds}
 use Rattle.bus_signals.specs.Map.{lies_in, metadata_region}
 use Rattle.bus_signals.proofs.ValidRange.{are_valid-ranges}
@@ -9,16 +9,16 @@ use Rattle.std.proofs.Math.Bool.{and-true, and-false, or_comm}
 use Rattle.std.specs.List.{list_any}
 use Rattle.bus_signals.specs.SeenRecord.{SeenRecord}
 use Rattle.bus_signals.specs.Bounds.{are_valid, executable_region}
+use Rattle.exec_automaton.specs.RunFlag.{is_set}
 use Rattle.part_definitions.specs.Flag.{starts_run, fetches_first, is_opcode_fetch, runs_inside, ran_inside, ran_at, last_pc, records_since, clears_both, clears_e1, clears_e2, clears_e5, clears_e6, clears_e7, clears_e8, clears_e9}
 
 -- it is set where it was set before or the record starts a run, and the record does not clear it
 pub uncleared_run-cons : (clears : Option ℕ → SeenRecord → Bool) (now : SeenRecord)
     (before : List SeenRecord)
-    → list_any starts_run (records_since clears (now ∷ before))
-    ≡ ((list_any starts_run (records_since clears before) || starts_run now)
-    && not (clears (last_pc before) now))
+    → is_set clears (now ∷ before)
+    ≡ ((is_set clears before || starts_run now) && not (clears (last_pc before) now))
 uncleared_run-cons clears now before =
-    let was_set : Bool = list_any starts_run (records_since clears before) in
+    let was_set : Bool = is_set clears before in
     elim (clears (last_pc before) now) as
     (λ is_clear.
     list_any starts_run (if is_clear then [] else now ∷ records_since clears before)
@@ -26,6 +26,17 @@ uncleared_run-cons clears now before =
       | true ↦ sym (and-false (was_set || starts_run now))
       | false ↦ or_comm (starts_run now) was_set ∙ sym (and-true (was_set || starts_run now))
     ]
+
+-- so it is of a flag of a run
+flag-cons : {flag : List SeenRecord → Bool} (clears : Option ℕ → SeenRecord → Bool)
+    → ((records : List SeenRecord) → flag records ≡ is_set clears records)
+    → (now : SeenRecord) (before : List SeenRecord)
+    → flag (now ∷ before) ≡ ((flag before || starts_run now) && not (clears (last_pc before) now))
+flag-cons clears of_run now before =
+    of_run (now ∷ before)
+    ∙ uncleared_run-cons clears now before
+    ∙ ap (λ was_set. (was_set || starts_run now) && not (clears (last_pc before) now))
+    (sym (of_run before))
 
 -- a record at another place than ERmin starts no run
 pub starts_run-elsewhere : (now : SeenRecord)
@@ -93,33 +104,51 @@ pub start-first : (now : SeenRecord) → starts_run now ≡ true
 start-first now starts =
     (and_parts (fetches_first now.bounds now.entry) (are_valid now.bounds) starts).0
 
--- the flag after a record, from what is kept of those before it: a `pc` while the flag is set
-pub uncleared_run-next : (clears : Option ℕ → SeenRecord → Bool) → StartsAlike clears
+-- where it was set or the record starts a run, it is set unless the record clears it
+pub flag-kept : {flag : List SeenRecord → Bool} (clears : Option ℕ → SeenRecord → Bool)
+    → ((records : List SeenRecord) → flag records ≡ is_set clears records)
     → (now : SeenRecord) (before : List SeenRecord) (last : Option ℕ)
-    → is_some last ≡ list_any starts_run (records_since clears before)
-    → (list_any starts_run (records_since clears before) ≡ true → last ≡ last_pc before)
-    → list_any starts_run (records_since clears (now ∷ before))
-    ≡ ((is_some last || starts_run now) && not (clears last now))
-uncleared_run-next clears alike now before last same_flag same_last =
-    uncleared_run-cons clears now before
+    → is_some last ≡ flag before
+    → (flag before ≡ true → last ≡ last_pc before)
+    → (is_some last || starts_run now) ≡ true
+    → ((other : Option ℕ) → starts_run now ≡ true → clears last now ≡ clears other now)
+    → flag (now ∷ before) ≡ not (clears last now)
+flag-kept clears of_run now before last same_flag same_last may alike =
+    flag-cons clears of_run now before
     ∙ ap (λ was_set. (was_set || starts_run now) && not (clears (last_pc before) now))
     (sym same_flag)
-    ∙ elim (cases_Bool (is_some last)) [
-      | inl set ↦
-          ap (λ pc. (is_some last || starts_run now) && not (clears pc now))
-          (sym (same_last (sym same_flag ∙ set)))
-      | inr unset ↦
-          elim (cases_Bool (starts_run now)) [
-            | inl starts ↦
-                ap (λ is_clear. (is_some last || starts_run now) && not is_clear)
-                (alike (last_pc before) last now starts)
-            | inr other ↦
-                none (is_some last) (starts_run now) (not (clears (last_pc before) now))
-                (not (clears last now)) unset other
-          ]
-    ]
-  where
-    none : (x y a b : Bool) → x ≡ false → y ≡ false → ((x || y) && a) ≡ ((x || y) && b)
-    none false false a b is_unset starts_none = refl
-    none true y a b is_unset starts_none = absurd (cc)
-    none false true a b is_unset starts_none = absurd (cc)
+    ∙ ap (λ may. may && not (clears (last_pc before) now)) may
+    ∙ ap not (elim (or_cases (is_some last) (starts_run now) may) [
+      | inl set ↦ ap (λ pc. clears pc now) (sym (same_last (sym same_flag ∙ set)))
+      | inr starts ↦ sym (alike (last_pc before) starts)
+    ])
+
+-- a flag that is not set stays so at a record at another place than ERmin
+pub flag-elsewhere : {flag : List SeenRecord → Bool} (clears : Option ℕ → SeenRecord → Bool)
+    → ((records : List SeenRecord) → flag records ≡ is_set clears records)
+    → (now : SeenRecord) (before : List SeenRecord)
+    → flag before ≡ false
+    → (now.entry.pc == now.bounds.er_min) ≡ false
+    → flag (now ∷ before) ≡ false
+flag-elsewhere clears of_run now before unset elsewhere =
+    let keeps : Bool = not (clears (last_pc before) now) in
+    flag-cons clears of_run now before
+    ∙ ap (λ was_set. (was_set || starts_run now) && keeps) unset
+    ∙ ap (λ starts. starts && keeps) (starts_run-elsewhere now elsewhere)
+
+-- a flag that is set stays so at a record that does not clear it
+pub flag-spared : {flag : List SeenRecord → Bool} (clears : Option ℕ → SeenRecord → Bool)
+    → ((records : List SeenRecord) → flag records ≡ is_set clears records)
+    → (now : SeenRecord) (before : List SeenRecord) (last : Option ℕ) (pc : ℕ)
+    → is_some last ≡ flag before
+    → (flag before ≡ true → last ≡ last_pc before)
+    → last ≡ Some pc
+    → clears (Some pc) now ≡ false
+    → flag (now ∷ before) ≡ flag before
+flag-spared {flag = flag} clears of_run now before last pc same_flag same_last is spared =
+    let set : flag before ≡ true = sym same_flag ∙ ap is_some is in
+    flag-cons clears of_run now before
+    ∙ ap (λ was_set. (was_set || starts_run now) && not (clears (last_pc before) now)) set
+    ∙ ap (λ pc. not (clears pc now)) (sym (same_last set) ∙ is)
+    ∙ ap not spared
+    ∙ sym set

@@ -2,8 +2,8 @@
 use Rattle.std.proofs.Common.{◌≡◌, ◌≤◌, ◌+◌, ◌||◌, ◌++◌, ℕ, Bool, true, false, not, List, [], ◌∷◌, Option, length, IsTrue, ◌↔◌, sym, ◌∙◌, ap, inl, inr, refl, arith}
 use Rattle.std.proofs.lemmas.Bool.{and_parts, or_cases, and_from, or_left, or_right, not-true, not_from_false, false_from_ne_true, both_ways}
 use Rattle.bus_signals.specs.SeenRecord.{SeenRecord}
-use Rattle.part_definitions.specs.Flag.{exec, clears, starts_run, last_pc, records_since}
-use Rattle.std.specs.List.{list_any}
+use Rattle.part_definitions.specs.Flag.{starts_run, last_pc}
+use Rattle.exec_automaton.specs.RunFlag.{is_set}
 use Rattle.exec_automaton.specs.UnclearedStart.{Moment, UnclearedStart}
 use Rattle.exec_automaton.proofs.UnclearedRun.{uncleared_run-cons}
 
@@ -86,10 +86,6 @@ start-newest clears now before starts keeps =
           moment.after moment.now moment.before moment.whole near;
     }
 
--- the flag over such records
-abbrev is_set : (Option ℕ → SeenRecord → Bool) → List SeenRecord → Bool
-is_set clears records = list_any starts_run (records_since clears records)
-
 -- the flag is set after a record: it could be set, and the record keeps it
 set_parts : (clears : Option ℕ → SeenRecord → Bool) (now : SeenRecord) (before : List SeenRecord)
     → is_set clears (now ∷ before) ≡ true
@@ -143,15 +139,13 @@ set_from_start clears (now ∷ before) (x ∷ after) this rest whole starts none
     (newest_keeps clears now before (length (x ∷ after)) none)
 
 -- a flag is set exactly where there is such a start
-pub uncleared_run-iff : (clears : Option ℕ → SeenRecord → Bool) (records : List SeenRecord)
-    → IsTrue (list_any starts_run (records_since clears records)) ↔ UnclearedStart clears records
-uncleared_run-iff clears records = (
-  start_from_set clears records,
+pub flag-iff : {flag : List SeenRecord → Bool} {clears : Option ℕ → SeenRecord → Bool}
+    → ((records : List SeenRecord) → flag records ≡ is_set clears records)
+    → (records : List SeenRecord) → IsTrue (flag records) ↔ UnclearedStart clears records
+flag-iff {clears = clears} of_run records = (
+  λ set. start_from_set clears records (sym (of_run records) ∙ set),
   λ (run : UnclearedStart clears records).
-      set_from_start clears records run.start.after run.start.now run.start.before run.start.whole
-      run.starts run.kept,
+      of_run records
+      ∙ set_from_start clears records run.start.after run.start.now run.start.before
+      run.start.whole run.starts run.kept,
 )
-
-pub exec-iff : (records : List SeenRecord) → IsTrue (exec records) ↔ UnclearedStart clears records
-unfolding exec
-exec-iff records = uncleared_run-iff clears records

@@ -1,2 +1,3 @@
 pub mod ExecFlag
+pub mod RunFlag
 pub mod UnclearedStart

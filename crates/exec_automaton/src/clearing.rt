@@ -1,6 +1,5 @@
-ghost use Rattle.std.specs.Prelude.{◌≡◌, IfSome, option_to_list};
+ghost use Rattle.std.specs.Prelude.{◌≡◌, option_to_list};
 ghost use Rattle.std.specs.List.{list_any};
-ghost use Rattle.bus_signals.specs.Access.{IsFormed};
 ghost use Rattle.part_definitions.specs.Flag.{accesses_in, writes_to, fetches_outside, runs_inside, ran_inside, enters_region, clears, clears_both};
 ghost use Rattle.part_definitions.specs.Flag.{clears_e1, clears_e2, clears_e3, clears_e4, clears_e5, clears_e6, clears_e7, clears_e8, clears_e9};
 
@@ -10,8 +9,6 @@ use bus_signals::{Access, Bounds, BusRecord, META, Region, some_touches, some_wr
 /// are copied, so that a caller that does not come here keeps none in memory.
 #[inline(never)]
 pub fn clears(last: Option<u16>, entry: &BusRecord, bounds: Bounds) -> bool
-    requires cpu { IfSome entry.now.cpu IsFormed }
-    requires dma { IfSome entry.now.dma IsFormed }
     ensures { result ≡ clears last (record { entry = entry.now; bounds = bounds }) }
 {
     let bounds = &bounds;
@@ -20,8 +17,6 @@ pub fn clears(last: Option<u16>, entry: &BusRecord, bounds: Bounds) -> bool
 
 /// Whether a record clears the EXEC flag and the second flag: E1, E2 and E5 to E9.
 pub fn clears_both(last: Option<u16>, entry: &BusRecord, bounds: &Bounds) -> bool
-    requires cpu { IfSome entry.now.cpu IsFormed }
-    requires dma { IfSome entry.now.dma IsFormed }
     ensures { result ≡ clears_both last (record { entry = entry.now; bounds = bounds.now }) }
 {
     clears_e1(entry, bounds)
@@ -35,8 +30,6 @@ pub fn clears_both(last: Option<u16>, entry: &BusRecord, bounds: &Bounds) -> boo
 
 // E1: a write touches ER.
 fn clears_e1(entry: &BusRecord, bounds: &Bounds) -> bool
-    requires cpu { IfSome entry.now.cpu IsFormed }
-    requires dma { IfSome entry.now.dma IsFormed }
     ensures { result ≡ clears_e1 (record { entry = entry.now; bounds = bounds.now }) }
 {
     has_write_to(bounds.executable_region(), entry)
@@ -74,7 +67,6 @@ fn clears_e4(entry: &BusRecord, bounds: &Bounds) -> bool
 
 // E5: from outside ER the processor writes to OR.
 fn clears_e5(entry: &BusRecord, bounds: &Bounds) -> bool
-    requires { IfSome entry.now.cpu IsFormed }
     ensures { result ≡ clears_e5 (record { entry = entry.now; bounds = bounds.now }) }
 {
     writes_to(bounds.output_region(), entry.cpu) && !runs_inside(entry, bounds)
@@ -82,7 +74,6 @@ fn clears_e5(entry: &BusRecord, bounds: &Bounds) -> bool
 
 // E6: the DMA touches ER or OR.
 fn clears_e6(entry: &BusRecord, bounds: &Bounds) -> bool
-    requires { IfSome entry.now.dma IsFormed }
     ensures { result ≡ clears_e6 (record { entry = entry.now; bounds = bounds.now }) }
 {
     some_touches(entry.dma, bounds.executable_region())
@@ -98,8 +89,6 @@ fn clears_e7(entry: &BusRecord, bounds: &Bounds) -> bool
 
 // E8: ER fetches a word that is not wholly in ER.
 fn clears_e8(entry: &BusRecord, bounds: &Bounds) -> bool
-    requires cpu { IfSome entry.now.cpu IsFormed }
-    requires dma { IfSome entry.now.dma IsFormed }
     ensures { result ≡ clears_e8 (record { entry = entry.now; bounds = bounds.now }) }
 {
     let region = bounds.executable_region();
@@ -109,8 +98,6 @@ fn clears_e8(entry: &BusRecord, bounds: &Bounds) -> bool
 
 // E9: a write touches the metadata, or the step is refused.
 fn clears_e9(entry: &BusRecord, bounds: &Bounds) -> bool
-    requires cpu { IfSome entry.now.cpu IsFormed }
-    requires dma { IfSome entry.now.dma IsFormed }
     ensures { result ≡ clears_e9 (record { entry = entry.now; bounds = bounds.now }) }
 {
     has_write_to(META, entry) || entry.reset.is_some()
@@ -118,8 +105,6 @@ fn clears_e9(entry: &BusRecord, bounds: &Bounds) -> bool
 
 /// Whether one of the record's accesses writes to the region.
 pub fn has_write_to(region: Region, entry: &BusRecord) -> bool
-    requires cpu { IfSome entry.now.cpu IsFormed }
-    requires dma { IfSome entry.now.dma IsFormed }
     ensures { result ≡ list_any (writes_to region) (accesses_in entry.now) }
 {
     writes_to(region, entry.cpu) || writes_to(region, entry.dma)
@@ -128,7 +113,6 @@ pub fn has_write_to(region: Region, entry: &BusRecord) -> bool
 /// Whether there is an access, and it writes to the region.
 #[inline(always)]
 pub fn writes_to(region: Region, access: Option<Access>) -> bool
-    requires { IfSome access IsFormed }
     ensures { result ≡ list_any (writes_to region) (option_to_list access) }
 {
     some_writes(access) && some_touches(access, region)
@@ -137,11 +121,10 @@ pub fn writes_to(region: Region, access: Option<Access>) -> bool
 /// Whether there is an access, and it fetches a word that is not wholly in the region.
 #[inline(always)]
 pub fn fetches_outside(region: Region, access: Option<Access>) -> bool
-    requires { IfSome access IsFormed }
     ensures { result ≡ list_any (fetches_outside region) (option_to_list access) }
 {
     match access {
-        Some(Access::Fetch(place)) => !(region.contains(place) && region.contains(place + 1)),
+        Some(Access::Fetch(place)) => !(region.contains(place) && region.contains_next(place)),
         _ => false,
     }
 }

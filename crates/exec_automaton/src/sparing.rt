@@ -1,6 +1,5 @@
-ghost use Rattle.std.specs.Prelude.{◌≡◌, true, false, IfSome, None, Some};
+ghost use Rattle.std.specs.Prelude.{◌≡◌, true, false, None, Some};
 ghost use Rattle.bus_signals.specs.declared.bus_record.BusRecord.{BusRecord};
-ghost use Rattle.bus_signals.specs.Access.{IsFormed};
 ghost use Rattle.bus_signals.specs.Flag.{IsRecordOf};
 ghost use Rattle.part_definitions.specs.Flag.{clears, clears_both, enters_region};
 
@@ -11,7 +10,6 @@ use bus_signals::{Bounds, META, Signals};
 /// unless it is refused. Of a step in which the DMA has an access it is not told.
 #[inline(always)]
 pub fn spares(last: u16, now: &Signals, bounds: &Bounds) -> bool
-    requires { IfSome now.now.cpu IsFormed }
     ensures { (entry : BusRecord)
         → IsRecordOf now.now entry
         → result ≡ true
@@ -24,7 +22,6 @@ pub fn spares(last: u16, now: &Signals, bounds: &Bounds) -> bool
 /// access, and that of the processor clears nothing.
 #[inline(always)]
 pub fn spares_both(last: u16, now: &Signals, bounds: &Bounds) -> bool
-    requires { IfSome now.now.cpu IsFormed }
     ensures alone { result ≡ true → now.now.dma ≡ None }
     ensures clears { (entry : BusRecord)
         → IsRecordOf now.now entry

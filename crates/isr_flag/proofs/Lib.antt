@@ -1,2 +1,1 @@
 pub mod Aux
-pub mod UnclearedStarts

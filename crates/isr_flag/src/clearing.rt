@@ -1,5 +1,4 @@
-ghost use Rattle.std.specs.Prelude.{◌≡◌, true, false, IfSome, Some};
-ghost use Rattle.bus_signals.specs.Access.{IsFormed};
+ghost use Rattle.std.specs.Prelude.{◌≡◌, true, false, Some};
 ghost use Rattle.bus_signals.specs.Flag.{IsRecordOf};
 ghost use Rattle.part_definitions.specs.TrustedFlag.{reads_vector, handler_read, enters_elsewhere, clears_f3, clears_f4, clears_f10, clears_aux};
 
@@ -12,8 +11,6 @@ use exec_automaton::{
 /// are copied, so that a caller that does not come here keeps none in memory.
 #[inline(never)]
 pub fn clears_aux(last: Option<u16>, entry: &BusRecord, bounds: Bounds) -> bool
-    requires cpu { IfSome entry.now.cpu IsFormed }
-    requires dma { IfSome entry.now.dma IsFormed }
     ensures { result ≡ clears_aux last (record { entry = entry.now; bounds = bounds }) }
 {
     let bounds = &bounds;
@@ -27,7 +24,6 @@ pub fn clears_aux(last: Option<u16>, entry: &BusRecord, bounds: Bounds) -> bool
 /// unless it is refused. What an interrupt reads is not known before it is read.
 #[inline(always)]
 pub fn spares_aux(last: u16, now: &Signals, bounds: &Bounds) -> bool
-    requires { IfSome now.now.cpu IsFormed }
     ensures { (entry : BusRecord)
         → IsRecordOf now.now entry
         → result ≡ true
@@ -65,8 +61,6 @@ fn clears_f4(entry: &BusRecord, bounds: &Bounds) -> bool
 
 // F10: a write touches the vectors.
 fn clears_f10(entry: &BusRecord, bounds: &Bounds) -> bool
-    requires cpu { IfSome entry.now.cpu IsFormed }
-    requires dma { IfSome entry.now.dma IsFormed }
     ensures { result ≡ clears_f10 (record { entry = entry.now; bounds = bounds.now }) }
 {
     has_write_to(VECTORS, entry)

@@ -1,92 +1,32 @@
-ghost use Rattle.std.specs.Prelude.{◌≡◌, ◌==◌, ◌&&◌, ◌||◌, [], ◌∷◌, true, false, not, List, IfSome, is_some};
-ghost use Rattle.bus_signals.specs.Access.{IsFormed};
-ghost use Rattle.bus_signals.specs.SeenRecord.{SeenRecord};
-ghost use Rattle.part_definitions.specs.Flag.{starts_run};
-ghost use Rattle.part_definitions.specs.Part.{Answers};
-ghost use Rattle.part_definitions.specs.TrustedFlag.{aux};
+ghost use Rattle.part_definitions.specs.TrustedFlag.{aux, clears_aux};
 
 use crate::clearing::{clears_aux, spares_aux};
-use bus_signals::{Bounds, BusRecord, Signals, TraceFlag};
-use exec_automaton::starts_run;
+use bus_signals::{Bounds, BusRecord, Signals};
+use exec_automaton::{Conditions, RunFlag};
 
 /// The second flag after the records seen.
+pub type IsrFlag = RunFlag<AuxConditions>;
+
+/// What clears the second flag.
 #[derive(Clone, Copy, Debug)]
-pub struct IsrFlag {
-    // The `pc` of the last record, while the flag is set. A record that starts a run clears nothing
-    // by what came before it, so nothing is kept while the flag is not set.
-    last_pc: Option<u16>,
-}
+pub struct AuxConditions;
 
-impl IsrFlag {
-    ghost use Rattle.isr_flag.specs.IsrFlag.{IsrFlagStandsFor};
+impl Conditions for AuxConditions {
+    ghost use Rattle.isr_flag.specs.IsrFlag.{aux-of_run};
 
-    /// A flag that has seen no record.
-    #[tactic(auto, unfolding(part_definitions::specs::TrustedFlag::aux))]
-    pub fn new() -> IsrFlag
-        ensures { IsrFlagStandsFor result [] }
-    {
-        IsrFlag { last_pc: None }
-    }
+    ghost flag = { aux };
 
-    // The flag after the next record.
-    #[inline(always)]
-    #[tactic(auto, using(crate::proofs::Aux::aux_next))]
-    fn is_set_after(&self, entry: &BusRecord, bounds: &Bounds) -> bool
-        requires cpu { IfSome entry.now.cpu IsFormed }
-        requires dma { IfSome entry.now.dma IsFormed }
-        ensures { Answers IsrFlagStandsFor self.now
-            (λ records. aux (record { entry = entry.now; bounds = bounds.now } ∷ records)) result }
-    {
-        self.may_be_set(entry, bounds) && !clears_aux(self.last_pc, entry, *bounds)
-    }
-
-    // The flag is set, or the next record starts a run.
-    #[inline(always)]
-    fn may_be_set(&self, entry: &BusRecord, bounds: &Bounds) -> bool
-        ensures { result
-            ≡ (is_some self.now.last_pc
-            || starts_run (record { entry = entry.now; bounds = bounds.now })) }
-    {
-        self.last_pc.is_some() || starts_run(entry, bounds)
-    }
-}
-
-impl TraceFlag for IsrFlag {
-    ghost use Rattle.isr_flag.specs.IsrFlag.{IsrFlagStandsFor};
-
-    ghost flag = { record { value = aux; has_seen = IsrFlagStandsFor } };
+    ghost clears = { clears_aux };
 
     #[inline(always)]
-    fn see(&mut self, entry: &BusRecord, bounds: &Bounds) {
-        self.last_pc = if self.is_set_after(entry, bounds) {
-            Some(entry.pc)
-        } else {
-            None
-        };
-    }
-
-    fn value(&self) -> bool {
-        self.last_pc.is_some()
+    fn clears(last: Option<u16>, entry: &BusRecord, bounds: Bounds) -> bool {
+        clears_aux(last, entry, bounds)
     }
 
     #[inline(always)]
-    #[tactic(auto, using(crate::proofs::Aux::aux_elsewhere))]
-    fn stays_clear(&self, pc: u16, er_min: u16) -> bool {
-        self.last_pc.is_none() && pc != er_min
+    fn spares(last: u16, now: &Signals, bounds: &Bounds) -> bool {
+        spares_aux(last, now, bounds)
     }
 
-    #[inline(always)]
-    fn stays(&self, now: &Signals, bounds: &Bounds) -> bool {
-        match self.last_pc {
-            Some(last) => spares_aux(last, now, bounds),
-            None => now.pc != bounds.er_min,
-        }
-    }
-
-    #[inline(always)]
-    fn pass(&mut self, pc: u16) {
-        if self.last_pc.is_some() {
-            self.last_pc = Some(pc);
-        }
-    }
+    ghost of_run = { aux-of_run };
 }

@@ -1,10 +1,10 @@
-ghost use Rattle.std.specs.Prelude.{◌≡◌, ◌%◌, IfSome};
+ghost use Rattle.std.specs.Prelude.{◌≡◌, ◌+◌, true};
 ghost use Rattle.bus_signals.specs.Map.{some_touches};
-ghost use Rattle.bus_signals.specs.Access.{IsFormed};
 ghost use Rattle.part_definitions.specs.MonitorRule.{in_rom, is_written_by_rom, leaves_stack_and_mac, key_rule};
 ghost use Rattle.part_definitions.specs.MonitorRule.{breaks_k1, breaks_k2, breaks_k3, breaks_k4, breaks_k5, breaks_k6};
 
-use bus_signals::{Access, CR, KR, MR, Region, Rule, Signals, XS, some_writes};
+use bus_signals::{Access, CR, KR, MR, Region, Rule, Signals, XS, some_touches, some_writes};
+use word_arith::Size;
 
 /// The rules K1 to K6. They look at one step alone, so the monitor keeps nothing.
 #[derive(Clone, Copy, Debug)]
@@ -19,8 +19,6 @@ impl KeyMonitor {
     #[inline(always)]
     #[tactic(auto, unfolding(part_definitions::specs::MonitorRule::key_rule))]
     pub fn check(&self, now: &Signals) -> Option<Rule>
-        requires cpu { IfSome now.now.cpu IsFormed }
-        requires dma { IfSome now.now.dma IsFormed }
         ensures { result ≡ key_rule now.now }
     {
         let in_rom = CR.contains(now.pc);
@@ -45,28 +43,25 @@ impl KeyMonitor {
 // K1: from outside the ROM a fetch or read touches the key.
 #[inline(always)]
 fn breaks_k1(now: &Signals, inside: bool) -> bool
-    requires place { inside ≡ in_rom now.now.pc }
-    requires formed { IfSome now.now.cpu IsFormed }
+    requires { inside ≡ in_rom now.now.pc }
     ensures { result ≡ breaks_k1 now.now }
 {
-    !inside && touches_words(now.cpu, KR) && !some_writes(now.cpu)
+    !inside && touches(now.cpu, KR) && !some_writes(now.cpu)
 }
 
 // K2: from outside the ROM an access touches the exclusive stack.
 #[inline(always)]
 fn breaks_k2(now: &Signals, inside: bool) -> bool
-    requires place { inside ≡ in_rom now.now.pc }
-    requires formed { IfSome now.now.cpu IsFormed }
+    requires { inside ≡ in_rom now.now.pc }
     ensures { result ≡ breaks_k2 now.now }
 {
-    !inside && touches_words(now.cpu, XS)
+    !inside && touches(now.cpu, XS)
 }
 
 // K3: the ROM writes outside the exclusive stack and the MAC.
 #[inline(always)]
 fn breaks_k3(now: &Signals, inside: bool) -> bool
-    requires place { inside ≡ in_rom now.now.pc }
-    requires formed { IfSome now.now.cpu IsFormed }
+    requires { inside ≡ in_rom now.now.pc }
     ensures { result ≡ breaks_k3 now.now }
 {
     inside && some_writes(now.cpu) && leaves_stack_and_mac(now.cpu)
@@ -75,19 +70,17 @@ fn breaks_k3(now: &Signals, inside: bool) -> bool
 // K4: the DMA touches the key.
 #[inline(always)]
 fn breaks_k4(now: &Signals) -> bool
-    requires { IfSome now.now.dma IsFormed }
     ensures { result ≡ breaks_k4 now.now }
 {
-    touches_words(now.dma, KR)
+    touches(now.dma, KR)
 }
 
 // K5: the DMA touches the exclusive stack.
 #[inline(always)]
 fn breaks_k5(now: &Signals) -> bool
-    requires { IfSome now.now.dma IsFormed }
     ensures { result ≡ breaks_k5 now.now }
 {
-    touches_words(now.dma, XS)
+    touches(now.dma, XS)
 }
 
 // K6: the DMA has an access while the ROM runs.
@@ -99,33 +92,41 @@ fn breaks_k6(now: &Signals, inside: bool) -> bool
     inside && now.dma.is_some()
 }
 
-// A byte of the access lies in a region of whole words. The first byte tells.
+// A byte of the access lies in the region. Nearly no access comes near it, so that is asked first.
 #[inline(always)]
-fn touches_words(access: Option<Access>, region: Region) -> bool
-    requires formed { IfSome access IsFormed }
-    requires first { region.first % 2 ≡ 0 }
-    requires last { region.last % 2 ≡ 1 }
+fn touches(access: Option<Access>, region: Region) -> bool
     ensures { result ≡ some_touches access region }
+{
+    comes_near(access, region) && some_touches(access, region)
+}
+
+// The access is at a place of the region or right before it. Any that touches the region is.
+#[inline(always)]
+fn comes_near(access: Option<Access>, region: Region) -> bool
+    ensures { some_touches access region ≡ true → result ≡ true }
 {
     match access {
         None => false,
         Some(Access::Fetch(place) | Access::Read(place, _) | Access::Write(place, _, _)) => {
-            region.contains(place)
+            region.contains(place) || region.contains_next(place)
         }
     }
 }
 
-// A byte of the access lies outside the exclusive stack and the MAC. Both are made of whole words,
-// so the first byte tells.
+// A byte of the access lies outside the exclusive stack and the MAC.
 fn leaves_stack_and_mac(access: Option<Access>) -> bool
-    requires { IfSome access IsFormed }
     ensures { result ≡ leaves_stack_and_mac access }
 {
     match access {
         None => false,
-        Some(Access::Fetch(place) | Access::Read(place, _) | Access::Write(place, _, _)) => {
+        Some(Access::Read(place, Size::Byte) | Access::Write(place, Size::Byte, _)) => {
             !is_written_by_rom(place)
         }
+        Some(
+            Access::Fetch(place)
+            | Access::Read(place, Size::Word)
+            | Access::Write(place, Size::Word, _),
+        ) => !is_written_by_rom(place) || !is_next_written_by_rom(place),
     }
 }
 
@@ -134,4 +135,11 @@ fn is_written_by_rom(place: u16) -> bool
     ensures { result ≡ is_written_by_rom place }
 {
     XS.contains(place) || MR.contains(place)
+}
+
+// A call of the ROM writes at the address after this one.
+fn is_next_written_by_rom(place: u16) -> bool
+    ensures { result ≡ is_written_by_rom (place + 1) }
+{
+    XS.contains_next(place) || MR.contains_next(place)
 }

@@ -1,9 +1,8 @@
-use crate::proposal::{is_formed, proposal};
+use crate::proposal::proposal;
 use atomicity_monitor::AtomMonitor;
 use bus_signals::Access::{Fetch, Read, Write};
 use bus_signals::Rule::{A1, A2, A3, A4};
 use bus_signals::{Access, BusRecord, Kind, Rule};
-use std::process::Abort;
 use word_arith::Size::Word;
 
 // A monitor that has seen one record with this `pc`, or none.
@@ -26,15 +25,7 @@ fn monitor_after(last: Option<u16>) -> AtomMonitor {
 }
 
 // The rule that a step breaks after a record with this `pc`.
-fn rule_of(
-    rt: &impl Abort,
-    last: Option<u16>,
-    kind: Kind,
-    pc: u16,
-    cpu: Option<Access>,
-    irq: bool,
-) -> Option<Rule> {
-    assert!(rt; is_formed(cpu));
+fn rule_of(last: Option<u16>, kind: Kind, pc: u16, cpu: Option<Access>, irq: bool) -> Option<Rule> {
     monitor_after(last).check(&proposal(kind, pc, cpu, None, irq))
 }
 
@@ -63,7 +54,7 @@ fn entry_and_exit(rt: HostRuntime) {
         (None, Kind::Boot, 0x0000, None),
     ];
     for (last, kind, pc, rule) in rows {
-        let answer = rule_of(&rt, last, kind, pc, Some(Read(0x0300, Word)), false);
+        let answer = rule_of(last, kind, pc, Some(Read(0x0300, Word)), false);
         assert_eq!(rt; answer, rule, "{kind:?} at {pc:x} after {last:?}");
     }
 }
@@ -80,7 +71,7 @@ fn interrupts(rt: HostRuntime) {
         (Some(0xA002), 0xC000, Some(A1)),
     ];
     for (last, pc, rule) in rows {
-        let answer = rule_of(&rt, last, Kind::Rom, pc, None, true);
+        let answer = rule_of(last, Kind::Rom, pc, None, true);
         assert_eq!(rt; answer, rule, "at {pc:x} after {last:?}");
     }
 }
@@ -102,7 +93,7 @@ fn return_read(rt: HostRuntime) {
         (0xC000, 0xBFFE, Read(0x6A00, Word), Some(A2)),
     ];
     for (last, pc, access, rule) in rows {
-        let answer = rule_of(&rt, Some(last), Kind::Rom, pc, Some(access), false);
+        let answer = rule_of(Some(last), Kind::Rom, pc, Some(access), false);
         assert_eq!(rt; answer, rule, "{access:?} at {pc:x}");
     }
 }

@@ -1,11 +1,7 @@
-ghost use Rattle.std.specs.Prelude.{IfSome};
-ghost use Rattle.bus_signals.specs.Access.{IsFormed};
-
-use crate::proposal::{is_formed, proposal};
+use crate::proposal::proposal;
 use bus_signals::Access::{Fetch, Read, Write};
 use bus_signals::{Access, Bounds, BusRecord, Kind, Rule, TraceFlag};
 use exec_automaton::ExecFlag;
-use std::process::Abort;
 use word_arith::Size::{Byte, Word};
 
 // ER is C020..C027, OR is 0300..0303.
@@ -37,21 +33,16 @@ fn fetch(pc: u16) -> BusRecord {
 }
 
 // Whether the flag says that the step of this record leaves it as it is.
-fn stays(flag: &ExecFlag, entry: &BusRecord, bounds: &Bounds) -> bool
-    requires cpu { IfSome entry.now.cpu IsFormed }
-    requires dma { IfSome entry.now.dma IsFormed }
-{
+fn stays(flag: &ExecFlag, entry: &BusRecord, bounds: &Bounds) -> bool {
     let now = proposal(entry.kind, entry.pc, entry.cpu, entry.dma, entry.irq);
     entry.reset.is_none() && flag.stays(&now, bounds)
 }
 
 // The flag that has seen these records with these bounds, or passed over them where it may, as the
 // device has it.
-fn flag_after(rt: &impl Abort, bounds: &Bounds, entries: &[BusRecord]) -> ExecFlag {
+fn flag_after(bounds: &Bounds, entries: &[BusRecord]) -> ExecFlag {
     let mut flag = ExecFlag::new();
     for entry in entries {
-        assert!(rt; is_formed(entry.cpu));
-        assert!(rt; is_formed(entry.dma));
         if stays(&flag, entry, bounds) {
             flag.pass(entry.pc);
         } else {
@@ -81,7 +72,7 @@ fn rises(rt: HostRuntime) {
     ];
     for (entry, is_set) in rows {
         assert_eq!(rt;
-            flag_after(&rt, &BOUNDS, &[fetch(0xC000), entry]).value(),
+            flag_after(&BOUNDS, &[fetch(0xC000), entry]).value(),
             is_set,
             "{entry:?}"
         );
@@ -117,7 +108,7 @@ fn rises_with_valid_bounds_alone(rt: HostRuntime) {
             or_max,
         };
         assert_eq!(rt;
-            flag_after(&rt, &bounds, &[fetch(0xC020)]).value(),
+            flag_after(&bounds, &[fetch(0xC020)]).value(),
             is_set,
             "{bounds:?}"
         );
@@ -148,6 +139,8 @@ fn stays_or_falls_inside(rt: HostRuntime) {
         (inside(Write(0xC028, Word, 1)), true),
         (inside(Fetch(0xC01E)), false),
         (inside(Fetch(0xC028)), false),
+        (inside(Fetch(0xC027)), false),
+        (inside(Write(0xC01F, Word, 1)), false),
         (inside(Write(0x023F, Byte, 1)), true),
         (inside(Write(0x0240, Byte, 1)), false),
         (inside(Write(0x028F, Byte, 1)), false),
@@ -160,7 +153,7 @@ fn stays_or_falls_inside(rt: HostRuntime) {
     ];
     for (entry, is_set) in rows {
         assert_eq!(rt;
-            flag_after(&rt, &BOUNDS, &[fetch(0xC020), entry]).value(),
+            flag_after(&BOUNDS, &[fetch(0xC020), entry]).value(),
             is_set,
             "{entry:?}"
         );
@@ -198,11 +191,7 @@ fn stays_or_falls_outside(rt: HostRuntime) {
     ];
     for (entry, is_set) in rows {
         let entries = [fetch(0xC020), fetch(0xC026), fetch(0xC004), entry];
-        assert_eq!(rt;
-            flag_after(&rt, &BOUNDS, &entries).value(),
-            is_set,
-            "{entry:?}"
-        );
+        assert_eq!(rt; flag_after(&BOUNDS, &entries).value(), is_set, "{entry:?}");
     }
 }
 
@@ -221,7 +210,7 @@ fn left_from_the_last_instruction(rt: HostRuntime) {
             fetch(0xC000),
         ];
         assert_eq!(rt;
-            flag_after(&rt, &BOUNDS, &entries).value(),
+            flag_after(&BOUNDS, &entries).value(),
             is_set,
             "left from {last:x}"
         );
@@ -255,9 +244,7 @@ fn stays_set(rt: HostRuntime) {
         (&[], fetch(0xC022), true),
     ];
     for (before, entry, is_left) in rows {
-        let flag = flag_after(&rt, &BOUNDS, before);
-        assert!(rt; is_formed(entry.cpu));
-        assert!(rt; is_formed(entry.dma));
+        let flag = flag_after(&BOUNDS, before);
         assert_eq!(rt; stays(&flag, &entry, &BOUNDS), is_left, "{entry:?}");
     }
 }

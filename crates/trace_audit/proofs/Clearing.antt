@@ -2,6 +2,8 @@
 use Rattle.std.proofs.Common.{arith, ◌≡◌, ℕ, Bool, true, false, List, [], ◌∷◌, Option, Some, None, refl, ap, sym, ◌∙◌, not}
 use Rattle.std.specs.Prelude.{◌==◌, ◌&&◌, ◌||◌, ◌++◌, is_some, option_to_list}
 use Rattle.std.specs.List.{list_any}
+use Rattle.std.proofs.Math.Bool.{or-false}
+use Rattle.std.proofs.lemmas.List.Folds.{list_any-append}
 use Rattle.bus_signals.specs.declared.access.Access.{Access}
 use Rattle.bus_signals.specs.declared.access.Access.TheVariants.{Fetch, Read, Write}
 use Rattle.bus_signals.specs.declared.region.Region.{Region}
@@ -26,48 +28,22 @@ clears_at inside er output cpu dma reset irq at_min ran at_max =
     || (inside && not ran && not at_min)
     || (irq && inside)
 
-or_false : (test : Bool) → (test || false) ≡ test
-or_false true = refl
-or_false false = refl
+-- an access, where there is one, writes to a region
+one_write : (region : Region) (access : Option Access)
+    → list_any (writes_to region) (option_to_list access)
+    ≡ (some_writes access && some_touches access region)
+one_write region None = refl
+one_write region (Some (Fetch place)) = refl
+one_write region (Some (Read place size)) = refl
+one_write region (Some (Write place size number)) =
+    or-false (touches (Write place size number) region)
 
-or_assoc : (left right : Bool) → (left || right) ≡ ((left || false) || right)
-or_assoc true right = refl
-or_assoc false right = refl
-
--- of a step with these two accesses, one of them writes to a region
 some_write : (region : Region) (cpu dma : Option Access)
     → list_any (writes_to region) (option_to_list cpu ++ option_to_list dma)
     ≡ ((some_writes cpu && some_touches cpu region) || (some_writes dma && some_touches dma region))
-some_write region None None = refl
-some_write region None (Some (Fetch place')) = refl
-some_write region None (Some (Read place' size')) = refl
-some_write region None (Some (Write place' size' number')) =
-    or_false (touches (Write place' size' number') region)
-some_write region (Some (Fetch place)) None = refl
-some_write region (Some (Fetch place)) (Some (Fetch place')) = refl
-some_write region (Some (Fetch place)) (Some (Read place' size')) = refl
-some_write region (Some (Fetch place)) (Some (Write place' size' number')) =
-    or_false (touches (Write place' size' number') region)
-some_write region (Some (Read place size)) None = refl
-some_write region (Some (Read place size)) (Some (Fetch place')) = refl
-some_write region (Some (Read place size)) (Some (Read place' size')) = refl
-some_write region (Some (Read place size)) (Some (Write place' size' number')) =
-    or_false (touches (Write place' size' number') region)
-some_write region (Some (Write place size number)) None = refl
-some_write region (Some (Write place size number)) (Some (Fetch place')) = refl
-some_write region (Some (Write place size number)) (Some (Read place' size')) = refl
-some_write region (Some (Write place size number)) (Some (Write place' size' number')) =
-    ap (λ (t : Bool). touches (Write place size number) region || t)
-    (or_false (touches (Write place' size' number') region))
-
-some_fetch : (region : Region) (cpu dma : Option Access)
-    → list_any (fetches_outside region) (option_to_list cpu ++ option_to_list dma)
-    ≡ (list_any (fetches_outside region) (option_to_list cpu)
-    || list_any (fetches_outside region) (option_to_list dma))
-some_fetch region None dma = refl
-some_fetch region (Some access) dma =
-    or_assoc (fetches_outside region access)
-    (list_any (fetches_outside region) (option_to_list dma))
+some_write region cpu dma =
+    list_any-append (writes_to region) (option_to_list cpu) (option_to_list dma)
+    ∙ (λ i. one_write region cpu i || one_write region dma i)
 
 run_quiet : (reset irq writes t₁ t₂ t₃ fetches at_min ran at_max : Bool)
     → (reset || irq || false || (writes && (t₁ || t₃)) || fetches || (not at_min && not ran))
@@ -85,7 +61,11 @@ run_parts : (er output : Region) (cpu dma : Option Access) (reset irq at_min ran
     → disturbs_run er cpu dma reset irq at_min ran
     ≡ clears_at true er output cpu dma reset irq at_min ran at_max
 run_parts er output cpu None reset irq at_min ran at_max =
-    rw (some_write er cpu None, some_write metadata_region cpu None, some_fetch er cpu None)
+    rw (
+      some_write er cpu None,
+      some_write metadata_region cpu None,
+      list_any-append (fetches_outside er) (option_to_list cpu) [],
+    )
     (run_quiet reset irq (some_writes cpu) (some_touches cpu er) (some_touches cpu output)
     (some_touches cpu metadata_region) (list_any (fetches_outside er) (option_to_list cpu)) at_min
     ran at_max)
@@ -119,6 +99,13 @@ rest_parts er output cpu dma reset irq at_min ran at_max =
     (some_touches dma output) (some_touches dma metadata_region) (is_some dma)
     (list_any (fetches_outside er) (option_to_list cpu ++ option_to_list dma)) at_min ran at_max)
 
+-- the same of a record, after a record with this `pc`
+abbrev clears_where : Option ℕ → SeenRecord → Bool → Bool
+clears_where last now inside =
+    clears_at inside (executable_region now.bounds) (output_region now.bounds) now.entry.cpu
+    now.entry.dma (is_some now.entry.reset) now.entry.irq (now.entry.pc == now.bounds.er_min)
+    (ran_inside last (executable_region now.bounds)) (ran_at last now.bounds.er_max)
+
 pub clears_inside : (last : Option ℕ) (now : SeenRecord) → runs_inside now ≡ true
     → disturbs_run (executable_region now.bounds) now.entry.cpu now.entry.dma
     (is_some now.entry.reset) now.entry.irq (now.entry.pc == now.bounds.er_min)
@@ -128,12 +115,7 @@ clears_inside last now inside =
     run_parts (executable_region now.bounds) (output_region now.bounds) now.entry.cpu now.entry.dma
     (is_some now.entry.reset) now.entry.irq (now.entry.pc == now.bounds.er_min)
     (ran_inside last (executable_region now.bounds)) (ran_at last now.bounds.er_max)
-    ∙ ap
-    (λ (within : Bool). clears_at within (executable_region now.bounds) (output_region now.bounds)
-    now.entry.cpu now.entry.dma (is_some now.entry.reset) now.entry.irq
-    (now.entry.pc == now.bounds.er_min) (ran_inside last (executable_region now.bounds))
-    (ran_at last now.bounds.er_max))
-    (sym inside)
+    ∙ ap (clears_where last now) (sym inside)
 
 pub clears_outside : (last : Option ℕ) (now : SeenRecord) → runs_inside now ≡ false
     → disturbs_rest (executable_region now.bounds) (output_region now.bounds) now.entry.cpu
@@ -144,9 +126,4 @@ clears_outside last now outside =
     rest_parts (executable_region now.bounds) (output_region now.bounds) now.entry.cpu
     now.entry.dma (is_some now.entry.reset) now.entry.irq (now.entry.pc == now.bounds.er_min)
     (ran_inside last (executable_region now.bounds)) (ran_at last now.bounds.er_max)
-    ∙ ap
-    (λ (within : Bool). clears_at within (executable_region now.bounds) (output_region now.bounds)
-    now.entry.cpu now.entry.dma (is_some now.entry.reset) now.entry.irq
-    (now.entry.pc == now.bounds.er_min) (ran_inside last (executable_region now.bounds))
-    (ran_at last now.bounds.er_max))
-    (sym outside)
+    ∙ ap (clears_where last now) (sym outside)

@@ -1,4 +1,5 @@
 pub mod Spans
 pub mod Exec
+pub mod FileAudit
 pub mod Clearing
 pub mod Offences

@@ -2,10 +2,9 @@
 use Rattle.std.proofs.Common.{◌≡◌, ◌↔◌, ◌∙◌, ℕ, Bool, true, false, List, [], ◌∷◌, Option, Some, None, length, refl, ap, sym}
 use Rattle.std.specs.Prelude.{if◌then◌else◌}
 use Rattle.std.proofs.lemmas.Slice.Eq.{bytes_eq-Decides}
-use Rattle.text_scan.specs.declared.fault_kind.FaultKind.{FaultKind}
 use Rattle.bus_signals.specs.declared.rule.Rule.{Rule}
 use Rattle.bus_signals.specs.declared.rule.Rule.TheVariants.{X0, A1, A2, A3, A4, K1, K2, K3, K4, K5, K6, I1}
-use Rattle.std.specs.Prelude.{Result, Ok, Err}
+use Rattle.std.specs.Prelude.{Ok}
 use Rattle.trace_line.specs.LineText.{rule_word}
 use Rattle.trace_line.specs.LineGrammar.{rule_in}
 use Rattle.trace_line.specs.declared.trace_line.TraceLine.{TraceLine}
@@ -29,10 +28,6 @@ rule_in-word (Some K4) = refl
 rule_in-word (Some K5) = refl
 rule_in-word (Some K6) = refl
 rule_in-word (Some I1) = refl
-
-rule_of : Result (Option Rule) FaultKind → Option Rule
-rule_of (Ok rule) = rule
-rule_of (Err kind) = None
 
 same_rule : (left right : Option Rule) → is_same_rule left right ≡ true → left ≡ right
 same_rule left right same =

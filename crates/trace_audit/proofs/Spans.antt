@@ -12,7 +12,7 @@ pub meets_word : (first last place : ℕ)
 meets_word first last place = grind (arith, nat_tests)
 
 pub holds_word : (first last place : ℕ)
-    → (nat_le first place && nat_le (place + 1) last)
+    → (nat_le first place && nat_lt place last)
     ≡ ((nat_le first place && nat_le place last)
     && (nat_le first (place + 1) && nat_le (place + 1) last))
 holds_word first last place = grind (arith, nat_tests)

@@ -1,5 +1,4 @@
-ghost use Rattle.std.specs.Prelude.{◌≡◌, ◌∷◌, [], List, IfSome};
-ghost use Rattle.bus_signals.specs.Access.{IsFormed};
+ghost use Rattle.std.specs.Prelude.{◌≡◌, ◌∷◌, [], List};
 ghost use Rattle.trace_line.specs.declared.trace_line.TraceLine.{TraceLine};
 ghost use Rattle.trace_audit.specs.Clean.{right_rule, right_exec};
 ghost use Rattle.trace_audit.specs.Offence.{offence_of, difference};
@@ -34,8 +33,6 @@ impl Audit {
 
     /// Sees the next line, and says what is wrong with it.
     pub fn see(&mut self, line: &TraceLine) -> Option<Offence>
-        requires cpu { IfSome line.now.cpu IsFormed }
-        requires dma { IfSome line.now.dma IsFormed }
         ensures offence { (before : List TraceLine) → AuditStandsFor self.old before
             → result ≡ offence_of before line.now }
         ensures stands { (before : List TraceLine) → AuditStandsFor self.old before
@@ -51,8 +48,6 @@ impl Audit {
     // The EXEC flag after a further line.
     #[tactic(auto, using(crate::proofs::Exec::exec_cons))]
     fn exec_after(&self, line: &TraceLine) -> bool
-        requires cpu { IfSome line.now.cpu IsFormed }
-        requires dma { IfSome line.now.dma IsFormed }
         ensures { (before : List TraceLine) → AuditStandsFor self.now before
             → result ≡ right_exec (line.now ∷ before) }
     {

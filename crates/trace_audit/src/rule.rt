@@ -1,8 +1,7 @@
-ghost use Rattle.std.specs.Prelude.{◌≡◌, ◌&&◌, true, false, IfSome};
-ghost use Rattle.bus_signals.specs.Access.{IsFormed, some_writes, some_reads};
+ghost use Rattle.std.specs.Prelude.{◌≡◌, ◌&&◌, ◌||◌, true, false};
+ghost use Rattle.bus_signals.specs.Access.{some_writes, some_reads};
 ghost use Rattle.part_definitions.specs.FirstRule.{first_rule, breaks_i1};
 ghost use Rattle.part_definitions.specs.MonitorRule.{key_rule, atomicity_rule, in_rom, was_inside, leaves_stack_and_mac};
-ghost use Rattle.std.specs.Prelude.{◌||◌};
 ghost use Rattle.bus_signals.specs.Map.{some_touches, key_region, stack_region};
 ghost use Rattle.trace_audit.specs.Clean.{signals_in};
 
@@ -14,8 +13,6 @@ use trace_line::TraceLine;
 /// The first rule that the step of a line breaks, after a step at this `pc`.
 #[tactic(auto, unfolding(part_definitions::specs::FirstRule::first_rule))]
 pub fn first_rule(last: Option<u16>, line: &TraceLine) -> Option<Rule>
-    requires cpu { IfSome line.now.cpu IsFormed }
-    requires dma { IfSome line.now.dma IsFormed }
     ensures { result ≡ first_rule last (signals_in line.now) }
 {
     if line.asked {
@@ -34,7 +31,6 @@ pub fn first_rule(last: Option<u16>, line: &TraceLine) -> Option<Rule>
 // How a call of the ROM is entered, left and gone through.
 #[tactic(auto, unfolding(part_definitions::specs::MonitorRule::atomicity_rule))]
 fn call_rule(last: Option<u16>, line: &TraceLine) -> Option<Rule>
-    requires cpu { IfSome line.now.cpu IsFormed }
     ensures { result ≡ atomicity_rule last (signals_in line.now) }
 {
     if is_rom(line.pc) {
@@ -48,8 +44,7 @@ fn call_rule(last: Option<u16>, line: &TraceLine) -> Option<Rule>
 
 #[tactic(auto, unfolding(part_definitions::specs::MonitorRule::atomicity_rule))]
 fn call_rule_within(last: Option<u16>, line: &TraceLine) -> Option<Rule>
-    requires cpu { IfSome line.now.cpu IsFormed }
-    requires within { in_rom line.now.pc ≡ true }
+    requires { in_rom line.now.pc ≡ true }
     ensures { result ≡ atomicity_rule last (signals_in line.now) }
 {
     if line.irq {
@@ -65,8 +60,6 @@ fn call_rule_within(last: Option<u16>, line: &TraceLine) -> Option<Rule>
 
 // Who comes to the key and the exclusive stack, and where the ROM writes.
 fn secret_rule(line: &TraceLine) -> Option<Rule>
-    requires cpu { IfSome line.now.cpu IsFormed }
-    requires dma { IfSome line.now.dma IsFormed }
     ensures { result ≡ key_rule (signals_in line.now) }
 {
     if is_rom(line.pc) {
@@ -78,9 +71,7 @@ fn secret_rule(line: &TraceLine) -> Option<Rule>
 
 #[tactic(auto, unfolding(part_definitions::specs::MonitorRule::key_rule))]
 fn secret_rule_within(line: &TraceLine) -> Option<Rule>
-    requires cpu { IfSome line.now.cpu IsFormed }
-    requires dma { IfSome line.now.dma IsFormed }
-    requires within { in_rom line.now.pc ≡ true }
+    requires { in_rom line.now.pc ≡ true }
     ensures { result ≡ key_rule (signals_in line.now) }
 {
     if writes_elsewhere(line.cpu) {
@@ -98,9 +89,7 @@ fn secret_rule_within(line: &TraceLine) -> Option<Rule>
 
 #[tactic(auto, unfolding(part_definitions::specs::MonitorRule::key_rule))]
 fn secret_rule_without(line: &TraceLine) -> Option<Rule>
-    requires cpu { IfSome line.now.cpu IsFormed }
-    requires dma { IfSome line.now.dma IsFormed }
-    requires outside { in_rom line.now.pc ≡ false }
+    requires { in_rom line.now.pc ≡ false }
     ensures { result ≡ key_rule (signals_in line.now) }
 {
     if KEY.meets(line.cpu) && !is_write(line.cpu) {
@@ -137,7 +126,6 @@ pub fn is_write(access: Option<Access>) -> bool
 
 // A read of the key or of the exclusive stack.
 fn returns_through_secret(access: Option<Access>) -> bool
-    requires { IfSome access IsFormed }
     ensures { result ≡ (some_reads access
         && (some_touches access key_region || some_touches access stack_region)) }
 {
@@ -150,14 +138,10 @@ fn returns_through_secret(access: Option<Access>) -> bool
 // A write with a byte outside the exclusive stack and the MAC. Each of them is of whole words, and
 // they do not touch.
 fn writes_elsewhere(access: Option<Access>) -> bool
-    requires { IfSome access IsFormed }
     ensures { result ≡ (some_writes access && leaves_stack_and_mac access) }
 {
     match access {
-        Some(Access::Write(place, size, number)) => {
-            let access = Access::Write(place, size, number);
-            !(STACK.holds(access) || MAC.holds(access))
-        }
+        Some(access @ Access::Write(..)) => !(STACK.holds(access) || MAC.holds(access)),
         _ => false,
     }
 }

@@ -1,8 +1,6 @@
-ghost use Rattle.std.specs.Prelude.{◌≡◌, ◌+◌, ◌%◌, IfSome};
-ghost use Rattle.bus_signals.specs.Access.{IsFormed};
+ghost use Rattle.std.specs.Prelude.{◌≡◌, ◌+◌, ◌%◌, ◌<◌, ◌==◌, is_some, option_to_list};
 ghost use Rattle.bus_signals.specs.Bounds.{is_disjoint, unwrapped_region, are_valid, is_valid_region, executable_region, output_region};
 ghost use Rattle.bus_signals.specs.Map.{metadata_region};
-ghost use Rattle.std.specs.Prelude.{◌<◌, ◌==◌, is_some, option_to_list};
 ghost use Rattle.std.specs.List.{list_any};
 ghost use Rattle.part_definitions.specs.Flag.{clears, starts_run, ran_inside, ran_at, fetches_outside};
 ghost use Rattle.trace_audit.specs.Span.{region_of};
@@ -82,10 +80,7 @@ fn is_region(first: u16, last: u16) -> bool
 }
 
 /// The step of a line, after a step at this `pc`, clears the EXEC flag.
-
 pub fn is_disturbed(last: Option<u16>, line: &TraceLine) -> bool
-    requires cpu { IfSome line.now.cpu IsFormed }
-    requires dma { IfSome line.now.dma IsFormed }
     ensures { result ≡ clears last (seen_in line.now) }
 {
     let er = Span::executable(&line.bounds);
@@ -98,8 +93,6 @@ pub fn is_disturbed(last: Option<u16>, line: &TraceLine) -> bool
 
 // In ER: nothing but the run itself may happen, and it begins at ERmin.
 fn disturbs_run(last: Option<u16>, line: &TraceLine) -> bool
-    requires cpu { IfSome line.now.cpu IsFormed }
-    requires dma { IfSome line.now.dma IsFormed }
     ensures { result ≡ disturbs_run (executable_region line.now.bounds) line.now.cpu line.now.dma
         (is_some line.now.rule) line.now.irq (line.now.pc == line.now.bounds.er_min)
         (ran_inside last (executable_region line.now.bounds)) }
@@ -115,8 +108,6 @@ fn disturbs_run(last: Option<u16>, line: &TraceLine) -> bool
 
 // Outside it: code and metadata stay, and so does the output, once ER was left from its end.
 fn disturbs_rest(last: Option<u16>, line: &TraceLine) -> bool
-    requires cpu { IfSome line.now.cpu IsFormed }
-    requires dma { IfSome line.now.dma IsFormed }
     ensures { result ≡ disturbs_rest (executable_region line.now.bounds)
         (output_region line.now.bounds) line.now.cpu line.now.dma (is_some line.now.rule)
         (ran_inside last (executable_region line.now.bounds))
@@ -145,7 +136,6 @@ fn was_in(span: Span, last: Option<u16>) -> bool
 
 // A fetch of a word that is not wholly there.
 fn fetches_outside(span: Span, access: Option<Access>) -> bool
-    requires { IfSome access IsFormed }
     ensures { result ≡ list_any (fetches_outside (region_of span)) (option_to_list access) }
 {
     match access {

@@ -1,5 +1,4 @@
-ghost use Rattle.std.specs.Prelude.{◌≡◌, ◌||◌, ◌%◌, ◌+◌, ◌&&◌, IfSome};
-ghost use Rattle.bus_signals.specs.Access.{IsFormed};
+ghost use Rattle.std.specs.Prelude.{◌≡◌, ◌||◌, ◌%◌, ◌+◌, ◌&&◌};
 ghost use Rattle.bus_signals.specs.Map.{lies_in, some_touches, is_within};
 ghost use Rattle.part_definitions.specs.MonitorRule.{in_rom};
 
@@ -51,7 +50,6 @@ impl Span {
 
     /// Whether there is an access, and one of its bytes is of these.
     pub fn meets(self, access: Option<Access>) -> bool
-        requires { IfSome access IsFormed }
         ensures { result ≡ some_touches access (region_of self) }
     {
         match access {
@@ -67,19 +65,19 @@ impl Span {
         }
     }
 
-    // The bytes at an even place and after it.
+    // The bytes at a place and after it.
     #[tactic(auto, using(crate::proofs::Spans::meets_word))]
     fn meets_word(self, place: u16) -> bool
-        requires { place % 2 ≡ 0 }
         ensures { result ≡ (lies_in (region_of self) place
             || lies_in (region_of self) (place + 1)) }
     {
-        self.first <= self.last && place <= self.last && self.first <= place + 1
+        self.first <= self.last
+            && place <= self.last
+            && u32::from(self.first) <= u32::from(place) + 1
     }
 
     /// All bytes of an access are of these.
     pub fn holds(self, access: Access) -> bool
-        requires { IsFormed access }
         ensures { result ≡ is_within access (region_of self) }
     {
         match access {
@@ -94,10 +92,9 @@ impl Span {
 
     #[tactic(auto, using(crate::proofs::Spans::holds_word))]
     fn holds_word(self, place: u16) -> bool
-        requires { place % 2 ≡ 0 }
         ensures { result ≡ (lies_in (region_of self) place
             && lies_in (region_of self) (place + 1)) }
     {
-        self.first <= place && place + 1 <= self.last
+        self.first <= place && place < self.last
     }
 }

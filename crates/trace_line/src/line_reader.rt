@@ -19,6 +19,7 @@ const LAST_STEP: u64 = 4_294_967_295;
 #[tactic(auto, unfolding(crate::specs::LineGrammar::line_of))]
 pub fn read_line(text: &[u8], step: u64) -> Result<TraceLine, FaultKind>
     ensures value { result ≡ line_of step (words_of text.now) }
+    ensures step { IfOk result (λ line. step < 2 ^ 32) }
     ensures cpu { IfOk result (λ line. IfSome line.cpu IsFormed) }
     ensures dma { IfOk result (λ line. IfSome line.dma IsFormed) }
 {

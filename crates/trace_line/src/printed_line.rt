@@ -166,15 +166,16 @@ fn kind_name(kind: Kind) -> &'static [u8]
     }
 }
 
-fn flag_digit(flag: bool) -> &'static [u8]
+/// `1` where it is set, else `0`.
+pub fn flag_digit(flag: bool) -> &'static [u8]
     ensures digit { result.now ≡ flag_digit flag }
     ensures len { length result.now ≡ 1 }
 {
     if flag { b"1" } else { b"0" }
 }
 
-// The name of a rule, `-` for none.
-fn rule_word(rule: Option<Rule>) -> &'static [u8]
+/// The name of a rule, `-` for none.
+pub fn rule_word(rule: Option<Rule>) -> &'static [u8]
     ensures word { result.now ≡ rule_word rule }
     ensures len { length result.now ≤ 2 }
 {

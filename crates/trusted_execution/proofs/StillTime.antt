@@ -34,6 +34,7 @@ use Rattle.proof_of_execution.proofs.Plays.{made_where, decision_finishes}
 use Rattle.proof_of_execution.proofs.Regions.{inside-open}
 use Rattle.proof_of_execution.proofs.TrustedPlays.{last_pc-blank, play_state, aux-trusted_run}
 use Rattle.trusted_execution.specs.SeenFlag.{aux_seen}
+use Rattle.trusted_execution.specs.TrustedCall.{AuxAfterCallMeansTrustedRun}
 use Rattle.trusted_execution.proofs.RomSteps.{aux-rom_step}
 
 -- a step of the ROM, blanked
@@ -293,11 +294,9 @@ finished-trusted_run start (events ∷ play) is_aux finished set =
     (valid_after start (events ∷ play) seen)
     (last_after start events play ∙ ap Some (finished-exit start events play finished)))
 
-pub decision-trusted_run : (start : Start) (play : List (List Event)) (decision : ℕ)
-    → start.second_flag ≡ aux → last_decision start play ≡ Some decision
-    → aux_of start (logs_after start play) ≡ true
-    → TrustedRun (logged_bounds start (logs_after start play)) (trace start play)
-decision-trusted_run start play decision is_aux is set =
+pub decision-trusted_run : (start : Start) (play : List (List Event)) → start.second_flag ≡ aux
+    → AuxAfterCallMeansTrustedRun start play
+decision-trusted_run start play is_aux decision is set =
     finished-trusted_run start play is_aux (ap (λ (one : Option ℕ). is_some one) is) set
 
 pub report-trusted_run : (start : Start) (play : List (List Event)) (report : ReportFields)

@@ -1,2 +1,3 @@
 pub mod SeenFlag
+pub mod TrustedCall
 pub mod FlagCase

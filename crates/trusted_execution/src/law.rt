@@ -6,10 +6,11 @@ ghost use Rattle.part_definitions.specs.TrustedFlag.{aux};
 ghost use Rattle.device_trace.specs.Logs.{aux_of, logged_bounds};
 ghost use Rattle.device_trace.specs.Report.{EachReport, AuxMeansTrustedRun};
 ghost use Rattle.device_trace.specs.Start.{Start};
-ghost use Rattle.device_trace.specs.Text.{last_decision, last_denial, last_report};
+ghost use Rattle.device_trace.specs.Text.{last_denial, last_report};
 ghost use Rattle.device_trace.specs.Trace.{logs_after, trace};
 ghost use Rattle.device_trace.specs.TrustedRun.{TrustedRun};
 ghost use Rattle.trusted_execution.specs.SeenFlag.{aux_seen};
+ghost use Rattle.trusted_execution.specs.TrustedCall.{AuxAfterCallMeansTrustedRun};
 ghost use Rattle.device_trace.specs.Play.{Play};
 
 /// Where the second flag is set after a play and the last record is outside the executable region,
@@ -32,11 +33,9 @@ pub fn calls_leave_aux()
 /// Where the last step of a play finishes a call, whatever it decides, and AUX is 1, the play has a
 /// trusted run of the executable region.
 pub fn aux_after_call_means_trusted_run()
-    ensures { (start : Start) (play : Play) (decision : ℕ)
+    ensures { (start : Start) (play : Play)
         → start.second_flag ≡ aux
-        → last_decision start play ≡ Some decision
-        → IsTrue (aux_of start (logs_after start play))
-        → TrustedRun (logged_bounds start (logs_after start play)) (trace start play) }
+        → AuxAfterCallMeansTrustedRun start play }
 {}
 
 /// So where it makes a report whose AUX is 1, of the region that the report names.

@@ -16,18 +16,16 @@ pub struct PlayArguments<'a> {
 }
 
 impl<'a> PlayArguments<'a> {
-    ghost use Rattle.std.specs.Prelude.{◌≡◌, ℕ, List, option_map};
-    ghost use Rattle.bus_signals.specs.declared.event.Event.{Event};
-    ghost use Rattle.device_trace.specs.Start.{Start};
+    ghost use Rattle.std.specs.Prelude.{◌≡◌, option_map};
     ghost use Rattle.device_cli.specs.Argument.{texts};
-    ghost use Rattle.device_cli.specs.Play.{steps_row, steps_row_of};
+    ghost use Rattle.device_cli.specs.Play.{PlayOutcome, steps_row, steps_row_of};
 
     /// Those that are spelled. STEPS is a decimal in 1..10,000,000.
     pub fn from_arguments(arguments: &'a [String]) -> Option<PlayArguments<'a>>
-        ensures { (text : Start → List (List Event) → List ℕ)
-            → option_map (λ play. steps_row text play.files.0.1.name.now play.files.1.name.now
+        ensures { (outcome : PlayOutcome)
+            → option_map (λ play. steps_row outcome play.files.0.1.name.now play.files.1.name.now
             play.files.0.0.name.now play.steps) result
-            ≡ steps_row_of text (texts arguments.now) }
+            ≡ steps_row_of outcome (texts arguments.now) }
     {
         let [image, script, key, steps] = arguments else {
             return None;

@@ -12,9 +12,9 @@ use crate::refusal::Refusal;
 use crate::round_text::round_on;
 use crate::task::Task;
 use crate::verdict::verifier::Verifier;
-use bus_signals::NoFlag;
 use device_core::power_on;
 use hmac_core::Sha256Digest;
+use isr_flag::IsrFlag;
 use outside_edge::{Shelf, Sink};
 use std::alloc::Global;
 use text_scan::decimal;
@@ -70,7 +70,7 @@ impl<'a> Task<'a> for Round<'a> {
         sink: &mut W,
     ) -> Result<Ending, PutFault> {
         let (((key, image), script), policy) = values;
-        let device = power_on::<Sha256Digest, NoFlag>(alloc, key, image, NoFlag::new())?;
+        let device = power_on::<Sha256Digest, IsrFlag>(alloc, key, image, IsrFlag::new())?;
         let verifier = Verifier { key, image, policy };
         let all_accept = round_on(alloc, device, script, &verifier, self.steps, sink)?;
         Ok(Ending::of(all_accept))

@@ -14,9 +14,9 @@ use crate::play_text::play_on;
 use crate::put_fault::PutFault;
 use crate::refusal::Refusal;
 use crate::task::Task;
-use bus_signals::NoFlag;
 use device_core::power_on;
 use hmac_core::Sha256Digest;
+use isr_flag::IsrFlag;
 use outside_edge::{Shelf, Sink};
 use std::alloc::Global;
 use text_scan::decimal;
@@ -69,7 +69,7 @@ fn play_load(alloc: Global, seed: u64) -> Result<(LineCounts, [u8; 32]), PutFaul
     ensures memory { IfErr result (λ fault. fault ≡ Memory) }
 {
     let load = load_of(alloc, seed)?;
-    let device = power_on::<Sha256Digest, NoFlag>(alloc, &load.key, &load.image, NoFlag::new())?;
+    let device = power_on::<Sha256Digest, IsrFlag>(alloc, &load.key, &load.image, IsrFlag::new())?;
     let mut summary = TextSummary::new();
     let Ok(_) = play_on(device, &load.script, LOAD_STEPS, &mut summary) else {
         unreachable!()

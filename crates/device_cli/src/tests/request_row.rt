@@ -18,10 +18,10 @@ pub const REQUEST: &str = "at 0 rx 000102030405060708090a0b0c0d0e0f1011121314151
 at 0 p1 1234\n\
 at 400 rx df1c3115ed86d8405e886d527d5cd5a5\n";
 
-pub const REPORT: &str = "report2 1189 exec 1 aux 0 count 1 \
+pub const REPORT: &str = "report2 1189 exec 1 aux 1 count 1 \
 chal 000102030405060708090a0b0c0d0e0f101112131415161718191a1b1c1d1e1f \
 er c040 c046 or 0300 0300 data 3412 \
-mac 12df0a4dda0e05e0dcaa4fac98d4e4a01ca875b3cd4c88de014608a06e1b105f\n";
+mac 0a6cb1d8de6cda256d7ef098455278d3e87e89901f1f2e84d600968408c2b35d\n";
 
 // The last digit of the token is another.
 const OTHER_TOKEN: &str = "at 0 rx 000102030405060708090a0b0c0d0e0f101112131415161718191a1b1c1d1e1f\

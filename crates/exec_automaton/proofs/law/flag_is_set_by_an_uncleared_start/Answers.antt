@@ -1,5 +1,5 @@
-use Rattle.exec_automaton.proofs.UnclearedStarts.{exec-iff}
+use Rattle.exec_automaton.proofs.UnclearedStarts.{flag-iff}
 use Rattle.exec_automaton.proofs.law.flag_is_set_by_an_uncleared_start.Goals as goal
 
 pub returns : goal.returns
-returns c = exec-iff
+returns g c = flag-iff g.met.C.Conditions.of_run

@@ -1,4 +1,4 @@
-use Rattle.std.proofs.Common.{◌∙◌, true, false, sym, ap}
+use Rattle.std.proofs.Common.{◌∙◌, sym, ap}
 use Rattle.bus_signals.specs.declared.region.Region.{Region}
 use Rattle.bus_signals.specs.Map.{lies_in}
 use Rattle.trace_audit.specs.Clean.{seen_in}

@@ -5,7 +5,7 @@ use Rattle.device_core.proofs.machine.Machine.run_beside.Goals as goal
 pub returns-then-not-at_boundary : goal.returns-then-not-at_boundary
 returns-then-not-at_boundary g c = λ key image logs stands (stage, dma).
     c.go.ensures.stands key image logs
-    (c.turn_in_the_middle-turn.ensures.turn _ logs stands
+    (c.turn_in_the_middle-turn.ensures _ logs stands
     (sym (c.at_boundary.ensures _ stands.same_progress.same_processor)
     ∙ c.if-not-at_boundary.true))
     (c.access_where-dma.ensures ∙ dma)
@@ -16,7 +16,7 @@ returns-then-fetches g c = λ key image logs stands (stage, dma).
     (sym c.if-not-at_boundary.false
     ∙ c.at_boundary.ensures _ stands.same_progress.same_processor) in
     c.go-then-fetches.ensures.stands key image logs
-    (c.turn_of_fetch-turn.ensures.turn _ logs stands here
+    (c.turn_of_fetch-turn.ensures _ logs stands here
     (c.fetches.ensures _ logs stands here c.if-fetches.true))
     (c.access_where-dma.ensures ∙ dma)
 

@@ -19,7 +19,7 @@ returns-clause-stands g c = λ key image play stands.
       same_progress = stands.same.same.same_progress;
       same_decision = stands.same.same.same_decision;
     })
-    (stands.same.same_stage, c.dma_access-dma.ensures.access start _ bus)) in
+    (stands.same.same_stage, c.dma_access-dma.ensures start _ bus)) in
     record {
       same = after.same;
       same_signals = kept-signals start play c.args.events.now _ after.same_signals;

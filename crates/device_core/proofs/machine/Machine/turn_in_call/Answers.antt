@@ -4,8 +4,8 @@ use Rattle.device_trace.specs.Start.{Start, with_key}
 use Rattle.device_core.proofs.Turns.{calling-turn, calling-within, stage-InRom, words_of}
 use Rattle.device_core.proofs.machine.Machine.turn_in_call.Goals as goal
 
-pub returns-clause-turn : goal.returns-clause-turn
-returns-clause-turn g c = λ key image logs stands stage.
+pub returns : goal.returns
+returns g c = λ key image logs stands stage.
     let start : Start = with_key g.G.TraceFlag.flag.value g.D.Digest32.hash.digest_of key image in
     let regs = last_registers logs.progress in
     let words = words_of logs.progress in
@@ -15,7 +15,7 @@ returns-clause-turn g c = λ key image logs stands stage.
       same_bus = stands.same_bus;
       same_turn =
           rw (
-            c.of_call.ensures.value (sp_of regs) words parts.same_call,
+            c.of_call.ensures (sp_of regs) words parts.same_call,
             c.is_interrupted.ensures start logs stands,
           )
           (calling-turn start logs regs words calls);

@@ -5,8 +5,8 @@ use Rattle.device_trace.specs.Start.{Start, with_key}
 use Rattle.device_core.proofs.Turns.{begun-turn, begun-within, boundary-step}
 use Rattle.device_core.proofs.machine.Machine.turn_of_new_call.Goals as goal
 
-pub returns-clause-turn : goal.returns-clause-turn
-returns-clause-turn g c = λ key image logs stands here irq rom.
+pub returns : goal.returns
+returns g c = λ key image logs stands here irq rom.
     let start : Start = with_key g.G.TraceFlag.flag.value g.D.Digest32.hash.digest_of key image in
     let regs = last_registers logs.progress in
     let parts = rw here at stands.same_progress in
@@ -15,7 +15,7 @@ returns-clause-turn g c = λ key image logs stands here irq rom.
     record {
       same_bus = stands.same_bus;
       same_turn =
-          rw (c.of_call.ensures.value (sp_of regs) [] call, irq)
+          rw (c.of_call.ensures (sp_of regs) [] call, irq)
           (begun-turn start logs regs here begins);
       same_progress = rw (begun-within logs regs here begins)
           (record { same_processor = parts.same_processor; same_call = call });

@@ -8,5 +8,5 @@ returns-then-stays g c = λ entry records stands is same.
       same_exec = c.stays.ensures entry records stands.same_exec is c.if-stays.true;
       same_second =
           c.stays-then-stays.ensures (blank_record entry) (map blank_seen records)
-          stands.same_second (c.blanked_signals.ensures.entry entry is) same;
+          stands.same_second (c.blanked_signals.ensures entry is) same;
     }

@@ -1,0 +1,15 @@
+use Rattle.device_cli.specs.Audit.{audit_outcome}
+use Rattle.device_cli.specs.FileKind.{trace_kind}
+use Rattle.device_cli.specs.Row.{put}
+use Rattle.device_cli.proofs.LawfulRow.{read-lawful}
+use Rattle.device_cli.proofs.command.audit.AuditTask.read.Goals as goal
+
+pub returns-clause-reads : goal.returns-clause-reads
+returns-clause-reads g c =
+    let self = c.args.self.now in
+    c.read.ensures (λ audited. put (audit_outcome audited))
+
+pub returns-clause-lawful : goal.returns-clause-lawful
+returns-clause-lawful g c =
+    let self = c.args.self.now in
+    read-lawful trace_kind self.trace.name.now _ (λ value bytes is. tt)

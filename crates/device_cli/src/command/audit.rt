@@ -1,0 +1,50 @@
+use crate::ending::Ending;
+use crate::file::File;
+use crate::inputs::Inputs;
+use crate::kind::trace::Trace;
+use crate::put_fault::PutFault;
+use crate::refusal::Refusal;
+use crate::task::Task;
+use outside_edge::{Shelf, Sink};
+use std::alloc::Global;
+use trace_audit::{Audited, print_audited};
+
+/// The command `audit TRACE`.
+#[derive(Clone, Copy, Debug)]
+pub struct Audit<'a> {
+    pub trace: File<'a, Trace>,
+}
+
+impl<'a> Task<'a> for Audit<'a> {
+    ghost use Rattle.device_cli.specs.Audit.{audit_row, audit_row_of, audit_outcome};
+
+    type Values = Audited;
+
+    ghost row_of = { audit_row_of };
+
+    ghost command_row = { λ audit. audit_row audit.trace.name.now };
+
+    ghost outcome = { λ audit audited. audit_outcome audited };
+
+    fn from_arguments(arguments: &'a [String]) -> Option<Audit<'a>> {
+        let [trace] = arguments else {
+            return None;
+        };
+        let trace = File::new(trace.as_str(), Trace);
+        Some(Audit { trace })
+    }
+
+    fn read<S: Shelf>(&self, alloc: Global, shelf: &mut S) -> Result<Audited, Refusal> {
+        self.trace.read(alloc, shelf)
+    }
+
+    fn put<W: Sink>(
+        &self,
+        _alloc: Global,
+        audited: &Audited,
+        sink: &mut W,
+    ) -> Result<Ending, PutFault> {
+        print_audited(audited, sink)?;
+        Ok(Ending::of(audited.offence.is_none()))
+    }
+}

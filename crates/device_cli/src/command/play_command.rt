@@ -1,0 +1,61 @@
+use crate::command::play_arguments::PlayArguments;
+use crate::command::play_files::PlayValues;
+use crate::command::telling::Telling;
+use crate::ending::Ending;
+use crate::inputs::Inputs;
+use crate::put_fault::PutFault;
+use crate::refusal::Refusal;
+use crate::task::Task;
+use device_core::power_on;
+use hmac_core::Sha256Digest;
+use isr_flag::IsrFlag;
+use outside_edge::{Shelf, Sink};
+use std::alloc::Global;
+use std::marker::PhantomData;
+
+/// A command with the arguments `IMAGE SCRIPT KEY STEPS`, which tells this of a play.
+#[derive(Clone, Copy, Debug)]
+pub struct PlayCommand<'a, T> {
+    pub arguments: PlayArguments<'a>,
+    pub telling: PhantomData<T>,
+}
+
+impl<'a, T: Telling> Task<'a> for PlayCommand<'a, T> {
+    ghost use Rattle.mem_map.specs.Image.{byte_in};
+    ghost use Rattle.device_cli.specs.Play.{steps_outcome, steps_row, steps_row_of};
+
+    type Values = PlayValues;
+
+    ghost row_of = { steps_row_of T.outcome };
+
+    ghost command_row = { λ command. steps_row T.outcome
+        command.arguments.files.0.1.name.now command.arguments.files.1.name.now
+        command.arguments.files.0.0.name.now command.arguments.steps };
+
+    ghost outcome = { λ command values. steps_outcome T.outcome command.arguments.steps values.0.0
+        (byte_in values.0.1) values.1 };
+
+    fn from_arguments(arguments: &'a [String]) -> Option<PlayCommand<'a, T>> {
+        let arguments = PlayArguments::from_arguments(arguments)?;
+        Some(PlayCommand {
+            arguments,
+            telling: PhantomData,
+        })
+    }
+
+    fn read<S: Shelf>(&self, alloc: Global, shelf: &mut S) -> Result<PlayValues, Refusal> {
+        self.arguments.files.read(alloc, shelf)
+    }
+
+    fn put<W: Sink>(
+        &self,
+        alloc: Global,
+        values: &PlayValues,
+        sink: &mut W,
+    ) -> Result<Ending, PutFault> {
+        let ((key, image), script) = values;
+        let device = power_on::<Sha256Digest, IsrFlag>(alloc, key, image, IsrFlag::new())?;
+        T::tell(device, script, self.arguments.steps, sink)?;
+        Ok(Ending::Done)
+    }
+}

@@ -1,0 +1,67 @@
+//! A worked waveform.
+
+use crate::status::Status;
+use crate::tests::{LETTER_A, run_under_key};
+use std::test::Fail;
+
+/// The waveform of two steps of the letter A.
+pub const LETTER_A_WAVE: &str = "\
+$version foldgneiss $end\n\
+$comment one unit of time is one bus step $end\n\
+$timescale 1 ns $end\n\
+$scope module device $end\n\
+$var wire 16 A pc [15:0] $end\n\
+$var wire 32 B kind [31:0] $end\n\
+$var wire 1 C irq $end\n\
+$var wire 1 D asked $end\n\
+$var wire 16 E rule [15:0] $end\n\
+$var wire 8 F cpu_op [7:0] $end\n\
+$var wire 16 G cpu_address [15:0] $end\n\
+$var wire 16 H cpu_data [15:0] $end\n\
+$var wire 16 I fetch_word [15:0] $end\n\
+$var wire 8 J dma_op [7:0] $end\n\
+$var wire 16 K dma_address [15:0] $end\n\
+$var wire 16 L dma_data [15:0] $end\n\
+$var wire 16 M er_min [15:0] $end\n\
+$var wire 16 N er_max [15:0] $end\n\
+$var wire 16 O or_min [15:0] $end\n\
+$var wire 16 P or_max [15:0] $end\n\
+$var wire 1 Q exec $end\n\
+$upscope $end\n\
+$enddefinitions $end\n\
+#0\n\
+$dumpvars\n\
+b0 A\n\
+b1100010011011110110111101110100 B\n\
+0C\n\
+0D\n\
+b0 E\n\
+b1110010 F\n\
+b1111111111111110 G\n\
+b1100000000000000 H\n\
+b0 I\n\
+bz J\n\
+bz K\n\
+bz L\n\
+b0 M\n\
+b0 N\n\
+b0 O\n\
+b0 P\n\
+0Q\n\
+$end\n\
+#1\n\
+b1100000000000000 A\n\
+b11000110111000001110101 B\n\
+b1100110 F\n\
+b1100000000000000 G\n\
+b100000010110010 H\n\
+b100000010110010 I\n\
+#2\n";
+
+#[test]
+fn a_waveform_says_what_each_step_changes(rt: HostRuntime) -> Result<(), Fail> {
+    let (status, output) = run_under_key(rt.alloc(), "wave", LETTER_A, "", "2")?;
+    assert_eq!(rt; status, Status::Done);
+    assert_eq!(rt; output.as_slice(), LETTER_A_WAVE.as_bytes());
+    Ok(())
+}

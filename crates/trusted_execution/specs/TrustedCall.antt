@@ -1,0 +1,16 @@
+-- What AUX says after a call.
+use Rattle.std.specs.Prelude.{◌≡◌, ℕ, IsTrue, Some}
+use Rattle.device_trace.specs.Logs.{aux_of, logged_bounds}
+use Rattle.device_trace.specs.Play.{Play}
+use Rattle.device_trace.specs.Start.{Start}
+use Rattle.device_trace.specs.Text.{last_decision}
+use Rattle.device_trace.specs.Trace.{logs_after, trace}
+use Rattle.device_trace.specs.TrustedRun.{TrustedRun}
+
+-- where the last step of a play finishes a call, whatever it decides, and AUX is 1 after it, the
+-- play has a trusted run of the executable region
+abbrev pub AuxAfterCallMeansTrustedRun : Start → Play → Type 0
+AuxAfterCallMeansTrustedRun start play =
+    (decision : ℕ) → last_decision start play ≡ Some decision
+    → IsTrue (aux_of start (logs_after start play))
+    → TrustedRun (logged_bounds start (logs_after start play)) (trace start play)

@@ -1,0 +1,9 @@
+pub mod Binary
+pub mod Pieces
+pub mod Ends
+pub mod Fitting
+pub mod Reading
+pub mod Stages
+pub mod Changes
+pub mod Steps
+pub mod ReadBack

@@ -1,0 +1,65 @@
+-- The values of the wires while a reader takes the changes of a time: those of the wires whose code
+-- is below one are new, and the others old.
+use Rattle.std.proofs.Common.{suc, ◌≡◌, ℕ, Bool, true, List, [], ◌∷◌, map, Option, Some, refl}
+use Rattle.std.specs.Prelude.{◌==◌, ◌&&◌, nat_lt, if◌then◌else◌}
+use Rattle.wave_dump.specs.declared.wire.Wire.{Wire}
+use Rattle.wave_dump.specs.declared.wire.Wire.TheVariants.{Pc, StepKind, Irq, Asked, BrokenRule, CpuOp, CpuAddress, CpuData, FetchWord, DmaOp, DmaAddress, DmaData, ErMin, ErMax, OrMin, OrMax, Exec}
+use Rattle.wave_dump.specs.Wire.{wires, wire_code}
+use Rattle.wave_dump.specs.WaveReader.{with_value}
+
+abbrev pub stage : (Wire → Option ℕ) → (Wire → Option ℕ) → ℕ → Wire → Option ℕ
+stage old new code wire = if nat_lt (wire_code wire) code then new wire else old wire
+
+abbrev pub staged : (Wire → Option ℕ) → (Wire → Option ℕ) → ℕ → List (Option ℕ)
+staged old new code = map (stage old new code) wires
+
+-- a change of the wire with this code goes on to the next one
+pub replaced : (old new : Wire → Option ℕ) (wire : Wire)
+    → with_value (wire_code wire) (new wire) wires (staged old new (wire_code wire))
+    ≡ Some (staged old new (suc (wire_code wire)))
+replaced old new Pc = refl
+replaced old new StepKind = refl
+replaced old new Irq = refl
+replaced old new Asked = refl
+replaced old new BrokenRule = refl
+replaced old new CpuOp = refl
+replaced old new CpuAddress = refl
+replaced old new CpuData = refl
+replaced old new FetchWord = refl
+replaced old new DmaOp = refl
+replaced old new DmaAddress = refl
+replaced old new DmaData = refl
+replaced old new ErMin = refl
+replaced old new ErMax = refl
+replaced old new OrMin = refl
+replaced old new OrMax = refl
+replaced old new Exec = refl
+
+-- and so does none, where the value is the same
+pub kept : (old new : Wire → Option ℕ) (wire : Wire) → old wire ≡ new wire
+    → staged old new (wire_code wire) ≡ staged old new (suc (wire_code wire))
+kept old new Pc same = rw same refl
+kept old new StepKind same = rw same refl
+kept old new Irq same = rw same refl
+kept old new Asked same = rw same refl
+kept old new BrokenRule same = rw same refl
+kept old new CpuOp same = rw same refl
+kept old new CpuAddress same = rw same refl
+kept old new CpuData same = rw same refl
+kept old new FetchWord same = rw same refl
+kept old new DmaOp same = rw same refl
+kept old new DmaAddress same = rw same refl
+kept old new DmaData same = rw same refl
+kept old new ErMin same = rw same refl
+kept old new ErMax same = rw same refl
+kept old new OrMin same = rw same refl
+kept old new OrMax same = rw same refl
+kept old new Exec same = rw same refl
+
+-- the wires have the codes from this one on, in their order
+abbrev pub are_numbered : ℕ → List Wire → Bool
+are_numbered code [] = true
+are_numbered code (wire ∷ later) = (wire_code wire == code) && are_numbered (suc code) later
+
+pub numbered_wires : are_numbered 65 wires ≡ true
+numbered_wires = refl

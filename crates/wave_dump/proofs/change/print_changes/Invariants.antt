@@ -1,0 +1,13 @@
+use Rattle.std.proofs.Common.{◌≡◌, flat_map, take}
+use Rattle.outside_edge.specs.Sink.{Takes}
+use Rattle.wave_dump.specs.Wire.{wires}
+use Rattle.wave_dump.specs.WaveText.{change_of}
+use Rattle.wave_dump.proofs.change.print_changes.Given as goal
+
+-- the sink took the changes of the wires so far
+abbrev pub invariant-loop-wire : goal.invariant-loop-wire
+invariant-loop-wire g l = record {
+  taken : Takes g.W.Sink.stands l.initial.sink l.sink
+      (flat_map (change_of l.last l.now) (take l.wire-index wires));
+  quiet : g.W.Sink.faults l.sink ≡ g.W.Sink.faults l.initial.sink;
+}

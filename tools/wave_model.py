@@ -1,0 +1,85 @@
+"""A reader of value change dumps (IEEE 1364), and what a trace file says of the same wires."""
+
+
+def declarations(tokens):
+    """The wires that are declared: by code, their names and widths."""
+    wires = {}
+    for keyword in tokens:
+        words = []
+        while (word := next(tokens)) != "$end":
+            words.append(word)
+        if keyword == "$enddefinitions":
+            return wires
+        if keyword == "$var":
+            kind, width, code, name = words[:4]
+            width = int(width)
+            if kind != "wire" or code in wires or words[4:] != [f"[{width - 1}:0]"] * (width > 1):
+                raise ValueError(f"$var {words}")
+            wires[code] = name, width
+    raise ValueError("the declarations do not end")
+
+
+def number(digits, width):
+    """The number of a value, or None where nothing drives the wire."""
+    if digits == "z":
+        return None
+    if len(digits) > width:
+        raise ValueError(f"{digits} on a wire of {width}")
+    return int(digits, 2)
+
+
+def changes(tokens, wires):
+    """The times, each with the values that it changes, by the wires' names."""
+    times = []
+    for token in tokens:
+        if token[0] == "#":
+            times.append((int(token[1:]), {}))
+        elif token not in ("$dumpvars", "$end"):
+            digits, code = (token[1:], next(tokens)) if token[0] == "b" else (token[0], token[1:])
+            name, width = wires[code]
+            times[-1][1][name] = number(digits, width)
+    if any(time >= later for (time, _), (later, _) in zip(times, times[1:])):
+        raise ValueError("the times do not ascend")
+    return times
+
+
+def samples(text):
+    """The values at each time from 0 to the last: those that were said last."""
+    tokens = iter(text.decode().split())
+    wires = declarations(tokens)
+    values, sampled = {}, []
+    for time, changed in changes(tokens, wires):
+        sampled += [values] * (time - len(sampled))
+        values = {**values, **changed}
+        sampled.append(values)
+    return sampled
+
+
+def access(name, word, value):
+    """The wires of an access of a trace line, and of the value that it read."""
+    place, _, written = word[1:].partition("=")
+    told = word != "-"
+    return {f"{name}_op": ord(word[0]) if told else None,
+            f"{name}_address": int(place, 16) if told else None,
+            f"{name}_data": int(written or value, 16) if told else None}
+
+
+def wires_of(line, exec_before):
+    """What a trace line says of the wires."""
+    (_, _, kind, pc, cpu, dma, irq, asked, word, value, dma_value,
+     er_min, er_max, or_min, or_max, _, rule) = line.split()
+    characters = {"kind": kind, "rule": "" if rule == "-" else rule}
+    numbers = {"pc": pc, "irq": irq, "asked": asked, "fetch_word": word, "er_min": er_min,
+               "er_max": er_max, "or_min": or_min, "or_max": or_max, "exec": exec_before}
+    return {**{name: int.from_bytes(text.encode(), "big") for name, text in characters.items()},
+            **{name: int(text, 16) for name, text in numbers.items()},
+            **access("cpu", cpu, value), **access("dma", dma, dma_value)}
+
+
+def samples_of_trace(trace):
+    """The samples that the waveform of a trace file has."""
+    sampled, exec_flag = [], "0"
+    for line in trace.decode().splitlines():
+        sampled.append(wires_of(line, exec_flag))
+        exec_flag = line.split()[15]
+    return [*sampled, {**sampled[-1], "exec": int(exec_flag)}]
