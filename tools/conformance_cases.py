@@ -8,7 +8,7 @@ from sample_files import read
 from trial import ROOT
 
 # The commands that cases are of.
-TRIED = ("play", "dump", "trace", "request", "verify", "round", "audit")
+TRIED = ("play", "dump", "trace", "request", "verify", "round", "desk", "audit")
 
 
 class Case:
@@ -47,6 +47,10 @@ class Case:
         ends = {"image": "hex", "reports": "reports" if self.has("reports") else "round"}
         return [command, *(self.file(ends.get(word, word)) if word in kinds.files
                            else self.read(word).decode().strip() for word in kinds.words)]
+
+    def input(self):
+        """What stands on standard input, which is read by a desk alone."""
+        return self.read("lines") if self.has("lines") else None
 
     def text(self, command):
         """What the command prints; of a dump the beginning."""

@@ -58,6 +58,25 @@ def read_key(text):
     return bytes.fromhex(text.decode())
 
 
+def read_keys(text):
+    """The keys by their names, in the order of the lines."""
+    keys = {}
+    for words in texts_of(text, "keys")[0]:
+        words.keyword(b"device")
+        wanted = "a name of 1 to 32 letters, digits and _"
+        name = words.take(wanted)
+        if not re.fullmatch(rb"[0-9A-Za-z_]+", name):
+            words.fault("Digit", wanted)
+        if len(name) > 32:
+            words.fault("Count", wanted)
+        key = words.bytes(64)
+        words.end()
+        if name in keys:
+            words.fault("Twice")
+        keys[name] = key
+    return keys
+
+
 def is_place(place):
     return 0x0200 <= place <= 0x21FF or 0xC000 <= place <= 0xFFFF
 
@@ -390,6 +409,14 @@ def read_trace(text):
             words.fault("Order", f"the step {len(trace)}")
         trace.append(entry)
     return trace
+
+
+def read_desk_policy(text):
+    """A policy of version 2."""
+    policy = read_policy(text)
+    if policy.version != 2:
+        raise Fault(0, "Word")
+    return policy
 
 
 def read_reports(text):

@@ -24,8 +24,9 @@ The script ./foldgneiss has these too:
   foldgneiss build           proves all crates and makes the proved program
   foldgneiss help [COMMAND]  prints this, or what it says of one command; so do
                              -h and --help, alone or after a command
-Its own statuses are 125 where an unproved run is cut off or does not compile,
-127 where there is no rt, and 1 where a crate does not prove in build.
+Its own statuses are 125 where an unproved run is cut off, does not compile or
+is a desk, 127 where there is no rt, and 1 where a crate does not prove in
+build.
 """
 
 
@@ -114,7 +115,7 @@ def file_fault(line, words):
         return [f"{name}, line {number}: {meaning}"]
     column, wanted = column_of(kind, text, number, fault)
     place = f"line {number}, column {column}" if column else f"line {number}"
-    shown = [] if kind == "key" else shown_line(lines[number - 1], column)  # (a key is secret)
+    shown = [] if kind in ("key", "keys") else shown_line(lines[number - 1], column)  # (secrets)
     return [f"{name}, {place}: {meaning}{wanted}", *shown]
 
 

@@ -101,6 +101,14 @@ COMMANDS = {command.name: command for command in (
             "`accept` where the device's own memory is not what was expected though the MACs "
             "agree, `collision HH.. HH..` with two inputs of one SHA-256 digest.",
             "round image.hex script.txt key.txt policy.txt 5000"),
+    Command("desk", ("keys", "image", "policy"),
+            "a reply to each line of standard input: requests for many devices, and verdicts on "
+            "their reports",
+            "Answers each line of standard input with one line, at once. `ask NAME R`, in which R "
+            "numbers the line, is answered by a request, `request NAME R H64 N token H64`, and "
+            "`give NAME R report2 ..` by a verdict on the report, `verdict NAME R V`. A desk that "
+            "is started anew has forgotten its devices: run it by tools/desk-journal.",
+            "desk keys.txt image.hex policy.txt"),
     Command("audit", ("trace",),
             "whether each line of a trace file names the right rule and EXEC",
             "Prints `clean N` where each of the N lines of TRACE names the first rule that its "
@@ -124,6 +132,7 @@ COMMANDS = {command.name: command for command in (
 # In the order in which they are read.
 FILES = {
     "key": File(7, 256, "the device's key: 128 hexadecimal digits"),
+    "keys": File(14, 262144, "a desk's devices, each by its name and its key"),
     "image": File(8, 1048576, "firmware, as Intel HEX"),
     "script": File(9, 1048576, "events from outside, each with its step; may be empty"),
     "policy": File(10, 65536, "the regions, flag and requests that reports have to answer"),
@@ -161,12 +170,12 @@ STATUSES = {
     3: Status("file is absent", "one of the files is not there", "look for them in this order"),
     4: Status("reading failed",
               "a file is there and cannot be read: a folder, a path through a file, a lack of "
-              "rights, a broken disk", "likewise"),
+              "rights, a broken disk; or standard input of `desk` cannot be read", "likewise"),
     5: Status("writing failed", "standard output took only a prefix of the text",
               "free space, or keep the pipe open"),
     6: Status("no memory",
               "the system refused memory; nothing was printed, or in `round` a prefix that ends "
-              "before a `collision` line",
+              "before a `collision` line, or in `desk` the replies to all lines before a report",
               "the program needs a few MiB, and for the largest sources some 40, the largest "
               "trace files some 70"),
     7: Status("bad key: line L: K", "the key is not 128 hexadecimal digits in one line",
@@ -177,6 +186,9 @@ STATUSES = {
     11: Status("bad reports: line L: K", "the first fault of the reports", "likewise"),
     12: Status("bad source: line L: K", "the source's first fault", "likewise"),
     13: Status("bad trace: line L: K", "the first fault of the trace file", "likewise"),
+    14: Status("bad keys: line L: K", "the first fault of a desk's keys", "likewise"),
+    15: Status("input is too long", "`desk` took 1,073,741,824 bytes of standard input",
+               "start the desk anew from its journal, made short: `docs/desk.md`"),
 }
 
 # What a fault's kind means, of each file.
@@ -198,6 +210,16 @@ FAULTS = {
         "Extra": "more than 128 characters",
         "Digit": "a character is no hexadecimal digit",
     },
+    "keys": {
+        **TOO_LONG,
+        "Utf8": "the line is not UTF-8",
+        "Missing": "a word is not there",
+        "Word": "not the keyword that is wanted here",
+        "Digit": "a character of a name is no letter, digit or `_`, or one of a key no digit",
+        "Count": "a name has more than 32 characters, or a key not 128 digits",
+        "Extra": "a word too many",
+        "Twice": "the name was given before",
+    },
     "image": {
         **TOO_LONG,
         "NoColon": "the line does not begin with a colon",
@@ -213,6 +235,8 @@ FAULTS = {
     "policy": {
         **IN_WORDS,
         "Missing": "a word is not there, or the file ends before `flag`, in version 1 before `or`",
+        "Word": "not the keyword that is wanted here; or the policy of a `desk` is of version 1 "
+                "(line 0)",
         "Order": "the lines are not `version`, `er`, `or`, `flag`, then `ask` lines, in version 1 "
                  "`er`, `or`, then `chal` lines",
         "Bounds": "a region is at odd places, not wholly in RAM or program, or on another, the MAC "

@@ -4,8 +4,10 @@ import re
 import tempfile
 
 import attestation_model
+import desk_model
 import verifier_model
 from assembler_model import hex_record, hex_text
+from desk_model import Desk
 from file_readers import Policy, read_reports
 from readers import READERS, first_fault
 from reference import COMMANDS, FILES
@@ -104,7 +106,22 @@ class SampleFiles:
         """
         return self.round.words(command, **{
             "chal": self.report.challenge.hex(), "counter": str(self.report.count),
-            "policy": self["policy"], "reports": self["reports"], **others})
+            "policy": self["policy"], "reports": self["reports"], "keys": self["keys"], **others})
+
+    def desk_of_round(self):
+        """The model of a desk whose device `a` has the key of the example `round`."""
+        return Desk({b"a": self.round.value("key")}, self.round.value("image"), self.policy)
+
+    def desk_call(self):
+        """A desk, its input, which is a request and its report, and the replies to both."""
+        desk, report = self.desk_of_round(), self.desk_report(1)
+        lines = b"ask a 1\ngive a 2 " + report
+        return self.words_of_round("desk"), lines, desk.replies(lines).splitlines(keepends=True)
+
+    def desk_report(self, count, **changes):
+        """The report on the desk's request with this counter, some of it other."""
+        key = self.round.value("key")
+        return self.report_with(challenge=desk_model.challenge(key, count), count=count, **changes)
 
     def each_command(self):
         """Each command with files that it takes, and what it prints."""
@@ -212,6 +229,21 @@ class SampleFiles:
         self.add("key-upper", key.upper())
         self.add("key-digit", key.replace(b"f", b"g"))
         self.add("key-extra", key[:128] + b"0\n")
+        device = b"device a " + key
+        self.add("keys", device)
+        self.add("keys-among", b"# keys\n\ndevice A_9 " + key.upper() + b"\tdevice  a\t" + key[:128]
+                 + b"\r\ndevice " + b"Z" * 32 + b" " + key)
+        self.add("keys-twice", device + device)
+        self.add("keys-twice-last", device + b"# a\n" + device.replace(b" a ", b" b ")
+                 + device.replace(b" a ", b" c ") + device.replace(b" a ", b" c "))
+        self.add("keys-name", device.replace(b" a ", b" a-b "))
+        self.add("keys-name-long", device.replace(b" a ", b" %s " % (b"a" * 33)))
+        self.add("keys-short", device[:-2])
+        self.add("keys-digit", device + b"device b " + key.replace(b"f", b"g"))
+        self.add("keys-word", b"devices" + device[6:])
+        self.add("keys-extra", device[:-1] + b" b\n")
+        self.add("keys-missing", b"device a\n")
+        self.add("keys-utf8", b"# \xff\n")
         self.add("key-256", b"0" * 256)
         self.add("key-257", b"0" * 257)
         self.add("image-no-end", b"".join(lines[:2]))
@@ -228,7 +260,7 @@ class SampleFiles:
     def add_cut_files(self):
         """Real files cut in the middle, where that is a fault; the faults by their kinds."""
         own = {"policy": self["policy"], "reports": self["reports"], "source": self["letter.asm"],
-               "trace": self["trace"]}
+               "trace": self["trace"], "keys": self["keys"]}
         self.cut_faults = {}
         for kind in FILES:
             text = read(own.get(kind) or self.round.file(kind))

@@ -1,94 +1,77 @@
-ghost use Rattle.std.specs.Prelude.{◌≡◌, [], true, false};
-ghost use Rattle.bus_signals.specs.declared.bounds.Bounds.{Bounds};
-ghost use Rattle.part_definitions.specs.Flag.{last_pc};
-ghost use Rattle.part_definitions.specs.Part.{Answers, Takes};
-ghost use Rattle.part_definitions.specs.MonitorRule.{in_rom, atomicity_rule};
+ghost use Rattle.std.specs.Prelude.{◌≡◌, true, false};
+ghost use Rattle.part_definitions.specs.MonitorRule.{in_rom, was_inside, atomicity_rule};
 ghost use Rattle.part_definitions.specs.MonitorRule.{breaks_a1, breaks_a2, breaks_a3, breaks_a4};
 
-use bus_signals::{
-    BusRecord, CR, KR, Kind, ROM_ENTRY, ROM_EXIT, Rule, Signals, XS, some_reads, some_touches,
-};
+use bus_signals::{CR, KR, Kind, ROM_ENTRY, ROM_EXIT, Rule, Signals, XS, some_reads, some_touches};
 
-/// The rules A1 to A4.
+/// The rules A1 to A4. They look at one step and at the `pc` of the record before it, so the
+/// monitor keeps nothing.
 #[derive(Clone, Copy, Debug)]
-pub struct AtomMonitor {
-    // The last record was in the ROM, and not at its exit.
-    is_inside: bool,
-}
+pub struct AtomMonitor;
 
 impl AtomMonitor {
-    ghost use Rattle.atomicity_monitor.specs.AtomMonitor.{AtomMonitorStandsFor};
-
-    /// A monitor that has seen no record.
-    pub fn new() -> AtomMonitor
-        ensures { AtomMonitorStandsFor result [] }
-    {
-        AtomMonitor { is_inside: false }
+    pub fn new() -> AtomMonitor {
+        AtomMonitor
     }
 
-    /// The first of A3, A2, A1 and A4 that a step breaks after the records seen.
+    /// The first of A3, A2, A1 and A4 that a step breaks after a record with this `pc`.
     #[inline(always)]
     #[tactic(auto, unfolding(part_definitions::specs::MonitorRule::atomicity_rule))]
-    pub fn check(&self, now: &Signals) -> Option<Rule>
-        ensures { Answers AtomMonitorStandsFor self.now
-            (λ records. atomicity_rule (last_pc records) now.now) result }
+    pub fn check(&self, last: Option<u16>, now: &Signals) -> Option<Rule>
+        ensures { result ≡ atomicity_rule last now.now }
     {
         if CR.contains(now.pc) {
-            self.check_within(now)
-        } else if self.breaks_a1(now) {
+            check_within(last, now)
+        } else if breaks_a1(last, now) {
             Some(Rule::A1)
         } else {
             None
         }
     }
+}
 
-    // Likewise for a step in the ROM, which is all that A3, A2 and A4 look at.
-    #[inline(always)]
-    #[tactic(auto, unfolding(part_definitions::specs::MonitorRule::atomicity_rule))]
-    fn check_within(&self, now: &Signals) -> Option<Rule>
-        requires { in_rom now.now.pc ≡ true }
-        ensures { Answers AtomMonitorStandsFor self.now
-            (λ records. atomicity_rule (last_pc records) now.now) result }
-    {
-        if breaks_a3(now) {
-            Some(Rule::A3)
-        } else if self.breaks_a2(now) {
-            Some(Rule::A2)
-        } else if breaks_a4(now) {
-            Some(Rule::A4)
-        } else {
-            None
-        }
+// Likewise for a step in the ROM, which is all that A3, A2 and A4 look at.
+#[inline(always)]
+#[tactic(auto, unfolding(part_definitions::specs::MonitorRule::atomicity_rule))]
+fn check_within(last: Option<u16>, now: &Signals) -> Option<Rule>
+    requires { in_rom now.now.pc ≡ true }
+    ensures { result ≡ atomicity_rule last now.now }
+{
+    if breaks_a3(now) {
+        Some(Rule::A3)
+    } else if breaks_a2(last, now) {
+        Some(Rule::A2)
+    } else if breaks_a4(now) {
+        Some(Rule::A4)
+    } else {
+        None
     }
+}
 
-    /// Sees the next record.
-    pub fn see(&mut self, entry: &BusRecord)
-        ensures { (bounds : Bounds)
-            → Takes AtomMonitorStandsFor self.old
-            (record { entry = entry.now; bounds = bounds }) self.new }
-    {
-        self.is_inside = CR.contains(entry.pc) && entry.pc != ROM_EXIT;
-    }
+// The last record was in the ROM, and not at its exit.
+#[inline(always)]
+fn was_inside(last: Option<u16>) -> bool
+    ensures { result ≡ was_inside last }
+{
+    last.is_some_and(|pc| CR.contains(pc) && pc != ROM_EXIT)
+}
 
-    // A1, outside the ROM: it is left from another place than its exit.
-    #[inline(always)]
-    fn breaks_a1(&self, now: &Signals) -> bool
-        requires { in_rom now.now.pc ≡ false }
-        ensures { Answers AtomMonitorStandsFor self.now
-            (λ records. breaks_a1 (last_pc records) now.now) result }
-    {
-        self.is_inside && now.kind != Kind::Boot
-    }
+// A1, outside the ROM: it is left from another place than its exit.
+#[inline(always)]
+fn breaks_a1(last: Option<u16>, now: &Signals) -> bool
+    requires { in_rom now.now.pc ≡ false }
+    ensures { result ≡ breaks_a1 last now.now }
+{
+    was_inside(last) && now.kind != Kind::Boot
+}
 
-    // A2, in the ROM: it is entered at another place than its entry.
-    #[inline(always)]
-    fn breaks_a2(&self, now: &Signals) -> bool
-        requires { in_rom now.now.pc ≡ true }
-        ensures { Answers AtomMonitorStandsFor self.now
-            (λ records. breaks_a2 (last_pc records) now.now) result }
-    {
-        now.pc != ROM_ENTRY && !self.is_inside
-    }
+// A2, in the ROM: it is entered at another place than its entry.
+#[inline(always)]
+fn breaks_a2(last: Option<u16>, now: &Signals) -> bool
+    requires { in_rom now.now.pc ≡ true }
+    ensures { result ≡ breaks_a2 last now.now }
+{
+    now.pc != ROM_ENTRY && !was_inside(last)
 }
 
 // A3, in the ROM: an interrupt could be accepted.

@@ -17,7 +17,6 @@ mod region;
 mod report_view;
 mod rule;
 mod signals;
-mod trace_flag;
 mod version;
 
 pub use access::{Access, some_reads, some_writes};
@@ -36,5 +35,4 @@ pub use region::{Region, some_touches, touches};
 pub use report_view::ReportView;
 pub use rule::Rule;
 pub use signals::Signals;
-pub use trace_flag::{NoFlag, TraceFlag};
 pub use version::Version;

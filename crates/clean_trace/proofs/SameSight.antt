@@ -8,13 +8,13 @@ use Rattle.bus_signals.specs.declared.access.Access.TheVariants.{Fetch, Read, Wr
 use Rattle.bus_signals.specs.declared.rule.Rule.{Rule}
 use Rattle.bus_signals.specs.declared.rule.Rule.TheVariants.{X0, I1}
 use Rattle.bus_signals.specs.declared.signals.Signals.{Signals}
-use Rattle.bus_signals.specs.Access.{some_writes}
+use Rattle.bus_signals.specs.Access.{some_writes, without_number}
 use Rattle.bus_signals.specs.Map.{touches, some_touches, key_region, stack_region}
 use Rattle.part_definitions.specs.FirstRule.{breaks_x0, breaks_i1, rule_where, or_else, first_rule}
 use Rattle.part_definitions.specs.Flag.{fetches_at}
 use Rattle.part_definitions.specs.MonitorRule.{in_rom, key_rule, atomicity_rule}
 use Rattle.device_trace.specs.Blank.{touches_secrets, blank_access, blank_value}
-use Rattle.device_trace.specs.Step.{without_number, access_recorded}
+use Rattle.device_trace.specs.Step.{access_recorded}
 use Rattle.key_isolation.proofs.SameRule.{first_rule-same}
 
 abbrev with_dma : Signals → Option Access → Signals

@@ -4,11 +4,12 @@ use Rattle.bus_signals.specs.declared.access.Access.{Access}
 use Rattle.bus_signals.specs.declared.access.Access.TheVariants.{Fetch, Read, Write}
 use Rattle.bus_signals.specs.declared.bus_record.BusRecord.{BusRecord}
 use Rattle.bus_signals.specs.declared.event.Event.{Event}
+use Rattle.bus_signals.specs.Access.{without_number}
 use Rattle.device_trace.specs.Blank.{blank_record, blank_value, touches_secrets}
 use Rattle.device_trace.specs.Logs.{Logs, exec_of, logged_bounds, with_events}
 use Rattle.device_trace.specs.Signals.{word_fetched, signals_at, signals_of}
 use Rattle.device_trace.specs.Start.{Start}
-use Rattle.device_trace.specs.Step.{asks_reset, without_number, next_record, next_signals}
+use Rattle.device_trace.specs.Step.{asks_reset, next_record, next_signals}
 use Rattle.device_trace.specs.Trace.{next_logs, logs_after, released_words}
 use Rattle.part_definitions.specs.Flag.{last_pc}
 use Rattle.trace_facts.proofs.Sound.{IsSound}

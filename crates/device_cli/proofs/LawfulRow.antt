@@ -25,7 +25,7 @@ use Rattle.device_cli.specs.Reading.{Files, Reaches}
 use Rattle.device_cli.specs.FileKind.{key_kind, image_kind, script_kind, policy_kind}
 use Rattle.device_cli.specs.Load.{load_key, load_image}
 use Rattle.device_cli.specs.PlayLaws.{IsLawful, IsLawfulRow}
-use Rattle.device_cli.specs.Judge.{judge_with}
+use Rattle.report_verifier.specs.Judge.{judge_with}
 use Rattle.device_cli.specs.Play.{PlayOutcome, play_with, start_of, steps_of, steps_row}
 use Rattle.device_cli.specs.Round.{round_row}
 use Rattle.device_cli.specs.Work.{load_play, work_row}

@@ -1,36 +1,40 @@
 -- The lines of a play, one after the other.
-use Rattle.std.proofs.Common.{◌≡◌, ◌≤◌, ◌<◌, ◌^◌, ◌++◌, ◌+◌, ◌∙◌, [], ◌∷◌, ℕ, zero, suc, Bool, List, Option, Some, None, Result, IfSome, refl, sym, ap, subst, length, arith}
+use Rattle.std.proofs.Common.{◌≡◌, ◌≤◌, ◌<◌, ◌^◌, ◌++◌, ◌+◌, ◌∙◌, [], ◌∷◌, ℕ, zero, suc, Bool, true, false, List, Option, Some, None, Result, IfSome, option_map, if◌then◌else◌, refl, sym, ap, subst, length, arith}
 use Rattle.bus_signals.specs.declared.access.Access.{Access}
 use Rattle.bus_signals.specs.declared.access.Access.TheVariants.{Fetch, Read, Write}
 use Rattle.bus_signals.specs.declared.bounds.Bounds.{Bounds}
 use Rattle.bus_signals.specs.declared.bus_record.BusRecord.{BusRecord}
 use Rattle.bus_signals.specs.declared.event.Event.{Event}
 use Rattle.bus_signals.specs.declared.rule.Rule.{Rule}
+use Rattle.bus_signals.specs.declared.rule.Rule.TheVariants.{X0}
 use Rattle.bus_signals.specs.declared.signals.Signals.{Signals}
 use Rattle.bus_signals.specs.Access.{IsFormed}
-use Rattle.bus_signals.specs.Flag.{Flag}
+use Rattle.exec_automaton.specs.Flag.{Flag}
 use Rattle.bus_signals.specs.SeenRecord.{SeenRecord}
 use Rattle.hmac_core.specs.Hash.{Hash}
 use Rattle.outside_edge.specs.Sink.{Puts}
-use Rattle.device_trace.specs.Blank.{blank_value, blank_record}
-use Rattle.device_trace.specs.Logs.{Logs, exec_of, logged_bounds}
+use Rattle.part_definitions.specs.FirstRule.{first_rule, or_else, rule_where}
+use Rattle.device_trace.specs.Blank.{blank_value, blank_record, touches_secrets}
+use Rattle.device_trace.specs.Logs.{Logs, exec_of, logged_bounds, with_events}
+use Rattle.device_trace.specs.Signals.{proposed_access, signals_at, signals_of, step_kind, value_read, word_fetched}
 use Rattle.device_trace.specs.Start.{Start, with_key}
-use Rattle.device_trace.specs.Step.{access_recorded, next_record, next_signals, record_of}
+use Rattle.device_trace.specs.Step.{access_recorded, asks_reset, next_record, next_signals, record_of}
 use Rattle.device_trace.specs.Trace.{last_bounds, last_record, last_signals, logs_after, next_logs, play_of, trace}
 use Rattle.play_script.specs.Playback.{events_left}
 use Rattle.play_script.specs.declared.playback.Playback.{Playback}
 use Rattle.key_isolation.specs.Agreement.{ReleaseAlike}
 use Rattle.device_core.specs.Device.{LiveStandsFor, steps_made}
+use Rattle.device_core.specs.Refusal.{last_refused, where_refused}
 use Rattle.device_core.specs.declared.live.Live.{Live}
 use Rattle.trace_line.specs.declared.trace_line.TraceLine.{TraceLine}
 use Rattle.trace_line.specs.LineText.{file_text, trace_line}
 use Rattle.trace_line.specs.ReadBack.{ArePrintable, IsAllowed, IsPrintable}
 use Rattle.trace_line.proofs.FileReadBack.{file_reads_back}
 use Rattle.wave_dump.specs.WaveText.{last_shown, shown_after, step_text, steps_text}
-use Rattle.clean_trace.specs.TraceText.{last_line, line_with, next_line, trace_lines, word_shown}
+use Rattle.clean_trace.specs.TraceText.{last_line, next_line, trace_lines, word_shown}
 use Rattle.clean_trace.proofs.SameText.{same_trace_lines}
 use Rattle.device_cli.specs.Midway.{IsMidway}
-use Rattle.device_cli.specs.TracedPlay.{ReadsBack, told_text}
+use Rattle.device_cli.specs.TracedPlay.{ReadsBack, proposal_shown, told_text, value_shown, word_read}
 use Rattle.device_cli.specs.WatchedPlay.{watched_lines}
 
 -- the word that a line shows goes by where the access is, which a record keeps
@@ -50,49 +54,133 @@ shown_word start logs events =
     recorded_word (next_record start logs events).reset (next_signals start logs events).cpu
     (next_signals start logs events).word
 
+where_refused-Some : (rule : Option Rule) (now : Option Signals) (said : Signals)
+    → where_refused rule now ≡ Some said → now ≡ Some said
+where_refused-Some None now said is = absurd (cc is)
+where_refused-Some (Some rule) now said is = is
+
+where_refused-None : (rule : Option Rule) (now : Signals)
+    → where_refused rule (Some now) ≡ None → rule ≡ None
+where_refused-None None now is = refl
+where_refused-None (Some rule) now is = absurd (cc is)
+
+-- a refused step shows what it was about to do
+pub refused-proposal : (start : Start) (play : List (List Event)) (entry : BusRecord)
+    (said : Signals)
+    → last_record (trace start play) ≡ Some entry
+    → last_refused start play ≡ Some said
+    → option_map proposal_shown (last_signals start play)
+    ≡ Some (said.script_reset, blank_value entry.cpu said.word)
+unfolding trace
+refused-proposal start [] entry said same_entry is = absurd (cc same_entry)
+refused-proposal start (events ∷ play) entry said same_entry is =
+    let logs : Logs = logs_after start play in
+    let is_entry : next_record start logs events ≡ entry = cc same_entry in
+    let is_some : Some (next_signals start logs events) ≡ Some said =
+    where_refused-Some (next_record start logs events).reset
+    (Some (next_signals start logs events)) said is in
+    let is_now : next_signals start logs events ≡ said = cc is_some in
+    let word : word_shown said ≡ blank_value entry.cpu said.word =
+    rw (is_now, is_entry) at (shown_word start logs events) in
+    ap (λ (now : Signals). Some (proposal_shown now)) is_now
+    ∙ ap (λ (shown : ℕ). Some (said.script_reset, shown)) word
+
+not-asked : (asked : Bool) (others : Option Rule)
+    → or_else (rule_where asked X0) others ≡ None → asked ≡ false
+not-asked true others is = absurd (cc is)
+not-asked false others is = refl
+
+unblanked : (hides : Bool) → ◌≡◌ {A = ℕ} (if hides then 0 else 0) 0
+unblanked true = refl
+unblanked false = refl
+
+-- the word of a fetch is what it reads
+fetched-shown : (start : Start) (logs : Logs) (access : Option Access)
+    → blank_value access (word_fetched start logs access)
+    ≡ word_read access (blank_value access (value_read start logs access))
+fetched-shown start logs None = refl
+fetched-shown start logs (Some (Fetch place)) = refl
+fetched-shown start logs (Some (Read place size)) = unblanked (touches_secrets (Read place size))
+fetched-shown start logs (Some (Write place size number)) =
+    unblanked (touches_secrets (Write place size number))
+
+-- what a step from these logs that broke no rule shows
+made-shown : (start : Start) (logs : Logs) (reset : Bool)
+    → (record_of start logs reset).reset ≡ None
+    → proposal_shown (signals_of start logs reset)
+    ≡ (
+      false,
+      word_read (record_of start logs reset).cpu
+          (value_shown (record_of start logs reset)),
+    )
+unfolding record_of signals_at first_rule
+made-shown start logs reset none =
+    let access = proposed_access start logs (step_kind logs) in
+    let asked : reset ≡ false = not-asked reset _ none in
+    rw (none, asked) (ap (λ (w : ℕ). (false, w)) (fetched-shown start logs access))
+
+-- and a step of a play that was made
+pub made-proposal : (start : Start) (play : List (List Event)) (entry : BusRecord) (value : ℕ)
+    → last_record (trace start play) ≡ Some entry
+    → last_refused start play ≡ None
+    → option_map value_shown (last_record (trace start play)) ≡ Some value
+    → option_map proposal_shown (last_signals start play) ≡ Some (false, word_read entry.cpu value)
+unfolding trace next_record
+made-proposal start [] entry value same_entry none shown = absurd (cc same_entry)
+made-proposal start (events ∷ play) entry value same_entry none shown =
+    let logs : Logs = with_events (logs_after start play) events in
+    let reset : Bool = asks_reset events in
+    let is_entry : record_of start logs reset ≡ entry = cc same_entry in
+    let is_value : value_shown (record_of start logs reset) ≡ value = cc shown in
+    let unrefused = where_refused-None (record_of start logs reset).reset
+    (signals_of start logs reset) none in
+    let made = made-shown start logs reset unrefused in
+    ap Some (rw (is_value, is_entry) at made)
+
 -- the line with that word
-abbrev pub shown_line : BusRecord → Signals → Bounds → Bool → TraceLine
-shown_line entry now bounds exec =
-    record (line_with (blank_record entry) now bounds exec) {
-      word = blank_value entry.cpu now.word;
+abbrev pub shown_line : BusRecord → Bool × ℕ → Bounds → Bool → TraceLine
+shown_line entry proposal bounds exec =
+    let shown : BusRecord = blank_record entry in
+    record {
+      kind = shown.kind;
+      pc = shown.pc;
+      cpu = shown.cpu;
+      dma = shown.dma;
+      irq = shown.irq;
+      asked = proposal.0;
+      word = proposal.1;
+      value = shown.value;
+      dma_value = shown.dma_value;
+      bounds = bounds;
+      exec = exec;
+      rule = shown.reset;
     }
 
-next_line-shown : (start : Start) (logs : Logs) (events : List Event)
-    → next_line start logs events
-    ≡ shown_line (next_record start logs events) (next_signals start logs events)
-    (logged_bounds start logs) (exec_of (next_logs start logs events))
-next_line-shown start logs events =
-    ap
-    (λ (word : ℕ). record (line_with (blank_record (next_record start logs events))
-    (next_signals start logs events) (logged_bounds start logs)
-    (exec_of (next_logs start logs events))) { word = word })
-    (shown_word start logs events)
-
 -- what a device tells of its last step is the line of that step
-pub told_line : (start : Start) (play : List (List Event)) (entry : BusRecord) (now : Signals)
-    (bounds : Bounds) (exec : Bool) (line : TraceLine)
+pub told_line : (start : Start) (play : List (List Event)) (entry : BusRecord)
+    (proposal : Bool × ℕ) (bounds : Bounds) (exec : Bool) (line : TraceLine)
     → last_record (trace start play) ≡ Some entry
-    → last_signals start play ≡ Some now
+    → option_map proposal_shown (last_signals start play) ≡ Some proposal
     → last_bounds start play ≡ Some bounds
     → exec ≡ exec_of (logs_after start play)
-    → line ≡ shown_line entry now bounds exec
+    → line ≡ shown_line entry proposal bounds exec
     → last_line start play ≡ Some line
 unfolding trace logs_after
-told_line start [] entry now bounds exec line same_entry same_now same_bounds same_exec is =
+told_line start [] entry proposal bounds exec line same_entry same_proposal same_bounds same_exec is
+    =
     absurd (cc same_entry)
-told_line start (events ∷ play) entry now bounds exec line same_entry same_now same_bounds same_exec
-    is =
+told_line start (events ∷ play) entry proposal bounds exec line same_entry same_proposal same_bounds
+    same_exec is =
     let logs : Logs = logs_after start play in
-    let signals : Signals = next_signals start logs events in
+    let said : Bool × ℕ = proposal_shown (next_signals start logs events) in
     let flag : Bool = exec_of (next_logs start logs events) in
     let is_entry : next_record start logs events ≡ entry = cc same_entry in
-    let is_now : signals ≡ now = cc same_now in
+    let is_said : said ≡ proposal = cc same_proposal in
     let is_bounds : logged_bounds start logs ≡ bounds = cc same_bounds in
-    ap Some (next_line-shown start logs events
-    ∙ (ap (λ (e : BusRecord). shown_line e signals (logged_bounds start logs) flag) is_entry
-    ∙ (ap (λ (n : Signals). shown_line entry n (logged_bounds start logs) flag) is_now
-    ∙ (ap (λ (b : Bounds). shown_line entry now b flag) is_bounds
-    ∙ (ap (λ (e : Bool). shown_line entry now bounds e) (sym same_exec) ∙ sym is)))))
+    ap Some (ap (λ (e : BusRecord). shown_line e said (logged_bounds start logs) flag) is_entry
+    ∙ (ap (λ (p : Bool × ℕ). shown_line entry p (logged_bounds start logs) flag) is_said
+    ∙ (ap (λ (b : Bounds). shown_line entry proposal b flag) is_bounds
+    ∙ (ap (λ (e : Bool). shown_line entry proposal bounds e) (sym same_exec) ∙ sym is))))
 
 -- a device that has made one more step of a play, whose events were passed
 pub stepped : {D G : Type 0} (hash : Hash D) (flag : Flag G) (start : Start)

@@ -2,7 +2,7 @@
 use Rattle.std.proofs.Common.{◌≡◌, ◌≤◌, ◌+◌, ◌-◌, ◌++◌, ◌∙◌, ◌∷◌, [], ℕ, zero, suc, true, List, Result, Ok, Err, IfErr, refl, sym, ap, subst, arith, append_assoc, append-nil}
 use Rattle.std.specs.Prelude.{IsErrAnd}
 use Rattle.bus_signals.specs.declared.event.Event.{Event}
-use Rattle.bus_signals.specs.Flag.{Flag}
+use Rattle.exec_automaton.specs.Flag.{Flag}
 use Rattle.outside_edge.specs.Sink.{Takes, TakesPrefix}
 use Rattle.hmac_core.specs.Hash.{Hash}
 use Rattle.device_trace.specs.Start.{Start}

@@ -5,7 +5,7 @@ use Rattle.device_trace.specs.Start.{Start}
 use Rattle.device_trace.specs.Text.{last_report}
 use Rattle.device_trace.specs.Trace.{byte_after}
 use Rattle.device_cli.specs.declared.verdict.judgement.Tally.{Tally}
-use Rattle.device_cli.specs.Judge.{Judge}
+use Rattle.report_verifier.specs.Judge.{Judge}
 use Rattle.device_cli.specs.Judgement.{judgement_lines, judgement_has_pair}
 use Rattle.device_cli.specs.LastStepLines.{last_step_lines}
 use Rattle.device_cli.specs.RoundText.{reports_in, all_are_accepted}

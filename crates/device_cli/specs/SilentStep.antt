@@ -11,7 +11,7 @@ use Rattle.device_trace.specs.Text.{last_byte_sent, last_decision, last_report, 
 use Rattle.device_trace.specs.Trace.{trace, byte_after, logs_after}
 use Rattle.device_core.specs.Silence.{last_rule, is_silent}
 use Rattle.device_cli.specs.declared.verdict.judgement.Tally.{Tally}
-use Rattle.device_cli.specs.Judge.{Judge}
+use Rattle.report_verifier.specs.Judge.{Judge}
 use Rattle.device_cli.specs.JudgedPlay.{TallyStandsFor, judged_lines}
 use Rattle.device_cli.specs.Judgement.{judgement_lines}
 use Rattle.device_cli.specs.LastStepLines.{last_step_lines}

@@ -18,4 +18,6 @@ pub enum BadFile {
     Source(FaultAt),
     #[error("bad trace: {0}")]
     Trace(FaultAt),
+    #[error("bad keys: {0}")]
+    Keys(FaultAt),
 }

@@ -1,5 +1,7 @@
+pub mod desk_policy;
 pub mod image;
 pub mod key;
+pub mod keys;
 pub mod policy;
 pub mod reports;
 pub mod script;

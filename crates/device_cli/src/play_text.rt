@@ -18,8 +18,8 @@ pub mod watch_play;
 
 use crate::play_text::step_watcher::StepWatcher;
 use crate::play_text::watch_play::watch_play;
-use bus_signals::TraceFlag;
 use device_core::{Device, Held, Live, StepLine};
+use exec_automaton::TraceFlag;
 use hmac_core::Digest32;
 use outside_edge::{Failed, Sink};
 use play_script::Script;

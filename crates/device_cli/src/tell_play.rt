@@ -1,22 +1,50 @@
-ghost use Rattle.std.specs.Prelude.{◌≡◌, ◌≤◌, [], ℕ, List, OnOk, Some};
+ghost use Rattle.std.specs.Prelude.{◌≡◌, ◌≤◌, [], ℕ, List, OnOk, Some, option_map};
 ghost use Rattle.bus_signals.specs.declared.event.Event.{Event};
 ghost use Rattle.outside_edge.specs.Sink.{Puts, CountsFaults};
 ghost use Rattle.device_trace.specs.Start.{Start, with_key};
-ghost use Rattle.device_trace.specs.Trace.{play_of};
+ghost use Rattle.device_trace.specs.Trace.{last_record, last_signals, play_of, trace};
 ghost use Rattle.play_script.specs.Script.{events_of};
 ghost use Rattle.device_core.specs.Device.{HasStepped, HeldStandsFor, LiveStandsFor, steps_of};
 ghost use Rattle.trace_line.specs.ReadBack.{ArePrintable, IsPrintable};
 ghost use Rattle.clean_trace.specs.TraceText.{last_line, trace_lines};
 ghost use Rattle.device_cli.specs.Limit.{most_steps};
-ghost use Rattle.device_cli.specs.TracedPlay.{IsPoweredOn, PlaysSome, told_text};
+ghost use Rattle.device_cli.specs.TracedPlay.{IsPoweredOn, PlaysSome, proposal_shown, told_text, value_shown, word_read};
 
 use crate::line_teller::LineTeller;
-use bus_signals::TraceFlag;
+use bus_signals::Access;
 use device_core::{Device, Held, Live, blank_access, blank_value};
+use exec_automaton::TraceFlag;
 use hmac_core::Digest32;
 use outside_edge::{Failed, Sink};
 use play_script::Script;
 use trace_line::TraceLine;
+
+// Of what an access read: the word of a fetch, 0 for other accesses.
+fn word_read(access: Option<Access>, value: u16) -> u16
+    ensures { result ≡ word_read access value }
+{
+    match access {
+        Some(Access::Fetch(_)) => value,
+        _ => 0,
+    }
+}
+
+// Of the last step, once a step was made, whether the script asked for a reset, and the word that
+// its proposed fetch would read, blanked as the value is that it read. In a step that was made the
+// script did not ask, and the fetch read its word.
+fn proposal_of_last<D: Digest32, G: TraceFlag>(live: &Live<D, G>, value: u16) -> (bool, u16)
+    requires { HasStepped live.now }
+    ensures { (start : Start) (play : List (List Event))
+        → LiveStandsFor D.hash G.flag live.now start play
+        → option_map value_shown (last_record (trace start play)) ≡ Some value
+        → option_map proposal_shown (last_signals start play) ≡ Some result }
+{
+    let entry = live.entry();
+    match live.refused_signals() {
+        Some(now) => (now.script_reset, blank_value(entry.cpu, now.word)),
+        None => (false, word_read(entry.cpu, value)),
+    }
+}
 
 // The line of the last step, once a step was made, with the secrets blanked. What a refused fetch
 // would have read is one too.
@@ -29,16 +57,17 @@ fn line_of_last<D: Digest32, G: TraceFlag>(live: &Live<D, G>) -> TraceLine
     ensures printable { IsPrintable result }
 {
     let entry = live.entry();
-    let now = live.signals();
+    let value = blank_value(entry.cpu, entry.value);
+    let (asked, word) = proposal_of_last(live, value);
     TraceLine {
         kind: entry.kind,
         pc: entry.pc,
         cpu: blank_access(entry.cpu),
         dma: blank_access(entry.dma),
         irq: entry.irq,
-        asked: now.script_reset,
-        word: blank_value(entry.cpu, now.word),
-        value: blank_value(entry.cpu, entry.value),
+        asked,
+        word,
+        value,
         dma_value: blank_value(entry.dma, entry.dma_value),
         bounds: live.bounds_before(),
         exec: live.exec(),

@@ -11,8 +11,8 @@ ghost use Rattle.device_cli.specs.TracedPlay.{IsPoweredOn, ReadsBack};
 
 use crate::line_teller::LineTeller;
 use crate::tell_play::tell_play;
-use bus_signals::TraceFlag;
 use device_core::{Device, Held};
+use exec_automaton::TraceFlag;
 use hmac_core::Digest32;
 use outside_edge::{Failed, Sink};
 use play_script::Script;

@@ -1,6 +1,6 @@
 -- What memory shows of the flags after a step.
 use Rattle.std.proofs.Common.{◌≡◌, ◌∙◌, Bool, true, false, List, ◌∷◌, map, if◌then◌else◌, refl, sym, ap}
-use Rattle.bus_signals.specs.Flag.{Flag}
+use Rattle.exec_automaton.specs.Flag.{Flag}
 use Rattle.bus_signals.specs.SeenRecord.{SeenRecord}
 use Rattle.device_trace.specs.Blank.{blank_seen}
 use Rattle.device_trace.specs.Logs.{aux_shown, flags_shown, goes_on_in_call, records_until_call}

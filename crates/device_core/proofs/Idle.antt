@@ -1,5 +1,5 @@
 -- Steps without events, and those that have no line.
-use Rattle.std.proofs.Common.{◌≡◌, ◌∙◌, ◌-◌, ◌&&◌, ◌||◌, ℕ, Bool, true, false, not, List, [], ◌∷◌, Option, None, Some, is_none, is_some, IfSome, option_map, refl, sym, arith, add-one, ap, subst, length, ◌+◌, zero, suc}
+use Rattle.std.proofs.Common.{◌≡◌, ◌∙◌, ◌-◌, ◌&&◌, ◌||◌, ℕ, Bool, true, false, not, List, [], ◌∷◌, Option, None, Some, is_none, is_some, option_map, refl, sym, arith, add-one, subst, length, ◌+◌, zero, suc}
 use Rattle.bus_signals.specs.declared.event.Event.{Event}
 use Rattle.bus_signals.specs.declared.rule.Rule.{Rule}
 use Rattle.bus_signals.specs.SeenRecord.{SeenRecord}
@@ -9,7 +9,7 @@ use Rattle.device_trace.specs.Start.{Start}
 use Rattle.device_trace.specs.Step.{next_record, next_signals}
 use Rattle.device_trace.specs.Text.{byte_sent_in, last_byte_sent, last_decision, last_denial, last_report}
 use Rattle.device_trace.specs.Trace.{trace, last_record, last_signals, logs_after}
-use Rattle.bus_signals.specs.Flag.{Flag}
+use Rattle.exec_automaton.specs.Flag.{Flag}
 use Rattle.device_trace.specs.Signals.{signals_of}
 use Rattle.device_core.specs.Machine.{PlaysAt, StandsAfter, StandsAt}
 use Rattle.device_core.specs.declared.last_step.LastStep.{LastStep}
@@ -66,17 +66,10 @@ idle-more :
     → with_idle (steps + 1) play ≡ [] ∷ with_idle steps play
 idle-more steps play = rw add-one refl
 
--- what the last step was about to do, where it was kept
-pub kept-signals :
-    (start : Start) (play : List (List Event)) (events : List Event) (last : Option LastStep)
-    → KeepsSignals last (next_signals start (logs_after start play) events)
-    → IfSome last (λ step. last_signals start (events ∷ play) ≡ Some step.signals)
-kept-signals start play events None keeps = tt
-kept-signals start play events (Some step) keeps = ap Some (sym keeps)
-
+-- before the first step none is kept
 pub first-signals :
     (start : Start) (last : Option LastStep)
-    → LastStandsFor last [] → IfSome last (λ step. last_signals start [] ≡ Some step.signals)
+    → LastStandsFor last [] → KeepsSignals last (last_signals start [])
 first-signals start None stands = tt
 first-signals start (Some step) stands = absurd cc
 
@@ -89,11 +82,10 @@ idle-signals start play = refl
 
 kept-idle :
     (start : Start) (play : List (List Event)) (last : Option LastStep)
-    → KeepsSignals last (signals_of start (logs_after start play) false)
-    → IfSome last (λ step. last_signals start ([] ∷ play) ≡ Some step.signals)
+    → KeepsSignals last (Some (signals_of start (logs_after start play) false))
+    → KeepsSignals last (last_signals start ([] ∷ play))
 kept-idle start play last keeps =
-    kept-signals start play [] last
-    (subst (λ now. KeepsSignals last now) (sym (idle-signals start play)) keeps)
+    subst (λ now. KeepsSignals last (Some now)) (sym (idle-signals start play)) keeps
 
 pub goes-idle :
     {D G : Type 0} (hash : Hash D) (flag : Flag G) (stage : Stage) (machine : Machine D G)

@@ -4,7 +4,7 @@ use Rattle.bus_signals.specs.declared.access.Access.{Access}
 use Rattle.bus_signals.specs.declared.bus_record.BusRecord.{BusRecord}
 use Rattle.bus_signals.specs.declared.rule.Rule.{Rule}
 use Rattle.bus_signals.specs.declared.signals.Signals.{Signals}
-use Rattle.bus_signals.specs.Flag.{Flag}
+use Rattle.exec_automaton.specs.Flag.{Flag}
 use Rattle.bus_signals.specs.SeenRecord.{SeenRecord}
 use Rattle.part_definitions.specs.Dma.{dma_access}
 use Rattle.mem_map.specs.Memory.{MemoryStandsFor}
@@ -17,6 +17,7 @@ use Rattle.device_core.specs.Monitors.{MonitorsStandFor}
 use Rattle.device_core.specs.Peripherals.{PeripheralsStandFor}
 use Rattle.device_core.specs.declared.bus.Bus.{Bus}
 use Rattle.device_core.specs.declared.last_step.LastStep.{LastStep}
+use Rattle.device_core.specs.Refusal.{where_refused}
 use Rattle.device_core.specs.Silence.{has_line}
 use Rattle.device_core.specs.declared.turn.Turn.{Turn}
 
@@ -43,9 +44,9 @@ pub record BusStandsFor {G : Type 0} (flag : Flag G) (bus : Bus G) (start : Star
   pub same_flag : start.second_flag ≡ flag.value
   pub same_last : LastStandsFor bus.last logs.records
 
--- where the last step was kept, this is what it was about to do
-abbrev pub KeepsSignals : Option LastStep → Signals → Type 0
-KeepsSignals last now = IfSome last (λ step. step.signals ≡ now)
+-- where the last step was kept, and was refused, this is what it was about to do
+abbrev pub KeepsSignals : Option LastStep → Option Signals → Type 0
+KeepsSignals last now = IfSome last (λ step. step.refused ≡ where_refused step.entry.reset now)
 
 -- it is the turn of the step that comes next, from these registers
 pub record TurnStandsFor (regs : List ℕ) (turn : Turn) (start : Start) (logs : Logs) : Type 0 where
@@ -84,7 +85,7 @@ AnswersTurn flag bus regs turn dma script_reset answer =
 pub record BusStandsAfter {G : Type 0} (flag : Flag G) (bus : Bus G) (start : Start) (logs : Logs)
     (script_reset : Bool) : Type 0 where
   pub same : BusStandsFor flag bus start (logs_after_step start logs script_reset)
-  pub same_signals : KeepsSignals bus.last (signals_of start logs script_reset)
+  pub same_signals : KeepsSignals bus.last (Some (signals_of start logs script_reset))
 
 -- the bus makes the step of this turn, or refuses it
 abbrev pub MakesTurn :

@@ -2,7 +2,7 @@
 use Rattle.std.specs.Prelude.{◌≡◌, ◌∷◌, map}
 use Rattle.bus_signals.specs.declared.bus_record.BusRecord.{BusRecord}
 use Rattle.bus_signals.specs.declared.signals.Signals.{Signals}
-use Rattle.bus_signals.specs.Flag.{Flag, IsRecordOf}
+use Rattle.exec_automaton.specs.Flag.{Flag, IsRecordOf}
 use Rattle.bus_signals.specs.SeenRecord.{SeenHistory, SeenRecord}
 use Rattle.part_definitions.specs.Flag.{exec}
 use Rattle.device_trace.specs.Blank.{blank_seen}

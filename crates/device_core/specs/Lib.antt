@@ -3,6 +3,7 @@ pub mod Device
 pub mod Step
 pub mod StepLine
 pub mod Silence
+pub mod Refusal
 pub mod KeptCounter
 pub mod Outside
 -- What the parts within stand for, and how they make a step.

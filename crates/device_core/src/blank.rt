@@ -1,9 +1,8 @@
 ghost use Rattle.std.specs.Prelude.{◌≡◌, IfSome};
 ghost use Rattle.bus_signals.specs.Access.{IsFormed};
-ghost use Rattle.bus_signals.specs.Flag.{IsRecordOf};
 ghost use Rattle.device_trace.specs.Blank.{blank_access, blank_value, blank_record};
 
-use bus_signals::{Access, BusRecord, KR, Signals, XS, touches};
+use bus_signals::{Access, BusRecord, KR, XS, touches};
 
 /// A record with the secrets blanked. Only steps of the ROM touch one.
 #[inline(always)]
@@ -16,20 +15,6 @@ pub fn blanked(entry: &BusRecord) -> BusRecord
         dma: blank_access(entry.dma),
         dma_value: blank_value(entry.dma, entry.dma_value),
         ..*entry
-    }
-}
-
-/// What a step is about to do, with the secrets blanked.
-#[inline(always)]
-pub fn blanked_signals(now: &Signals) -> Signals
-    ensures { (entry : BusRecord)
-        → IsRecordOf now.now entry
-        → IsRecordOf result (blank_record entry) }
-{
-    Signals {
-        cpu: blank_access(now.cpu),
-        dma: blank_access(now.dma),
-        ..*now
     }
 }
 

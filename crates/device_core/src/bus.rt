@@ -1,6 +1,6 @@
 ghost use Rattle.std.specs.Prelude.{◌≡◌, ◌∷◌, [], ℕ, true, false, List, Option, IfOk, IsSome, None, Some, is_none, if◌then◌else◌};
 ghost use Rattle.bus_signals.specs.declared.event.Event.{Event};
-ghost use Rattle.bus_signals.specs.Flag.{IsRecordOf};
+ghost use Rattle.exec_automaton.specs.Flag.{IsRecordOf};
 ghost use Rattle.bus_signals.specs.SeenRecord.{SeenRecord};
 ghost use Rattle.part_definitions.specs.Dma.{dma_access};
 ghost use Rattle.part_definitions.specs.FirstRule.{first_rule};
@@ -23,7 +23,8 @@ use crate::peripherals::Peripherals;
 use crate::record::{goes_on_in_call, is_kept, record_of_refusal, record_of_step};
 use crate::turn::Turn;
 use bus_arbiter::exchange;
-use bus_signals::{Access, BusMaster, BusRecord, CR, Event, Signals, TraceFlag};
+use bus_signals::{Access, BusMaster, BusRecord, CR, Event, Signals};
+use exec_automaton::TraceFlag;
 use mem_map::{Image, Memory};
 use std::alloc::{AllocError, Global};
 
@@ -202,7 +203,7 @@ impl<G: TraceFlag> Bus<G> {
         keeps: bool,
     )
         ensures kept { keeps ≡ true → IsSome self.new.last }
-        ensures signals { KeepsSignals self.new.last now.now }
+        ensures signals { KeepsSignals self.new.last (Some now.now) }
         ensures stands { Performs G.flag self.old regs.now acceptance now.now value self.new }
     {
         if !is_kept(keeps, now) && self.keeps_flags(now) {
@@ -250,7 +251,7 @@ impl<G: TraceFlag> Bus<G> {
         now: &Signals,
         value: u16,
     )
-        ensures signals { KeepsSignals self.new.last now.now }
+        ensures signals { KeepsSignals self.new.last (Some now.now) }
         ensures stands { (start : Start) (logs : Logs)
             → has_line (record_performed start logs regs.now now.now) ≡ false
             → KeepsFlags G.flag start logs now.now
@@ -274,14 +275,14 @@ impl<G: TraceFlag> Bus<G> {
         value: u16,
     )
         ensures kept { IsSome self.new.last }
-        ensures signals { KeepsSignals self.new.last now }
+        ensures signals { KeepsSignals self.new.last (Some now) }
         ensures stands { Performs G.flag self.old regs.now acceptance now value self.new }
     {
         let bounds = self.memory.bounds();
         let entry = self.make(regs, &now, value);
         self.peripherals.finish_step(&entry, acceptance);
         self.watch(LastStep {
-            signals: now,
+            refused: None,
             bounds,
             entry,
         });
@@ -293,7 +294,7 @@ impl<G: TraceFlag> Bus<G> {
     #[tactic(auto, unfolding(device_trace::specs::Logs::with_record))]
     fn refuse(&mut self, regs: &[u16; 16], now: Signals)
         ensures kept { IsSome self.new.last }
-        ensures signals { KeepsSignals self.new.last now }
+        ensures signals { KeepsSignals self.new.last (Some now) }
         ensures stands { (start : Start) (logs : Logs) (value dma_value : ℕ)
             → BusStandsFor G.flag self.old start logs
             → is_none (first_rule (last_pc logs.records) now) ≡ false
@@ -305,7 +306,7 @@ impl<G: TraceFlag> Bus<G> {
         self.peripherals.clear();
         let entry = record_of_refusal(regs, &now, rule);
         self.watch(LastStep {
-            signals: now,
+            refused: Some(now),
             bounds,
             entry,
         });

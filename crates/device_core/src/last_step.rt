@@ -5,8 +5,8 @@ use bus_signals::{Bounds, BusRecord, Signals};
 /// A step that was made or refused.
 #[derive(Clone, Copy, Debug)]
 pub struct LastStep {
-    /// What it was about to do.
-    pub signals: Signals,
+    /// What it was about to do, where it was refused. Of a step that was made its record tells that.
+    pub refused: Option<Signals>,
     /// The bounds as they stood before it.
     pub bounds: Bounds,
     /// What it did.

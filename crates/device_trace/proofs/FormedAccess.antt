@@ -7,7 +7,7 @@ use Rattle.word_arith.specs.declared.size.Size.{Size}
 use Rattle.word_arith.specs.declared.size.Size.TheVariants.{Byte, Word}
 use Rattle.msp_decode.specs.declared.head.Head.{Head}
 use Rattle.msp_decode.specs.Head.{head_of}
-use Rattle.bus_signals.specs.Access.{IsFormed}
+use Rattle.bus_signals.specs.Access.{IsFormed, without_number}
 use Rattle.bus_signals.specs.declared.access.Access.{Access}
 use Rattle.bus_signals.specs.declared.access.Access.TheVariants.{Fetch, Read, Write}
 use Rattle.bus_signals.specs.declared.event.Event.{Event}
@@ -31,7 +31,7 @@ use Rattle.device_trace.specs.Progress.{Progress, Held, Runs, InCall, running_ac
 use Rattle.device_trace.specs.Logs.{Logs, step_progress}
 use Rattle.device_trace.specs.Signals.{signals_at, step_kind, proposed_access}
 use Rattle.device_trace.specs.Start.{Start}
-use Rattle.device_trace.specs.Step.{without_number, access_recorded, record_of, next_record}
+use Rattle.device_trace.specs.Step.{access_recorded, record_of, next_record}
 use Rattle.device_trace.specs.Trace.{trace}
 use Rattle.device_trace.specs.AccessesAreFormed.{AccessesAreFormed}
 

@@ -9,6 +9,7 @@ use Rattle.bus_signals.specs.declared.event.Event.{Event}
 use Rattle.bus_signals.specs.declared.event.Event.TheVariants.{Reset}
 use Rattle.bus_signals.specs.declared.rule.Rule.{Rule}
 use Rattle.bus_signals.specs.declared.signals.Signals.{Signals}
+use Rattle.bus_signals.specs.Access.{without_number}
 use Rattle.bus_signals.specs.Address.{Contents}
 use Rattle.part_definitions.specs.FirstRule.{first_rule}
 use Rattle.part_definitions.specs.Flag.{last_pc}
@@ -27,11 +28,7 @@ is_reset event = false
 abbrev pub asks_reset : List Event → Bool
 asks_reset events = list_any is_reset events
 
--- a refused access, with 0 in place of the number that a write carries
-abbrev pub without_number : Option Access → Option Access
-without_number (Some (Write place size number)) = Some (Write place size 0)
-without_number access = access
-
+-- the numbers that the writes of a refused step carry stand as 0
 abbrev pub access_recorded : Option Rule → Option Access → Option Access
 access_recorded None access = access
 access_recorded (Some rule) access = without_number access

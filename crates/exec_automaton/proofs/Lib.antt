@@ -1,3 +1,3 @@
+pub mod QuietStep
 pub mod UnclearedRun
-pub mod Exec
 pub mod UnclearedStarts

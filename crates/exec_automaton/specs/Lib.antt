@@ -1,3 +1,4 @@
+pub mod Flag
 pub mod ExecFlag
 pub mod RunFlag
 pub mod UnclearedStart

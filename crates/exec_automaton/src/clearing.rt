@@ -136,8 +136,9 @@ pub fn runs_inside(entry: &BusRecord, bounds: &Bounds) -> bool
     bounds.executable_region().contains(entry.pc)
 }
 
-// The record before it, whose `pc` is given, was in the region.
-fn ran_inside(last: Option<u16>, region: Region) -> bool
+/// Whether the record before it, whose `pc` is given, was in the region.
+#[inline(always)]
+pub fn ran_inside(last: Option<u16>, region: Region) -> bool
     ensures { result ≡ ran_inside last region }
 {
     last.is_some_and(|pc| region.contains(pc))

@@ -2,12 +2,11 @@ use bus_signals::{Bounds, BusRecord, Signals};
 
 /// What clears a flag that a run sets.
 pub trait Conditions: Copy {
-    ghost use Rattle.std.specs.Prelude.{◌≡◌, Bool, Option, Some, true, false};
+    ghost use Rattle.std.specs.Prelude.{◌≡◌, Bool, Option, true, false};
     ghost use Rattle.bus_signals.specs.declared.bus_record.BusRecord.{BusRecord};
     ghost use Rattle.bus_signals.specs.Address.{Address};
-    ghost use Rattle.bus_signals.specs.Flag.{IsRecordOf};
     ghost use Rattle.bus_signals.specs.SeenRecord.{SeenHistory, SeenRecord};
-    ghost use Rattle.part_definitions.specs.Flag.{starts_run};
+    ghost use Rattle.exec_automaton.specs.Flag.{IsRecordOf, is_quiet};
     ghost use Rattle.exec_automaton.specs.RunFlag.{is_set};
 
     /// The flag, after the records seen.
@@ -16,21 +15,17 @@ pub trait Conditions: Copy {
     /// Whether a record clears it, after one with this `pc`.
     ghost clears: { Option Address → SeenRecord → Bool };
 
-    /// Whether a record, seen with these bounds after one with this `pc`, clears the flag. One that
-    /// starts a run clears nothing by what came before it.
+    /// Whether a record, seen with these bounds after one with this `pc`, clears the flag.
     fn clears(last: Option<u16>, entry: &BusRecord, bounds: Bounds) -> bool
-        ensures same { result ≡ clears last (record { entry = entry.now; bounds = bounds }) }
-        ensures alike { (other : Option Address)
-            → starts_run (record { entry = entry.now; bounds = bounds }) ≡ true
-            → result ≡ clears other (record { entry = entry.now; bounds = bounds }) };
+        ensures { result ≡ clears last (record { entry = entry.now; bounds = bounds }) };
 
-    /// Whether a step that is about to do this, after a record with this `pc`, does not clear the
-    /// flag unless it is refused.
-    fn spares(last: u16, now: &Signals, bounds: &Bounds) -> bool
-        ensures { (entry : BusRecord)
+    /// Whether a quiet step that is about to do this does not clear the flag, unless it is refused.
+    fn spares(now: &Signals, bounds: &Bounds) -> bool
+        ensures { (last : Option Address) (entry : BusRecord)
             → IsRecordOf now.now entry
+            → is_quiet last (record { entry = entry; bounds = bounds.now }) ≡ true
             → result ≡ true
-            → clears (Some last) (record { entry = entry; bounds = bounds.now }) ≡ false };
+            → clears last (record { entry = entry; bounds = bounds.now }) ≡ false };
 
     /// It is set where a record starts a run, and neither it nor a later one clears it.
     ghost of_run: { (records : SeenHistory) → flag records ≡ is_set clears records };

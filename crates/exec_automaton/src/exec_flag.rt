@@ -2,8 +2,8 @@ ghost use Rattle.part_definitions.specs.Flag.{exec, clears};
 
 use crate::clearing::clears;
 use crate::conditions::Conditions;
+use crate::quiet::may_accept;
 use crate::run_flag::RunFlag;
-use crate::sparing::spares;
 use bus_signals::{Bounds, BusRecord, Signals};
 
 /// The EXEC flag after the records seen.
@@ -26,8 +26,8 @@ impl Conditions for ExecConditions {
     }
 
     #[inline(always)]
-    fn spares(last: u16, now: &Signals, bounds: &Bounds) -> bool {
-        spares(last, now, bounds)
+    fn spares(now: &Signals, bounds: &Bounds) -> bool {
+        !may_accept(now, bounds)
     }
 
     ghost of_run = { exec-of_run };

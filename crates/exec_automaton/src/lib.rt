@@ -1,23 +1,25 @@
 //! The EXEC flag: a proof that the executable region ran from its first instruction on, whole and
 //! undisturbed, and that its output is what it left (APEX, USENIX Security 2020).
 //!
-//! A flag of a run sees each record with the bounds as they stood before it. After every list of
-//! records it is set exactly where one of them starts a run and neither it nor a later one clears
-//! the flag. What clears it is the flag's own (`Conditions`).
+//! A flag (`TraceFlag`) sees each record with the bounds as they stood before it. A flag of a run
+//! (`RunFlag`) is, after every list of records, set exactly where one of them starts a run and
+//! neither it nor a later one clears the flag. What clears it is the flag's own (`Conditions`).
 #![tactic(auto)]
 
 mod clearing;
 mod conditions;
 mod exec_flag;
 mod law;
+mod quiet;
 mod run_flag;
-mod sparing;
 mod start;
+mod trace_flag;
 
 pub use clearing::{clears_both, enters_region, has_write_to, runs_inside, writes_to};
 pub use conditions::Conditions;
 pub use exec_flag::{ExecConditions, ExecFlag};
 pub use law::flag_is_set_by_an_uncleared_start;
+pub use quiet::is_quiet;
 pub use run_flag::RunFlag;
-pub use sparing::spares_both;
 pub use start::{fetches_first, starts_run};
+pub use trace_flag::{NoFlag, TraceFlag};

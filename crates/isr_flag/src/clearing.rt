@@ -1,10 +1,11 @@
-ghost use Rattle.std.specs.Prelude.{◌≡◌, true, false, Some};
-ghost use Rattle.bus_signals.specs.Flag.{IsRecordOf};
+ghost use Rattle.std.specs.Prelude.{◌≡◌, true, false, is_none};
+ghost use Rattle.bus_signals.specs.declared.bounds.Bounds.{Bounds as SeenBounds};
+ghost use Rattle.exec_automaton.specs.Flag.{IsRecordOf};
 ghost use Rattle.part_definitions.specs.TrustedFlag.{reads_vector, handler_read, enters_elsewhere, clears_f3, clears_f4, clears_f10, clears_aux};
 
 use bus_signals::{Access, Bounds, BusRecord, Kind, Region, Signals, VECTORS};
 use exec_automaton::{
-    clears_both, enters_region, fetches_first, has_write_to, runs_inside, spares_both, writes_to,
+    clears_both, enters_region, fetches_first, has_write_to, runs_inside, writes_to,
 };
 
 /// Whether a record, seen with these bounds after one with this `pc`, clears the flag. The bounds
@@ -20,23 +21,22 @@ pub fn clears_aux(last: Option<u16>, entry: &BusRecord, bounds: Bounds) -> bool
         || clears_f10(entry, bounds)
 }
 
-/// Whether a step that is about to do this, after a record with this `pc`, does not clear the flag
-/// unless it is refused. What an interrupt reads is not known before it is read.
+/// Whether in a step that is about to do this, in which the DMA has no access, a write touches the
+/// vectors.
 #[inline(always)]
-pub fn spares_aux(last: u16, now: &Signals, bounds: &Bounds) -> bool
-    ensures { (entry : BusRecord)
+pub fn may_write_vectors(now: &Signals) -> bool
+    ensures { (entry : BusRecord) (bounds : SeenBounds)
         → IsRecordOf now.now entry
-        → result ≡ true
-        → clears_aux (Some last) (record { entry = entry; bounds = bounds.now }) ≡ false }
+        → is_none entry.dma ≡ true
+        → result ≡ clears_f10 (record { entry = entry; bounds = bounds }) }
 {
-    spares_both(last, now, bounds)
-        && !writes_to(VECTORS, now.cpu)
-        && !may_be_interrupted(now, bounds)
+    writes_to(VECTORS, now.cpu)
 }
 
-// A step of an interrupt's entry, in ER.
+/// Whether a step that is about to do this is one of an interrupt's entry, in ER. What it reads is
+/// not known before it is read.
 #[inline(always)]
-fn may_be_interrupted(now: &Signals, bounds: &Bounds) -> bool
+pub fn may_be_interrupted(now: &Signals, bounds: &Bounds) -> bool
     ensures { (entry : BusRecord)
         → IsRecordOf now.now entry
         → result ≡ false

@@ -1,6 +1,6 @@
 ghost use Rattle.part_definitions.specs.TrustedFlag.{aux, clears_aux};
 
-use crate::clearing::{clears_aux, spares_aux};
+use crate::clearing::{clears_aux, may_be_interrupted, may_write_vectors};
 use bus_signals::{Bounds, BusRecord, Signals};
 use exec_automaton::{Conditions, RunFlag};
 
@@ -24,8 +24,8 @@ impl Conditions for AuxConditions {
     }
 
     #[inline(always)]
-    fn spares(last: u16, now: &Signals, bounds: &Bounds) -> bool {
-        spares_aux(last, now, bounds)
+    fn spares(now: &Signals, bounds: &Bounds) -> bool {
+        !may_write_vectors(now) && !may_be_interrupted(now, bounds)
     }
 
     ghost of_run = { aux-of_run };

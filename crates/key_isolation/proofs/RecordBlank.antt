@@ -5,6 +5,7 @@ use Rattle.bus_signals.specs.declared.access.Access.TheVariants.{Fetch, Read, Wr
 use Rattle.bus_signals.specs.declared.kind.Kind.{Kind}
 use Rattle.bus_signals.specs.declared.rule.Rule.{Rule}
 use Rattle.bus_signals.specs.declared.signals.Signals.{Signals}
+use Rattle.bus_signals.specs.Access.{without_number}
 use Rattle.bus_signals.specs.Map.{touches, stack_region}
 use Rattle.part_definitions.specs.Dma.{dma_access}
 use Rattle.part_definitions.specs.FirstRule.{first_rule}
@@ -14,7 +15,7 @@ use Rattle.device_trace.specs.Logs.{Logs, step_progress, vector_of, released_wor
 use Rattle.device_trace.specs.Progress.{Progress, last_registers, next_pc_of, access_of, next_progress}
 use Rattle.device_trace.specs.Signals.{value_read, step_kind, proposed_access, signals_at, signals_of}
 use Rattle.device_trace.specs.Start.{Start}
-use Rattle.device_trace.specs.Step.{without_number, dma_value_read, record_from, record_of}
+use Rattle.device_trace.specs.Step.{dma_value_read, record_from, record_of}
 use Rattle.device_trace.proofs.FormedAccess.{access_of-formed}
 use Rattle.key_isolation.proofs.Bytes.{zero_either}
 use Rattle.trace_facts.proofs.BreaksNoRule.{BreaksNoRule, first_rule-none}

@@ -6,10 +6,10 @@ use Rattle.bus_signals.specs.declared.access.Access.{Access}
 use Rattle.bus_signals.specs.declared.rule.Rule.{Rule}
 use Rattle.bus_signals.specs.declared.rule.Rule.TheVariants.{X0, I1}
 use Rattle.bus_signals.specs.declared.signals.Signals.{Signals}
+use Rattle.bus_signals.specs.Access.{without_number}
 use Rattle.part_definitions.specs.FirstRule.{breaks_x0, breaks_i1, rule_where, or_else, first_rule}
 use Rattle.part_definitions.specs.NextAccess.{is_illegal}
 use Rattle.part_definitions.specs.MonitorRule.{key_rule, atomicity_rule}
-use Rattle.device_trace.specs.Step.{without_number}
 
 pub record SameSignals (view real : Signals) : Type 0 where
   pub kind : view.kind ≡ real.kind

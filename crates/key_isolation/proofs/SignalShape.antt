@@ -5,7 +5,7 @@ use Rattle.bus_signals.specs.declared.access.Access.{Access}
 use Rattle.bus_signals.specs.declared.bounds.Bounds.{Bounds}
 use Rattle.bus_signals.specs.declared.kind.Kind.{Kind}
 use Rattle.bus_signals.specs.declared.kind.Kind.TheVariants.{Boot, Cpu, Idle, Irq, Rom}
-use Rattle.bus_signals.specs.Access.{some_writes}
+use Rattle.bus_signals.specs.Access.{some_writes, without_number}
 use Rattle.bus_signals.specs.Map.{some_touches, key_region, stack_region}
 use Rattle.part_definitions.specs.BusAccess.{fetch_at}
 use Rattle.part_definitions.specs.Attestation.{CallItem, item_access, bounds_read, call_item}
@@ -18,7 +18,6 @@ use Rattle.device_trace.specs.Logs.{Logs, vector_of, step_progress}
 use Rattle.device_trace.specs.Progress.{Progress, Held, Runs, InCall, next_pc_of, progress_within, tells_irq, access_of, fetches_opcode}
 use Rattle.device_trace.specs.Signals.{word_fetched, step_kind, proposed_access, signals_at, signals_of}
 use Rattle.device_trace.specs.Start.{Start}
-use Rattle.device_trace.specs.Step.{without_number}
 use Rattle.trace_facts.proofs.BreaksNoRule.{BreaksNoKeyRule, key_rule-none}
 use Rattle.key_isolation.proofs.HiddenWords.{hide_words, bounds_read-hide, call_item-hide}
 use Rattle.key_isolation.proofs.Hiding.{open_start, hide_progress, hide, next_pc_of-hide, tells_irq-hide, fetches_opcode-hide, vector_of-hide, step_kind-hide, step_progress-hide}

@@ -1,4 +1,4 @@
-ghost use Rattle.std.specs.Prelude.{◌≡◌, ◌+◌, ◌*◌, ◌≤◌, ◌++◌, [], ℕ, List, length, decimal};
+ghost use Rattle.std.specs.Prelude.{◌≡◌, ◌+◌, ◌*◌, ◌≤◌, ◌++◌, ◌∷◌, [], ℕ, List, length, decimal};
 ghost use Rattle.hex.specs.Hex.{encode_lower};
 ghost use Rattle.printed_lines.specs.Line.{byte_digits, word_digits};
 ghost use Rattle.line_buffer.specs.declared.line_buffer.TheConstants.{ROOM};
@@ -8,7 +8,7 @@ use itoa::Buffer;
 use std::marker::Model;
 
 /// How many bytes a line has room for.
-pub const ROOM: usize = 192;
+pub const ROOM: usize = 256;
 
 /// A line that is being built, seen as its bytes.
 #[derive(Drop)]
@@ -94,6 +94,19 @@ impl LineBuffer {
         let mut digits = [0; 4];
         match hex::encode_to_slice(&word.to_be_bytes(), &mut digits) {
             Ok(()) => self.push(&digits),
+            Err(_) => unreachable!(),
+        }
+    }
+
+    /// A space and four digits, lower case.
+    pub fn push_spaced_word(&mut self, word: u16)
+        requires { length self.old + 5 ≤ ROOM }
+        ensures text { self.new ≡ self.old ++ 32 ∷ word_digits word }
+        ensures len { length self.new ≡ length self.old + 5 }
+    {
+        let mut text = [b' '; 5];
+        match hex::encode_to_slice(&word.to_be_bytes(), &mut text[1..]) {
+            Ok(()) => self.push(&text),
             Err(_) => unreachable!(),
         }
     }

@@ -5,3 +5,4 @@ pub mod File
 pub mod FileFault
 pub mod Shelf
 pub mod Sink
+pub mod Source

@@ -2,31 +2,12 @@ use crate::proposal::proposal;
 use atomicity_monitor::AtomMonitor;
 use bus_signals::Access::{Fetch, Read, Write};
 use bus_signals::Rule::{A1, A2, A3, A4};
-use bus_signals::{Access, BusRecord, Kind, Rule};
+use bus_signals::{Access, Kind, Rule};
 use word_arith::Size::Word;
-
-// A monitor that has seen one record with this `pc`, or none.
-fn monitor_after(last: Option<u16>) -> AtomMonitor {
-    let mut monitor = AtomMonitor::new();
-    if let Some(pc) = last {
-        monitor.see(&BusRecord {
-            kind: Kind::Cpu,
-            pc,
-            regs: [0; 16],
-            cpu: None,
-            value: 0,
-            dma: None,
-            dma_value: 0,
-            irq: false,
-            reset: None,
-        });
-    }
-    monitor
-}
 
 // The rule that a step breaks after a record with this `pc`.
 fn rule_of(last: Option<u16>, kind: Kind, pc: u16, cpu: Option<Access>, irq: bool) -> Option<Rule> {
-    monitor_after(last).check(&proposal(kind, pc, cpu, None, irq))
+    AtomMonitor::new().check(last, &proposal(kind, pc, cpu, None, irq))
 }
 
 #[test]

@@ -1,7 +1,7 @@
 use crate::proposal::proposal;
 use bus_signals::Access::{Fetch, Read, Write};
-use bus_signals::{Access, Bounds, BusRecord, Kind, Rule, TraceFlag};
-use exec_automaton::ExecFlag;
+use bus_signals::{Access, Bounds, BusRecord, Kind, Rule};
+use exec_automaton::{ExecFlag, TraceFlag, is_quiet};
 use word_arith::Size::{Byte, Word};
 
 // ER is C020..C027, OR is 0300..0303.
@@ -32,22 +32,22 @@ fn fetch(pc: u16) -> BusRecord {
     record(Kind::Cpu, pc, Some(Fetch(pc)), None)
 }
 
-// Whether the flag says that the step of this record leaves it as it is.
-fn stays(flag: &ExecFlag, entry: &BusRecord, bounds: &Bounds) -> bool {
+// Whether the flag says that the step of this record, after one with this `pc`, leaves it as it is.
+fn stays(flag: &ExecFlag, last: Option<u16>, entry: &BusRecord, bounds: &Bounds) -> bool {
     let now = proposal(entry.kind, entry.pc, entry.cpu, entry.dma, entry.irq);
-    entry.reset.is_none() && flag.stays(&now, bounds)
+    entry.reset.is_none() && flag.stays(is_quiet(last, &now, bounds), &now, bounds)
 }
 
-// The flag that has seen these records with these bounds, or passed over them where it may, as the
+// The flag that has seen these records with these bounds, or is not shown them where it may, as the
 // device has it.
 fn flag_after(bounds: &Bounds, entries: &[BusRecord]) -> ExecFlag {
     let mut flag = ExecFlag::new();
+    let mut last = None;
     for entry in entries {
-        if stays(&flag, entry, bounds) {
-            flag.pass(entry.pc);
-        } else {
-            flag.see(entry, bounds);
+        if !stays(&flag, last, entry, bounds) {
+            flag.see(last, entry, bounds);
         }
+        last = Some(entry.pc);
     }
     flag
 }
@@ -245,6 +245,7 @@ fn stays_set(rt: HostRuntime) {
     ];
     for (before, entry, is_left) in rows {
         let flag = flag_after(&BOUNDS, before);
-        assert_eq!(rt; stays(&flag, &entry, &BOUNDS), is_left, "{entry:?}");
+        let last = before.last().map(|entry| entry.pc);
+        assert_eq!(rt; stays(&flag, last, &entry, &BOUNDS), is_left, "{entry:?}");
     }
 }

@@ -1,9 +1,9 @@
 ghost use Rattle.text_scan.specs.Reader.{ReadsOn, ReadsWordOn};
 ghost use Rattle.report_text.specs.ReportLine.{tx_line_of, reset_of, denied_of, verdict_of, bytes_of, collision_of, end_line_of, other_line_of, other_or_collision_of};
 
+use crate::printed_verdict::is_verdict_name;
 use crate::report_entry::{read_count, read_flag};
 use crate::rule_name::is_rule_name;
-use crate::verdict_name::is_verdict_name;
 use std::alloc::Global;
 use text_scan::{Bytes, FaultKind, WordFault, Words};
 

@@ -35,11 +35,11 @@ pub fn read_reports(alloc: Global, text: &[u8]) -> Result<Vec<Report>, TextFault
     }
 }
 
-impl LineReader for ReportList {
+impl<'a> LineReader<'a> for ReportList {
     ghost with_line = { with_line };
 
     #[tactic(auto, unfolding(crate::specs::ReportFile::with_line))]
-    fn take(&mut self, alloc: Global, line: &[u8]) -> Result<(), WordFault> {
+    fn take(&mut self, alloc: Global, line: &'a [u8]) -> Result<(), WordFault> {
         match read_report_entry(alloc, line)? {
             None => Ok(()),
             Some(report) => self.add(report),

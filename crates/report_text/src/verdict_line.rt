@@ -1,7 +1,7 @@
 ghost use Rattle.outside_edge.specs.Sink.{Puts, CountsFaults};
 ghost use Rattle.report_text.specs.VerdictLine.{verdict_line};
 
-use crate::verdict_name::verdict_name;
+use crate::printed_verdict::verdict_name;
 use line_buffer::LineBuffer;
 use outside_edge::{Failed, Sink, put_all};
 use report_verifier::Decision;

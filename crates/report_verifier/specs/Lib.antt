@@ -6,3 +6,4 @@ pub mod Comparison
 pub mod Policy
 pub mod PolicyGrammar
 pub mod Validity
+pub mod Judge

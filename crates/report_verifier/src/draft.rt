@@ -29,11 +29,11 @@ pub enum Draft {
     Whole(Policy),
 }
 
-impl LineReader for Draft {
+impl<'a> LineReader<'a> for Draft {
     ghost with_line = { with_line };
 
     #[tactic(auto, unfolding(crate::specs::PolicyGrammar::with_line))]
-    fn take(&mut self, alloc: Global, line: &[u8]) -> Result<(), WordFault> {
+    fn take(&mut self, alloc: Global, line: &'a [u8]) -> Result<(), WordFault> {
         let entry = read_policy_line(self, line)?;
         add_entry(alloc, self, entry)
     }

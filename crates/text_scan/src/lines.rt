@@ -85,8 +85,8 @@ fn line_len(text: &[u8]) -> usize
     memchr(b'\n', text).unwrap_or(text.len())
 }
 
-// The line without the carriage return at its end, where it has one.
-pub(crate) fn without_return(line: &[u8]) -> &[u8]
+/// The line without the carriage return at its end, where it has one.
+pub fn without_return(line: &[u8]) -> &[u8]
     ensures { result.now ≡ strip_carriage_return line.now }
 {
     match line {

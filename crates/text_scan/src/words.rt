@@ -49,6 +49,13 @@ impl<'a> Words<'a> {
         }
     }
 
+    /// What is left of the line.
+    pub fn rest(&self) -> &'a [u8]
+        ensures { words_of result.now ≡ self.now }
+    {
+        self.rest
+    }
+
     /// `Extra` where there is a further word, which is passed.
     pub fn end(&mut self) -> Result<(), FaultKind>
         ensures end { result ≡ end_of self.old }

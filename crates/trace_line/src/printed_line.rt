@@ -39,7 +39,7 @@ fn push_head(text: &mut LineBuffer, step: u64, line: &TraceLine)
     text.push(b" ");
     text.push_decimal(step);
     push_name(text, kind_name(line.kind));
-    push_number(text, line.pc);
+    text.push_spaced_word(line.pc);
 }
 
 fn push_proposal(text: &mut LineBuffer, line: &TraceLine)
@@ -62,9 +62,9 @@ fn push_values(text: &mut LineBuffer, line: &TraceLine)
         ∷ word_digits line.now.value ∷ word_digits line.now.dma_value ∷ []) }
     ensures len { length text.new ≡ length text.old + 15 }
 {
-    push_number(text, line.word);
-    push_number(text, line.value);
-    push_number(text, line.dma_value);
+    text.push_spaced_word(line.word);
+    text.push_spaced_word(line.value);
+    text.push_spaced_word(line.dma_value);
 }
 
 fn push_bounds(text: &mut LineBuffer, bounds: &Bounds)
@@ -74,10 +74,10 @@ fn push_bounds(text: &mut LineBuffer, bounds: &Bounds)
         ∷ word_digits bounds.now.or_max ∷ []) }
     ensures len { length text.new ≡ length text.old + 20 }
 {
-    push_number(text, bounds.er_min);
-    push_number(text, bounds.er_max);
-    push_number(text, bounds.or_min);
-    push_number(text, bounds.or_max);
+    text.push_spaced_word(bounds.er_min);
+    text.push_spaced_word(bounds.er_max);
+    text.push_spaced_word(bounds.or_min);
+    text.push_spaced_word(bounds.or_max);
 }
 
 fn push_end(text: &mut LineBuffer, line: &TraceLine)
@@ -99,15 +99,6 @@ fn push_name(text: &mut LineBuffer, name: &[u8])
 {
     text.push(b" ");
     text.push(name);
-}
-
-fn push_number(text: &mut LineBuffer, number: u16)
-    requires { length text.old ≤ 150 }
-    ensures text { text.new ≡ text.old ++ 32 ∷ word_digits number }
-    ensures len { length text.new ≡ length text.old + 5 }
-{
-    text.push(b" ");
-    text.push_word(number);
 }
 
 fn push_flag(text: &mut LineBuffer, flag: bool)

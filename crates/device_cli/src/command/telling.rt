@@ -1,7 +1,7 @@
 ghost use Rattle.device_cli.specs.Limit.{most_steps};
 
-use bus_signals::TraceFlag;
 use device_core::{Device, Held};
+use exec_automaton::TraceFlag;
 use hmac_core::Digest32;
 use outside_edge::{Failed, Sink};
 use play_script::Script;

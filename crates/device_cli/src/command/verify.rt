@@ -31,7 +31,7 @@ pub type VerifyValues = (
 
 impl<'a> Task<'a> for Verify<'a> {
     ghost use Rattle.mem_map.specs.Image.{byte_in};
-    ghost use Rattle.device_cli.specs.Judge.{judge_with};
+    ghost use Rattle.report_verifier.specs.Judge.{judge_with};
     ghost use Rattle.device_cli.specs.Verify.{verify_row, verify_row_of, verdicts, verdicts_outcome};
 
     type Values = VerifyValues;

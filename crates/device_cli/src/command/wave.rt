@@ -1,7 +1,7 @@
 use crate::command::telling::Telling;
 use crate::wave_text::wave_on;
-use bus_signals::TraceFlag;
 use device_core::{Device, Held};
+use exec_automaton::TraceFlag;
 use hmac_core::Digest32;
 use outside_edge::{Failed, Sink};
 use play_script::Script;

@@ -4,8 +4,8 @@ use report_verifier::read_policy;
 use std::alloc::Global;
 use text_scan::{FaultAt, TextFault};
 
-// The most bytes of a policy.
-const POLICY_LIMIT: usize = 65_536;
+/// The most bytes of a policy.
+pub const POLICY_LIMIT: usize = 65_536;
 
 /// What reports are expected to name: regions, a flag and requests.
 #[derive(Clone, Copy, Debug)]

@@ -1,8 +1,8 @@
 ghost use Rattle.device_core.specs.Device.{LiveStandsFor};
 ghost use Rattle.device_cli.specs.Limit.{most_steps};
 
-use bus_signals::TraceFlag;
 use device_core::Live;
+use exec_automaton::TraceFlag;
 use hmac_core::Digest32;
 use outside_edge::Sink;
 

@@ -10,8 +10,8 @@ ghost use Rattle.device_cli.specs.Midway.{IsMidway, HasGoneOn};
 ghost use Rattle.device_cli.specs.WatchedPlay.{watched_lines, IsSoAfterSome, Blames};
 
 use crate::play_text::step_watcher::StepWatcher;
-use bus_signals::TraceFlag;
 use device_core::{Device, Held, Live};
+use exec_automaton::TraceFlag;
 use hmac_core::Digest32;
 use outside_edge::Sink;
 use play_script::{Playback, Script};

@@ -3,8 +3,9 @@
 use crate::play_text::play_on;
 use crate::tests::attested_row::REQUEST;
 use crate::tests::{KEY, VECTOR_AND_END, text_of};
-use bus_signals::{Bounds, BusRecord, Signals, TraceFlag};
+use bus_signals::{Bounds, BusRecord, Signals};
 use device_core::power_on;
+use exec_automaton::TraceFlag;
 use hex_loader::read_hex;
 use hmac_core::Sha256Digest;
 use outside_edge::MemSink;
@@ -23,6 +24,7 @@ struct EntryFlag {
 
 impl TraceFlag for EntryFlag {
     ghost use Rattle.std.specs.Prelude.{◌≡◌, ◌==◌, false, option_map, unwrap_or};
+    ghost use Rattle.std.proofs.Common.{◌∙◌, sym};
     ghost use Rattle.part_definitions.specs.Flag.{last_pc};
 
     ghost flag = { record {
@@ -30,9 +32,10 @@ impl TraceFlag for EntryFlag {
       has_seen = λ flag records.
           flag.is_set
           ≡ unwrap_or (option_map (λ pc. pc == 0xA000) (last_pc records)) false;
+      passes = λ flag now before seen same. seen ∙ sym same;
     } };
 
-    fn see(&mut self, entry: &BusRecord, _bounds: &Bounds) {
+    fn see(&mut self, _last: Option<u16>, entry: &BusRecord, _bounds: &Bounds) {
         self.is_set = entry.pc == ENTRY;
     }
 
@@ -44,11 +47,9 @@ impl TraceFlag for EntryFlag {
         !self.is_set && pc != ENTRY
     }
 
-    fn stays(&self, now: &Signals, _bounds: &Bounds) -> bool {
+    fn stays(&self, _quiet: bool, now: &Signals, _bounds: &Bounds) -> bool {
         self.is_set == (now.pc == ENTRY)
     }
-
-    fn pass(&mut self, _pc: u16) {}
 }
 
 // Calls the ROM, and sends the byte at 026A twice.

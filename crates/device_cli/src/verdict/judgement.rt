@@ -6,7 +6,7 @@ ghost use Rattle.outside_edge.specs.Sink.{Puts};
 ghost use Rattle.report_verifier.specs.Comparison.{OutputFits};
 ghost use Rattle.report_verifier.specs.Validity.{are_valid_for};
 ghost use Rattle.device_cli.specs.Judgement.{judge_of, evidence_lines, is_pair_shown, judgement_lines, judgement_has_pair, TellsOutput, tally_after};
-ghost use Rattle.device_cli.specs.Judge.{verdict_at};
+ghost use Rattle.report_verifier.specs.Judge.{verdict_at};
 ghost use Rattle.device_cli.specs.Limit.{most_steps};
 ghost use Rattle.device_cli.specs.Verify.{is_accept};
 ghost use Rattle.device_cli.specs.RoundText.{CountsWriteFaults, StopsOnlyAtPair};

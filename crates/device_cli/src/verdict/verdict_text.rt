@@ -1,7 +1,7 @@
 ghost use Rattle.std.specs.Prelude.{◌≡◌, ◌<◌, IfOk, Some, length, option_map};
 ghost use Rattle.std.specs.List.{slice_get};
 ghost use Rattle.outside_edge.specs.Sink.{Puts, CountsFaults};
-ghost use Rattle.device_cli.specs.Judge.{verdict_at};
+ghost use Rattle.report_verifier.specs.Judge.{verdict_at};
 ghost use Rattle.device_cli.specs.Judgement.{judge_of};
 ghost use Rattle.device_cli.specs.Verify.{verdicts, lines_from, all_accept, is_accept};
 

@@ -15,7 +15,7 @@ pub struct Verifier<'a> {
 
 impl Verifier<'_> {
     ghost use Rattle.bus_signals.specs.Report.{fields_of};
-    ghost use Rattle.device_cli.specs.Judge.{verdict_at};
+    ghost use Rattle.report_verifier.specs.Judge.{verdict_at};
     ghost use Rattle.device_cli.specs.Judgement.{judge_of};
 
     /// The verdict on a report, numbered from 0: it is expected to answer the request of its

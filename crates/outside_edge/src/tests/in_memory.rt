@@ -1,8 +1,9 @@
-//! Files, shelves and sinks in memory.
+//! Files, shelves, sinks and sources in memory.
 
 use crate::tests::{distinct_bytes, one_file};
 use crate::{
-    Failed, FileFault, MemShelf, MemSink, NeverFailShelf, NeverFailSink, put_all, read_whole,
+    Failed, FileFault, MemShelf, MemSink, MemSource, NeverFailShelf, NeverFailSink,
+    NeverFailSource, Source, put_all, read_whole,
 };
 use std::test::Fail;
 
@@ -55,6 +56,23 @@ fn a_sink_in_memory_takes_what_it_has_room_for(rt: HostRuntime) -> Result<(), Fa
     Ok(())
 }
 
+#[test]
+fn a_source_in_memory_gives_its_bytes_once(rt: HostRuntime) -> Result<(), Fail> {
+    let alloc = rt.alloc();
+    let failing = [2].to_vec(alloc)?;
+    let mut source = MemSource::new(b"abcdef".to_vec(alloc)?, 4, failing);
+    let mut piece = *b".....";
+    assert_eq!(rt; source.take(&mut piece), Ok(4));
+    assert_eq!(rt; &piece, b"abcd.");
+    assert_eq!(rt; source.take(&mut piece), Err(Failed));
+    assert_eq!(rt; &piece, b"abcd.");
+    assert_eq!(rt; source.take(&mut piece[..0]), Ok(0));
+    assert_eq!(rt; source.take(&mut piece), Ok(2));
+    assert_eq!(rt; &piece, b"efcd.");
+    assert_eq!(rt; source.take(&mut piece), Ok(0));
+    Ok(())
+}
+
 // The errors can't come: the arms are proved to be out of reach.
 #[test]
 fn over_those_that_never_fail_no_fault_is_answered(rt: HostRuntime) -> Result<(), Fail> {
@@ -64,6 +82,10 @@ fn over_those_that_never_fail_no_fault_is_answered(rt: HostRuntime) -> Result<()
     }
     let mut shelf = NeverFailShelf::new(Vec::new(rt.alloc()), 1);
     if let Err(FileFault::Failed) = read_whole(rt.alloc(), &mut shelf, "key", 9) {
+        unreachable!()
+    }
+    let mut source = NeverFailSource::new(Vec::new(rt.alloc()), 1);
+    if let Err(Failed) = source.take(&mut [0]) {
         unreachable!()
     }
     Ok(())

@@ -1,12 +1,15 @@
-use Rattle.std.proofs.Common.{rules, arith}
+use Rattle.std.proofs.Common.{◌∙◌, Some, option_map, ap, sym, rules, arith}
+use Rattle.device_cli.specs.TracedPlay.{value_shown}
 use Rattle.device_cli.proofs.TracedPlay.{told_line}
 use Rattle.device_cli.proofs.tell_play.line_of_last.Goals as goal
 
 pub returns-clause-line : goal.returns-clause-line
 returns-clause-line g c = λ start play stands.
-    told_line start play c.entry-entry.result c.signals-now.result c.bounds_before.result
-    c.exec.result _ (c.entry-entry.ensures.last start play stands)
-    (c.signals-now.ensures start play stands) (c.bounds_before.ensures start play stands)
+    let last = c.entry-entry.ensures.last start play stands in
+    let value = ap (option_map value_shown) last ∙ ap Some (sym c.blank_value-value.ensures) in
+    told_line start play c.entry-entry.result.now _ c.bounds_before.result c.exec.result _ last
+    (c.proposal_of_last-asked.ensures start play stands value)
+    (c.bounds_before.ensures start play stands)
     (c.exec.ensures start play stands) (search (rules))
 
 pub returns-clause-printable : goal.returns-clause-printable

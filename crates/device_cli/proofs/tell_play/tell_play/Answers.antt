@@ -1,4 +1,4 @@
-use Rattle.std.proofs.Common.{◌≡◌, ◌∙◌, ◌-◌, [], ℕ, suc, List, Some, refl, sym, arith}
+use Rattle.std.proofs.Common.{◌≡◌, ◌∙◌, [], ℕ, suc, List, Some, refl, sym, arith}
 use Rattle.device_trace.specs.Start.{Start, with_key}
 use Rattle.device_trace.specs.Trace.{play_of}
 use Rattle.play_script.specs.Script.{events_of}

@@ -12,3 +12,7 @@ returns-clause-tally g c = λ start events play live is.
 pub returns-clause-puts : goal.returns-clause-puts
 returns-clause-puts g c = λ start events play live is.
     rw is.verdicts at (c.print_judged_step.ensures.puts start (events ∷ play) live)
+
+pub returns-clause-stops : goal.returns-clause-stops
+returns-clause-stops g c = λ start events play live is.
+    rw is.verdicts at (c.print_judged_step.ensures.memory start (events ∷ play) live)

@@ -2,7 +2,7 @@ use Rattle.std.proofs.Common.{Ok, Err}
 use Rattle.bus_signals.specs.Report.{fields_of}
 use Rattle.part_definitions.specs.Memory.{byte_at}
 use Rattle.outside_edge.proofs.SinkLemmas.{puts-failed}
-use Rattle.device_cli.specs.Judge.{Judge}
+use Rattle.report_verifier.specs.Judge.{Judge}
 use Rattle.device_cli.specs.Judgement.{judge_of}
 use Rattle.device_cli.proofs.IsJudged.{is-judged, evidence-fits, verdict-begun, evidence-put, pair-of_report}
 use Rattle.device_cli.proofs.WriteCounts.{stops-later}

@@ -2,7 +2,6 @@ use Rattle.device_trace.specs.Logs.{with_events}
 use Rattle.device_trace.specs.Start.{Start, with_key}
 use Rattle.device_trace.specs.Step.{next_record}
 use Rattle.device_trace.specs.Trace.{logs_after}
-use Rattle.device_core.proofs.Idle.{kept-signals}
 use Rattle.device_core.proofs.machine.Machine.step.Goals as goal
 
 pub returns-clause-stands : goal.returns-clause-stands
@@ -22,5 +21,5 @@ returns-clause-stands g c = λ key image play stands.
     (stands.same.same_stage, c.dma_access-dma.ensures start _ bus)) in
     record {
       same = after.same;
-      same_signals = kept-signals start play c.args.events.now _ after.same_signals;
+      same_signals = after.same_signals;
     }

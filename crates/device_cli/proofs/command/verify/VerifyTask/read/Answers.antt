@@ -1,5 +1,5 @@
 use Rattle.device_cli.specs.FileKind.{key_kind, image_kind, policy_kind, reports_kind}
-use Rattle.device_cli.specs.Judge.{judge_with}
+use Rattle.report_verifier.specs.Judge.{judge_with}
 use Rattle.device_cli.specs.Row.{put}
 use Rattle.device_cli.specs.Verify.{verdicts, verdicts_outcome}
 use Rattle.device_cli.proofs.LawfulRow.{read-lawful}

@@ -1,0 +1,14 @@
+pub mod ServedAlone
+pub mod AcceptedOnce
+pub mod Repeated
+pub mod Answered
+pub mod Pieces
+pub mod Standing
+pub mod PlaceMap
+pub mod KeyPlaces
+pub mod KeysChecked
+pub mod SilentLine
+pub mod DeskError
+pub mod SessionPiece
+pub mod SessionLast
+pub mod SessionSource

@@ -1,0 +1,40 @@
+-- A desk's value stands for its devices, its policy and the lines of each device so far.
+use Rattle.std.specs.Prelude.{◌≡◌, ℕ, List, [], Option, Result, Ok, Err}
+use Rattle.sha2.specs.Sha256.{sha256}
+use Rattle.mem_map.specs.Image.{byte_in}
+use Rattle.text_scan.specs.declared.fault_at.FaultAt.{FaultAt}
+use Rattle.text_scan.specs.declared.text_fault.TextFault.{TextFault}
+use Rattle.text_scan.specs.declared.text_fault.TextFault.TheVariants.{At, Memory}
+use Rattle.report_verifier.specs.Policy.{PolicyFields}
+use Rattle.verifier_desk.specs.declared.desk.Desk.{Desk}
+use Rattle.verifier_desk.specs.DeviceKey.{DeviceKey}
+use Rattle.verifier_desk.specs.DeviceLine.{DeviceLine}
+use Rattle.verifier_desk.specs.Replies.{DeskFields}
+use Rattle.verifier_desk.specs.Standing.{AreDistinct, StatesStand}
+
+pub record DeskStandsFor (desk : Desk) (fields : DeskFields) (lines : List ℕ → List DeviceLine)
+    : Type 0 where
+  pub digest : fields.digest ≡ sha256
+  pub devices : fields.devices ≡ desk.keys
+  pub image : fields.image ≡ byte_in desk.image
+  pub policy : fields.policy ≡ desk.policy
+  pub distinct : AreDistinct fields.devices
+  pub states : StatesStand fields desk.states.items lines
+
+-- no lines of any device
+abbrev pub no_lines_of : List ℕ → List DeviceLine
+no_lines_of name = []
+
+-- a desk of these devices, by SHA-256
+abbrev pub desk_with : List DeviceKey → (ℕ → Option ℕ) → PolicyFields → DeskFields
+desk_with devices image policy =
+    record { digest = sha256; devices = devices; image = image; policy = policy }
+
+-- a desk was opened for the devices that a text has, or its first fault was given
+abbrev pub Opens : Result Desk TextFault → Result (List DeviceKey) FaultAt → (ℕ → Option ℕ)
+    → PolicyFields → Type 0
+Opens (Ok desk) read image policy =
+    (devices : List DeviceKey) × (read ≡ Ok devices)
+    × DeskStandsFor desk (desk_with devices image policy) no_lines_of
+Opens (Err (At fault)) read image policy = read ≡ Err fault
+Opens (Err (Memory _)) read image policy = Unit {0}

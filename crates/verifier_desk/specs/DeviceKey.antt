@@ -1,0 +1,62 @@
+-- The file of keys: one line a device, with its name and its key; and the first fault.
+use Rattle.std.specs.Prelude.{ℕ, ◌==◌, ◌||◌, Bool, List, [], ◌∷◌, ◌++◌, length, if◌then◌else◌, nat_lt, Option, Some, None, unwrap_or, Result, Ok, Err, codes}
+use Rattle.std.specs.Char.{is_ascii_alphanumeric}
+use Rattle.std.specs.List.{list_all}
+use Rattle.std.specs.Option.{is_some}
+use Rattle.std.specs.Result.{result_ok}
+use Rattle.std.specs.Str.{bytes_eq}
+use Rattle.text_scan.specs.declared.fault_at.FaultAt.{FaultAt}
+use Rattle.text_scan.specs.declared.fault_kind.FaultKind.{FaultKind}
+use Rattle.text_scan.specs.declared.fault_kind.FaultKind.TheVariants.{Digit, Count, Twice}
+use Rattle.text_scan.specs.LineFold.{text_fold}
+use Rattle.text_scan.specs.Reader.{◌>>=◌}
+use Rattle.text_scan.specs.Word.{words_of, word_of, keyword_of, end_of}
+use Rattle.text_scan.specs.WordValue.{block_of}
+
+pub record DeviceKey : Type 0 where
+  pub name : List ℕ
+  pub key : List ℕ
+
+-- the key of the device of this name
+abbrev pub key_named : List ℕ → List DeviceKey → Option (List ℕ)
+key_named name [] = None
+key_named name (device ∷ devices) =
+    if bytes_eq device.name name then Some device.key else key_named name devices
+
+-- a letter, a digit or `_` (95)
+abbrev pub is_name_character : ℕ → Bool
+is_name_character character = is_ascii_alphanumeric character || (character == 95)
+
+-- a name has 1 to 32 such characters
+abbrev pub name_fault : List ℕ → Result Unit FaultKind
+name_fault word =
+    if list_all is_name_character word
+    then (if nat_lt 32 (length word) then Err Count else Ok tt)
+    else Err Digit
+
+-- `device NAME H128`
+unfoldable pub device_of : List (List ℕ) → Result DeviceKey FaultKind
+device_of words = do
+  rest ← keyword_of (codes "device") words
+  name ← word_of rest
+  sound ← name_fault name.0
+  key ← block_of 64 name.1
+  end ← end_of key.1
+  Ok (record { name = name.0; key = key.0 })
+
+abbrev pub with_device : List DeviceKey → DeviceKey → Result (List DeviceKey) FaultKind
+with_device devices device =
+    if is_some (key_named device.name devices) then Err Twice else Ok (devices ++ device ∷ [])
+
+unfoldable pub with_line : List DeviceKey → List ℕ → Result (List DeviceKey) FaultKind
+with_line devices line = do
+  device ← device_of (words_of line)
+  with_device devices device
+
+-- the devices in the order of the file, or the first fault
+abbrev pub devices_of : List ℕ → Result (List DeviceKey) FaultAt
+devices_of text = text_fold with_line [] text
+
+-- of a text without fault
+abbrev pub devices_in : List ℕ → List DeviceKey
+devices_in text = unwrap_or (result_ok (devices_of text)) []

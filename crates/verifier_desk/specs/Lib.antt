@@ -1,0 +1,16 @@
+pub mod Desk
+pub mod DeskLine
+pub mod DeviceKey
+pub mod DeviceLine
+pub mod DeviceReply
+pub mod FaultName
+pub mod HeldLine
+pub mod KeyCheck
+pub mod KeyList
+pub mod Law
+pub mod LineCut
+pub mod OwnLine
+pub mod Places
+pub mod Replies
+pub mod Serving
+pub mod Standing

@@ -1,0 +1,97 @@
+-- What a desk replies to lines.
+use Rattle.std.specs.Prelude.{ℕ, ◌++◌, Bool, false, List, [], ◌∷◌, if◌then◌else◌, Option, codes}
+use Rattle.std.specs.Fmt.{decimal}
+use Rattle.std.specs.Str.{bytes_eq}
+use Rattle.hex.specs.Hex.{encode_lower}
+use Rattle.part_definitions.specs.Request.{request_token}
+use Rattle.report_text.specs.VerdictName.{verdict_name}
+use Rattle.report_verifier.specs.Expectation.{count_bytes}
+use Rattle.report_verifier.specs.Judge.{Judge}
+use Rattle.report_verifier.specs.Policy.{PolicyFields}
+use Rattle.verifier_desk.specs.declared.answer.Answer.{Answer}
+use Rattle.verifier_desk.specs.declared.answer.Answer.TheVariants.{Stale, Bad, Spent, Requested, Judged}
+use Rattle.verifier_desk.specs.DeskLine.{DeskLine, TooLong, Silent, Foreign, Own, line_of}
+use Rattle.verifier_desk.specs.DeviceKey.{DeviceKey}
+use Rattle.verifier_desk.specs.DeviceLine.{DeviceLine}
+use Rattle.verifier_desk.specs.DeviceReply.{answer_of, desk_challenge, is_new_give, state_of}
+use Rattle.verifier_desk.specs.FaultName.{fault_name}
+
+-- whom a desk serves, and what it judges reports by
+pub record DeskFields : Type 0 where
+  pub digest : List ℕ → List ℕ
+  pub devices : List DeviceKey
+  pub image : ℕ → Option ℕ
+  pub policy : PolicyFields
+
+abbrev pub judge_at : DeskFields → DeviceKey → Judge
+judge_at desk device =
+    record {
+      digest = desk.digest;
+      key = device.key;
+      image = desk.image;
+      policy = desk.policy;
+    }
+
+-- ` H64 n token H64`
+abbrev pub request_words : (List ℕ → List ℕ) → List ℕ → ℕ → List ℕ
+request_words digest key count =
+    codes " " ++ encode_lower (desk_challenge digest key count) ++ codes " " ++ decimal count
+    ++ codes " token "
+    ++ encode_lower (request_token digest key (desk_challenge digest key count) (count_bytes count))
+
+abbrev pub answer_verb : Answer → List ℕ
+answer_verb Stale = codes "stale"
+answer_verb (Bad kind) = codes "bad"
+answer_verb Spent = codes "spent"
+answer_verb (Requested count) = codes "request"
+answer_verb (Judged decision) = codes "verdict"
+
+abbrev pub answer_words : (List ℕ → List ℕ) → List ℕ → Answer → List ℕ
+answer_words digest key (Bad kind) = codes " " ++ fault_name kind
+answer_words digest key (Requested count) = request_words digest key count
+answer_words digest key (Judged decision) = codes " " ++ verdict_name decision
+answer_words digest key answer = []
+
+-- the line of an answer: its verb, the device's name, the number of its line, and what it says
+abbrev pub answer_line : (List ℕ → List ℕ) → DeviceKey → ℕ → Answer → List ℕ
+answer_line digest device number answer =
+    answer_verb answer ++ codes " " ++ device.name ++ codes " " ++ decimal number
+    ++ answer_words digest device.key answer ++ codes "\n"
+
+-- the lines of the device of this name, among lines that are newest first
+abbrev pub own_line : List ℕ → DeskLine → List DeviceLine
+own_line name (Own device line) = if bytes_eq device.name name then line ∷ [] else []
+own_line name line = []
+
+abbrev pub own_lines : List DeviceKey → List ℕ → List (List ℕ) → List DeviceLine
+own_lines devices name [] = []
+own_lines devices name (line ∷ earlier) =
+    own_line name (line_of devices line) ++ own_lines devices name earlier
+
+-- the reply to a line of a device, where these were its earlier ones
+abbrev pub own_reply : DeskFields → List DeviceLine → DeviceKey → DeviceLine → List ℕ
+own_reply desk earlier device line =
+    answer_line desk.digest device line.number (answer_of (judge_at desk device) earlier line)
+
+-- the reply to what a line says, where these were the earlier lines of the device of each name
+abbrev pub reply_to : DeskFields → (List ℕ → List DeviceLine) → DeskLine → List ℕ
+reply_to desk earlier TooLong = codes "too-long\n"
+reply_to desk earlier Silent = []
+reply_to desk earlier Foreign = codes "refused\n"
+reply_to desk earlier (Own device line) = own_reply desk (earlier device.name) device line
+
+-- whether what a line says is a new report of a device
+abbrev pub gives_report : DeskFields → (List ℕ → List DeviceLine) → DeskLine → Bool
+gives_report desk earlier (Own device line) =
+    is_new_give (state_of (judge_at desk device) (earlier device.name)).last line
+gives_report desk earlier said = false
+
+-- the reply to a line after earlier ones
+abbrev pub reply : DeskFields → List (List ℕ) → List ℕ → List ℕ
+reply desk earlier line =
+    reply_to desk (λ name. own_lines desk.devices name earlier) (line_of desk.devices line)
+
+-- the replies to lines, the newest first, in the order of the lines
+abbrev pub replies : DeskFields → List (List ℕ) → List ℕ
+replies desk [] = []
+replies desk (line ∷ earlier) = replies desk earlier ++ reply desk earlier line

@@ -1,0 +1,82 @@
+ghost use Rattle.std.specs.Prelude.{◌≡◌, ◌≤◌, length};
+ghost use Rattle.std.specs.List.{list_all};
+ghost use Rattle.text_scan.specs.Word.{words_of};
+ghost use Rattle.verifier_desk.specs.DeviceKey.{device_of, is_name_character, name_fault};
+
+use std::marker::Model;
+use text_scan::{FaultKind, Words};
+
+// The most characters of a name.
+const LONGEST_NAME: usize = 32;
+
+/// A device's name, which stands in the file of keys, and its key.
+#[derive(Drop)]
+pub struct DeviceKey<'a> {
+    name: &'a [u8],
+    key: [u8; 64],
+}
+
+impl<'a> Model for DeviceKey<'a> {
+    ghost use Rattle.std.specs.Prelude.{◌≤◌, length};
+    ghost use Rattle.verifier_desk.specs.DeviceKey.{DeviceKey as DeviceFields};
+
+    ghost Value = { DeviceFields };
+
+    ghost view = { λ device. record { name = device.name.now; key = device.key } };
+
+    ghost invariant = { λ device. length device.name.now ≤ 32 };
+}
+
+impl<'a> DeviceKey<'a> {
+    pub fn name(&self) -> &'a [u8]
+        ensures bytes { result.now ≡ self.now.name }
+        ensures short { length result.now ≤ 32 }
+    {
+        self.name
+    }
+
+    pub fn key(&self) -> &[u8; 64]
+        ensures { result.now ≡ self.now.key }
+    {
+        &self.key
+    }
+}
+
+/// The device of a line `device NAME H128`.
+#[tactic(auto, unfolding(crate::specs::DeviceKey::device_of))]
+pub fn read_device<'a>(line: &'a [u8]) -> Result<DeviceKey<'a>, FaultKind>
+    ensures { result ≡ device_of (words_of line.now) }
+{
+    let mut words = Words::new(line);
+    words.keyword(b"device")?;
+    let name = words.word()?;
+    check_name(name)?;
+    let key = words.block::<64>()?;
+    words.end()?;
+    Ok(DeviceKey { name, key })
+}
+
+// A name has 1 to 32 letters, digits and `_`.
+fn check_name(name: &[u8]) -> Result<(), FaultKind>
+    ensures { result ≡ name_fault name.now }
+{
+    if !is_name(name) {
+        return Err(FaultKind::Digit);
+    }
+    if name.len() > LONGEST_NAME {
+        return Err(FaultKind::Count);
+    }
+    Ok(())
+}
+
+fn is_name(word: &[u8]) -> bool
+    ensures { result ≡ list_all is_name_character word.now }
+{
+    word.iter().all(|byte| is_name_character(*byte))
+}
+
+fn is_name_character(byte: u8) -> bool
+    ensures { result ≡ is_name_character byte }
+{
+    byte.is_ascii_alphanumeric() || byte == b'_'
+}

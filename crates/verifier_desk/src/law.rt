@@ -1,0 +1,43 @@
+ghost use Rattle.verifier_desk.specs.HeldLine.{IsCutAnywhere, IsHeld, IsPlain};
+ghost use Rattle.verifier_desk.specs.Law.{IsServedAlone, IsAcceptedOnce, IsAnswered, IsRepeated};
+ghost use Rattle.verifier_desk.specs.Standing.{IsKeptAtItsPlace};
+
+/// The replies to a device are those at a desk whose devices and lines are that device's alone.
+pub fn device_is_served_alone()
+    ensures { IsServedAlone }
+{}
+
+/// No counter is requested twice or accepted twice, and what is accepted was requested.
+pub fn report_is_accepted_once()
+    ensures { IsAcceptedOnce }
+{}
+
+/// The same number again gets the same answer, and changes nothing.
+pub fn answer_is_repeated()
+    ensures { IsRepeated }
+{}
+
+/// A report that is accepted answers the outstanding request: its counter and its challenge.
+pub fn accept_answers_request()
+    ensures { IsAnswered }
+{}
+
+/// What is held of a line gives the line, and goes on to stand for what comes.
+pub fn line_is_held_whole()
+    ensures { IsHeld }
+{}
+
+/// Where bytes are cut into pieces changes nothing.
+pub fn bytes_are_cut_anywhere()
+    ensures { IsCutAnywhere }
+{}
+
+/// A piece without LF only lengthens the line that comes.
+pub fn plain_piece_lengthens_line()
+    ensures { IsPlain }
+{}
+
+/// A line of the device at a place changes the state there alone.
+pub fn state_is_kept_at_its_place()
+    ensures { IsKeptAtItsPlace }
+{}
