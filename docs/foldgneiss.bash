@@ -4,7 +4,7 @@ _foldgneiss() {
     if [ "$COMP_CWORD" -eq 1 ]; then
         mapfile -t COMPREPLY < <(compgen -W 'play dump trace wave list request verify round desk audit asm work build help' -- "$word")
     elif [ "${COMP_WORDS[1]}" = help ]; then
-        mapfile -t COMPREPLY < <(compgen -W 'play dump trace wave list request verify round desk audit asm work' -- "$word")
+        mapfile -t COMPREPLY < <(compgen -W 'play dump trace wave list request verify round desk audit asm work build' -- "$word")
     else
         mapfile -t COMPREPLY < <(compgen -f -- "$word")
     fi

@@ -37,8 +37,26 @@ int main(void) {
 """
 
 
+# Firmware that sends a byte of a header, and some that attests without an output.
+LETTER = b'#include "letter.h"\nint main(void) { *(volatile char *)0x76 = LETTER; for (;;) { } }\n'
+NO_OUTPUT = b"""
+#include "foldgneiss.h"
+REGION void region(void) { }
+int main(void) { attest((const uint8_t *)0x0300); for (;;) { } }
+"""
+PLACE = "LDFLAGS=--defsym=er_place=0xD000"
+
+
 def is_compiler_there():
     return all(map(shutil.which, ("make", "clang", "ld.lld", "llvm-objcopy", "llvm-nm")))
+
+
+def made_image(trial, folder, *options):
+    """The image that the Makefile makes in this folder, or None."""
+    trial.expect(0, "", "-s", "-C", folder, "-f", f"{ROOT}/firmware/Makefile", *options,
+                 command=["make"])
+    name = f"{folder}/image.hex"
+    return read(name) if os.path.exists(name) else None
 
 
 def image_of(trial, sources, *options):
@@ -46,10 +64,7 @@ def image_of(trial, sources, *options):
     with tempfile.TemporaryDirectory() as folder:
         for name, text in sources.items():
             write(f"{folder}/{name}", text)
-        trial.expect(0, "", "-s", "-C", folder, "-f", f"{ROOT}/firmware/Makefile",
-                     *options, command=["make"])
-        name = f"{folder}/image.hex"
-        return read(name) if os.path.exists(name) else None
+        return made_image(trial, folder, *options)
 
 
 def value_of(operator, kind, left, right):
@@ -131,11 +146,47 @@ def examples(trial):
         try_image(name, name, [source for source in os.listdir(f"{EXAMPLES}/{name}")
                                if source.endswith((".c", ".s"))])
     for name, names in PUMPS.items():
-        try_image(f"pump/{name}", "pump", names, "LDFLAGS=--defsym=er_place=0xD000")
+        try_image(f"pump/{name}", "pump", names, PLACE)
+
+
+def stale_images(trial):
+    """An image is made anew where sources, a header or the flags are others than before."""
+    with tempfile.TemporaryDirectory() as folder:
+        for name in PUMPS["guarded"]:
+            shutil.copy(f"{EXAMPLES}/pump/{name}", folder)
+        images = [made_image(trial, folder, PLACE)]
+        os.remove(f"{folder}/guard.s")
+        made_image(trial, folder)
+        images.append(made_image(trial, folder, PLACE))
+        if images != [read(f"{EXAMPLES}/pump/{name}/image.hex") for name in ("guarded", "forged")]:
+            trial.fault("firmware: an image of other sources or flags than the last")
+    with tempfile.TemporaryDirectory() as folder:
+        write(f"{folder}/main.c", LETTER)
+        write(f"{folder}/runtime.c", b"")  # (a name that the kit has too)
+        images = []
+        for letter in (b"A", b"B"):
+            write(f"{folder}/letter.h", b"#define LETTER '%s'\n" % letter)
+            images.append(made_image(trial, folder))
+        if None in images or images[0] == images[1]:
+            trial.fault("firmware: an image of another header than the last")
+
+
+def regions(trial):
+    """There are no regions of firmware without a region, or without an output."""
+    for text in (b"int main(void) { for (;;) { } }\n", NO_OUTPUT):
+        with tempfile.TemporaryDirectory() as folder:
+            write(f"{folder}/main.c", text)
+            answer = trial.call("-s", "-C", folder, "-f", f"{ROOT}/firmware/Makefile",
+                                "regions.txt", command=["make"])
+            if (answer.status != 2 or not answer.line.startswith("no regions.txt: ")
+                    or os.path.exists(f"{folder}/regions.txt")):
+                trial.fault(f"firmware: regions.txt of {text}: {answer}")
 
 
 def firmware(trial, files):
     if is_compiler_there():
         examples(trial)
+        stale_images(trial)
+        regions(trial)
         readme(trial, files)
         arithmetic(trial, files)

@@ -3,8 +3,8 @@
     messages.py help WORD..                   the text of --help, or its part on the command among
                                               the words
     messages.py explain STATUS LINE WORD..    on a run of these words that ended with this status
-    and
-                                              this line on standard error: what was wrong, and where
+                                              and this line on standard error: what was wrong, and
+                                              where
 """
 import os
 import re
@@ -15,7 +15,7 @@ sys.dont_write_bytecode = True
 import file_readers  # noqa: E402
 import reference_texts  # noqa: E402
 from readers import READERS  # noqa: E402
-from reference import COMMANDS, FAULTS, FILES, VALUES  # noqa: E402
+from reference import COMMANDS, FAULTS, FILES, STATUSES, VALUES  # noqa: E402
 
 WIDTH = 76
 
@@ -23,20 +23,30 @@ SCRIPT_HELP = """
 The script ./foldgneiss has these too:
   foldgneiss build           proves all crates and makes the proved program
   foldgneiss help [COMMAND]  prints this, or what it says of one command; so do
-                             -h and --help, alone or after a command
+                             -h and --help, also after a command
 Its own statuses are 125 where an unproved run is cut off, does not compile or
 is a desk, 127 where there is no rt, and 1 where a crate does not prove in
 build.
 """
+# What stands in the place of a command, with what may follow.
+OTHER_USAGES = {"build": "build", "--version": "--version", "help": "help [COMMAND]",
+                "-h": "-h [COMMAND]", "--help": "--help [COMMAND]"}
+COMMAND_NAMES = ", ".join([*COMMANDS, "build", "help"])
+
+
+def unknown_command(name):
+    return f"{name} is no command; the commands are {COMMAND_NAMES}"
 
 
 def wrong_words(words):
     """What is wrong with the words of a call."""
     if not words:
-        return "a command is wanted: " + ", ".join(COMMANDS)
+        return f"a command is wanted: {COMMAND_NAMES}"
     name, *arguments = words
+    if name in OTHER_USAGES:
+        return f"too many words behind {name}"
     if name not in COMMANDS:
-        return f"{name} is no command; the commands are {', '.join(COMMANDS)}"
+        return unknown_command(name)
     command = COMMANDS[name]
     if len(arguments) != len(command.words):
         return f"{name} takes {len(command.words)} arguments, not {len(arguments)}"
@@ -48,6 +58,15 @@ def wrong_words(words):
         if word in VALUES and not VALUES[word].takes(argument):
             return f"{word.upper()} is {argument!r} (wanted: {VALUES[word].about})"
     return None
+
+
+def usage_of(name):
+    """How the command of this name is called; of none, or of an unknown one, all commands."""
+    if name in COMMANDS:
+        return f"usage: foldgneiss {COMMANDS[name].usage}\n"
+    if name in OTHER_USAGES:
+        return f"usage: foldgneiss {OTHER_USAGES[name]}\n"
+    return reference_texts.usages()
 
 
 def files_of(words):
@@ -85,6 +104,12 @@ def column_of(kind, text, number, fault):
     return None, ""
 
 
+def meaning_of(kind, number, fault):
+    """What a fault means; of a meaning in two parts the second is that of line 0."""
+    parts = FAULTS[kind].get(fault, fault).split("; or ")
+    return parts[0] if number else parts[-1]
+
+
 def shown_line(line, column):
     """A line of a file, or what stands around the column, and a mark below the column."""
     before = len(line[:(column or 1) - 1].decode("utf-8", "replace"))
@@ -103,7 +128,7 @@ def file_fault(line, words):
     if not match or match[1] not in FAULTS:
         return []
     kind, number, fault = match[1], int(match[2]), match[3]
-    name, meaning = dict(files_of(words))[kind], FAULTS[kind].get(fault, fault)
+    name, meaning = dict(files_of(words))[kind], meaning_of(kind, number, fault)
     try:
         text = contents(name)
     except OSError:
@@ -112,7 +137,7 @@ def file_fault(line, words):
     if fault == "TooLong":
         return [f"{name}: {meaning}, {FILES[kind].limit} bytes"]
     if not 1 <= number <= len(lines):
-        return [f"{name}, line {number}: {meaning}"]
+        return [f"{name}, line {number}: {meaning}" if number else f"{name}: {meaning}"]
     column, wanted = column_of(kind, text, number, fault)
     place = f"line {number}, column {column}" if column else f"line {number}"
     shown = [] if kind in ("key", "keys") else shown_line(lines[number - 1], column)  # (secrets)
@@ -122,31 +147,60 @@ def file_fault(line, words):
 def explanation(status, line, words):
     """The lines on a run that ended so."""
     if status == 2:
-        command = COMMANDS.get(words[0] if words else None)
-        usage = (f"usage: foldgneiss {command.usage}\n" if command else reference_texts.usages())
-        return [wrong_words(words), *usage.splitlines()]
+        return [wrong_words(words), *usage_of(words[0] if words else None).splitlines()]
     if status in (3, 4):
-        return [unread_file(words)]
+        is_desk = words[0] == "desk"
+        return [unread_file(words) or ("standard input cannot be read" if is_desk else None)]
+    if status == 15:
+        return [STATUSES[status].remedy.replace("`", "")]
     return file_fault(line, words)
 
 
-def main(arguments):
-    kind, *rest = arguments
-    if kind == "explain":
-        lines = explanation(int(rest[0]), rest[1], rest[2:])
-        for number, line in enumerate(filter(None, lines)):
-            text = line if number else f"foldgneiss: {line}"
-            sys.stderr.buffer.write(os.fsencode(text + "\n"))
-        return 0
-    names = [word for word in rest if word not in ("help", "-h", "--help")]
-    if not names:
-        print(reference_texts.help_text() + SCRIPT_HELP, end="")
-        return 0
-    if names[0] not in COMMANDS:
-        print(f"foldgneiss: {wrong_words(names)}", file=sys.stderr)
+def put(stream, text):
+    """Whether standard output, 1, or standard error, 2, took a text."""
+    try:
+        with open(stream, "wb", closefd=False) as file:
+            file.write(os.fsencode(text))
+    except OSError:
+        return False
+    return True
+
+
+def explain(status, line, words):
+    """Puts what is said of a run on standard error."""
+    lines = list(filter(None, explanation(status, line, words)))
+    if lines:
+        put(2, "foldgneiss: " + "".join(f"{line}\n" for line in lines))
+
+
+def help_on(name):
+    """What --help says of a command, or of all if there is none; None of an unknown one."""
+    if name is None:
+        return reference_texts.help_text() + SCRIPT_HELP
+    if name == "build":
+        return SCRIPT_HELP.lstrip()
+    return reference_texts.command_help(name) if name in COMMANDS else None
+
+
+def print_help(words):
+    """Prints the help that the words ask for; the exit status."""
+    names = [word for word in words if word not in ("help", "-h", "--help")]
+    text = help_on(names[0] if names else None)
+    if text is None:
+        put(2, f"foldgneiss: {unknown_command(names[0])}\n")
         return 2
-    print(reference_texts.command_help(names[0]), end="")
-    return 0
+    if put(1, text):
+        return 0
+    put(2, f"{STATUSES[5].line}\n")
+    return 5
+
+
+def main(arguments):
+    kind, *words = arguments
+    if kind == "explain":
+        explain(int(words[0]), words[1], words[2:])
+        return 0
+    return print_help(words)
 
 
 if __name__ == "__main__":

@@ -135,8 +135,8 @@ def man_page():
         section("NAME", roff("foldgneiss - an attested MSP430 microcontroller, emulated, with its "
                              "verifier")),
         section("SYNOPSIS", *(f".B foldgneiss {roff(command.usage)}.br\n" for command in commands)),
-        section("COMMANDS", *(tagged(command.name, command.about, f"foldgneiss {command.example}")
-                              for command in commands)),
+        section("COMMANDS", *(tagged(command.name, command.about) + ".br\n"
+                              + roff(f"foldgneiss {command.example}") for command in commands)),
         section("ARGUMENTS", *(tagged(word.upper(), argument_text(word))
                                for word in words_of(commands))),
         section("RULES", *(tagged(rule, meaning) for rule, meaning in RULES.items())),
@@ -155,7 +155,7 @@ _foldgneiss() {{
     if [ "$COMP_CWORD" -eq 1 ]; then
         mapfile -t COMPREPLY < <(compgen -W '{" ".join(COMMANDS)} build help' -- "$word")
     elif [ "${{COMP_WORDS[1]}}" = help ]; then
-        mapfile -t COMPREPLY < <(compgen -W '{" ".join(COMMANDS)}' -- "$word")
+        mapfile -t COMPREPLY < <(compgen -W '{" ".join(COMMANDS)} build' -- "$word")
     else
         mapfile -t COMPREPLY < <(compgen -f -- "$word")
     fi

@@ -1,8 +1,9 @@
 #!/usr/bin/env bash
 # carry.sh [PROGRAM]: carries requests from one desk to two devices, and their reports back.
 set -eu
-cd "$(dirname "$(readlink -f "$0")")"
-program=${1:-../../crates/device_cli/out/device_cli}
+folder=$(dirname "$(readlink -f "$0")")
+program=$(readlink -f "${1:-$folder/../../crates/device_cli/out/device_cli}")
+cd "$folder"
 image=../round/image.hex
 work=$(mktemp -d)
 trap 'rm -rf "$work"' EXIT

@@ -24,7 +24,8 @@ int main(void) {
     for (;;) {
         while (next < request + sizeof request) {
         }
-        STXD = attest(request);
+        enum decision decision = attest(request);
         next = request;
+        STXD = decision;
     }
 }
