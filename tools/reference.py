@@ -239,8 +239,8 @@ FAULTS = {
                 "(line 0)",
         "Order": "the lines are not `version`, `er`, `or`, `flag`, then `ask` lines, in version 1 "
                  "`er`, `or`, then `chal` lines",
-        "Bounds": "a region is at odd places, not wholly in RAM or program, or on another, the MAC "
-                  "or the metadata",
+        "Bounds": "a region is at odd places, ends before it begins, is not wholly in RAM or "
+                  "program, or lies on another, the MAC or the metadata",
     },
     "reports": {**IN_WORDS, "Output": "`data` has not the size of the output region"},
     "source": {

@@ -1,4 +1,4 @@
-//! The trace file of a play.
+//! Laws of the trace file of a play: its lines are clean, and a second key leaves it as it is.
 #![tactic(auto)]
 
 mod law;

@@ -1,5 +1,5 @@
 -- Answers of a desk: after a refusal of its files, and after it served.
-use Rattle.std.proofs.Common.{◌≡◌, ◌<◌, ◌≤◌, ◌⊎◌, ℕ, List, length, Option, Some, None, IfSome, Result, Ok, Err, refl, inl, inr, arith, length-append}
+use Rattle.std.proofs.Common.{◌≡◌, ◌<◌, ◌≤◌, ◌⊎◌, ℕ, List, length, Option, Some, None, IfSome, Err, refl, inl, inr, arith, length-append}
 use Rattle.outside_edge.specs.Count.{Rose}
 use Rattle.outside_edge.specs.Shelf.{KeepsFiles}
 use Rattle.verifier_desk.specs.declared.served.Served.{Served}

@@ -1,5 +1,5 @@
 -- The lines of a play, one after the other.
-use Rattle.std.proofs.Common.{◌≡◌, ◌≤◌, ◌<◌, ◌^◌, ◌++◌, ◌+◌, ◌∙◌, [], ◌∷◌, ℕ, zero, suc, Bool, true, false, List, Option, Some, None, Result, IfSome, option_map, if◌then◌else◌, refl, sym, ap, subst, length, arith}
+use Rattle.std.proofs.Common.{◌≡◌, ◌≤◌, ◌<◌, ◌^◌, ◌++◌, ◌+◌, ◌∙◌, [], ◌∷◌, ℕ, zero, suc, Bool, true, false, List, Option, Some, None, Result, option_map, if◌then◌else◌, refl, sym, ap, subst, length, arith}
 use Rattle.bus_signals.specs.declared.access.Access.{Access}
 use Rattle.bus_signals.specs.declared.access.Access.TheVariants.{Fetch, Read, Write}
 use Rattle.bus_signals.specs.declared.bounds.Bounds.{Bounds}
@@ -8,7 +8,6 @@ use Rattle.bus_signals.specs.declared.event.Event.{Event}
 use Rattle.bus_signals.specs.declared.rule.Rule.{Rule}
 use Rattle.bus_signals.specs.declared.rule.Rule.TheVariants.{X0}
 use Rattle.bus_signals.specs.declared.signals.Signals.{Signals}
-use Rattle.bus_signals.specs.Access.{IsFormed}
 use Rattle.exec_automaton.specs.Flag.{Flag}
 use Rattle.bus_signals.specs.SeenRecord.{SeenRecord}
 use Rattle.hmac_core.specs.Hash.{Hash}
@@ -28,7 +27,7 @@ use Rattle.device_core.specs.Refusal.{last_refused, where_refused}
 use Rattle.device_core.specs.declared.live.Live.{Live}
 use Rattle.trace_line.specs.declared.trace_line.TraceLine.{TraceLine}
 use Rattle.trace_line.specs.LineText.{file_text, trace_line}
-use Rattle.trace_line.specs.ReadBack.{ArePrintable, IsAllowed, IsPrintable}
+use Rattle.trace_line.specs.ReadBack.{ArePrintable, IsPrintable}
 use Rattle.trace_line.proofs.FileReadBack.{file_reads_back}
 use Rattle.wave_dump.specs.WaveText.{last_shown, shown_after, step_text, steps_text}
 use Rattle.clean_trace.specs.TraceText.{last_line, next_line, trace_lines, word_shown}
@@ -294,11 +293,6 @@ pub printable-reads_back : (start : Start) (events_at : ℕ → List Event) (ste
 printable-reads_back start events_at steps few printable =
     file_reads_back (trace_lines start (play_of events_at steps)) printable
     (omega (arith, length-lines start events_at steps, few))
-
--- the accesses of a line that is printable
-pub printable-formed : (access : Option Access) → IfSome access IsAllowed → IfSome access IsFormed
-printable-formed None allowed = tt
-printable-formed (Some access) allowed = allowed.formed
 
 -- what is put of the lines of a play is put of them with another key as well
 pub other_key-told : {S V E : Type 0} {stands : S → List ℕ → Type 0} {old new : S}

@@ -11,8 +11,10 @@ use Rattle.play_script.specs.declared.playback.Playback.{Playback}
 use Rattle.device_core.specs.Device.{LiveStandsFor, steps_made}
 use Rattle.device_core.specs.Silence.{is_silent}
 use Rattle.device_core.specs.declared.live.Live.{Live}
+use Rattle.outside_edge.proofs.SinkLemmas.{takes_both}
+use Rattle.device_cli.specs.Cuts.{TakesSuch}
 use Rattle.device_cli.specs.Midway.{HasGoneOn}
-use Rattle.device_cli.specs.WatchedPlay.{watched_lines, AllAreSilent}
+use Rattle.device_cli.specs.WatchedPlay.{watched_lines, AllAreSilent, StopsInSome}
 use Rattle.device_cli.proofs.PutsLemmas.{takes-append, takes-nothing, prefix-append}
 
 -- a tally of the first steps, and a sink that took their lines
@@ -140,6 +142,25 @@ watched-prefix {stands} {last_lines} {old} {mid} {new} {events_at} {before} step
     (watched_lines-more last_lines events_at before)
     ∙ append_assoc (watched_lines last_lines events_at before) lines begins.0)
     is.took prefix
+
+-- a step that was shown until its watcher stopped
+pub stopped-in_some :
+    {S T : Type 0} {stands : S → List ℕ → Type 0} {tallies : List (List Event) → T → Type 0}
+    {last_lines : List (List Event) → ℕ → List ℕ} {old mid new : S} {events_at : ℕ → List Event}
+    {before steps : ℕ} {tally : T} {is_so : List (List Event) → ℕ → List ℕ → Type 0}
+    → before + 1 ≤ steps
+    → IsWatched stands tallies last_lines old mid events_at before tally
+    → TakesSuch stands mid new (is_so (play_of events_at (suc before)) before)
+    → StopsInSome stands old new last_lines is_so events_at steps
+stopped-in_some {stands} {last_lines} {old} {mid} {new} {events_at} {before} within is such =
+    record {
+      step = before;
+      within = omega (arith, within);
+      bytes = such.0;
+      so = such.1;
+      took = takes_both stands old mid new (watched_lines last_lines events_at before) such.0
+          is.took such.2;
+    }
 
 -- the same number of steps
 pub at-count :

@@ -1,12 +1,13 @@
 -- A play whose reports are judged, step by step.
-use Rattle.std.specs.Prelude.{◌≡◌, ◌++◌, ℕ, Bool, false, List, [], ◌∷◌, length}
+use Rattle.std.specs.Prelude.{◌≡◌, ◌++◌, ℕ, List, [], ◌∷◌, length}
 use Rattle.bus_signals.specs.declared.event.Event.{Event}
 use Rattle.device_trace.specs.Start.{Start}
 use Rattle.device_trace.specs.Text.{last_report}
 use Rattle.device_trace.specs.Trace.{byte_after}
 use Rattle.device_cli.specs.declared.verdict.judgement.Tally.{Tally}
 use Rattle.report_verifier.specs.Judge.{Judge}
-use Rattle.device_cli.specs.Judgement.{judgement_lines, judgement_has_pair}
+use Rattle.device_cli.specs.Cuts.{behind}
+use Rattle.device_cli.specs.Judgement.{judgement_lines, judgement_cuts}
 use Rattle.device_cli.specs.LastStepLines.{last_step_lines}
 use Rattle.device_cli.specs.RoundText.{reports_in, all_are_accepted}
 
@@ -24,9 +25,10 @@ judged_lines judge start (events ∷ play) step =
     ++ judgement_lines judge (length (reports_in start play)) (byte_after start (events ∷ play))
     (last_report start (events ∷ play))
 
--- there is a pair of lists in what is said
-abbrev pub judged_has_pair : Judge → Start → List (List Event) → Bool
-judged_has_pair judge start [] = false
-judged_has_pair judge start (events ∷ play) =
-    judgement_has_pair judge (length (reports_in start play)) (byte_after start (events ∷ play))
-    (last_report start (events ∷ play))
+-- the texts at which memory may run out in that step
+abbrev pub judged_cuts : Judge → Start → List (List Event) → ℕ → List (List ℕ)
+judged_cuts judge start [] step = []
+judged_cuts judge start (events ∷ play) step =
+    behind (last_step_lines start (events ∷ play) step)
+    (judgement_cuts judge (length (reports_in start play)) (byte_after start (events ∷ play))
+    (last_report start (events ∷ play)))

@@ -77,7 +77,7 @@ impl StepWatcher for LinePrinter {
 
     ghost last_lines = { λ digest printer start play step. last_step_lines start play step };
 
-    ghost stops = { λ digest printer start play fault. Unit {0} };
+    ghost stops = { λ digest printer start fault play step bytes. Unit {0} };
 
     ghost blames = { λ before after fault. Rose before after };
 

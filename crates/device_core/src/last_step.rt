@@ -5,7 +5,7 @@ use bus_signals::{Bounds, BusRecord, Signals};
 /// A step that was made or refused.
 #[derive(Clone, Copy, Debug)]
 pub struct LastStep {
-    /// What it was about to do, where it was refused. Of a step that was made its record tells that.
+    /// What it was about to do, where it was refused. A step that was made is told by its record.
     pub refused: Option<Signals>,
     /// The bounds as they stood before it.
     pub bounds: Bounds,

@@ -21,14 +21,6 @@ use Rattle.key_isolation.proofs.HiddenWords.{hides_word, hidden_word, key_hidden
 use Rattle.key_isolation.proofs.Reading.{value_read-hide}
 use Rattle.trace_facts.proofs.CallPlaces.{ItemFits, mac_place, metadata_off, region_off}
 
--- a read of no secret
-pub record ReadsOpenly (start : Start) (free : List ℕ) (logs : Logs)
-    (access : Access) : Type 0 where
-  pub same : blank_access (Some access) ≡ Some access
-  pub value :
-      blank_value (Some access) (value_read start logs (Some access))
-      ≡ value_read (open_start free start) (hide logs) (Some access)
-
 -- the real access of a call and the one without the key, after so many words
 pub record SameItem (start : Start) (free : List ℕ) (logs : Logs) (count : ℕ)
     (real view : Access) : Type 0 where

@@ -4,20 +4,17 @@ use Rattle.std.specs.Prelude.{if◌then◌else◌}
 use Rattle.std.proofs.lemmas.Bool.Decides.{nat_tests}
 use Rattle.bus_signals.specs.declared.access.Access.{Access}
 use Rattle.bus_signals.specs.SeenRecord.{SeenRecord}
-use Rattle.part_definitions.specs.Flag.{clears, starts_run, last_pc, exec}
+use Rattle.part_definitions.specs.Flag.{clears, starts_run, exec}
 use Rattle.device_trace.specs.Blank.{blank_access, blank_value, blank_seen}
 use Rattle.device_trace.specs.Logs.{goes_on_in_call, records_until_call}
 use Rattle.key_isolation.proofs.SameFlag.{exec-same}
+use Rattle.trace_facts.proofs.BlankRecords.{last_pc-blank}
 
 clears-blank : (last : Option ℕ) (now : SeenRecord) → clears last (blank_seen now) ≡ clears last now
 clears-blank last now = grind arith
 
 starts_run-blank : (now : SeenRecord) → starts_run (blank_seen now) ≡ starts_run now
 starts_run-blank now = grind arith
-
-pub last_pc-blank : (records : List SeenRecord) → last_pc (map blank_seen records) ≡ last_pc records
-last_pc-blank [] = refl
-last_pc-blank (now ∷ before) = refl
 
 pub exec-blank : (records : List SeenRecord) → exec (map blank_seen records) ≡ exec records
 exec-blank records = exec-same blank_seen clears-blank starts_run-blank last_pc-blank records

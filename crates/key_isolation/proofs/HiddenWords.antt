@@ -4,6 +4,7 @@ use Rattle.std.specs.Prelude.{◌||◌, ◌&&◌, nat_le, nat_lt, slice_index, i
 use Rattle.std.proofs.lemmas.Bool.Decides.{nat_tests}
 use Rattle.bus_signals.specs.declared.bounds.Bounds.{Bounds}
 use Rattle.part_definitions.specs.Attestation.{BEFORE_METADATA, BEFORE_KEPT, BEFORE_KEPT_WRITE, bounds_read, region_words, decision_read, item_after, call_item}
+use Rattle.key_isolation.proofs.Bytes.{zero_either}
 
 -- which words are hidden
 abbrev pub hides_word : ℕ → Bool
@@ -25,12 +26,8 @@ metadata_shown place above below = grind (arith, nat_tests)
 pub rest_shown : (place : ℕ) → 74 ≤ place → hides_word place ≡ false
 rest_shown place above = grind (arith, nat_tests)
 
-either_zero : (test : Bool) → ◌≡◌ {A = ℕ} (if test then 0 else 0) 0
-either_zero true = refl
-either_zero false = refl
-
 pub zero_hidden : (place : ℕ) → hidden_word place 0 ≡ 0
-zero_hidden place = either_zero (hides_word place)
+zero_hidden place = zero_either (hides_word place)
 
 -- of words that begin at a place
 pub hide_from : ℕ → List ℕ → List ℕ

@@ -20,7 +20,7 @@ use Rattle.device_trace.proofs.FormedAccess.{access_of-formed}
 use Rattle.key_isolation.proofs.Bytes.{zero_either}
 use Rattle.trace_facts.proofs.BreaksNoRule.{BreaksNoRule, first_rule-none}
 use Rattle.trace_facts.proofs.Sound.{IsSound, progress_within-right}
-use Rattle.key_isolation.proofs.FlagBlank.{last_pc-blank}
+use Rattle.trace_facts.proofs.BlankRecords.{last_pc-blank}
 use Rattle.key_isolation.proofs.Hiding.{open_start, hide_progress, hide, last_registers-hide, step_kind-hide, step_progress-hide}
 use Rattle.key_isolation.proofs.SameRule.{SameSignals, first_rule-same}
 use Rattle.key_isolation.proofs.SignalShape.{signals_of-hide}

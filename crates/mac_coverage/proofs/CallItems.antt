@@ -20,9 +20,6 @@ pub kept_item : (region decision i : ℕ) → i < 2
     → item_after region decision (72 + i) ≡ KeptRead i
 kept_item region decision i within = grind (arith, nat_tests)
 
-pub decision_item : (region decision : ℕ) → item_after region decision 76 ≡ DecisionWrite
-decision_item region decision = refl
-
 pub region_item : (region i : ℕ) → i < region → item_after region ATTESTS (93 + i) ≡ RegionRead i
 region_item region i within = grind (arith, nat_tests)
 

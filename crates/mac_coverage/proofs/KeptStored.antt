@@ -27,7 +27,7 @@ kept-same left right same =
 off_flags : (i : ℕ) → i < 4 → is_flag_word (0x4060 + i) ≡ false
 off_flags i within = grind (arith, nat_tests)
 
-takes : (i : ℕ) → i < 4 → takes_write (0x4060 + i) ≡ true
+pub takes : (i : ℕ) → i < 4 → takes_write (0x4060 + i) ≡ true
 takes i within = grind (arith, nat_tests)
 
 pub kept-alike : (left right : ℕ → ℕ) → ((p : ℕ) → is_flag_word p ≡ false → left p ≡ right p)
@@ -59,7 +59,7 @@ word-misses place number i within off off_next = (
 )
 
 -- four bytes
-four : (list : List ℕ) → length list ≡ 4
+pub four : (list : List ℕ) → length list ≡ 4
     → list
     ≡ slice_index list 0 ∷ slice_index list 1 ∷ slice_index list 2 ∷ slice_index list 3 ∷ []
 four [] size = absurd (omega (arith, size))

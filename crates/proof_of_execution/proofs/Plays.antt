@@ -21,13 +21,14 @@ use Rattle.device_trace.specs.Progress.{Progress, last_registers}
 use Rattle.device_trace.specs.Signals.{value_read, step_kind, proposed_access, signals_at, signals_of}
 use Rattle.device_trace.specs.Start.{Start}
 use Rattle.device_trace.specs.Step.{dma_value_read, record_from, record_of, asks_reset, next_record}
-use Rattle.device_trace.specs.Text.{report_of, report_where, last_report}
+use Rattle.device_trace.specs.Text.{report_of, report_where, denial_where, last_report, last_decision, last_denial}
 use Rattle.device_trace.specs.Trace.{logs_after, trace}
 use Rattle.device_trace.specs.WholeRun.{WholeRun}
 use Rattle.trace_facts.proofs.ExecFlag.{exec-more, exec-none}
 use Rattle.trace_facts.proofs.Choices.{other_false, none_there, some_where}
 use Rattle.trace_facts.proofs.BoundsStay.{logged_bounds-stay}
 use Rattle.trace_facts.proofs.Fresh.{LogsAreFresh, logs_after-fresh}
+use Rattle.proof_of_execution.specs.WholeCall.{ExecAfterCallMeansWholeRun}
 use Rattle.proof_of_execution.proofs.Entries.{Sleeps, region_entered, sleep_lasts}
 use Rattle.proof_of_execution.proofs.Keeps.{Keeps, clears-kept, enters_at_start}
 use Rattle.proof_of_execution.proofs.Regions.{inside-open}
@@ -270,23 +271,50 @@ unfolding with_record
 decision_finishes start logs entry some =
     finished_where (finishes_call entry) (decision_in (step_progress logs entry.kind)) some
 
+-- after a finished call, whatever it decided
+finished-whole_run : (start : Start) (play : List (List Event))
+    → is_some (last_decision start play) ≡ true
+    → exec_of (logs_after start play) ≡ true
+    → WholeRun (logged_bounds start (logs_after start play)) (trace start play)
+unfolding logs_after trace
+finished-whole_run start [] finished set = absurd (exec-none set)
+finished-whole_run start (events ∷ play) finished set =
+    let logs : Logs = logs_after start play in
+    let entry : BusRecord = next_record start logs events in
+    let finishes : finishes_call entry ≡ true =
+    decision_finishes start (with_events logs events) entry finished in
+    let call = and_parts (is_rom entry.kind && (entry.pc == ROM_EXIT)) _ finishes in
+    let place = and_parts (is_rom entry.kind) (entry.pc == ROM_EXIT) call.0 in
+    last_state start logs events (trace start play) (eqb-true entry.pc ROM_EXIT place.1)
+    (step_state start logs events (trace start play) (logs_after-fresh start play)
+    (play_state start play)) set
+
+pub decision-whole_run : (start : Start) (play : List (List Event))
+    → ExecAfterCallMeansWholeRun start play
+decision-whole_run start play decision is set =
+    finished-whole_run start play (ap (λ (one : Option ℕ). is_some one) is) set
+
 pub report-whole_run : (start : Start) (play : List (List Event)) (report : ReportFields)
     → last_report start play ≡ Some report → IsTrue report.exec
     → WholeRun report.bounds (trace start play)
-unfolding logs_after trace
 report-whole_run start [] report is set = absurd (cc)
 report-whole_run start (events ∷ play) report is set =
-    let logs : Logs = logs_after start play in
-    let entry : BusRecord = next_record start logs events in
-    let after : Logs = with_record start (with_events logs events) entry in
-    let made = made_where start after (length play) after.decision report is in
-    let finishes : finishes_call entry ≡ true =
-    decision_finishes start (with_events logs events) entry made.0 in
-    let call = and_parts (is_rom entry.kind && (entry.pc == ROM_EXIT)) _ finishes in
-    let place = and_parts (is_rom entry.kind) (entry.pc == ROM_EXIT) call.0 in
-    let set_after : exec_of after ≡ true = ap (λ (r : ReportFields). r.exec) made.1 ∙ set in
-    subst (λ (bounds : Bounds). WholeRun bounds (entry ∷ trace start play))
+    let logs : Logs = logs_after start (events ∷ play) in
+    let made = made_where start logs (length play) logs.decision report is in
+    subst (λ (bounds : Bounds). WholeRun bounds (trace start (events ∷ play)))
     (ap (λ (r : ReportFields). r.bounds) made.1)
-    (last_state start logs events (trace start play) (eqb-true entry.pc ROM_EXIT place.1)
-    (step_state start logs events (trace start play) (logs_after-fresh start play)
-    (play_state start play)) set_after)
+    (finished-whole_run start (events ∷ play) made.0
+    (ap (λ (r : ReportFields). r.exec) made.1 ∙ set))
+
+-- a denial has a decision
+pub denied_where : (decision : Option ℕ) (denial : ℕ) → denial_where decision ≡ Some denial
+    → is_some decision ≡ true
+denied_where None denial is = absurd (cc)
+denied_where (Some decision) denial is = refl
+
+pub denial-whole_run : (start : Start) (play : List (List Event)) (denial : ℕ)
+    → last_denial start play ≡ Some denial
+    → exec_of (logs_after start play) ≡ true
+    → WholeRun (logged_bounds start (logs_after start play)) (trace start play)
+denial-whole_run start play denial is set =
+    finished-whole_run start play (denied_where (logs_after start play).decision denial is) set

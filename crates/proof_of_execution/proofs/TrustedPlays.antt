@@ -29,6 +29,7 @@ use Rattle.trace_facts.proofs.BoundsStay.{logged_bounds-stay}
 use Rattle.proof_of_execution.proofs.InterruptEntries.{IsEarly, irq-follows, logs_after-early}
 use Rattle.proof_of_execution.proofs.KeepsAux.{KeepsAux, clears_aux-kept, starts_run-blank}
 use Rattle.proof_of_execution.proofs.TrustedRuns.{TrustedState, Follows, trusted-starts, trusted-more}
+use Rattle.trace_facts.proofs.BlankRecords.{last_pc-blank}
 
 -- a record that runs trusted has its handler in the region, if it reads a vector
 handler_inside : (bounds : Bounds) (entry : BusRecord) → runs_trusted bounds entry ≡ true
@@ -96,10 +97,6 @@ abbrev pub LogsState : Start → Logs → List BusRecord → Type 0
 LogsState start logs history =
     aux_seen logs ≡ true
     → TrustedState (logged_bounds start logs) history logs.progress (last_pc logs.records)
-
-pub last_pc-blank : (records : List SeenRecord) → last_pc (map blank_seen records) ≡ last_pc records
-last_pc-blank [] = refl
-last_pc-blank (now ∷ before) = refl
 
 record_state : (start : Start) (logs : Logs) (reset : Bool) (history : List BusRecord)
     → IsEarly logs.progress → LogsState start logs history

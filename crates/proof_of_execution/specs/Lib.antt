@@ -1,1 +1,2 @@
+pub mod WholeCall
 pub mod Example

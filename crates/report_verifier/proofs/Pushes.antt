@@ -4,7 +4,7 @@ use Rattle.part_definitions.specs.Memory.{bytes_from}
 use Rattle.part_definitions.specs.Region.{bytes_between}
 use Rattle.report_verifier.proofs.CodeBytes.{append-byte}
 use Rattle.part_definitions.proofs.BytesFrom.{length-bytes_from, bytes_between-span}
-use Rattle.report_verifier.proofs.Pieces.{append-three, append-six}
+use Rattle.report_verifier.proofs.Pieces.{append-six}
 
 -- one more piece behind the first ones, whose number of bytes is known
 pushes :
@@ -43,23 +43,6 @@ six-pushed most l₀ l₁ l₂ l₃ l₄ l₅ l₆ a b c d e f empty fits p₁ p
     (0 + length a + length b + length c + length d + length e) five.0 five.1 (omega (arith, fits))
     p₆ in
     six.0 ∙ append-six [] a b c d e f
-
--- behind bytes that are there
-pub three-pushed :
-    (most : ℕ) (l₀ l₁ l₂ l₃ a b c : List ℕ) (count : ℕ)
-    → length l₀ ≡ count
-    → count + length a + length b + length c ≤ most
-    → (length l₀ + length a ≤ most → l₁ ≡ l₀ ++ a)
-    → (length l₁ + length b ≤ most → l₂ ≡ l₁ ++ b)
-    → (length l₂ + length c ≤ most → l₃ ≡ l₂ ++ c)
-    → (l₃ ≡ l₀ ++ (a ++ (b ++ c))) × (length l₃ ≡ count + length a + length b + length c)
-three-pushed most l₀ l₁ l₂ l₃ a b c count size fits p₁ p₂ p₃ =
-    let one = pushes most l₀ l₁ l₀ a count refl size (omega (arith, fits)) p₁ in
-    let two = pushes most l₁ l₂ (l₀ ++ a) b (count + length a) one.0 one.1 (omega (arith, fits)) p₂
-    in
-    let three = pushes most l₂ l₃ ((l₀ ++ a) ++ b) c (count + length a + length b) two.0 two.1
-    (omega (arith, fits)) p₃ in
-    (three.0 ∙ append-three l₀ a b c, ap length three.0 ∙ three.1)
 
 pub two-pushed :
     (most : ℕ) (l₁ l₂ l₃ a b c : List ℕ)

@@ -59,7 +59,7 @@ pub fn output_bytes<'a>(output: Option<&'a [u8]>) -> &'a [u8]
     }
 }
 
-// The code under a derived key of metadata, the image's code, and an output.
+// The MAC under a derived key of metadata, the image's code, and an output.
 fn derived_mac<D: Digest32>(
     derived_key: &[u8; 32],
     metadata: &[u8],

@@ -20,24 +20,13 @@ use Rattle.mac_coverage.specs.AttestedBytes.{AttestedBytes, counter_left, decisi
 use Rattle.mac_coverage.specs.Call.{begins_call, ends_in_call, ends_refused, last_call}
 use Rattle.mac_coverage.specs.Coverage.{MacCoversCall, call_length, contents_before, kept_before, kept_within}
 use Rattle.mac_coverage.proofs.Device.{Device, start_of}
-use Rattle.mac_coverage.proofs.KeptStored.{kept-early, kept-late}
+use Rattle.mac_coverage.proofs.KeptStored.{four, kept-early, kept-late}
 use Rattle.mac_coverage.proofs.Plays.{outcome_at, play_stands, rom_kind}
 use Rattle.mac_coverage.proofs.PlaySteps.{CallGoesOn, LastWroteHighWord, attested-is, entry-kind, entry-pc, entry_at, kept-is, log_at}
 use Rattle.mac_coverage.proofs.Steps.{IsOfCall, OnCall, rom_step-of_call}
 use Rattle.mac_coverage.proofs.WordPlan.{IsCounter, counter_left-is}
 use Rattle.request_freshness.specs.Freshness.{kept_counter}
 use Rattle.request_freshness.proofs.Untouched.{other_step-leaves, refused_step-leaves}
-
--- four bytes of a counter as a number
-pub four : (list : List ℕ) → length list ≡ 4
-    → list
-    ≡ slice_index list 0 ∷ slice_index list 1 ∷ slice_index list 2 ∷ slice_index list 3 ∷ []
-four [] size = absurd (omega (arith, size))
-four (a ∷ []) size = absurd (omega (arith, size))
-four (a ∷ b ∷ []) size = absurd (omega (arith, size))
-four (a ∷ b ∷ c ∷ []) size = absurd (omega (arith, size))
-four (a ∷ b ∷ c ∷ d ∷ []) size = refl
-four (a ∷ b ∷ c ∷ d ∷ e ∷ list) size = absurd (omega (arith, size))
 
 -- a greater counter has no lesser high word
 between_words : (a b c d e f g h : ℕ)

@@ -21,12 +21,12 @@ use Rattle.mac_coverage.specs.AttestedBytes.{AttestedBytes, counter_left, decisi
 use Rattle.mac_coverage.specs.Call.{ends_in_call}
 use Rattle.mac_coverage.specs.Coverage.{IsDeviceKey, IsOfBytes, call_length, kept_within}
 use Rattle.mac_coverage.proofs.Device.{Device, start_of}
-use Rattle.mac_coverage.proofs.KeptStored.{kept-early, kept-late}
+use Rattle.mac_coverage.proofs.KeptStored.{four, kept-early, kept-late}
 use Rattle.mac_coverage.proofs.Plays.{rom_kind}
 use Rattle.mac_coverage.proofs.PlaySteps.{entry-kind, entry_at, log_at}
 use Rattle.mac_coverage.proofs.WordPlan.{IsCounter}
 use Rattle.request_freshness.specs.Freshness.{IsRightlyRequested, kept_counter}
-use Rattle.request_freshness.proofs.CounterSteps.{CallMoments, KeptMoments, call-moments, choice, each_step, four}
+use Rattle.request_freshness.proofs.CounterSteps.{CallMoments, KeptMoments, call-moments, choice, each_step}
 use Rattle.request_freshness.proofs.Grows.{device_of}
 use Rattle.request_freshness.proofs.Untouched.{other_step-leaves, refused_step-leaves}
 

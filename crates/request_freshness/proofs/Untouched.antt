@@ -28,7 +28,7 @@ use Rattle.trace_facts.proofs.Choices.{first_false}
 use Rattle.trace_facts.proofs.MissedPlace.{MissesPlace, last_written-missed}
 use Rattle.trace_facts.proofs.Sound.{IsWithin}
 use Rattle.trace_facts.proofs.SoundPlay.{LogsAreSound, within_unrefused}
-use Rattle.mac_coverage.proofs.KeptStored.{kept-same}
+use Rattle.mac_coverage.proofs.KeptStored.{kept-same, takes}
 
 -- an access that does not touch the stack
 byte_elsewhere : (place i : ℕ) → i < 4 → (lies_in stack_region place || false) ≡ false
@@ -111,9 +111,6 @@ refused-leaves entry None refuses writes i before within = absurd (cc)
 refused-leaves entry (Some rule) refuses writes i before within = refl
 
 -- so the kept counter stays
-takes : (i : ℕ) → i < 4 → takes_write (0x4060 + i) ≡ true
-takes i within = grind (arith, nat_tests)
-
 kept-left : (start : Start) (logs : Logs) (entry : BusRecord) → LeavesKept entry
     → kept_bytes (logged_byte start (with_record start logs entry))
     ≡ kept_bytes (logged_byte start logs)

@@ -1,6 +1,7 @@
 -- The phases of a call, as a word passes.
-use Rattle.std.proofs.Common.{◌≡◌, ◌<◌, ◌+◌, ◌++◌, ◌∷◌, ◌∙◌, [], ℕ, false, List, length, length-append, append_assoc, append-nil, ap, subst, sym, arith, lit≤}
-use Rattle.std.specs.Prelude.{◌==◌, slice_index, Option, None}
+use Rattle.std.proofs.Common.{◌≡◌, ◌<◌, ◌+◌, ◌++◌, ◌∷◌, ◌∙◌, [], ℕ, false, List, length, length-append, append_assoc, append-nil, ap, refl, subst, sym, arith, lit≤}
+use Rattle.std.specs.Prelude.{◌==◌, slice_index, Option, None, Some, IsNone, IsSome}
+use Rattle.std.specs.Option.{option_and}
 use Rattle.std.proofs.Math.Seq.{get_or-append_seam}
 use Rattle.std.proofs.lemmas.Bool.{cond-false}
 use Rattle.bus_signals.specs.declared.bounds.Bounds.{Bounds}
@@ -126,6 +127,19 @@ module _ {D : Type 0} (hash : Hash D) where
   goes_on phase next words none stands =
       subst (λ next. NextStandsFor hash phase next words) (sym none) stands
 
+  -- it goes on, or it is before its return where the last of some words passed
+  pub ends_with :
+      (phase : Phase D) (passed : Option (Unit {0})) (next : Option ℕ) (decision : ℕ)
+      (words : List ℕ)
+      → next ≡ option_and passed (Some decision)
+      → (IsNone passed → PhaseStandsFor hash phase words)
+      → (IsSome passed → IsBeforeReturn decision words)
+      → NextStandsFor hash phase next words
+  ends_with phase None next decision words is more last =
+      subst (λ next. NextStandsFor hash phase next words) (sym is) (more refl)
+  ends_with phase (Some unit) next decision words is more last =
+      subst (λ next. NextStandsFor hash phase next words) (sym is) (last refl)
+
 -- the decision to attest was written, and the derived key comes
 pub derived_key-first :
     (digest : List ℕ → List ℕ) (writes : DigestWords) (bounds : Bounds)
@@ -228,6 +242,26 @@ mac-more digest writes rest words word bytes next stands =
           (ap (λ region. 109 + region) (region_in-append words (word ∷ []) (omega arith)))
           stands.at_word;
       attests = decision_read-append words (word ∷ []) (omega arith) ∙ stands.attests;
+    }
+
+pub mac-last :
+    (digest : List ℕ → List ℕ) (writes : DigestWords) (words : List ℕ) (word : ℕ)
+    → writes.next + 1 ≡ 16
+    → StandsAtMac digest writes words
+    → IsBeforeReturn ATTESTS (words ++ word ∷ [])
+mac-last digest writes words word last stands =
+    let count : length words ≡ before_mac words + writes.next = stands.at_word.same_length in
+    let attests : decision_read (words ++ word ∷ []) ≡ ATTESTS =
+    decision_read-append words (word ∷ []) (omega arith) ∙ stands.attests in
+    record {
+      count =
+          rw attests
+          (omega (
+            arith,
+            length-append words (word ∷ []),
+            region_in-append words (word ∷ []) (omega arith),
+          ));
+      same_decision = sym attests;
     }
 
 -- how many words a call has

@@ -23,7 +23,7 @@ pub struct Decided {
     pub decision: u16,
 }
 
-// The challenge of a request, its counter, and the token that it carries.
+// The challenge of a request.
 fn challenge_of(metadata: &[u8]) -> &[u8]
     requires { 32 ≤ length metadata.now }
     ensures { result.now ≡ challenge_in metadata.now }
@@ -31,6 +31,7 @@ fn challenge_of(metadata: &[u8]) -> &[u8]
     &metadata[..32]
 }
 
+// Its counter.
 fn counter_of(metadata: &[u8]) -> &[u8]
     requires { length metadata.now ≡ 80 }
     ensures counter { result.now ≡ counter_in metadata.now }
@@ -39,6 +40,7 @@ fn counter_of(metadata: &[u8]) -> &[u8]
     &metadata[44..48]
 }
 
+// The token that it carries.
 fn token_of(metadata: &[u8]) -> &[u8]
     requires { length metadata.now ≡ 80 }
     ensures token { result.now ≡ token_in metadata.now }

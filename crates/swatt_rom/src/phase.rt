@@ -179,10 +179,7 @@ impl<D: Digest32> Phase<D> {
                 *self = Phase::WritesMac { mac: *mac };
                 None
             }
-            Phase::WritesMac { mac } => {
-                mac.pass()?;
-                Some(ATTESTS)
-            }
+            Phase::WritesMac { mac } => mac.pass().and(Some(ATTESTS)),
         }
     }
 

@@ -16,13 +16,14 @@ use word_arith::Size;
 /// and two of the kept counter.
 pub const REQUEST_WORDS: usize = 74;
 
-/// The bytes of what a call read: of the key, of the metadata and of the kept counter.
+/// The bytes of the key, of what a call read.
 pub fn key_bytes(words: &[u16; REQUEST_WORDS]) -> ArrayVec<u8, 64>
     ensures { result.items ≡ key_read words.now }
 {
     bytes_of(&words[..32])
 }
 
+/// Those of the metadata.
 pub fn metadata_bytes(words: &[u16; REQUEST_WORDS]) -> ArrayVec<u8, 80>
     ensures bytes { result.items ≡ metadata_read words.now }
     ensures length { length result.items ≡ 80 }
@@ -30,6 +31,7 @@ pub fn metadata_bytes(words: &[u16; REQUEST_WORDS]) -> ArrayVec<u8, 80>
     bytes_of(&words[32..72])
 }
 
+/// Those of the kept counter.
 pub fn kept_bytes(words: &[u16; REQUEST_WORDS]) -> ArrayVec<u8, 4>
     ensures bytes { result.items ≡ kept_read words.now }
     ensures length { length result.items ≡ 4 }

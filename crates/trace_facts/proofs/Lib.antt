@@ -13,3 +13,5 @@ pub mod ProperRegisters
 pub mod OwnFetch
 pub mod ProperPlay
 pub mod OpcodeFetch
+pub mod RomCode
+pub mod BlankRecords

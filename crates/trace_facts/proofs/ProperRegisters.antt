@@ -1,5 +1,5 @@
 -- Registers whose PC is even, as every write to PC leaves them.
-use Rattle.std.proofs.Common.{◌≡◌, ℕ, ◌/◌, ◌*◌, ◌%◌, List, [], ◌∷◌, Option, Some, None, refl, arith}
+use Rattle.std.proofs.Common.{◌≡◌, ℕ, ◌/◌, ◌*◌, ◌%◌, List, [], ◌∷◌, Option, Some, None, arith}
 use Rattle.std.proofs.lemmas.Bool.{cond_both}
 use Rattle.word_arith.specs.declared.flags.Flags.{Flags}
 use Rattle.msp_decode.specs.declared.dest_form.DestForm.{DestForm}
@@ -13,7 +13,7 @@ use Rattle.msp_decode.specs.declared.reg.Reg.TheVariants.{R0, R1, R2, R3, R4, R5
 use Rattle.msp_decode.specs.declared.source_form.SourceForm.{SourceForm}
 use Rattle.msp_decode.specs.declared.source_form.SourceForm.TheVariants.{Register, Indexed, Indirect, IndirectInc, Immediate, Constant}
 use Rattle.part_definitions.specs.AddressSum.{minus}
-use Rattle.part_definitions.specs.CpuRegister.{pc_of, sp_of, with_register, with_pc, with_sp, with_flags, after_word, after_pop, flags_in}
+use Rattle.part_definitions.specs.CpuRegister.{pc_of, sp_of, with_register, with_pc, with_sp, with_flags, after_pop, flags_in}
 use Rattle.part_definitions.specs.CpuState.{CpuState, Boundary, Executing, Entering, cpu_next, with_value, completion_or, cpu_after}
 use Rattle.part_definitions.specs.Instruction.{has_result, result_of, with_destination, with_operand, after_one, after_result, is_taken, jump_target, after_value}
 use Rattle.part_definitions.specs.NextAccess.{Next, Asks, Ends, walk, walk_head, next_access, entry_access}
@@ -139,13 +139,6 @@ walk-proper head (access ∷ accesses) work [] proper = tt
 walk-proper head (access ∷ accesses) work (value ∷ values) proper =
     walk-proper head accesses (after_value head access value work) values
     (after_value-proper head access value work proper)
-
-pub state_at_start-regs : (head : Head) (regs : List ℕ)
-    → (state_at_start head regs).regs ≡ after_word regs
-state_at_start-regs (Two op size source destination) regs = refl
-state_at_start-regs (OneOperand op size source) regs = refl
-state_at_start-regs Reti regs = refl
-state_at_start-regs (Jump condition offset) regs = refl
 
 start-proper : (head : Head) (regs : List ℕ) → IsProper regs
     → IsProper (state_at_start head regs).regs

@@ -6,4 +6,4 @@
 
 mod law;
 
-pub use law::a1_and_k3_never_hold;
+pub use law::{a1_and_k3_never_hold, rom_runs_in_calls_alone};

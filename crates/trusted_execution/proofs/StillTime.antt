@@ -7,8 +7,7 @@ use Rattle.bus_signals.specs.declared.access.Access.TheVariants.{Fetch, Read, Wr
 use Rattle.bus_signals.specs.declared.bounds.Bounds.{Bounds}
 use Rattle.bus_signals.specs.declared.bus_record.BusRecord.{BusRecord}
 use Rattle.bus_signals.specs.declared.event.Event.{Event}
-use Rattle.bus_signals.specs.declared.kind.Kind.{Kind}
-use Rattle.bus_signals.specs.declared.kind.Kind.TheVariants.{Boot, Cpu, Idle, Irq, Rom}
+use Rattle.bus_signals.specs.declared.kind.Kind.TheVariants.{Rom}
 use Rattle.bus_signals.specs.declared.rule.Rule.{Rule}
 use Rattle.bus_signals.specs.Access.{some_writes}
 use Rattle.bus_signals.specs.Bounds.{are_valid, executable_region}
@@ -25,17 +24,19 @@ use Rattle.device_trace.specs.Progress.{Progress, Held, Runs, InCall, next_pc_of
 use Rattle.device_trace.specs.Signals.{step_kind}
 use Rattle.device_trace.specs.Start.{Start}
 use Rattle.device_trace.specs.Step.{record_of, asks_reset, next_record}
-use Rattle.device_trace.specs.Text.{denial_where, last_report, last_decision, last_denial}
+use Rattle.device_trace.specs.Text.{last_report, last_decision, last_denial}
 use Rattle.device_trace.specs.Trace.{logs_after, trace}
 use Rattle.device_trace.specs.TrustedRun.{TrustedRun}
 use Rattle.mac_coverage.proofs.ExecKept.{IsRomStep}
+use Rattle.mac_coverage.proofs.Plays.{rom_kind}
 use Rattle.mac_coverage.proofs.Steps.{rom_step-of_call, OnCall, other_step-no_call, record_of-call, record_of-kind, record_of-pc, IsInRom}
-use Rattle.proof_of_execution.proofs.Plays.{made_where, decision_finishes}
+use Rattle.proof_of_execution.proofs.Plays.{made_where, decision_finishes, denied_where}
 use Rattle.proof_of_execution.proofs.Regions.{inside-open}
-use Rattle.proof_of_execution.proofs.TrustedPlays.{last_pc-blank, play_state, aux-trusted_run}
+use Rattle.proof_of_execution.proofs.TrustedPlays.{play_state, aux-trusted_run}
 use Rattle.trusted_execution.specs.SeenFlag.{aux_seen}
 use Rattle.trusted_execution.specs.TrustedCall.{AuxAfterCallMeansTrustedRun}
 use Rattle.trusted_execution.proofs.RomSteps.{aux-rom_step}
+use Rattle.trace_facts.proofs.BlankRecords.{last_pc-blank}
 
 -- a step of the ROM, blanked
 writes-blank : (cpu : Option Access)
@@ -70,13 +71,6 @@ in_any : (progress : Progress) (records : List SeenRecord) → CallState records
 in_any Held records state = tt
 in_any (Runs cpu) records state = tt
 in_any (InCall regs words) records state = state
-
-rom_of : (kind : Kind) → is_rom kind ≡ true → kind ≡ Rom
-rom_of Boot rom = absurd (cc)
-rom_of Cpu rom = absurd (cc)
-rom_of Idle rom = absurd (cc)
-rom_of Irq rom = absurd (cc)
-rom_of Rom rom = refl
 
 none_of : {A : Type 0} (option : Option A) → is_none option ≡ true → option ≡ None
 none_of None none = refl
@@ -151,7 +145,7 @@ record_holds start logs reset valid holds =
     elim (cases_Bool (is_rom (step_kind logs))) [
       | inl rom ↦
           in_any _ records
-          (record_flag start logs reset valid holds none (rom_of (step_kind logs) rom))
+          (record_flag start logs reset valid holds none (rom_kind (step_kind logs) rom))
       | inr other ↦
           subst
           (λ kind. HoldsInCall
@@ -222,7 +216,8 @@ until_after start logs events valid holds =
     goes_on in
     let rom = (and_parts (is_rom entry.kind) (not (entry.pc == ROM_ENTRY)) parts.0).0 in
     let state : CallState records =
-    step_flag start logs events valid holds (none_of entry.reset parts.1) (rom_of entry.kind rom) in
+    step_flag start logs events valid holds (none_of entry.reset parts.1)
+    (rom_kind entry.kind rom) in
     ap (λ (until : List SeenRecord). aux (map blank_seen until))
     (sym (cond-true (goes_on_in_call entry)
     (records_until_call (with_events logs events).records) records goes_on))
@@ -310,12 +305,6 @@ report-trusted_run start (events ∷ play) report is_aux is set =
     (ap (λ (r : ReportFields). r.bounds) made.1)
     (finished-trusted_run start (events ∷ play) is_aux made.0
     (ap (λ (r : ReportFields). r.aux) made.1 ∙ set))
-
--- a denial has a decision
-denied_where : (decision : Option ℕ) (denial : ℕ) → denial_where decision ≡ Some denial
-    → is_some decision ≡ true
-denied_where None denial is = absurd (cc)
-denied_where (Some decision) denial is = refl
 
 pub denial-trusted_run : (start : Start) (play : List (List Event)) (denial : ℕ)
     → start.second_flag ≡ aux → last_denial start play ≡ Some denial

@@ -17,7 +17,7 @@ use Rattle.verifier_desk.specs.KeyList.{AreOf, place_named}
 use Rattle.verifier_desk.specs.Places.{place_in}
 use Rattle.verifier_desk.specs.Standing.{AreDistinct}
 
-same_name : (left right : List ℕ) → bytes_eq left right ≡ true → left ≡ right
+pub same_name : (left right : List ℕ) → bytes_eq left right ≡ true → left ≡ right
 same_name left right same = (bytes_eq-Decides left right).0 same
 
 -- what the place of a name says of its device

@@ -14,9 +14,7 @@ use Rattle.verifier_desk.specs.DeviceLine.{DeviceLine}
 use Rattle.verifier_desk.specs.DeviceReply.{answer_of}
 use Rattle.verifier_desk.specs.Replies.{DeskFields, judge_at, answer_line, own_line, own_lines, reply_to, reply, replies}
 use Rattle.verifier_desk.specs.Law.{alone, is_named, is_of, lines_of_device, replies_to_device, IsServedAlone}
-
-same_bytes : (left right : List ℕ) → bytes_eq left right ≡ true → left ≡ right
-same_bytes left right same = (bytes_eq-Decides left right).0 same
+use Rattle.verifier_desk.proofs.KeyPlaces.{same_name}
 
 bytes_eq-self : (bytes : List ℕ) → bytes_eq bytes bytes ≡ true
 bytes_eq-self bytes = (bytes_eq-Decides bytes bytes).1 refl
@@ -27,7 +25,7 @@ own_key : (devices : List DeviceKey) (device : DeviceKey) (name : List ℕ)
     → bytes_eq name device.name ≡ true
     → key_named name (device ∷ []) ≡ key_named name devices
 own_key devices device name known same =
-    let is : name ≡ device.name = same_bytes name device.name same in
+    let is : name ≡ device.name = same_name name device.name same in
     rw is (rw (bytes_eq-self device.name) (sym known))
 
 -- a line of another name is no line of the device
@@ -120,7 +118,7 @@ reply_to-alone desk device earlier TooLong known named = absurd (false≢true na
 reply_to-alone desk device earlier Silent known named = absurd (false≢true named)
 reply_to-alone desk device earlier Foreign known named = absurd (false≢true named)
 reply_to-alone desk device earlier (Own owner line) known named =
-    let is : owner.name ≡ device.name = same_bytes owner.name device.name named in
+    let is : owner.name ≡ device.name = same_name owner.name device.name named in
     ap (λ lines. answer_line desk.digest owner line.number
     (answer_of (judge_at desk owner) lines line))
     (subst (λ name. own_lines desk.devices name earlier

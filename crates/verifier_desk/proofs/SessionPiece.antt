@@ -11,7 +11,7 @@ use Rattle.verifier_desk.specs.declared.desk.Desk.{Desk}
 use Rattle.verifier_desk.specs.declared.served.Served.{Served}
 use Rattle.verifier_desk.specs.declared.served.Served.TheVariants.{Done, Spent, ReadFault, WriteFault, Memory}
 use Rattle.verifier_desk.specs.Desk.{DeskStandsFor}
-use Rattle.verifier_desk.specs.DeskLine.{DeskLine, LONGEST_LINE, TooLong, line_of, line_of_words}
+use Rattle.verifier_desk.specs.DeskLine.{DeskLine, LONGEST_LINE, line_of, line_of_words}
 use Rattle.text_scan.specs.Word.{words_of}
 use Rattle.verifier_desk.specs.DeviceKey.{DeviceKey}
 use Rattle.verifier_desk.specs.HeldLine.{HoldsRest, ended_line, short_line, with_piece}
@@ -22,21 +22,11 @@ use Rattle.verifier_desk.specs.Serving.{HasServed, PutsReply, PutsText, ServesPi
 use Rattle.verifier_desk.proofs.Pieces.{cut_anywhere, held_line, plain_piece}
 
 -- what a line says is found by what is held of it
-is_long : (long : Bool) (line : List ℕ) → ◌≡◌ {A = Option (List ℕ)} None (if long then None else
-    Some line)
-    → long ≡ true
-is_long true line is = refl
-is_long false line is = absurd (cc is)
-
 is_short : (long : Bool) (line held : List ℕ)
     → ◌≡◌ {A = Option (List ℕ)} (Some held) (if long then None else Some line)
     → (long ≡ false) × (line ≡ held)
 is_short true line held is = absurd (cc is)
 is_short false line held is = (refl, cc is)
-
-pub says_long : (devices : List DeviceKey) (line : List ℕ) → None ≡ short_line line
-    → line_of devices line ≡ TooLong
-says_long devices line is = rw (is_long (nat_lt LONGEST_LINE (length line)) line is) refl
 
 pub says_short : (devices : List DeviceKey) (line held : List ℕ) → Some held ≡ short_line line
     → line_of devices line ≡ line_of_words devices (words_of held)
@@ -219,12 +209,13 @@ pub text_replied : {W : Type 0} (stands : W → List ℕ → Type 0) (faults : W
     → DeskStandsFor desk fields (with_said said (lines_said fields earlier))
     → PutsText stands faults sink sink_now text served
     → PutsReply stands faults sink sink_now fields earlier bytes desk served
-text_replied stands faults sink sink_now fields earlier bytes text desk said Done says is so puts = (
-  subst (Takes stands sink sink_now)
-      (is ∙ ap (reply_to fields (lines_said fields earlier)) (sym says)) puts,
-  subst (λ (one : DeskLine). DeskStandsFor desk fields (with_said one (lines_said fields earlier)))
-      (sym says) so,
-)
+text_replied stands faults sink sink_now fields earlier bytes text desk said Done says is so
+    puts = (
+      subst (Takes stands sink sink_now)
+          (is ∙ ap (reply_to fields (lines_said fields earlier)) (sym says)) puts,
+      subst (λ (one : DeskLine). DeskStandsFor desk fields (with_said one (lines_said fields earlier)))
+          (sym says) so,
+    )
 text_replied stands faults sink sink_now fields earlier bytes text desk said WriteFault says is so
     puts = (
       subst (TakesPrefix stands sink sink_now)

@@ -45,10 +45,6 @@ taken_both None (Some left) rest one two before next = absurd before
 taken_both (Some first) (Some left) None one two before next = absurd next
 taken_both None None (Some rest) one two before next = absurd next
 
-pub none_taken : (left : Option (List ℕ)) → AreTaken left left []
-none_taken (Some left) = refl
-none_taken None = tt
-
 -- a desk took these bytes so far, and served what they hold
 pub record IsServedTo {R W : Type 0} (left : R → Option (List ℕ)) (source_faults : R → ℕ)
     (stands : W → List ℕ → Type 0) (sink_faults : W → ℕ) (desk : Desk) (held : Option (List ℕ))
@@ -61,16 +57,6 @@ pub record IsServedTo {R W : Type 0} (left : R → Option (List ℕ)) (source_fa
       → HasServed stands sink sink_now fields desk_now held_now (cut_of taken)
   pub source_rises : source_faults source ≤ source_faults source_now
   pub sink_rises : sink_faults sink ≤ sink_faults sink_now
-
-pub nothing_served : {W : Type 0} (stands : W → List ℕ → Type 0) (desk : Desk)
-    (held : Option (List ℕ)) (sink : W) (fields : DeskFields)
-    → DeskStandsFor desk fields no_lines_of → held ≡ Some []
-    → HasServed stands sink sink fields desk held (cut_of [])
-nothing_served stands desk held sink fields so empty = rw empty (record {
-  desk_stands = so;
-  holds = refl;
-  put = λ before holds. rw (append-nil before) holds;
-})
 
 -- why it ended, where a line was answered last
 line_puts : {W : Type 0} (stands : W → List ℕ → Type 0) (faults : W → ℕ) (first old new : W)

@@ -72,7 +72,7 @@ binary_more number large fits =
     ∙ spell-append 64 (number / 2) (glyph number ∷ [])
     ∙ ap (λ (last : List ℕ). spell 64 (number / 2) [] ++ last) (glyph-last number)
 
-length-flag : (flag : Bool) → length (flag_digit flag) ≡ 1
+pub length-flag : (flag : Bool) → length (flag_digit flag) ≡ 1
 length-flag true = refl
 length-flag false = refl
 

@@ -14,6 +14,7 @@ pub trait StepWatcher {
     ghost use Rattle.outside_edge.specs.Sink.{Puts};
     ghost use Rattle.device_trace.specs.Start.{Start};
     ghost use Rattle.device_core.specs.Silence.{is_silent};
+    ghost use Rattle.device_cli.specs.Cuts.{TakesSuch};
     ghost use Rattle.device_cli.specs.WatchedPlay.{Blames};
 
     /// What it keeps of the steps so far.
@@ -28,8 +29,10 @@ pub trait StepWatcher {
     /// Likewise: what it says of the last step of a play, which has this number.
     ghost last_lines: { (List ℕ → List ℕ) → Self → Start → List (List Event) → ℕ → List ℕ };
 
-    /// Likewise: what a fault at the last step of a play says of it.
-    ghost stops: { (List ℕ → List ℕ) → Self → Start → List (List Event) → Self.Fault → Type 0 };
+    /// Likewise: what a fault at the last step of a play, which has this number, says of the bytes
+    /// that were put of it.
+    ghost stops: { (List ℕ → List ℕ) → Self → Start → Self.Fault → List (List Event) → ℕ
+        → List ℕ → Type 0 };
 
     /// What a fault says of the sink's count of faults before and after.
     ghost blames: { ℕ → ℕ → Self.Fault → Type 0 };
@@ -60,7 +63,8 @@ pub trait StepWatcher {
         ensures stops { (start : Start) (events : List Event) (play : List (List Event))
             → LiveStandsFor D.hash G.flag live.now start (events ∷ play)
             → tallies D.hash.digest_of self.now start play tally
-            → IfErr result (stops D.hash.digest_of self.now start (events ∷ play)) }
+            → IfErr result (λ fault. TakesSuch W.stands sink.old sink.new
+            (stops D.hash.digest_of self.now start fault (events ∷ play) step)) }
         ensures counts { Blames blames W.faults sink.old sink.new result };
 
     /// There is nothing to say of a silent step.

@@ -7,7 +7,7 @@ ghost use Rattle.play_script.specs.Script.{events_of};
 ghost use Rattle.device_core.specs.Device.{HeldStandsFor, LiveStandsFor, steps_of, steps_made};
 ghost use Rattle.device_cli.specs.Limit.{most_steps};
 ghost use Rattle.device_cli.specs.Midway.{IsMidway, HasGoneOn};
-ghost use Rattle.device_cli.specs.WatchedPlay.{watched_lines, IsSoAfterSome, Blames};
+ghost use Rattle.device_cli.specs.WatchedPlay.{watched_lines, StopsInSome, Blames};
 
 use crate::play_text::step_watcher::StepWatcher;
 use device_core::{Device, Held, Live};
@@ -97,9 +97,10 @@ pub fn watch_play<O: StepWatcher, D: Digest32, G: TraceFlag, W: Sink>(
         (with_key G.flag.value D.hash.digest_of key image) []
         → O.tallies D.hash.digest_of watcher.now (with_key G.flag.value D.hash.digest_of key image)
         [] tally
-        → IfErr result (λ fault. IsSoAfterSome
-        (λ play. O.stops D.hash.digest_of watcher.now
-        (with_key G.flag.value D.hash.digest_of key image) play
+        → IfErr result (λ fault. StopsInSome W.stands sink.old sink.new
+        (O.last_lines D.hash.digest_of watcher.now
+        (with_key G.flag.value D.hash.digest_of key image))
+        (O.stops D.hash.digest_of watcher.now (with_key G.flag.value D.hash.digest_of key image)
         fault) (events_of script.now) steps) }
     ensures counts { Blames O.blames W.faults sink.old sink.new result }
 {

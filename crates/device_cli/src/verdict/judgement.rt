@@ -5,11 +5,12 @@ ghost use Rattle.mem_map.specs.Memory.{MemoryStandsFor};
 ghost use Rattle.outside_edge.specs.Sink.{Puts};
 ghost use Rattle.report_verifier.specs.Comparison.{OutputFits};
 ghost use Rattle.report_verifier.specs.Validity.{are_valid_for};
-ghost use Rattle.device_cli.specs.Judgement.{judge_of, evidence_lines, is_pair_shown, judgement_lines, judgement_has_pair, TellsOutput, tally_after};
+ghost use Rattle.device_cli.specs.Cuts.{StopsOnlyAt};
+ghost use Rattle.device_cli.specs.Judgement.{judge_of, evidence_lines, evidence_cuts, judgement_lines, judgement_cuts, TellsOutput, tally_after};
 ghost use Rattle.report_verifier.specs.Judge.{verdict_at};
 ghost use Rattle.device_cli.specs.Limit.{most_steps};
 ghost use Rattle.device_cli.specs.Verify.{is_accept};
-ghost use Rattle.device_cli.specs.RoundText.{CountsWriteFaults, StopsOnlyAtPair};
+ghost use Rattle.device_cli.specs.RoundText.{CountsWriteFaults};
 
 use crate::put_fault::PutFault;
 use crate::verdict::verdict_text::is_accept;
@@ -53,9 +54,9 @@ fn print_evidence<D: Digest32, W: Sink>(
         → MemoryStandsFor memory.now start flags writes
         → (IsTrue (is_accept verdict) → IfSome expect (λ expect.
         OutputFits expect.bounds (fields_of report.now).output))
-        → StopsOnlyAtPair result
-        (is_pair_shown (judge_of D.hash.digest_of verifier.now) expect verdict
-        (fields_of report.now) (byte_at start flags writes)) }
+        → StopsOnlyAt W.stands sink.old sink.new
+        (evidence_cuts (judge_of D.hash.digest_of verifier.now) expect verdict
+        (fields_of report.now) (byte_at start flags writes)) result }
     ensures counts { CountsWriteFaults W.faults sink.old sink.new result }
 {
     let (Some(expect), Decision::Accept) = (expect, verdict) else {
@@ -92,9 +93,9 @@ fn judge<D: Digest32, W: Sink>(
     ensures memory { (start : PowerOn) (flags : ShownFlags) (writes : List MemoryWrite)
         → MemoryStandsFor memory.now start flags writes
         → TellsOutput (byte_at start flags writes) (Some (fields_of report.now))
-        → StopsOnlyAtPair result
-        (judgement_has_pair (judge_of D.hash.digest_of verifier.now) i (byte_at start flags writes)
-        (Some (fields_of report.now))) }
+        → StopsOnlyAt W.stands sink.old sink.new
+        (judgement_cuts (judge_of D.hash.digest_of verifier.now) i (byte_at start flags writes)
+        (Some (fields_of report.now))) result }
     ensures counts { CountsWriteFaults W.faults sink.old sink.new result }
 {
     let expect = verifier.policy.expect(i);
@@ -127,9 +128,9 @@ pub fn judge_last<D: Digest32, W: Sink>(
     ensures memory { (start : PowerOn) (flags : ShownFlags) (writes : List MemoryWrite)
         → MemoryStandsFor memory.now start flags writes
         → TellsOutput (byte_at start flags writes) (option_map fields_of report.entry)
-        → StopsOnlyAtPair result
-        (judgement_has_pair (judge_of D.hash.digest_of verifier.now) tally.verdicts
-        (byte_at start flags writes) (option_map fields_of report.entry)) }
+        → StopsOnlyAt W.stands sink.old sink.new
+        (judgement_cuts (judge_of D.hash.digest_of verifier.now) tally.verdicts
+        (byte_at start flags writes) (option_map fields_of report.entry)) result }
     ensures counts { CountsWriteFaults W.faults sink.old sink.new result }
 {
     let Some(report) = report else {

@@ -64,10 +64,18 @@ loop-playback-init g c = record {
 
 pub loop-playback-preserved : goal.loop-playback-preserved
 loop-playback-preserved g c = record {
-  within = omega (arith, c.step-live.ensures.steps, c.steps-step.ensures.made, c.steps.ensures.made);
-  count = omega (arith, c.in_ok-put_next.ensures.count, c.loop-playback.invariant.count, c.step-live.ensures.steps);
+  within =
+      omega (arith, c.step-live.ensures.steps, c.steps-step.ensures.made, c.steps.ensures.made);
+  count =
+      omega (
+        arith,
+        c.in_ok-put_next.ensures.count,
+        c.loop-playback.invariant.count,
+        c.step-live.ensures.steps,
+      );
   quiet = c.in_ok-put_next.ensures.counts.quiet ∙ c.loop-playback.invariant.quiet;
-  midway = λ key image holds. to-go_on g (goal.at.loop-playback-preserved g c).After-put_next key image holds;
+  midway = λ key image holds.
+      to-go_on g (goal.at.loop-playback-preserved g c).After-put_next key image holds;
   watched = λ key image holds begins.
       let before = c.loop-playback.invariant.watched key image holds begins in
       let line = to-tell g (goal.at.loop-playback-preserved g c).After-put_next key image holds in

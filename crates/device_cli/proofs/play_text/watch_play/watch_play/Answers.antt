@@ -1,10 +1,10 @@
-use Rattle.std.proofs.Common.{◌≡◌, ◌∙◌, ◌-◌, [], ℕ, suc, List, refl, sym, arith}
+use Rattle.std.proofs.Common.{◌≡◌, ◌∙◌, ◌-◌, [], ℕ, List, refl, sym, arith}
 use Rattle.device_trace.specs.Start.{Start, with_key}
 use Rattle.play_script.specs.Script.{events_of}
 use Rattle.outside_edge.proofs.SinkLemmas.{puts-failed}
 use Rattle.device_core.specs.Device.{HeldStandsFor, steps_made}
 use Rattle.device_core.specs.declared.live.Live.TheVariants.{Held}
-use Rattle.device_cli.proofs.WatchedPlay.{IsToSee, watched-none, watched-seen, watched-prefix, gone-to-see, at-count, fault-passed}
+use Rattle.device_cli.proofs.WatchedPlay.{IsToSee, watched-none, watched-seen, watched-prefix, gone-to-see, at-count, fault-passed, stopped-in_some}
 use Rattle.device_cli.proofs.play_text.watch_play.watch_play.Given.{Over}
 use Rattle.device_cli.proofs.play_text.watch_play.watch_play.Goals.{After-see}
 use Rattle.device_cli.proofs.play_text.watch_play.watch_play.Goals as goal
@@ -85,11 +85,8 @@ returns-in_err-tally-clause-stops g c = λ key image holds begins.
     let to = to-see g (goal.at.returns-in_err-tally-clause-stops g c).After-see key image holds
     begins in
     fault-passed c.from_residual.result c.in_err-tally.field-0.0 _ c.from_residual.ensures.1
-    (record {
-      count = suc (c.steps-in-loop-playback.result - 1);
-      within = omega (arith, to.made, c.play_more-live.ensures.within);
-      so = c.in_err-tally.ensures.stops _ _ _ to.device to.watched.counted;
-    })
+    (stopped-in_some (omega (arith, to.made, c.play_more-live.ensures.within)) to.watched
+    (c.in_err-tally.ensures.stops _ _ _ to.device to.watched.counted))
 
 pub returns-clause-stands : goal.returns-clause-stands
 returns-clause-stands g c = λ key image holds.

@@ -13,6 +13,6 @@ unreachable-requires g c =
       misses_before = c.new-shelf.result.misses;
       misses_after = c.run.new.shelf.misses;
     })
-    (row_of (texts c.deref.result.now)) c.run.result _ c.run.ensures.run.words c.run.ensures.run.refusal
-    c.run.ensures.run.failed
+    (row_of (texts c.deref.result.now)) c.run.result _ c.run.ensures.run.words
+    c.run.ensures.run.refusal c.run.ensures.run.failed
     (λ rose. search (arith, rose)) (λ rose. search (arith, rose)) c.in-ReadFault.is

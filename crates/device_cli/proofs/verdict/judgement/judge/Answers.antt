@@ -4,8 +4,7 @@ use Rattle.part_definitions.specs.Memory.{byte_at}
 use Rattle.outside_edge.proofs.SinkLemmas.{puts-failed}
 use Rattle.report_verifier.specs.Judge.{Judge}
 use Rattle.device_cli.specs.Judgement.{judge_of}
-use Rattle.device_cli.proofs.IsJudged.{is-judged, evidence-fits, verdict-begun, evidence-put, pair-of_report}
-use Rattle.device_cli.proofs.WriteCounts.{stops-later}
+use Rattle.device_cli.proofs.IsJudged.{is-judged, evidence-fits, verdict-begun, evidence-put, stops-behind_verdict}
 use Rattle.device_cli.proofs.verdict.judgement.judge.Goals as goal
 
 pub returns-in_err-print_verdict-clause-puts : goal.returns-in_err-print_verdict-clause-puts
@@ -39,11 +38,11 @@ returns-in_err-print_evidence-clause-memory g c = λ start flags writes stands t
     let bytes = byte_at start flags writes in
     let is = is-judged judge c.args.i report c.expect-expect.ensures.expectation
     c.verdict-verdict.ensures in
-    stops-later c.in_err-print_evidence.field-0.0 c.from_residual-in_err-print_evidence.result _ _
-    c.from_residual-in_err-print_evidence.ensures.1
+    stops-behind_verdict g.W.Sink.stands _ _ _ judge c.args.i bytes report
+    c.in_err-print_evidence.field-0.0 c.from_residual-in_err-print_evidence.result is
+    c.from_residual-in_err-print_evidence.ensures.1 c.in_ok-print_verdict.ensures.puts.all
     (c.in_err-print_evidence.ensures.memory start flags writes stands
     (evidence-fits judge c.args.i bytes report is tells))
-    (pair-of_report judge c.args.i bytes report is)
 
 pub returns-clause-puts : goal.returns-clause-puts
 returns-clause-puts g c = λ start flags writes stands tells.

@@ -6,7 +6,8 @@ use Rattle.outside_edge.specs.Sink.{Takes, TakesPrefix}
 use Rattle.outside_edge.proofs.SinkLemmas.{puts-failed}
 use Rattle.device_cli.specs.Judgement.{judge_of}
 use Rattle.device_cli.proofs.IsJudged.{accepted-fits_expect, evidence-shown, no-evidence, no-pair, pair-shown_after}
-use Rattle.device_cli.proofs.WriteCounts.{counts-nothing, nothing-begun, nothing-put, stops-at}
+use Rattle.device_cli.proofs.Cuts.{stops-at_first}
+use Rattle.device_cli.proofs.WriteCounts.{counts-nothing, nothing-begun, nothing-put}
 use Rattle.device_cli.proofs.verdict.judgement.print_evidence.Goals as goal
 
 pub returns-in_default : goal.returns-in_default
@@ -30,7 +31,7 @@ pub returns-in_err-first-clause-memory : goal.returns-in_err-first-clause-memory
 returns-in_err-first-clause-memory g c = λ start flags writes stands fits.
     let accept = c.in-Some-Accept in
     let report = fields_of c.args.report.now in
-    stops-at c.from_residual.result _
+    stops-at_first g.W.Sink.stands c.args.sink.now _ c.from_residual.result
     (pair-shown_after (judge_of g.D.Digest32.hash.digest_of c.args.verifier.now) c.args.expect
     c.args.verdict report (byte_at start flags writes) accept.expect accept.is-0 accept.is-1
     (c.in_err-first.ensures start flags writes stands

@@ -1,11 +1,12 @@
 use Rattle.std.proofs.Common.{◌≡◌, ◌+◌, ◌++◌, ◌∷◌, ◌∙◌, [], ℕ, List, length, length-append, ap, refl, subst, sym, rules, arith}
 use Rattle.part_definitions.specs.Attestation.{region_words}
+use Rattle.part_definitions.specs.Request.{ATTESTS}
 use Rattle.swatt_rom.specs.RomCall.{next_word}
 use Rattle.swatt_rom.specs.Phase.{PhaseStandsFor, HasDecided, IsBeforeReturn}
 use Rattle.swatt_rom.specs.declared.phase.Phase.TheVariants.{WritesDerivedKey, ReadsRegion, WritesInnerDigest, WritesMac}
 use Rattle.swatt_rom.proofs.WordsPassed.{bounds_read-append, call_key-append, metadata_read-append, decision_read-append}
 use Rattle.swatt_rom.proofs.Accesses.{next_word-request, next_word-decision, next_word-region}
-use Rattle.swatt_rom.proofs.Steps.{goes_on, decided-first, decided-more, decided-denies, decided-attests, derived_key-more, region-more, region-last, inner_digest-more, inner_digest-last, mac-more}
+use Rattle.swatt_rom.proofs.Steps.{goes_on, ends_with, decided-first, decided-more, decided-denies, decided-attests, derived_key-more, region-more, region-last, inner_digest-more, inner_digest-last, mac-last, mac-more}
 use Rattle.swatt_rom.proofs.phase.Phase.take.Goals as goal
 
 pub returns-in_ok-take-in-ReadsRequest : goal.returns-in_ok-take-in-ReadsRequest
@@ -142,15 +143,16 @@ returns-in_ok-pass-in-WritesInnerDigest g c = λ sp words stands.
     (next_word digest sp words c.args.value) last
     (subst (λ phase. PhaseStandsFor hash phase words) c.in-WritesInnerDigest.is stands)
 
-pub returns-in_err-pass-in-WritesMac : goal.returns-in_err-pass-in-WritesMac
-returns-in_err-pass-in-WritesMac g c = λ sp words stands.
+pub returns-in-WritesMac : goal.returns-in-WritesMac
+returns-in-WritesMac g c = λ sp words stands.
     let hash = g.D.Digest32.hash in
     let digest = hash.digest_of in
     let mac = c.in-WritesMac.mac in
-    let next : c.pass-in-WritesMac.new.self.next ≡ mac.next + 1 = search rules in
+    let rest = c.pass-in-WritesMac.new.self in
+    let has = subst (λ phase. PhaseStandsFor hash phase words) c.in-WritesMac.is stands in
     let word = next_word digest sp words c.args.value in
-    goes_on hash (WritesMac c.pass-in-WritesMac.new.self)
-    _ (words ++ word ∷ []) (search rules)
-    (mac-more digest mac c.pass-in-WritesMac.new.self words word
-    c.pass-in-WritesMac.ensures.bytes next
-    (subst (λ phase. PhaseStandsFor hash phase words) c.in-WritesMac.is stands))
+    ends_with hash (WritesMac rest) c.pass-in-WritesMac.result c.and.result ATTESTS
+    (words ++ word ∷ []) c.and.ensures
+    (λ none. mac-more digest mac rest words word c.pass-in-WritesMac.ensures.bytes
+    (c.pass-in-WritesMac.ensures.next none) has)
+    (λ some. mac-last digest mac words word (c.pass-in-WritesMac.ensures.last.0 some) has)

@@ -1,0 +1,16 @@
+-- What EXEC says after a call.
+use Rattle.std.specs.Prelude.{◌≡◌, ℕ, IsTrue, Some}
+use Rattle.device_trace.specs.Logs.{exec_of, logged_bounds}
+use Rattle.device_trace.specs.Play.{Play}
+use Rattle.device_trace.specs.Start.{Start}
+use Rattle.device_trace.specs.Text.{last_decision}
+use Rattle.device_trace.specs.Trace.{logs_after, trace}
+use Rattle.device_trace.specs.WholeRun.{WholeRun}
+
+-- where the last step of a play finishes a call, whatever it decides, and EXEC is 1 after it, the
+-- play has a whole run of the executable region
+abbrev pub ExecAfterCallMeansWholeRun : Start → Play → Type 0
+ExecAfterCallMeansWholeRun start play =
+    (decision : ℕ) → last_decision start play ≡ Some decision
+    → IsTrue (exec_of (logs_after start play))
+    → WholeRun (logged_bounds start (logs_after start play)) (trace start play)
