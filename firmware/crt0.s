@@ -1,8 +1,10 @@
 ; What runs before main, and attest. A `start` of the firmware's own takes the place of this one.
 
-        .section .start, "ax"
+        .section .start.kit, "ax"
         .weak   start
 start:  mov     #stack_top, r1
+lays_guard:
+        mov     #0x5afe, &stack_guard   ; below the stack, where no push has to come: stacks.py
         mov     #data_values, r12       ; after a reset too, so that globals begin anew
         mov     #data_start, r13
 .Lcopy: cmp     #data_end, r13
@@ -40,6 +42,7 @@ attest: push    r2
         mov     #0x026c, r13            ; counter and token
         mov     #0x0290, r14
         call    #store
+        mov     #0x5afe, &region_guard
         call    #er_min                 ; a write to the metadata after this would clear EXEC
         mov     #0x0202, r13            ; the MAC behind its first word
 .Lclear:
@@ -85,7 +88,9 @@ er_leave:
         .section .er.exit, "ax"
 er_max: ret
 
-        .section .bss.region_stack, "aw", @nobits
+        .section .er_stack, "aw", @nobits
+region_guard:
+        .space  2
         .space  128
 region_stack:
 caller_stack:

@@ -40,11 +40,14 @@ static inline void disable_interrupts(void) { __asm__ volatile("bic #8, r2" ::: 
 static inline void sleep(void) { __asm__ volatile("bis #0x18, r2" ::: "memory"); }
 
 // The code whose run a report proves is `region`, which the firmware defines, and the functions
-// that it calls, each with the word REGION; a call out of the region ends the proof (EXEC becomes
-// 0). What it proves is the value of the variables with the word OUTPUT, which only this code may
-// write. Its stack has 128 bytes. Interrupts are off in it; examples/pump has one that allows them.
+// that it calls, each with the word REGION. Its constants and what it uses of the kit are laid beside
+// it. What it proves is the value of the variables with the word OUTPUT, which only this code may
+// write. It uses no other variable of its surroundings but those with the word FOREIGN, of which the
+// report proves nothing. Its stack has 128 bytes. Interrupts are off in it; examples/pump has one
+// that allows them.
 #define REGION __attribute__((section(".er"), noinline))
 #define OUTPUT volatile __attribute__((section(".or")))
+#define FOREIGN __attribute__((section(".foreign")))
 void region(void);
 
 // A request as it comes from a verifier: a challenge of 32 bytes, a counter of 4, the low one
