@@ -34,7 +34,7 @@ SECTIONS
     stack_guard = bss_end;
     stack_top = 0x2200;
     ASSERT(stack_top - stack_guard - 2 >= stack_bytes,
-           "too little stack: fewer or smaller variables, or a smaller STACK (128 bytes unless set)")
+           "too little stack: fewer or smaller variables, or a smaller STACK (128 if unset)")
     .timer_vector 0xFFF2 : { KEEP(*(.timer_vector __interrupt_vector_9)) } > vectors
     .serial_vector 0xFFF4 : { KEEP(*(.serial_vector __interrupt_vector_10)) } > vectors
     .reset_vector 0xFFFE : { KEEP(*(.reset_vector)) } > vectors

@@ -1,10 +1,10 @@
 """link.py JOINED ELF LD [ARGUMENT..]
 
-Links JOINED, the joined object files of a firmware, to ELF by the linker LD, with its region closed:
-the constants and the functions of the kit that the region refers to are laid into it, in the
-sections .er.own.*. What it then still refers to outside itself but output, its stack and FOREIGN
-variables is an error, with the line that does so and a remedy. So are an output with an initializer
-and interrupts that do not do what their author means.
+Links JOINED, the joined object files of a firmware, to ELF by the linker LD, with its region
+closed: the constants and the functions of the kit that the region refers to are laid into it, in
+the sections .er.own.*. What it then still refers to outside itself but output, its stack and
+FOREIGN variables is an error, with the line that does so and a remedy. So are an output with an
+initializer and interrupts that do not do what their author means.
 """
 import os
 import re
@@ -72,7 +72,8 @@ class Program:
         self.sections, self.relocations = {}, []
         for number, name, place, size, flags in SECTION_ROW.findall(text):
             names[number] = name
-            self.sections[name] = Section(int(place, 16), int(size, 16), flags)
+            # (Two of one name can differ in their flags.)
+            self.sections[name] = Section(int(place, 16), int(size, 16), flags + self.flags(name))
         self.symbols = [
             Symbol(name, kind, names.get(number, ""), int(place, 16), binding != "LOCAL")
             for place, kind, binding, number, name in SYMBOL_ROW.findall(text)]
@@ -88,7 +89,8 @@ class Program:
         return self.sections[section].flags if section in self.sections else ""
 
     def is_constant(self, section):
-        return "A" in self.flags(section) and not set("WX") & set(self.flags(section))
+        flags = set(self.flags(section))
+        return section not in (OUTPUT, FOREIGN) and "A" in flags and not flags & set("WX")
 
     def at(self, section, place):
         """The symbol that a place of a section belongs to, None where it has none."""
@@ -203,6 +205,11 @@ def region_faults(program, lines):
         text = is_region(section) and section in lines.places and stray(program, relocation)
         if text:
             yield lines.of(program, relocation), text
+    for symbol in program.symbols:
+        if symbol.kind == "OBJECT" and symbol.section in REGION:
+            yield lines.of_name(symbol.name), (
+                f"the variable '{symbol.name}' has the word REGION, which is for functions: "
+                "a static const table needs no word; say OUTPUT or FOREIGN before another one")
     for section, place, number in program.numbers():
         text = section in lines.places and stray_number(number)
         if text:

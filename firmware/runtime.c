@@ -1,6 +1,6 @@
 // What clang calls where the processor has no instruction: products, quotients and shifts of 16 and
-// 32 bits, by their names in the MSP430 ABI (Texas Instruments, SLAA534), copies of memory, and abort
-// for what is never reached. runtime.s has 64 bits.
+// 32 bits, by their names in the MSP430 ABI (Texas Instruments, SLAA534), copies of memory, and
+// abort for what is never reached. runtime.s has 64 bits.
 #include <stdint.h>
 #include <stdlib.h>
 #include <string.h>

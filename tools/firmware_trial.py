@@ -17,11 +17,17 @@ NO_OUTPUT = b"""
 REGION void region(void) { }
 int main(void) { attest((const uint8_t *)0x0300); for (;;) { } }
 """
+TOOLS = ("make", "clang", "ld.lld", "llvm-dwarfdump", "llvm-nm", "llvm-objcopy", "llvm-objdump",
+         "llvm-readelf", "llvm-symbolizer")
 PLACE = "LDFLAGS=--defsym=er_place=0xD000"
 
 
-def is_compiler_there():
-    return all(map(shutil.which, ("make", "clang", "ld.lld", "llvm-objcopy", "llvm-nm")))
+def is_compiler_there(trial):
+    """Whether the kit's tools are there; a line says so where they are not."""
+    missing = [tool for tool in TOOLS if not shutil.which(tool)]
+    if missing:
+        print(f"{trial.name}: firmware in C is not tried: no {', '.join(missing)}")
+    return not missing
 
 
 def made_image(trial, folder, *options):
@@ -125,7 +131,7 @@ def paths_with_blanks(trial):
 
 
 def firmware(trial, files):
-    if is_compiler_there():
+    if is_compiler_there(trial):
         examples(trial)
         stale_images(trial)
         regions(trial)

@@ -1,9 +1,65 @@
-"""Trials of what the kit in firmware/ refuses of a region, where clang is."""
-import os
+"""Trials of the regions that the kit in firmware/ makes, and of what it refuses, where clang is."""
+import re
 import tempfile
 
-from sample_files import write
+import attestation_model
+from assembler_model import hex_text
+from file_readers import read_image, read_reports
+from firmware_trial import is_compiler_there, made_image
+from runtime_trial import LEVELS
+from sample_files import read, write
 from trial import ROOT
+
+# A region with a switch, a table, a text, products, quotients and a copied struct.
+CLOSED = rb"""#include "foldgneiss.h"
+struct samples { uint16_t of[12]; };
+static uint8_t request[REQUEST_BYTES];
+OUTPUT static uint16_t measurement;
+static const uint16_t curve[] = {300, 313, 329, 350, 377, 410, 451, 502};
+REGION static uint16_t scaled(uint16_t kind, uint16_t value) {
+    switch (kind) {
+    case 0: return value;
+    case 1: return value * curve[value & 7];
+    case 2: return value / curve[value & 7];
+    case 3: STXD = 'C'; return value << (value & 7);
+    case 4: STXD = 'D'; return value * 7 + 1;
+    case 5: STXD = 'E'; return curve[value % 8];
+    default: return "default"[value & 7];
+    }
+}
+REGION static void keep(struct samples *to, const struct samples *from) { *to = *from; }
+REGION void region(void) {
+    struct samples first, second;
+    for (int i = 0; i < 12; i++) {
+        first.of[i] = P1IN + i;
+    }
+    keep(&second, &first);
+    uint32_t sum = 0;
+    for (int i = 0; i < 12; i++) {
+        sum += (uint32_t)scaled(i % 7, second.of[i]) * second.of[11 - i];
+    }
+    measurement = sum / 3;
+}
+int main(void) {
+    for (;;) {
+        for (uint8_t *next = request; next < request + sizeof request; next++) {
+            while (!(SSTAT & 1)) {
+            }
+            *next = SRXD;
+        }
+        STXD = attest(request);
+    }
+}
+"""
+STEPS = 60_000
+# A function that nests, and fills 16 bytes of stack and more each time.
+NESTS = """%s uint16_t nests(uint16_t times) {
+    volatile uint16_t of[8];
+    for (int place = 0; place < 8; place++) {
+        of[place] = times;
+    }
+    return times ? nests(times - 1) + of[7] : 0;
+}"""
 
 # Firmware with a region that is whole; what makes it another stands in {}.
 FIRMWARE = """#include "foldgneiss.h"
@@ -56,6 +112,11 @@ WRONG = {
     "place of the linker": (
         {"before": "extern volatile uint16_t stack_guard;", "value": " + stack_guard"},
         f"main.c:5: error: the region refers to 'stack_guard', which lies outside it: {UNNAMED}"),
+    "table with the word": (
+        {"before": "REGION const uint16_t table[] = {1, 2};", "region": "void other(void)",
+         "main": ""},
+        "main.c:2: error: the variable 'table' has the word REGION, which is for functions: "
+        "a static const table needs no word; say OUTPUT or FOREIGN before another one"),
     "number": (
         {"value": " + FOLDGNEISS_WORD(0xC000)"},
         "main.c:5: error: the region refers to the place c000, which lies outside it: "
@@ -92,7 +153,7 @@ WRONG = {
     "stack": (
         {"before": "static volatile uint8_t log[7806];", "main": "log[P1IN] = 1;"},
         "ld.lld: error: too little stack: fewer or smaller variables, "
-        "or a smaller STACK (128 bytes unless set)"),
+        "or a smaller STACK (128 if unset)"),
     "floating point": (
         {"value": " * 1.5f"},
         "error: floating point is not in the kit: count in integers (firmware/README.md)"),
@@ -100,6 +161,83 @@ WRONG = {
         {"region": "void other(void)"},
         "error: attest runs a function of the firmware: write REGION void region(void) { .. }"),
 }
+
+
+
+class Device:
+    """A device with the image that the kit makes of a source, a request, and the policy for it."""
+
+    def __init__(self, trial, files, source, *options):
+        self.trial, self.files = trial, files
+        with tempfile.TemporaryDirectory() as folder:
+            write(f"{folder}/main.c", source)
+            image = made_image(trial, folder, "image.hex", "regions.txt", *options) or b""
+            regions = read(f"{folder}/regions.txt")
+        self.memory, self.image = read_image(image), files.add("attested.hex", image)
+        challenge = bytes(range(32))
+        token = attestation_model.token(bytes.fromhex(read(files.key).decode()), challenge, 1)
+        self.script = files.add("attested.script", (
+            f"at 0 p1 0017\nat 1000 rx {challenge.hex()}01000000\n"
+            f"at 2500 rx {token.hex()}\n").encode())
+        self.policy = files.add("attested.policy", b"version 2\n%sflag exec\nask %s 1\n" % (
+            regions, challenge.hex().encode()))
+        self.bounds = [int(word, 16) for word in re.findall(rb"[0-9a-f]{4}", regions)]
+
+    def played(self, command, image):
+        return self.trial.expect(0, "", command, image, self.script, self.files.key, str(STEPS))
+
+    def data(self, text):
+        """The output of the first report in this text, None where there is none."""
+        reports = read_reports(text)
+        return reports[0].output if reports else None
+
+    def accepts(self, text):
+        printed = self.files.add("attested.printed", text)
+        return self.trial.call("verify", self.image, self.policy, self.files.key,
+                               printed).output == b"verdict 1 accept\n"
+
+    def unattested(self):
+        """The bytes of the image outside of both regions that a run reads."""
+        er_min, er_max, or_min, or_max = self.bounds
+        places = set()
+        for letter, word in re.findall(rb"^t \d+ \w+ \w+ ([frb])([0-9a-f]{4})",
+                                       self.played("trace", self.image), re.M):
+            place = int(word, 16)
+            places |= {place} if letter == b"b" else {place, place + 1}
+        return [place for place in sorted(places) if place in self.memory
+                and not er_min <= place <= er_max + 1 and not or_min <= place <= or_max + 1]
+
+    def lies(self, places):
+        """Those of these bytes that, when they are others, leave a report with other data that is
+        accepted.
+        """
+        data, lies = self.data(self.played("play", self.image)), set()
+        for place in places:
+            for change in (0x01, 0xFF):
+                memory = {**self.memory, place: self.memory[place] ^ change}
+                text = self.played("play", self.files.add("changed.hex", hex_text(memory)))
+                if self.data(text) not in (None, data) and self.accepts(text):
+                    lies.add(place)
+        return lies
+
+
+def closed(trial, files):
+    """At each level of optimization a region with all that clang lays elsewhere is accepted, and no
+    byte outside of it can change what it says; those of a FOREIGN table can.
+    """
+    for level in LEVELS:
+        device = Device(trial, files, CLOSED, f"CFLAGS={level} -Wall -Wextra")
+        if not device.accepts(device.played("play", device.image)):
+            trial.fault(f"firmware: {level}: a region that is closed is not accepted")
+    device = Device(trial, files, CLOSED)
+    lies = device.lies(device.unattested())
+    if lies:
+        trial.fault(f"firmware: other data are accepted where these differ: {lies}")
+    foreign = CLOSED.replace(b"static const uint16_t curve", b"FOREIGN uint16_t curve")
+    device = Device(trial, files, foreign)
+    er_max = device.bounds[1]
+    if not device.lies(place for place in device.unattested() if er_max < place < 0xFFE0):
+        trial.fault("firmware: no change of a FOREIGN table was accepted")
 
 
 def built(trial, folder, changes, *options):
@@ -118,3 +256,37 @@ def refusals(trial):
             answer = built(trial, folder, changes)
             if answer.status != 2 or text not in answer.line.split("\n"):
                 trial.fault(f"firmware: {name}: {answer}, not '{text}'")
+
+
+def checked(trial, files, changes):
+    """What `make check` answers on the firmware with these changes."""
+    with tempfile.TemporaryDirectory() as folder:
+        return built(trial, folder, changes, "check", f"FOLDGNEISS={trial.program}",
+                     f"SCRIPT={files.script}", f"KEY={files.key}", f"STEPS={STEPS}")
+
+
+def stacks(trial, files):
+    """The build's check tells a stack that met the data, and a region's that grew out of its place,
+    and no other.
+    """
+    outer, inner = NESTS % "static __attribute__((noinline))", NESTS % "REGION static"
+    met, grew = ("error: stack_guard: the stack met the data: ",
+                 "error: region_guard: the region's stack grew out of its 128 bytes: ")
+    guards = b"stack_guard: 5afe at 0386\nregion_guard: 5afe at 0300\n"
+    for changes, words in (
+            ({}, None), ({"before": outer, "main": "STXD = nests(430);"}, None),
+            ({"before": outer, "main": "STXD = nests(442);"}, met),
+            ({"before": inner, "value": " + nests(2)"}, None),
+            ({"before": inner, "value": " + nests(7)"}, grew)):
+        answer = checked(trial, files, changes)
+        is_told = answer.status == 2 and answer.line.startswith(words) if words else (
+            (answer.status, answer.line) == (0, ""))
+        if not is_told or not changes and answer.output[-len(guards):] != guards:
+            trial.fault(f"firmware: check of {changes}: {answer}")
+
+
+def region(trial, files):
+    if is_compiler_there(trial):
+        refusals(trial)
+        closed(trial, files)
+        stacks(trial, files)

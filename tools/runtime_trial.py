@@ -104,7 +104,7 @@ def runtime(trial, files):
     """At each level of optimization clang's products, quotients, shifts and copies are those of
     Python's numbers.
     """
-    if not is_compiler_there():
+    if not is_compiler_there(trial):
         return
     pairs = list(operands())
     script = "".join(
