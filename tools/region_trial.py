@@ -5,7 +5,7 @@ import tempfile
 import attestation_model
 from assembler_model import hex_text
 from file_readers import read_image, read_reports
-from firmware_trial import is_compiler_there, made_image
+from firmware_trial import PLACE, is_compiler_there, made_image
 from runtime_trial import LEVELS
 from sample_files import read, write
 from trial import ROOT
@@ -121,8 +121,17 @@ WRONG = {
         {"value": " + FOLDGNEISS_WORD(0xC000)"},
         "main.c:5: error: the region refers to the place c000, which lies outside it: "
         "define a variable, with FOREIGN before its definition"),
+    "number by a name": (
+        {"before": 'extern volatile uint16_t far; __asm__(".globl far\\nfar = 0xc000");',
+         "value": " + far"},
+        "main.c:5: error: the region refers to the place c000, which lies outside it: "
+        "define a variable, with FOREIGN before its definition"),
     "output": (
         {"first": " = 5"},
+        "main.c:3: error: the output 'measurement' has an initializer, and nothing lays it there: "
+        "have the region write it"),
+    "output with an address": (
+        {"before": "static uint8_t held;", "first": " = (uint16_t)&held"},
         "main.c:3: error: the output 'measurement' has an initializer, and nothing lays it there: "
         "have the region write it"),
     "vector": (
@@ -164,15 +173,27 @@ WRONG = {
 
 
 
+def attestable(trial, sources, *options):
+    """The image that the kit makes of these sources, and the lines of its regions, both empty where
+    it makes none.
+    """
+    with tempfile.TemporaryDirectory() as folder:
+        for name, text in sources.items():
+            write(f"{folder}/{name}", text)
+        image = made_image(trial, folder, "image.hex", "regions.txt", *options)
+        return (image, read(f"{folder}/regions.txt")) if image else (b":00000001FF\n", b"")
+
+
+def bounds_of(regions):
+    return [int(word, 16) for word in re.findall(rb"[0-9a-f]{4}", regions)] or [0, 0, 0, 0]
+
+
 class Device:
     """A device with the image that the kit makes of a source, a request, and the policy for it."""
 
     def __init__(self, trial, files, source, *options):
         self.trial, self.files = trial, files
-        with tempfile.TemporaryDirectory() as folder:
-            write(f"{folder}/main.c", source)
-            image = made_image(trial, folder, "image.hex", "regions.txt", *options) or b""
-            regions = read(f"{folder}/regions.txt")
+        image, regions = attestable(trial, {"main.c": source}, *options)
         self.memory, self.image = read_image(image), files.add("attested.hex", image)
         challenge = bytes(range(32))
         token = attestation_model.token(bytes.fromhex(read(files.key).decode()), challenge, 1)
@@ -181,7 +202,7 @@ class Device:
             f"at 2500 rx {token.hex()}\n").encode())
         self.policy = files.add("attested.policy", b"version 2\n%sflag exec\nask %s 1\n" % (
             regions, challenge.hex().encode()))
-        self.bounds = [int(word, 16) for word in re.findall(rb"[0-9a-f]{4}", regions)]
+        self.bounds = bounds_of(regions)
 
     def played(self, command, image):
         return self.trial.expect(0, "", command, image, self.script, self.files.key, str(STEPS))
@@ -221,6 +242,25 @@ class Device:
         return lies
 
 
+def same_region(trial):
+    """A region in a file of its own is the same in each program."""
+    own, main = CLOSED.split(b"int main(void)")
+    own = own.replace(b"static uint8_t request[REQUEST_BYTES];\n", b"")
+    main = b"#include \"foldgneiss.h\"\n%sint main(void)" + main
+    codes = set()
+    for before in (b"static uint8_t request[REQUEST_BYTES];\n",
+                   b"static uint8_t request[REQUEST_BYTES];\n"
+                   b"const char *said = \"other text\"; long seconds = 60;\n"
+                   b"uint16_t quotient(uint16_t by) { return said[by & 7] / by * (int)seconds; }\n"
+                   b"uint16_t (*volatile named)(uint16_t) = quotient;\n"):
+        image, regions = attestable(trial, {"curve.c": own, "main.c": main % before}, PLACE)
+        er_min, er_max, *_ = bounds_of(regions)
+        memory = read_image(image)
+        codes.add(bytes(memory.get(place, 0) for place in range(er_min, er_max + 2)))
+    if len(codes) != 1:
+        trial.fault("firmware: a region is another in another program")
+
+
 def closed(trial, files):
     """At each level of optimization a region with all that clang lays elsewhere is accepted, and no
     byte outside of it can change what it says; those of a FOREIGN table can.
@@ -233,7 +273,7 @@ def closed(trial, files):
     lies = device.lies(device.unattested())
     if lies:
         trial.fault(f"firmware: other data are accepted where these differ: {lies}")
-    foreign = CLOSED.replace(b"static const uint16_t curve", b"FOREIGN uint16_t curve")
+    foreign = CLOSED.replace(b"static const uint16_t curve", b"FOREIGN static uint16_t curve")
     device = Device(trial, files, foreign)
     er_max = device.bounds[1]
     if not device.lies(place for place in device.unattested() if er_max < place < 0xFFE0):
@@ -247,11 +287,22 @@ def built(trial, folder, changes, *options):
                       command=["make"])
 
 
+# Changes that leave the region whole.
+RIGHT = (
+    {}, {"value": " + P1IN % 7 * (uint16_t)COUNTER"},
+    {"before": "REGION static uint16_t twice(void) { return P1IN + P1IN; }", "value": "+ twice()"},
+    {"before": "FOREIGN volatile uint16_t scale = 3;", "value": " * scale"},
+    {"before": HANDLER % "STXD = SRXD;", "behind": "REGION void other(void) { region(); }"},
+    {"before": "static volatile uint8_t log[7804];", "main": "log[P1IN] = 1;"},
+)
+
+
 def refusals(trial):
     with tempfile.TemporaryDirectory() as folder:
-        answer = built(trial, folder, {})
-        if (answer.status, answer.line) != (0, ""):
-            trial.fault(f"firmware: a whole region: {answer}")
+        for changes in RIGHT:
+            answer = built(trial, folder, changes)
+            if (answer.status, answer.line) != (0, ""):
+                trial.fault(f"firmware: {changes}: {answer}")
         for name, (changes, text) in WRONG.items():
             answer = built(trial, folder, changes)
             if answer.status != 2 or text not in answer.line.split("\n"):
@@ -288,5 +339,6 @@ def stacks(trial, files):
 def region(trial, files):
     if is_compiler_there(trial):
         refusals(trial)
+        same_region(trial)
         closed(trial, files)
         stacks(trial, files)
