@@ -292,6 +292,7 @@ RIGHT = (
     {}, {"value": " + P1IN % 7 * (uint16_t)COUNTER"},
     {"before": "REGION static uint16_t twice(void) { return P1IN + P1IN; }", "value": "+ twice()"},
     {"before": "FOREIGN volatile uint16_t scale = 3;", "value": " * scale"},
+    {"before": 'static const char *const words[] = {"one", "two"};', "value": " + words[P1IN][1]"},
     {"before": HANDLER % "STXD = SRXD;", "behind": "REGION void other(void) { region(); }"},
     {"before": "static volatile uint8_t log[7804];", "main": "log[P1IN] = 1;"},
 )
