@@ -3,7 +3,6 @@
         .section .start.kit, "ax"
         .weak   start
 start:  mov     #stack_top, r1
-lays_guard:
         mov     #0x5afe, &stack_guard   ; below the stack, where no push has to come: stacks.py
         mov     #data_values, r12       ; after a reset too, so that globals begin anew
         mov     #data_start, r13

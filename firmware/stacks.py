@@ -24,22 +24,27 @@ def memory_of(text):
     return memory
 
 
+def laid_words(text, symbols):
+    """The places of the words that the kit laid in a run that printed this text: the first by its
+    start, which is weak, the other before it called the ROM.
+    """
+    kinds = {name: kind for _, kind, name in symbols}
+    is_laid = {"stack_guard": kinds.get("start") == "W",
+               "region_guard": re.search("^(report2|denied) ", text, re.M)}
+    return {name: int(place, 16) for place, _, name in symbols if is_laid.get(name)}
+
+
 def main():
     with open(sys.argv[1], encoding="ascii") as file:
         text = file.read()
-    places = {row.split()[-1]: int(row.split()[0], 16) for row in sys.stdin}
-    memory, faults = memory_of(text), []
-    laid = {"stack_guard": "lays_guard" in places,
-            "region_guard": re.search("^(report2|denied) ", text, re.M)}
-    for name, fault in STACKS.items():
-        place = places.get(name)
-        if place and laid[name]:
-            word = memory.get(place, 0) | memory.get(place + 1, 0) << 8
-            print(f"{name}: {word:04x} at {place:04x}")
-            if word != GUARD:
-                faults.append(f"error: {name}: {fault}")
-    print(*faults, sep="\n", end="\n" if faults else "", file=sys.stderr)
-    return 1 if faults else 0
+    memory, status = memory_of(text), 0
+    for name, place in laid_words(text, [row.split() for row in sys.stdin]).items():
+        word = memory.get(place, 0) | memory.get(place + 1, 0) << 8
+        print(f"{name}: {word:04x} at {place:04x}")
+        if word != GUARD:
+            print(f"error: {name}: {STACKS[name]}", file=sys.stderr)
+            status = 1
+    return status
 
 
 if __name__ == "__main__":

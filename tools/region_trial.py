@@ -324,7 +324,7 @@ def stacks(trial, files):
     outer, inner = NESTS % "static __attribute__((noinline))", NESTS % "REGION static"
     met, grew = ("error: stack_guard: the stack met the data: ",
                  "error: region_guard: the region's stack grew out of its 128 bytes: ")
-    guards = b"stack_guard: 5afe at 0386\nregion_guard: 5afe at 0300\n"
+    guards = b"region_guard: 5afe at 0300\nstack_guard: 5afe at 0386\n"
     for changes, words in (
             ({}, None), ({"before": outer, "main": "STXD = nests(430);"}, None),
             ({"before": outer, "main": "STXD = nests(442);"}, met),
