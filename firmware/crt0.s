@@ -71,7 +71,8 @@ store:  mov.b   @r12, 0(r13)            ; bytes of the request, to r13 and up to
         ret
 
 ; The executable region is entered at its first instruction alone, and left at its last. It has a
-; stack of its own: whoever calls it may have put theirs on the output.
+; stack of its own: whoever calls it may have put theirs on the output. It clears the output: whoever
+; calls it may have left there what the region does not write.
         .section .er.entry, "ax"
         .weak   er_min                  ; a guard in .er.guard takes this name, and goes to er_entry
         .globl  er_entry, er_leave, er_max
@@ -79,6 +80,14 @@ er_min:
 er_entry:
         mov     r1, &caller_stack
         mov     #region_stack, r1
+        mov     #or_min, r12
+.Lclear_output:
+        cmp     #or_max + 2, r12
+        jeq     .Loutput_clear
+        clr     0(r12)
+        incd    r12
+        jmp     .Lclear_output
+.Loutput_clear:
         call    #region
 er_leave:
         mov     &caller_stack, r1

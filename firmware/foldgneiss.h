@@ -42,10 +42,10 @@ FOLDGNEISS_INLINE void sleep(void) { __asm__ volatile("bis #0x18, r2" ::: "memor
 
 // The code whose run a report proves is `region`, which the firmware defines, and the functions
 // that it calls, each with the word REGION. Its constants, and what it uses of the kit, are laid
-// beside it. What it proves is the value of the variables with the word OUTPUT, which only this code
-// may write. Of all other variables it may use those with the word FOREIGN alone, and of what stands
-// there when it begins the report proves nothing. Its stack has 128 bytes. Interrupts are off in it;
-// examples/pump has one that allows them.
+// beside it. What it proves is the value of the variables with the word OUTPUT, which are 0 when it
+// begins, and which only this code may write. Of all other variables it may use those with the word
+// FOREIGN alone; of what stands there when it begins the report proves nothing. Its stack has 128
+// bytes. Interrupts are off in it; examples/pump has one that allows them.
 #define REGION __attribute__((section(".er"), noinline))
 #define OUTPUT volatile __attribute__((section(".or")))
 #define FOREIGN __attribute__((section(".foreign")))

@@ -269,6 +269,11 @@ def closed(trial, files):
         device = Device(trial, files, CLOSED, f"CFLAGS={level} -Wall -Wextra")
         if not device.accepts(device.played("play", device.image)):
             trial.fault(f"firmware: {level}: a region that is closed is not accepted")
+    unwritten = CLOSED.replace(b"measurement = sum / 3", b"if (!P1IN) { measurement = sum; }")
+    device = Device(trial, files, unwritten.replace(
+        b"STXD = attest", b"measurement = 0x1234; STXD = attest"))
+    if device.data(device.played("play", device.image)) != b"\0\0":
+        trial.fault("firmware: an output that the region does not write is not 0")
     device = Device(trial, files, CLOSED)
     lies = device.lies(device.unattested())
     if lies:
