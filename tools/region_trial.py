@@ -51,6 +51,13 @@ int main(void) {
     }
 }
 """
+# A function of another program around it, with texts, variables and functions of the kit.
+OTHER = rb"""static const char *volatile said = "other text";
+static long seconds = 60;
+static uint16_t other(uint16_t by) {
+    return said[by & 7] / by * (int)++seconds;
+}
+"""
 STEPS = 60_000
 # A function that nests, and fills 16 bytes of stack and more each time.
 NESTS = """%s uint16_t nests(uint16_t times) {
@@ -170,7 +177,15 @@ WRONG = {
         {"region": "void other(void)"},
         "error: attest runs a function of the firmware: write REGION void region(void) { .. }"),
 }
-
+# Changes that leave the region whole.
+RIGHT = (
+    {}, {"value": " + P1IN % 7 * (uint16_t)COUNTER"},
+    {"before": "REGION static uint16_t twice(void) { return P1IN + P1IN; }", "value": "+ twice()"},
+    {"before": "FOREIGN volatile uint16_t scale = 3;", "value": " * scale"},
+    {"before": 'static const char *const words[] = {"one", "two"};', "value": " + words[P1IN][1]"},
+    {"before": HANDLER % "STXD = SRXD;", "behind": "REGION void other(void) { region(); }"},
+    {"before": "static volatile uint8_t log[7804];", "main": "log[P1IN] = 1;"},
+)
 
 
 def attestable(trial, sources, *options):
@@ -244,16 +259,13 @@ class Device:
 
 def same_region(trial):
     """A region in a file of its own is the same in each program."""
-    own, main = CLOSED.split(b"int main(void)")
-    own = own.replace(b"static uint8_t request[REQUEST_BYTES];\n", b"")
-    main = b"#include \"foldgneiss.h\"\n%sint main(void)" + main
+    request = b"static uint8_t request[REQUEST_BYTES];\n"
+    own, main = CLOSED.replace(request, b"").split(b"int main(void)")
+    main = b'#include "foldgneiss.h"\n%sint main(void)' % request + main
+    other = main.replace(request, request + OTHER).replace(b"STXD = a", b"STXD = other(P1IN) + a")
     codes = set()
-    for before in (b"static uint8_t request[REQUEST_BYTES];\n",
-                   b"static uint8_t request[REQUEST_BYTES];\n"
-                   b"const char *said = \"other text\"; long seconds = 60;\n"
-                   b"uint16_t quotient(uint16_t by) { return said[by & 7] / by * (int)seconds; }\n"
-                   b"uint16_t (*volatile named)(uint16_t) = quotient;\n"):
-        image, regions = attestable(trial, {"curve.c": own, "main.c": main % before}, PLACE)
+    for text in (main, other):
+        image, regions = attestable(trial, {"curve.c": own, "main.c": text}, PLACE)
         er_min, er_max, *_ = bounds_of(regions)
         memory = read_image(image)
         codes.add(bytes(memory.get(place, 0) for place in range(er_min, er_max + 2)))
@@ -261,19 +273,33 @@ def same_region(trial):
         trial.fault("firmware: a region is another in another program")
 
 
-def closed(trial, files):
-    """At each level of optimization a region with all that clang lays elsewhere is accepted, and no
-    byte outside of it can change what it says; those of a FOREIGN table can.
+def accepted(trial, files):
+    """At each level of optimization a region with all that clang lays elsewhere is accepted, and
+    one that ends with an odd number of bytes.
     """
+    def is_accepted(source, *options):
+        device = Device(trial, files, source, *options)
+        return device.accepts(device.played("play", device.image))
     for level in LEVELS:
-        device = Device(trial, files, CLOSED, f"CFLAGS={level} -Wall -Wextra")
-        if not device.accepts(device.played("play", device.image)):
-            trial.fault(f"firmware: {level}: a region that is closed is not accepted")
+        if not is_accepted(CLOSED, f"CFLAGS={level} -Wall -Wextra"):
+            trial.fault(f"firmware: {level}: a closed region is not accepted")
+    text = b'REGION void region(void) { measurement = "text"[P1IN & 3]; }\n'
+    start, end = CLOSED.index(b"static const"), CLOSED.index(b"int main")
+    if not is_accepted(CLOSED[:start] + text + CLOSED[end:]):
+        trial.fault("firmware: a region with a text is not accepted")
+
+
+def cleared(trial, files):
+    """What a region does not write of its output is 0."""
     unwritten = CLOSED.replace(b"measurement = sum / 3", b"if (!P1IN) { measurement = sum; }")
     device = Device(trial, files, unwritten.replace(
         b"STXD = attest", b"measurement = 0x1234; STXD = attest"))
     if device.data(device.played("play", device.image)) != b"\0\0":
         trial.fault("firmware: an output that the region does not write is not 0")
+
+
+def attested(trial, files):
+    """No byte outside of a region can change what it says; those of a FOREIGN table can."""
     device = Device(trial, files, CLOSED)
     lies = device.lies(device.unattested())
     if lies:
@@ -290,17 +316,6 @@ def built(trial, folder, changes, *options):
     write(f"{folder}/main.c", FIRMWARE.format(**{**WHOLE, **changes}).encode())
     return trial.call("-s", "-C", folder, "-f", f"{ROOT}/firmware/Makefile", *options,
                       command=["make"])
-
-
-# Changes that leave the region whole.
-RIGHT = (
-    {}, {"value": " + P1IN % 7 * (uint16_t)COUNTER"},
-    {"before": "REGION static uint16_t twice(void) { return P1IN + P1IN; }", "value": "+ twice()"},
-    {"before": "FOREIGN volatile uint16_t scale = 3;", "value": " * scale"},
-    {"before": 'static const char *const words[] = {"one", "two"};', "value": " + words[P1IN][1]"},
-    {"before": HANDLER % "STXD = SRXD;", "behind": "REGION void other(void) { region(); }"},
-    {"before": "static volatile uint8_t log[7804];", "main": "log[P1IN] = 1;"},
-)
 
 
 def refusals(trial):
@@ -346,5 +361,5 @@ def region(trial, files):
     if is_compiler_there(trial):
         refusals(trial)
         same_region(trial)
-        closed(trial, files)
-        stacks(trial, files)
+        for group in (accepted, cleared, attested, stacks):
+            group(trial, files)
