@@ -30,6 +30,7 @@ REGION static uint16_t scaled(uint16_t kind, uint16_t value) {
 REGION static void keep(struct samples *to, const struct samples *from) { *to = *from; }
 REGION void region(void) {
     struct samples first, second;
+    disable_interrupts();
     for (int i = 0; i < 12; i++) {
         first.of[i] = P1IN + i;
     }
