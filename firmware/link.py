@@ -27,6 +27,7 @@ HINTS = (
      "attest runs a function of the firmware: write REGION void region(void) { .. }"),
 )
 
+COUNT = re.compile(r"(?:There are|contains) (\d+)")
 SECTION_ROW = re.compile(
     r"^ *\[ *(\d+)\] (\S+) +[A-Z]\S* +[0-9a-f]+ (\w+) (\w+) \w+ +([A-Za-z]*) +\d+ +\d+ +\d+$", re.M)
 SYMBOL_ROW = re.compile(r"^ +\d+: (\w+) +\d+ (\w+) +(\w+) +\w+ +(\w+) (.*)$", re.M)
@@ -62,28 +63,38 @@ def tool(*words):
     return subprocess.run(words, check=True, stdout=subprocess.PIPE, text=True).stdout
 
 
+def rows(form, text, count):
+    """The rows of a form in a text: so many, lest one is passed over."""
+    found = form.findall(text)
+    if len(found) != count:
+        sys.exit("link.py: LLVM's tools print other tables than those of LLVM 14")
+    return found
+
+
 class Program:
     """An object file: its sections, symbols, and the relocations of what is in memory."""
 
     def __init__(self, path):
         self.path = path
         text = tool("llvm-readelf", "--wide", "--sections", "--symbols", "--relocations", path)
+        count, *counts = map(int, COUNT.findall(text))
         names = {"ABS": "ABS"}
         self.sections, self.relocations = {}, []
-        for number, name, place, size, flags in SECTION_ROW.findall(text):
+        for number, name, place, size, flags in rows(SECTION_ROW, text, count - 1):
             names[number] = name
             # (Two of one name can differ in their flags.)
             self.sections[name] = Section(int(place, 16), int(size, 16), flags + self.flags(name))
         self.symbols = [
             Symbol(name, kind, names.get(number, ""), int(place, 16), binding != "LOCAL")
-            for place, kind, binding, number, name in SYMBOL_ROW.findall(text)]
+            for place, kind, binding, number, name in rows(SYMBOL_ROW, text, counts.pop())]
         for part in text.split("\nRelocation section '.rela")[1:]:
             section = part[:part.index("'")]
             if "A" in self.flags(section):
                 self.relocations += [
                     Relocation(section, int(place, 16), self.symbols[int(info, 16) >> 8],
                                int(sign + addend, 16))
-                    for place, info, sign, addend in RELOCATION_ROW.findall(part)]
+                    for place, info, sign, addend in rows(
+                        RELOCATION_ROW, part, int(COUNT.search(part)[1]))]
 
     def flags(self, section):
         return self.sections[section].flags if section in self.sections else ""
@@ -133,7 +144,9 @@ class Lines:
     def __init__(self, elf, map_file):
         self.elf = elf
         with open(map_file, encoding="utf-8") as file:
-            self.places = {name: int(place, 16) for place, name in MAP_ROW.findall(file.read())}
+            text = file.read()
+        self.places = {name: int(place, 16)
+                       for place, name in rows(MAP_ROW, text, text.count(":("))}
 
     def of_code(self, section, place):
         """The line of a place in a section, "" where it is unknown."""
@@ -180,7 +193,8 @@ def stray(program, relocation):
     """What is wrong with a reference of the region, "" where nothing is."""
     symbol, name = relocation.symbol, program.named(relocation).name
     section = symbol.section
-    if is_region(section) or section in (OUTPUT, FOREIGN, STACK) or name in BOUNDS:
+    if (is_region(section) or section in (OUTPUT, FOREIGN, STACK)
+            or not section and name in BOUNDS):
         return ""
     if section == "ABS":
         return stray_number(symbol.place + relocation.addend)

@@ -34,6 +34,10 @@ def made_image(trial, folder, *options):
     """The image that the Makefile makes in this folder, or None."""
     trial.expect(0, "", "-s", "-C", folder, "-f", f"{ROOT}/firmware/Makefile", *options,
                  command=["make"])
+    return image_in(folder)
+
+
+def image_in(folder):
     name = f"{folder}/image.hex"
     return read(name) if os.path.exists(name) else None
 
@@ -112,20 +116,22 @@ def regions(trial):
                 trial.fault(f"firmware: regions.txt of {text}: {answer}")
 
 
-def paths_with_blanks(trial):
-    """The kit and the sources may lie in folders with a blank in their names; a source itself with
-    a blank in its name is refused.
+def paths(trial):
+    """The kit and the sources may lie in folders with a blank in their names, and a Makefile may
+    include the kit's; a source itself with a blank in its name is refused.
     """
     with tempfile.TemporaryDirectory(prefix="fold gneiss ") as folder:
         shutil.copytree(f"{ROOT}/firmware", f"{folder}/the kit's/firmware")
-        os.mkdir(f"{folder}/my own")
-        shutil.copy(f"{EXAMPLES}/sensor/sensor.c", f"{folder}/my own")
-        words = ("-s", "-C", f"{folder}/my own", "-f", f"{folder}/the kit's/firmware/Makefile")
-        trial.expect(0, "", *words, command=["make"])
-        if read(f"{folder}/my own/image.hex") != read(f"{EXAMPLES}/sensor/image.hex"):
-            trial.fault("firmware: another image where paths have blanks")
-        write(f"{folder}/my own/a b.c", b"")
-        answer = trial.call(*words, command=["make"])
+        own = f"{folder}/my own"
+        os.mkdir(own)
+        write(f"{own}/Makefile", f"include {ROOT}/firmware/Makefile\n".encode())
+        shutil.copy(f"{EXAMPLES}/sensor/sensor.c", own)
+        for words in (("-f", f"{folder}/the kit's/firmware/Makefile"), ()):
+            trial.expect(0, "", "-s", "-C", own, *words, command=["make"])
+            if image_in(own) != read(f"{EXAMPLES}/sensor/image.hex"):
+                trial.fault("firmware: another image where paths have blanks")
+        write(f"{own}/a b.c", b"")
+        answer = trial.call("-s", "-C", own, command=["make"])
         if answer.status != 2 or "a source has a blank in its name: rename it" not in answer.line:
             trial.fault(f"firmware: a source with a blank in its name: {answer}")
 
@@ -136,4 +142,4 @@ def firmware(trial, files):
         stale_images(trial)
         regions(trial)
         readme(trial, files)
-        paths_with_blanks(trial)
+        paths(trial)

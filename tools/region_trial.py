@@ -52,11 +52,12 @@ int main(void) {
     }
 }
 """
-# A function of another program around it, with texts, variables and functions of the kit.
+# A function of another program, with a text, a table, variables and functions of the kit.
 OTHER = rb"""static const char *volatile said = "other text";
 static long seconds = 60;
+static const uint16_t rates[] = {5, 6, 8, 11, 17};
 static uint16_t other(uint16_t by) {
-    return said[by & 7] / by * (int)++seconds;
+    return said[by & 7] / by * (int)++seconds + rates[by % 5];
 }
 """
 STEPS = 60_000
