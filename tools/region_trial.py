@@ -15,7 +15,7 @@ CLOSED = rb"""#include "foldgneiss.h"
 struct samples { uint16_t of[12]; };
 static uint8_t request[REQUEST_BYTES];
 OUTPUT static uint16_t measurement;
-static const uint16_t curve[] = {300, 313, 329, 350, 377, 410, 451, 502};
+static const uint16_t curve[] = {300, 313, 329, 350, 377, 410, 451, 502, 561};
 REGION static uint16_t scaled(uint16_t kind, uint16_t value) {
     switch (kind) {
     case 0: return value;
