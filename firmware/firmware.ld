@@ -12,11 +12,11 @@ MEMORY
 }
 SECTIONS
 {
-    .text : {
+    .text : SUBALIGN(2) {
         *(.start) *(.start.kit) *(.text .text.* .runtime.*) *(.rodata .rodata.*)
         . = ALIGN(2);
     } > program
-    .er DEFINED(er_place) ? er_place : . : {
+    .er DEFINED(er_place) ? er_place : . : SUBALIGN(2) {
         *(.er.guard) *(.er.entry) *(.er) *(.er.own.*)
         . = ALIGN(2);
         *(.er.exit)

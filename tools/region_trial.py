@@ -24,7 +24,7 @@ REGION static uint16_t scaled(uint16_t kind, uint16_t value) {
     case 3: STXD = 'C'; return value << (value & 7);
     case 4: STXD = 'D'; return value * 7 + 1;
     case 5: STXD = 'E'; return curve[value % 8];
-    default: return "default"[value & 7];
+    default: return "of an odd length"[value & 7];
     }
 }
 REGION static void keep(struct samples *to, const struct samples *from) { *to = *from; }
@@ -35,9 +35,9 @@ REGION void region(void) {
         first.of[i] = P1IN + i;
     }
     keep(&second, &first);
-    uint32_t sum = 0;
+    uint64_t sum = 0;
     for (int i = 0; i < 12; i++) {
-        sum += (uint32_t)scaled(i % 7, second.of[i]) * second.of[11 - i];
+        sum += (uint64_t)scaled(i % 7, second.of[i]) * second.of[11 - i];
     }
     measurement = sum / 3;
 }
@@ -60,7 +60,7 @@ static uint16_t other(uint16_t by) {
     return said[by & 7] / by * (int)++seconds + rates[by % 5];
 }
 """
-STEPS = 60_000
+STEPS = 100_000
 # A function that nests, and fills 16 bytes of stack and more each time.
 NESTS = """%s uint16_t nests(uint16_t times) {
     volatile uint16_t of[8];
