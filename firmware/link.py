@@ -129,14 +129,18 @@ class Program:
 
     def numbers(self):
         """The numbers by which the region's instructions name places, each with its instruction's
-        section and place.
+        section and place: those of absolute operands, and those of indexed ones that are no
+        distance within a structure.
         """
         text = tool("llvm-objdump", "--disassemble", self.path)
         for part in text.split("\nDisassembly of section ")[1:]:
             section = part[:part.index(":\n")]
             if is_region(section):
                 for place, code in CODE_ROW.findall(part):
-                    for number in re.findall(r"&(-?\d+)", code):
+                    numbers = re.findall(r"&(-?\d+)", code)
+                    numbers += [number for number in re.findall(r"(-?\d+)\(r\d", code)
+                                if not -512 <= int(number) < 512]
+                    for number in numbers:
                         yield section, int(place, 16), int(number) & 0xFFFF
 
 

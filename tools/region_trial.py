@@ -147,6 +147,10 @@ WRONG = {
         {"value": " + FOLDGNEISS_WORD(0xC000)"},
         "main.c:5: error: the region refers to the place c000, which lies outside it: "
         "define a variable, with FOREIGN before its definition"),
+    "array at a number": (
+        {"value": " + MAC[P1IN]"},
+        "main.c:5: error: the region refers to the place 0200, which lies outside it: "
+        "define a variable, with FOREIGN before its definition"),
     "number by a name": (
         {"before": 'extern volatile uint16_t far; __asm__(".globl far\\nfar = 0xc000");',
          "value": " + far"},
@@ -198,7 +202,10 @@ WRONG = {
 }
 # Changes that leave the region whole.
 RIGHT = (
-    {}, {"value": " + P1IN % 7 * (uint16_t)COUNTER"},
+    {}, {"value": " + P1IN % 7 * (uint16_t)COUNTER + TOKEN[P1IN]"},
+    {"before": "FOREIGN uint8_t held[1000]; "
+               "REGION uint8_t at(const uint8_t *of) { return of[P1IN - 300] + of[300]; }",
+     "value": " + at(held) + held[P1IN + 700]"},
     {"before": "REGION static uint16_t twice(void) { return P1IN + P1IN; }", "value": "+ twice()"},
     {"before": "FOREIGN volatile uint16_t scale = 3;", "value": " * scale"},
     {"before": 'static const char *const words[] = {"one", "two"};', "value": " + words[P1IN][1]"},
