@@ -1,25 +1,28 @@
 ; What runs before main, and attest. A `start` of the firmware's own takes the place of this one.
 
-        .section .start, "ax"
+        .section .start.kit, "ax"
         .weak   start
 start:  mov     #stack_top, r1
+        mov     #0x5afe, &stack_guard   ; below the stack, where no push has to come: stacks.py
         mov     #data_values, r12       ; after a reset too, so that globals begin anew
         mov     #data_start, r13
-copy:   cmp     #data_end, r13
-        jhs     copied
+.Lcopy: cmp     #data_end, r13
+        jhs     .Lcopied
         mov     @r12, 0(r13)
         incd    r12
         incd    r13
-        jmp     copy
-copied: cmp     #bss_end, r13           ; .bss follows .data
-        jhs     cleared
+        jmp     .Lcopy
+.Lcopied:
+        cmp     #bss_end, r13           ; .bss follows .data
+        jhs     .Lcleared
         clr     0(r13)
         incd    r13
-        jmp     copied
-cleared:
+        jmp     .Lcopied
+.Lcleared:
         call    #main
-ended:  bis     #0x10, r2               ; sleeps after main
-        jmp     ended
+.Lended:
+        bis     #0x10, r2               ; sleeps after main
+        jmp     .Lended
 
         .section .reset_vector, "a"
         .word   start
@@ -38,22 +41,25 @@ attest: push    r2
         mov     #0x026c, r13            ; counter and token
         mov     #0x0290, r14
         call    #store
+        mov     #0x5afe, &region_guard
         call    #er_min                 ; a write to the metadata after this would clear EXEC
         mov     #0x0202, r13            ; the MAC behind its first word
-clear:  clr     0(r13)
+.Lclear:
+        clr     0(r13)
         incd    r13
         cmp     #0x0220, r13
-        jne     clear
+        jne     .Lclear
         call    #0xa000                 ; the attestation ROM
         mov     #1, r12                 ; it attested where it wrote more than the first word
         mov     #0x0220, r13
-search: decd    r13
+.Lsearch:
+        decd    r13
         tst     0(r13)
-        jne     decided
+        jne     .Ldecided
         cmp     #0x0202, r13
-        jne     search
+        jne     .Lsearch
         mov     &0x0200, r12            ; else that word is its decision
-decided:
+.Ldecided:
         pop     r2
         ret
 
@@ -65,7 +71,8 @@ store:  mov.b   @r12, 0(r13)            ; bytes of the request, to r13 and up to
         ret
 
 ; The executable region is entered at its first instruction alone, and left at its last. It has a
-; stack of its own: whoever calls it may have put theirs on the output.
+; stack of its own: whoever calls it may have put theirs on the output. It clears the output: whoever
+; calls it may have left there what the region does not write.
         .section .er.entry, "ax"
         .weak   er_min                  ; a guard in .er.guard takes this name, and goes to er_entry
         .globl  er_entry, er_leave, er_max
@@ -73,6 +80,14 @@ er_min:
 er_entry:
         mov     r1, &caller_stack
         mov     #region_stack, r1
+        mov     #or_min, r12
+.Lclear_output:
+        cmp     #or_max + 2, r12
+        jeq     .Loutput_clear
+        clr     0(r12)
+        incd    r12
+        jmp     .Lclear_output
+.Loutput_clear:
         call    #region
 er_leave:
         mov     &caller_stack, r1
@@ -81,7 +96,9 @@ er_leave:
         .section .er.exit, "ax"
 er_max: ret
 
-        .section .bss.region_stack, "aw", @nobits
+        .section .er_stack, "aw", @nobits
+region_guard:
+        .space  2
         .space  128
 region_stack:
 caller_stack:

@@ -7,8 +7,9 @@ OUTPUT static struct {
     uint16_t stopped;
 } given;
 
-// What is sent to the motor next. One instruction sends it, so that no stroke follows a stop.
-static volatile uint16_t motor;
+// What is sent to the motor next; the region writes it before it reads it. One instruction sends
+// it, so that no stroke follows a stop.
+FOREIGN static volatile uint16_t motor;
 enum { STROKE = 'S', HALT = 'H' };
 
 // The stop is any byte that arrives while a dose is given.
