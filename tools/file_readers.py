@@ -278,6 +278,8 @@ def read_policy(text):
         if kind != (*firsts, last)[len(values)]:
             words.fault("Order")
         if kind == last:
+            if version == 2 and value in requests:
+                words.fault("Twice")
             requests.append(value)
             continue
         values[kind] = value
