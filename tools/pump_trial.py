@@ -85,7 +85,8 @@ def attempts(trial, files, region, handlers, allow="eint", waits=False):
     """
     names = dict(zip(("er_min", "er_max", "or_min", "or_max"), region.bounds))
     source = SOURCE.format(**names, first=handlers[0], past=handlers[-1] + 2, dose=DOSE,
-                           least=LEAST if allow else 1, most=PAST, allow=allow, serial=region.handler, wait=WAIT if waits else "")
+                           least=LEAST if allow else 1, most=PAST, serial=region.handler,
+                           allow=allow, wait=WAIT if waits else "")
     image = trial.expect(0, "", "asm", files.add("pump.asm", source.encode()))
     image = files.add("pump.hex", hex_text({**READERS["image"](image), **region.code}))
     events = [b"at 0 p1 %04x\n" % DOSE]
