@@ -25,9 +25,8 @@ The script ./foldgneiss has these too:
   foldgneiss build           proves all crates and makes the proved program
   foldgneiss help [COMMAND]  prints this, or what it says of one command; so do
                              -h and --help, also after a command
-Its own statuses are 125 where an unproved run is cut off, does not compile or
-is a desk, 127 where there is no rt, and 1 where a crate does not prove in
-build.
+Its own statuses are 125 where the sources do not compile, 127 where there is
+no rt, and 1 where a crate does not prove in build.
 """
 # What stands in the place of a command, with what may follow.
 OTHER_USAGES = {"build": "build", "--version": "--version", "help": "help [COMMAND]",
