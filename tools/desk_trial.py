@@ -75,6 +75,8 @@ def desk_files(trial, files):
         trial.expect(0, "", *words, input=b" \n", stdout=full)
     folder = os.open(files.folder, os.O_RDONLY)
     trial.expect(4, UNREADABLE, *words, stdin=folder)
+    # (a file that is opened takes the number of a closed input)
+    trial.expect(4, UNREADABLE, *words, preexec_fn=lambda: os.close(0))
     os.close(folder)
 
 

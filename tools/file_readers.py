@@ -2,7 +2,8 @@
 and apart from the program's own.
 
 Each gives the value of a file, or raises Fault with the first fault's line and kind, and where it
-can with its column, from 1 and in bytes, and with what is wanted there.
+can with its column, from 1 and in bytes, with what is wanted there, and with the line and the words
+of its cause.
 """
 import re
 import string
@@ -14,16 +15,18 @@ HEX = set(string.hexdigits.encode())
 RULES = [name.encode() for name in reference.RULES]
 VERDICTS = [name.encode() for name in reference.VERDICTS]
 COUNTS = {1: 0, 2: 2, 3: 4, 4: 2, 5: 4}
-# The first and the last place of the metadata, by versions.
+# The first and the last place of the MAC, and of the metadata by versions.
+MAC = (0x0200, 0x021F)
 METADATA = {1: (0x0240, 0x0269), 2: (0x0240, 0x028F)}
 FLAGS = (b"exec", b"aux", b"plain")
 MOST = 4294967295  # of a step, the number of a report, and a counter
 
 
 class Fault(Exception):
-    def __init__(self, line, kind, column=None, wanted=None):
+    def __init__(self, line, kind, column=None, wanted=None, cause=None):
         super().__init__(f"line {line}: {kind}")
-        self.line, self.kind, self.column, self.wanted = line, kind, column, wanted
+        self.line, self.kind, self.column = line, kind, column
+        self.wanted, self.cause = wanted, cause
 
 
 def lines_of(text):
@@ -138,8 +141,8 @@ class Words:
     def begins_with(self, word):
         return self.matches[0].group() == word
 
-    def fault(self, kind, wanted=None):
-        raise Fault(self.number, kind, self.column, wanted)
+    def fault(self, kind, wanted=None, cause=None):
+        raise Fault(self.number, kind, self.column, wanted, cause)
 
     def take(self, wanted=None):
         if not self.matches:
@@ -223,21 +226,36 @@ def read_script(text):
         last = step
 
 
-def is_valid(bounds, version):
-    """Even, in order, each region wholly in RAM or in the program, and apart from each other, the
-    MAC and the metadata of this version.
-    """
+def wrong_region(first, last, version):
+    """What is wrong with a region by itself, of which these are the first and the last word."""
+    odd = [place for place in (first, last) if place % 2]
+    if odd:
+        return f"{odd[0]:04x} is odd"
+    if first > last:
+        return f"it ends at {last:04x}, before it begins at {first:04x}"
+    last += 1
+    if not (0x0200 <= first and last <= 0x21FF or 0xC000 <= first and last <= 0xFFDF):
+        return f"{first:04x} to {last:04x} is not wholly in RAM or in the program"
+    for name, places in (("MAC", MAC), ("metadata", METADATA[version])):
+        if first <= places[1] and last >= places[0]:
+            other = f"the {name}, {places[0]:04x} to {places[1]:04x}"
+            return f"{first:04x} to {last:04x} lies on {other}"
+    return None
+
+
+def wrong_bounds(bounds, version):
+    """Which of both regions is wrong, `er` or `or`, and why; None where the bounds are valid."""
     er_min, er_max, or_min, or_max = bounds
-    metadata = METADATA[version]
-    if any(bound % 2 for bound in bounds) or er_min > er_max or or_min > or_max:
-        return False
-    regions = [(er_min, er_max + 1), (or_min, or_max + 1)]
-    for first, last in regions:
-        if not (0x0200 <= first and last <= 0x21FF or 0xC000 <= first and last <= 0xFFDF):
-            return False
-        if first <= 0x021F or first <= metadata[1] and last >= metadata[0]:
-            return False
-    return regions[0][1] < regions[1][0] or regions[1][1] < regions[0][0]
+    for name, first, last in (("er", er_min, er_max), ("or", or_min, or_max)):
+        why = wrong_region(first, last, version)
+        if why:
+            return name, why
+    apart = er_max + 1 < or_min or or_max + 1 < er_min
+    return None if apart else ("or", "it lies on the region of er")
+
+
+def is_valid(bounds, version):
+    return wrong_bounds(bounds, version) is None
 
 
 class Policy(NamedTuple):
@@ -270,7 +288,7 @@ def read_policy(text):
     firsts, last = POLICY_LINES[version]
     # (`chal` is a keyword in version 2 too, of a line that has no place there)
     keywords = dict.fromkeys((*firsts, b"chal", last))
-    values, requests = {}, []
+    values, numbers, requests = {}, {}, []
     for words in lines:
         kind = words.keyword(*keywords)
         value = policy_value(words, kind)
@@ -278,11 +296,15 @@ def read_policy(text):
         if kind != (*firsts, last)[len(values)]:
             words.fault("Order")
         if kind == last:
+            if version == 2 and value in requests:
+                words.fault("Twice")
             requests.append(value)
             continue
-        values[kind] = value
-        if kind == b"or" and not is_valid(values[b"er"] + value, version):
-            words.fault("Bounds")
+        values[kind], numbers[kind.decode()] = value, words.number
+        wrong = wrong_bounds(values[b"er"] + value, version) if kind == b"or" else None
+        if wrong:
+            name, why = wrong
+            words.fault("Bounds", cause=(numbers[name], f"{name}: {why}"))
     if len(values) < len(firsts):
         raise Fault(count, "Missing")
     return Policy(version, values[b"er"] + values[b"or"], values.get(b"flag", "exec"), requests)

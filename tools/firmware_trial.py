@@ -4,6 +4,7 @@ import re
 import shutil
 import tempfile
 
+from readers import READERS, first_fault
 from sample_files import EXAMPLES, read, write
 from trial import ROOT
 
@@ -15,6 +16,14 @@ LETTER = b'#include "letter.h"\nint main(void) { *(volatile char *)0x76 = LETTER
 NO_OUTPUT = b"""
 #include "foldgneiss.h"
 REGION void region(void) { }
+int main(void) { attest((const uint8_t *)0x0300); for (;;) { } }
+"""
+# Firmware whose program has so many bytes more; and with an output of three bytes.
+FILLED = b'.section .text.filled, "ax"\n.globl main\nmain: jmp main\n.space %d\n'
+THREE_BYTES = b"""
+#include "foldgneiss.h"
+OUTPUT static uint8_t three[3];
+REGION void region(void) { three[2] = 7; }
 int main(void) { attest((const uint8_t *)0x0300); for (;;) { } }
 """
 TOOLS = ("make", "clang", "ld.lld", "llvm-dwarfdump", "llvm-nm", "llvm-objcopy", "llvm-objdump",
@@ -116,6 +125,35 @@ def regions(trial):
                 trial.fault(f"firmware: regions.txt of {text}: {answer}")
 
 
+def full_program(trial):
+    """A program up to the vectors is linked, and a longer one is not."""
+    def end_of(image):
+        return max(place for place in READERS["image"](image) if place < 0xFFF2) + 1
+    image = image_of(trial, {"filled.s": FILLED % 0})
+    space = 0xFFE0 - end_of(image) if image else 0
+    image = image_of(trial, {"filled.s": FILLED % space})
+    if not space or image is None or end_of(image) != 0xFFE0:
+        return trial.fault("firmware: a program up to the vectors is not linked")
+    with tempfile.TemporaryDirectory() as folder:
+        write(f"{folder}/filled.s", FILLED % (space + 2))
+        answer = trial.call("-s", "-C", folder, "-f", f"{ROOT}/firmware/Makefile",
+                            command=["make"])
+        if answer.status != 2 or os.path.exists(f"{folder}/image.hex"):
+            trial.fault(f"firmware: a program into the vectors: {answer}")
+
+
+def odd_output(trial):
+    """The region of an output of three bytes has four, whose words a policy takes."""
+    with tempfile.TemporaryDirectory() as folder:
+        write(f"{folder}/main.c", THREE_BYTES)
+        trial.expect(0, "", "-s", "-C", folder, "-f", f"{ROOT}/firmware/Makefile", "regions.txt",
+                     command=["make"])
+        policy = b"version 2\n" + read(f"{folder}/regions.txt") + b"flag exec\n"
+    bounds = [] if first_fault("policy", policy) else READERS["policy"](policy).bounds
+    if not bounds or bounds[3] != bounds[2] + 2:
+        trial.fault(f"firmware: an output of three bytes: {policy}")
+
+
 def paths(trial):
     """The kit and the sources may lie in folders with a blank in their names, and a Makefile may
     include the kit's; a source itself with a blank in its name is refused.
@@ -141,5 +179,7 @@ def firmware(trial, files):
         examples(trial)
         stale_images(trial)
         regions(trial)
+        full_program(trial)
+        odd_output(trial)
         readme(trial, files)
         paths(trial)

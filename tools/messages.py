@@ -13,6 +13,7 @@ import sys
 
 sys.dont_write_bytecode = True
 import file_readers  # noqa: E402
+import mistaken_files  # noqa: E402
 import reference_texts  # noqa: E402
 from readers import READERS  # noqa: E402
 from reference import COMMANDS, FAULTS, FILES, STATUSES, VALUES  # noqa: E402
@@ -24,9 +25,8 @@ The script ./foldgneiss has these too:
   foldgneiss build           proves all crates and makes the proved program
   foldgneiss help [COMMAND]  prints this, or what it says of one command; so do
                              -h and --help, also after a command
-Its own statuses are 125 where an unproved run is cut off, does not compile or
-is a desk, 127 where there is no rt, and 1 where a crate does not prove in
-build.
+Its own statuses are 125 where the sources do not compile, 127 where there is
+no rt, and 1 where a crate does not prove in build.
 """
 # What stands in the place of a command, with what may follow.
 OTHER_USAGES = {"build": "build", "--version": "--version", "help": "help [COMMAND]",
@@ -49,14 +49,17 @@ def wrong_words(words):
         return unknown_command(name)
     command = COMMANDS[name]
     if len(arguments) != len(command.words):
-        return f"{name} takes {len(command.words)} arguments, not {len(arguments)}"
+        count = len(command.words)
+        return f"{name} takes {count} argument{'s' * (count > 1)}, not {len(arguments)}"
     for word, argument in zip(command.words, arguments):
         try:
             argument.encode()
         except UnicodeEncodeError:
             return f"{word.upper()} is not UTF-8"
         if word in VALUES and not VALUES[word].takes(argument):
-            return f"{word.upper()} is {argument!r} (wanted: {VALUES[word].about})"
+            meant = mistaken_files.in_digits(argument)
+            hint = f"; in digits it is {meant}" if VALUES[word].takes(meant) else ""
+            return f"{word.upper()} is {argument!r} (wanted: {VALUES[word].about}){hint}"
     return None
 
 
@@ -94,20 +97,33 @@ def unread_file(words):
     return None
 
 
-def column_of(kind, text, number, fault):
-    """The column of a fault, in bytes, None where it is of the whole line; and what is wanted."""
+def fault_in(kind, text, number, kind_of_fault):
+    """The fault as our own reader has it, with the column where it is not of the whole line."""
     try:
         READERS[kind](text)
     except file_readers.Fault as found:
-        if (found.line, found.kind) == (number, fault):
-            return found.column, f" (wanted: {found.wanted})" if found.wanted else ""
-    return None, ""
+        if (found.line, found.kind) == (number, kind_of_fault):
+            return found
+    return file_readers.Fault(number, kind_of_fault)
 
 
-def meaning_of(kind, number, fault):
+def place_of(kind, text, fault):
+    """The line and the column of a fault, or the line of its cause. Of a key the column of the
+    reader is in the whole text, which may have several lines.
+    """
+    if fault.cause:
+        return fault.cause[0], None
+    if kind != "key" or not fault.column:
+        return fault.line, fault.column
+    before = text[:fault.column - 1]
+    return 1 + before.count(b"\n"), len(before) - before.rfind(b"\n")
+
+
+def meaning_of(kind, fault):
     """What a fault means; of a meaning in two parts the second is that of line 0."""
-    parts = FAULTS[kind].get(fault, fault).split("; or ")
-    return parts[0] if number else parts[-1]
+    parts = FAULTS[kind].get(fault.kind, fault.kind).split("; or ")
+    wanted = f" (wanted: {fault.wanted})" if fault.wanted else ""
+    return (fault.cause[1] if fault.cause else parts[0 if fault.line else -1]) + wanted
 
 
 def shown_line(line, column):
@@ -122,26 +138,34 @@ def shown_line(line, column):
     return lines
 
 
+def is_secret(kind, line):
+    """Whether a line is not to be shown: it is of a file of keys, or has a word like a key."""
+    return kind in ("key", "keys") or re.search(rb"\b[0-9A-Fa-f]{128}\b", line)
+
+
 def file_fault(line, words):
     """What is said of the fault that the line names."""
     match = re.fullmatch(r"bad (\w+): line (\d+): (\w+)", line)
     if not match or match[1] not in FAULTS:
         return []
-    kind, number, fault = match[1], int(match[2]), match[3]
-    name, meaning = dict(files_of(words))[kind], meaning_of(kind, number, fault)
+    kind, number, name = match[1], int(match[2]), dict(files_of(words))[match[1]]
     try:
         text = contents(name)
     except OSError:
         text = None
+    hints = mistaken_files.hints(kind, name, text or b"")
+    fault = fault_in(kind, text or b"", number, match[3])
+    meaning = meaning_of(kind, fault)
+    if fault.kind == "TooLong":
+        return [f"{name}: {meaning}, {FILES[kind].limit} bytes", *hints]
     lines = text.split(b"\n") if text is not None else []
-    if fault == "TooLong":
-        return [f"{name}: {meaning}, {FILES[kind].limit} bytes"]
     if not 1 <= number <= len(lines):
-        return [f"{name}, line {number}: {meaning}" if number else f"{name}: {meaning}"]
-    column, wanted = column_of(kind, text, number, fault)
+        return [f"{name}, line {number}: {meaning}" if number else f"{name}: {meaning}", *hints]
+    number, column = place_of(kind, text, fault)
     place = f"line {number}, column {column}" if column else f"line {number}"
-    shown = [] if kind in ("key", "keys") else shown_line(lines[number - 1], column)  # (secrets)
-    return [f"{name}, {place}: {meaning}{wanted}", *shown]
+    line = lines[number - 1]
+    shown = [] if hints or is_secret(kind, line) else shown_line(line, column)
+    return [f"{name}, {place}: {meaning}", *shown, *hints]
 
 
 def explanation(status, line, words):

@@ -239,6 +239,7 @@ FAULTS = {
                 "(line 0)",
         "Order": "the lines are not `version`, `er`, `or`, `flag`, then `ask` lines, in version 1 "
                  "`er`, `or`, then `chal` lines",
+        "Twice": "an earlier `ask` line has this challenge and this counter",
         "Bounds": "a region is at odd places, ends before it begins, is not wholly in RAM or "
                   "program, or lies on another, the MAC or the metadata",
     },

@@ -215,6 +215,8 @@ class SampleFiles:
         self.add("policy-flag", policy.replace(b"flag exec", b"flag exe"))
         self.add("policy-counter", verifier_model.policy_text(
             self.policy._replace(requests=[(self.report.challenge, 0)])))
+        self.add("policy-twice", policy + b"ask " + b"f" * 64 + b" 1\n" + lines[4].upper().replace(
+            b"ASK", b"ask"))
         self.add("policy-bounds", lines[0] + lines[1] + b"or 0270 0270\n")
         self.add("policy-bounds-one", lines[1] + b"or 0268 0268\n")
 
@@ -293,18 +295,20 @@ class SampleFiles:
 
     def add_largest_files(self):
         """Files of each kind up to their limits, full of lines that change nothing: records that
-        are written again, bytes that nobody reads, names that nobody uses, and one request again
-        and again. The numbers of requests and of reports.
+        are written again, bytes that nobody reads, names that nobody uses, and requests with one
+        challenge, with the reports on them again and again. The numbers of requests and of reports.
         """
         lines = read(self.image).splitlines(keepends=True)
-        reports, policy = read(self["reports"]), read(self["policy"])
-        asked = policy.splitlines(keepends=True)[-1]
+        counts = range(1, FILES["policy"].limit // (len("ask  9999\n") + 64))
+        reports = b"".join(self.report_with(count=count) for count in counts)
+        policy = verifier_model.policy_text(self.policy._replace(
+            requests=[(self.report.challenge, count) for count in counts]))
         many = {
             "image": lines[0] * 37447 + b"".join(lines[-2:]),
             "script": b"at 4 rx 000000 \n" * 65536,
             "source": b"".join(b".equ n%05d,1\n" % number for number in range(1, 74891))
                       + read(self["letter.asm"]),
-            "policy": policy + asked * ((FILES["policy"].limit - len(policy)) // len(asked)),
+            "policy": policy,
             "reports": reports * (FILES["reports"].limit // len(reports)),
         }
         for kind, text in many.items():

@@ -53,6 +53,7 @@ VERDICTS_ONE = (
 # The first fault of files in SampleFiles, each by the end of its name.
 POLICY_FAULTS = {"short": "3: Missing", "short-one": "1: Missing", "version": "1: Range",
                  "ask": "3: Word", "chal": "6: Order", "flag": "4: Word", "counter": "5: Range",
+                 "twice": "7: Twice",
                  "utf8": "1: Utf8", "bounds": "3: Bounds", "bounds-one": "2: Bounds"}
 REPORT_FAULTS = {"cut": "1: Count", "decision": "2: Range", "word": "1: Word"}
 
@@ -114,10 +115,11 @@ def report_files(trial, files):
     verdicts(["accept"], reports=files["reports-among"])
     verdicts([], reports=files["empty"])
     # Each answers the request of its number.
-    first, second = files.policy.requests[0], (files.policy.requests[0][0], 2)
+    challenge = files.policy.requests[0][0]
+    requests = [(challenge, 1), (bytes(32), 1), (challenge, 2), (challenge, 3)]
     answers = [files.report_with(), files.report_with(version=1), files.report_with(count=2)]
     verdicts(["accept", "version-differs", "accept", "count-differs", "no-challenge"],
-             policy=files.policy_with(requests=[first, first, second, first]),
+             policy=files.policy_with(requests=requests),
              reports=files.add("reports-with", b"".join(answers + answers[2:] * 2)))
     for name, fault in REPORT_FAULTS.items():
         refused(11, f"bad reports: line {fault}", reports=files[f"reports-{name}"])

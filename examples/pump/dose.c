@@ -12,7 +12,7 @@ OUTPUT static struct {
 FOREIGN static volatile uint16_t motor;
 enum { STROKE = 'S', HALT = 'H' };
 
-// The stop is any byte that arrives while a dose is given.
+// The stop is any byte that arrives while a dose is given, and no byte that waited before.
 INTERRUPT(SERIAL) REGION void on_stop(void) {
     (void)SRXD;
     motor = HALT;
@@ -23,6 +23,9 @@ INTERRUPT(SERIAL) REGION void on_stop(void) {
 REGION void region(void) {
     uint16_t dose = P1IN, strokes = 0;
     motor = STROKE;
+    while (SSTAT & 1) {
+        (void)SRXD;
+    }
     SCTL = 1;
     enable_interrupts();
     while (strokes < dose && motor == STROKE) {

@@ -13,12 +13,13 @@ use Rattle.text_scan.specs.LineFold.{state_after, text_fold}
 use Rattle.text_scan.specs.Reader.{◌>>=◌, in_line}
 use Rattle.text_scan.specs.Utf8.{utf8_of}
 use Rattle.text_scan.specs.Word.{is_passed_over, words_of}
+use Rattle.report_verifier.specs.declared.asked.Asked.{Asked}
 use Rattle.report_verifier.specs.declared.draft.Draft.{Draft}
 use Rattle.report_verifier.specs.declared.draft.Draft.TheVariants.{Empty, VersionKnown, ExecutableKnown, BoundsKnown, Whole}
 use Rattle.report_verifier.specs.declared.policy_line.PolicyLine.{PolicyLine}
 use Rattle.report_verifier.specs.declared.policy_line.PolicyLine.TheVariants.{VersionTwo, Executable, Output, Flag, Request, Challenge}
 use Rattle.report_verifier.specs.Policy.{PolicyFields}
-use Rattle.report_verifier.specs.PolicyGrammar.{policy_of, line_of, bounds_with, draft_with, with_challenge, with_entry, with_line, whole_policy}
+use Rattle.report_verifier.specs.PolicyGrammar.{policy_of, line_of, bounds_with, draft_with, has_request, with_request, with_challenge, with_entry, with_line, whole_policy}
 use Rattle.report_verifier.specs.Validity.{are_valid_for}
 
 -- the bounds that a draft has are valid in its version
@@ -45,6 +46,13 @@ with_challenge-valid : (version : Version) (policy : PolicyFields) (chal : List 
     → IsValidPolicy policy → IfOk (with_challenge version policy chal) HasValidBounds
 with_challenge-valid One policy chal valid = valid
 with_challenge-valid Two policy chal valid = tt
+
+with_new_request-valid : (policy : PolicyFields) (asked : Asked) (again : Bool)
+    → IsValidPolicy policy
+    → IfOk (if again then Err kinds.Twice else Ok (Whole (with_request policy asked)))
+    HasValidBounds
+with_new_request-valid policy asked true valid = tt
+with_new_request-valid policy asked false valid = valid
 
 with_entry-valid : (draft : Draft) (line : PolicyLine) → HasValidBounds draft
     → IfOk (with_entry draft line) HasValidBounds
@@ -77,7 +85,8 @@ with_entry-valid (Whole policy) VersionTwo valid = tt
 with_entry-valid (Whole policy) (Executable first last) valid = tt
 with_entry-valid (Whole policy) (Output first last) valid = tt
 with_entry-valid (Whole policy) (Flag flag) valid = tt
-with_entry-valid (Whole policy) (Request asked) valid = valid
+with_entry-valid (Whole policy) (Request asked) valid =
+    with_new_request-valid policy asked (has_request policy asked) valid
 with_entry-valid (Whole policy) (Challenge chal) valid =
     with_challenge-valid policy.version policy chal valid
 

@@ -1,6 +1,7 @@
 -- The grammar of a policy, and its first fault. Version 1 is `er`, then `or`, then challenges;
 -- version 2 is `version 2`, then `er`, `or` and `flag`, then requests.
-use Rattle.std.specs.Prelude.{ℕ, List, [], ◌∷◌, ◌++◌, length, if◌then◌else◌, Result, Ok, Err, codes}
+use Rattle.std.specs.Prelude.{ℕ, ◌==◌, ◌&&◌, Bool, List, [], ◌∷◌, ◌++◌, length, if◌then◌else◌, Result, Ok, Err, codes}
+use Rattle.std.specs.List.{list_any}
 use Rattle.std.specs.Str.{bytes_eq}
 use Rattle.std.specs.Str.Lines.{lines}
 use Rattle.bus_signals.specs.declared.bounds.Bounds.{Bounds}
@@ -8,7 +9,7 @@ use Rattle.bus_signals.specs.declared.version.Version.{Version}
 use Rattle.bus_signals.specs.declared.version.Version.TheVariants.{One, Two}
 use Rattle.text_scan.specs.declared.fault_at.FaultAt.{FaultAt}
 use Rattle.text_scan.specs.declared.fault_kind.FaultKind.{FaultKind}
-use Rattle.text_scan.specs.declared.fault_kind.FaultKind.TheVariants.{Word, Missing, Order}
+use Rattle.text_scan.specs.declared.fault_kind.FaultKind.TheVariants.{Word, Missing, Order, Twice}
 use Rattle.text_scan.specs.declared.fault_kind.FaultKind.TheVariants as kinds
 use Rattle.text_scan.specs.Ends.{ends_of}
 use Rattle.text_scan.specs.LineFold.{text_fold}
@@ -125,6 +126,18 @@ with_bounds version bounds =
 abbrev pub with_request : PolicyFields → Asked → PolicyFields
 with_request policy asked = record policy { requests = policy.requests ++ asked ∷ [] }
 
+abbrev pub is_same_request : Asked → Asked → Bool
+is_same_request left right = bytes_eq left.chal right.chal && (left.count == right.count)
+
+-- a line before asks the same
+abbrev pub has_request : PolicyFields → Asked → Bool
+has_request policy asked = list_any (is_same_request asked) policy.requests
+
+-- a request stands once, so that no report answers two of them
+abbrev pub with_new_request : PolicyFields → Asked → Result Draft FaultKind
+with_new_request policy asked =
+    if has_request policy asked then Err Twice else Ok (Whole (with_request policy asked))
+
 -- a challenge alone is a request of version 1
 abbrev pub with_challenge : Version → PolicyFields → List ℕ → Result Draft FaultKind
 with_challenge One policy chal =
@@ -139,7 +152,7 @@ with_entry VersionKnown (Executable first last) = Ok (ExecutableKnown Two first 
 with_entry (ExecutableKnown version er_min er_max) (Output first last) =
     with_bounds version (bounds_with er_min er_max first last)
 with_entry (BoundsKnown policy) (Flag flag) = Ok (Whole (record policy { flag = flag }))
-with_entry (Whole policy) (Request asked) = Ok (Whole (with_request policy asked))
+with_entry (Whole policy) (Request asked) = with_new_request policy asked
 with_entry (Whole policy) (Challenge chal) = with_challenge policy.version policy chal
 with_entry draft line = Err Order
 

@@ -158,6 +158,9 @@ fn add_request(draft: &mut Draft, asked: Asked) -> Result<(), WordFault>
     let Draft::Whole(policy) = draft else {
         return Err(WordFault::Kind(FaultKind::Order));
     };
+    if policy.has_request(&asked) {
+        return Err(WordFault::Kind(FaultKind::Twice));
+    }
     match policy.add(asked) {
         Ok(()) => Ok(()),
         Err(error) => Err(WordFault::Memory(error)),

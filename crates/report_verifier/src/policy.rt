@@ -1,5 +1,6 @@
 ghost use Rattle.std.specs.Prelude.{◌≡◌, ◌++◌, ◌∷◌, [], OnOk, IfSome, IsTrue};
 ghost use Rattle.report_verifier.specs.Policy.{expect_at};
+ghost use Rattle.report_verifier.specs.PolicyGrammar.{has_request};
 ghost use Rattle.report_verifier.specs.Validity.{are_valid_for};
 
 use crate::asked::Asked;
@@ -64,6 +65,13 @@ impl Policy {
             flag,
             requests: self.requests,
         }
+    }
+
+    // Whether this request is among those that were put.
+    pub(crate) fn has_request(&self, asked: &Asked) -> bool
+        ensures { result ≡ has_request self.now asked.now }
+    {
+        self.requests.iter().any(|earlier| asked == earlier)
     }
 
     // Puts a request after the others.

@@ -153,6 +153,17 @@ fn faulty_policies_of_version_two(rt: HostRuntime) -> Result<(), Fail> {
             5,
             FaultKind::Extra,
         ),
+        // a request that an earlier line asks, next to it or not, and with other digits
+        (
+            "version 2\ner c020 c022\nor 0300 0300\nflag exec\nask @ 1\nask @ 1",
+            6,
+            FaultKind::Twice,
+        ),
+        (
+            "version 2\ner c020 c022\nor 0300 0300\nflag exec\nask @ 1\nask @ 2\n\nask @ 01",
+            8,
+            FaultKind::Twice,
+        ),
         // the request's words lie behind the metadata of version 1
         (
             "version 2\ner c020 c022\nor 026c 026c",
@@ -186,6 +197,23 @@ fn output_behind_the_metadata_of_version_one(rt: HostRuntime) {
     assert!(rt; read_policy(rt.alloc(), b"er c020 c022\nor 026c 026c\n").is_ok());
     let two = b"version 2\ner c020 c022\nor 0290 0290\nflag plain\n";
     assert!(rt; read_policy(rt.alloc(), two).is_ok());
+}
+
+// Requests differ where challenge or counter does. In version 1 a challenge may come again.
+#[test]
+fn requests_that_differ(rt: HostRuntime) -> Result<(), Fail> {
+    for text in [
+        "version 2\ner c020 c022\nor 0300 0300\nflag exec\nask @ 1\nask @ 2\n\
+         ask 0000000000000000000000000000000000000000000000000000000000000001 1",
+        "er c020 c022\nor 0300 0300\nchal @\nchal @",
+    ] {
+        let bytes = with_zeros(rt.alloc(), text)?;
+        assert!(rt;
+            read_policy(rt.alloc(), bytes.as_slice()).is_ok(),
+            "in {text}"
+        );
+    }
+    Ok(())
 }
 
 #[test]

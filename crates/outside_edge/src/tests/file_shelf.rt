@@ -232,7 +232,7 @@ fn a_name_is_passed_as_it_is(rt: HostRuntime) -> Result<(), Fail> {
     let alloc = rt.alloc();
     let mut openings = Vec::new(alloc);
     let names = [
-        "", " ", "log", " log", "log ", "log\n", "LOG", "./log", "log/",
+        "", " ", "log", "", " log", "log ", "log\n", "LOG", "./log", "log/", "log", "lo",
     ];
     for name in names {
         openings.push(opening(name, FakeFile::new(name.as_bytes(), 8)))?;
