@@ -55,7 +55,7 @@ def about_key(name, text):
     if not found:
         return None
     return (f"it has {' and '.join(found)}; the digits alone stand in one line: "
-            f"sed 's/^0[xX]//' {name} | tr -d ' \\t\\r\\n' > new.txt")
+            f"(umask 077; sed 's/^0[xX]//' {name} | tr -d ' \\t\\r\\n' > new.txt)")
 
 
 def hints(kind, name, text):
