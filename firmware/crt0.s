@@ -5,21 +5,23 @@
 start:  mov     #stack_top, r1
         mov     #data_values, r12       ; after a reset too, so that globals begin anew
         mov     #data_start, r13
-copy:   cmp     #data_end, r13
-        jhs     copied
+.Lcopy: cmp     #data_end, r13
+        jhs     .Lcopied
         mov     @r12, 0(r13)
         incd    r12
         incd    r13
-        jmp     copy
-copied: cmp     #bss_end, r13           ; .bss follows .data
-        jhs     cleared
+        jmp     .Lcopy
+.Lcopied:
+        cmp     #bss_end, r13           ; .bss follows .data
+        jhs     .Lcleared
         clr     0(r13)
         incd    r13
-        jmp     copied
-cleared:
+        jmp     .Lcopied
+.Lcleared:
         call    #main
-ended:  bis     #0x10, r2               ; sleeps after main
-        jmp     ended
+.Lended:
+        bis     #0x10, r2               ; sleeps after main
+        jmp     .Lended
 
         .section .reset_vector, "a"
         .word   start
@@ -40,20 +42,22 @@ attest: push    r2
         call    #store
         call    #er_min                 ; a write to the metadata after this would clear EXEC
         mov     #0x0202, r13            ; the MAC behind its first word
-clear:  clr     0(r13)
+.Lclear:
+        clr     0(r13)
         incd    r13
         cmp     #0x0220, r13
-        jne     clear
+        jne     .Lclear
         call    #0xa000                 ; the attestation ROM
         mov     #1, r12                 ; it attested where it wrote more than the first word
         mov     #0x0220, r13
-search: decd    r13
+.Lsearch:
+        decd    r13
         tst     0(r13)
-        jne     decided
+        jne     .Ldecided
         cmp     #0x0202, r13
-        jne     search
+        jne     .Lsearch
         mov     &0x0200, r12            ; else that word is its decision
-decided:
+.Ldecided:
         pop     r2
         ret
 
