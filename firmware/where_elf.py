@@ -1,0 +1,175 @@
+"""What the ELF of a firmware says of its addresses, asked of LLVM's tools: the instruction there,
+the function, and the lines of the sources behind it.
+"""
+import bisect
+import json
+import os
+import re
+import subprocess
+import sys
+
+RAM = range(0x0200, 0x2200)
+VECTORS = range(0xFFE0, 0x10000)
+CALL_IMMEDIATE = b"\xb0\x12"
+
+
+class Function:
+    """A function, or a label of assembler code that has the place of one."""
+
+    def __init__(self, name, file="", line=0):
+        self.name, self.file, self.line = name, file, line
+        self.entries = 0
+
+
+class Place:
+    """An address of the program: what stands there, and what was done there."""
+    __slots__ = ("address", "word", "text", "function", "file", "line", "inlined", "action",
+                 "count", "steps", "idle")
+
+    def __init__(self, address, word, text, function, file="", line=0, inlined=()):
+        self.address, self.word, self.text, self.function = address, word, text, function
+        self.file, self.line, self.inlined = file, line, inlined
+        self.action = None  # what it does to the stack
+        self.count = self.steps = self.idle = 0
+
+    def shown(self):
+        """Function, file and line as a reader wants them."""
+        names = [name for name, _, _ in self.inlined] + [self.function.name]
+        return f"{' in '.join(names)}  {position(self)}".rstrip()
+
+
+def position(what):
+    """The file, by its path where it lies below this folder, and the line."""
+    path = relative(what.file)
+    short = os.path.basename(path) if os.path.isabs(path) else path
+    return f"{short}:{what.line or '?'}" if what.file else ""
+
+
+def relative(path):
+    """The path from this folder, where it lies below it."""
+    here = os.getcwd() + "/"
+    return path[len(here):] if path.startswith(here) else path
+
+
+def answer(*command, given=None):
+    """What a tool prints."""
+    try:
+        done = subprocess.run(command, input=given, stdout=subprocess.PIPE, check=True)
+    except FileNotFoundError:
+        sys.exit(f"where: there is no {command[0]} (Debian's package llvm)")
+    except subprocess.CalledProcessError as failed:
+        sys.exit(f"where: {command[0]} ended with the status {failed.returncode}")
+    return done.stdout.decode()
+
+
+def sections_of(elf):
+    """Name, first address, size and flags of each section that is in memory."""
+    form = re.compile(r"^ *\[ *\d+\] (\S+) +\S+ +([0-9a-f]+) [0-9a-f]+ ([0-9a-f]+) \S+ +(\w*)")
+    found = map(form.match, answer("llvm-readelf", "-SW", elf).split("\n"))
+    return [(match[1], int(match[2], 16), int(match[3], 16), match[4])
+            for match in found if match and "A" in match[4]]
+
+
+def symbols_of(elf):
+    """Address, size, type, binding and name of each symbol; the type is ABS where it is a number.
+    """
+    form = re.compile(r"^ *\d+: ([0-9a-f]+) +(\d+) (\w+) +(\w+) +\w+ +(\w+) (\S+)")
+    found = map(form.match, answer("llvm-readelf", "-sW", elf).split("\n"))
+    return [(int(match[1], 16), int(match[2]), "ABS" if match[5] == "ABS" else match[3], match[4],
+             match[6]) for match in found if match and match[3] in ("NOTYPE", "FUNC", "OBJECT")]
+
+
+def instructions_of(elf):
+    """Bytes and text of the instruction at each address."""
+    form = re.compile(r"^ *([0-9a-f]+): ((?:[0-9a-f]{2} )+)\s*(.*)")
+    found = map(form.match, answer("llvm-objdump", "-d", elf).split("\n"))
+    return {int(match[1], 16): (bytes.fromhex(match[2]), match[3].replace("\t", " "))
+            for match in found if match}
+
+
+def frames_of(elf, addresses):
+    """The frames of each address, the innermost inlined function first."""
+    given = "".join(f"{address:#x}\n" for address in addresses).encode()
+    told = answer("llvm-symbolizer", "--output-style=JSON", "-i", "-e", elf, given=given)
+    return {address: json.loads(line)["Symbol"]
+            for address, line in zip(addresses, told.split("\n"))}
+
+
+class Firmware:
+    """The ELF: its places, functions and data."""
+
+    def __init__(self, elf):
+        self.sections, self.symbols = sections_of(elf), symbols_of(elf)
+        self.nowhere = Function("(no function)")
+        code = instructions_of(elf)
+        addresses = [address for address in code if address not in VECTORS]
+        self.frames = frames_of(elf, addresses)
+        self.starts = self.find_starts(code)
+        self.functions = [self.function_at(start, name) for start, name in self.starts]
+        self.first = [start for start, _ in self.starts]
+        self.ends = {address: address + size for address, size, kind, _, _ in self.symbols
+                     if kind == "FUNC" and size}
+        self.places = {b"%04x" % address: self.place_of(address, *code[address])
+                       for address in addresses}
+
+    def find_starts(self, code):
+        """Where functions start: each of C; and of the labels of assembler code those that are
+        called or a vector names, and the first one of a section or behind a function of C.
+        """
+        text = [(first, first + size) for _, first, size, flags in self.sections
+                if "X" in flags and first not in VECTORS]
+        called = {int.from_bytes(word[2:4], "little") for word, _ in code.values()
+                  if word[:2] == CALL_IMMEDIATE}
+        called |= {int.from_bytes(word[:2], "little") for address, (word, _) in code.items()
+                   if address in VECTORS}
+        starts, ends = {}, [first for first, _ in text]
+        for address, size, kind, binding, name in sorted(
+                self.symbols, key=lambda symbol: (symbol[0], symbol[2] != "FUNC",
+                                                  symbol[3] != "GLOBAL", symbol[4])):
+            if (address in starts or kind == "ABS"
+                    or not any(first <= address < end for first, end in text)):
+                continue
+            behind = any(end <= address for end in ends)
+            if kind == "FUNC" or address in called or behind:
+                starts[address] = name
+                ends = [end for end in ends if end > address]
+            if kind == "FUNC":
+                ends.append(address + size)
+        return sorted(starts.items())
+
+    def function_at(self, start, name):
+        """With the line on which it begins."""
+        frame = self.frames.get(start, [{}])[-1]
+        line = frame.get("StartLine") or frame.get("Line", 0)
+        return Function(name, frame.get("StartFileName") or frame.get("FileName", ""), line)
+
+    def function_of(self, address):
+        found = bisect.bisect_right(self.first, address) - 1
+        if found < 0 or address >= self.ends.get(self.first[found], 0x10000):
+            return self.nowhere
+        return self.functions[found]
+
+    def place_of(self, address, word, text):
+        """The place, where the ELF has one; `word` is the bytes of its instruction."""
+        frames = self.frames.get(address, [])
+        inner = frames[0] if frames else {}
+        inlined = tuple((frame["FunctionName"], frame["StartFileName"], frame["StartLine"])
+                        for frame in frames[:-1])
+        return Place(address, b"%02x%02x" % (word[1], word[0]), text, self.function_of(address),
+                     inner.get("FileName", ""), inner.get("Line", 0), inlined)
+
+    def place_beside(self, address, word):
+        """A place at which the ELF has no instruction, or another one."""
+        old = self.places.get(b"%04x" % address)
+        if old is None:
+            return Place(address, word, f".word 0x{word.decode()}", self.nowhere)
+        return Place(address, word, f".word 0x{word.decode()}", old.function, old.file, old.line,
+                     old.inlined)
+
+    def end_of_data_below(self, top):
+        """Where the data below a stack end, and the name of what ends there."""
+        ends = [(first + size, name) for name, first, size, _ in self.sections
+                if size and first + size <= top and first in RAM]
+        ends += [(first + size, name) for first, size, kind, _, name in self.symbols
+                 if kind == "OBJECT" and first in RAM and first + size <= top]
+        return max(ends, default=(RAM.start, "the beginning of RAM"))
