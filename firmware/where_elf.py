@@ -7,7 +7,10 @@ import os
 import re
 import subprocess
 import sys
+from collections import namedtuple
 
+# A function that was inlined, with its first line, and where it was called.
+Inlined = namedtuple("Inlined", "name file line call_file call_line")
 RAM = range(0x0200, 0x2200)
 VECTORS = range(0xFFE0, 0x10000)
 CALL_IMMEDIATE = b"\xb0\x12"
@@ -34,7 +37,7 @@ class Place:
 
     def shown(self):
         """Function, file and line as a reader wants them."""
-        names = [name for name, _, _ in self.inlined] + [self.function.name]
+        names = [call.name for call in self.inlined] + [self.function.name]
         return f"{' in '.join(names)}  {position(self)}".rstrip()
 
 
@@ -153,8 +156,9 @@ class Firmware:
         """The place, where the ELF has one; `word` is the bytes of its instruction."""
         frames = self.frames.get(address, [])
         inner = frames[0] if frames else {}
-        inlined = tuple((frame["FunctionName"], frame["StartFileName"], frame["StartLine"])
-                        for frame in frames[:-1])
+        inlined = tuple(Inlined(frame["FunctionName"], frame["StartFileName"], frame["StartLine"],
+                                outer["FileName"], outer["Line"])
+                        for frame, outer in zip(frames, frames[1:]))
         return Place(address, b"%02x%02x" % (word[1], word[0]), text, self.function_of(address),
                      inner.get("FileName", ""), inner.get("Line", 0), inlined)
 
@@ -172,4 +176,4 @@ class Firmware:
                 if size and first + size <= top and first in RAM]
         ends += [(first + size, name) for first, size, kind, _, name in self.symbols
                  if kind == "OBJECT" and first in RAM and first + size <= top]
-        return max(ends, default=(RAM.start, "the beginning of RAM"))
+        return max(ends, default=(RAM.start, "nothing: RAM begins"))

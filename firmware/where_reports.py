@@ -78,16 +78,29 @@ def before_resets(shown, most):
             kept.clear()
 
 
+def resets_of(shown, most, text_of):
+    """The last ones before a reset, where it is the first by its rule at its place; the others are
+    counted.
+    """
+    again = {}
+    for group in before_resets(shown, most):
+        unit = group[-1][0]
+        reset = f"{unit.rule.decode()} at {unit.pc.decode()}"
+        if reset not in again:
+            yield "\n" * bool(again) + "".join(text_of(*one) for one in group)
+        again[reset] = again.get(reset, -1) + 1
+    for reset, number in again.items():
+        if number:
+            yield f"\nreset {reset}: {number} more\n"
+
+
 def lines_of(walk, file, calls, before_reset):
     """`where lines`, in pieces."""
     shown = changes_of(walk, file) if calls else units_of(walk, file)
     text_of = Lines().of_change if calls else Lines().of_unit
-    if not before_reset:
-        for one in shown:
-            yield text_of(*one)
-    else:
-        for number, group in enumerate(before_resets(shown, before_reset)):
-            yield "\n" * (number > 0) + "".join(text_of(*one) for one in group)
+    if before_reset:
+        return resets_of(shown, before_reset, text_of)
+    return (text_of(*one) for one in shown)
 
 
 def by_function(walk):
@@ -145,15 +158,31 @@ def profile_of(walk, elf):
     yield f"\ntotals: {totals[STEPS]} {totals[INSTRUCTIONS]} {totals[ASLEEP]}\n"
 
 
+def inlined_calls(walk):
+    """Each call that was inlined, and its first instruction, which tells how often it was made."""
+    firsts = {}
+    for place in walk.places.values():
+        for depth in range(len(place.inlined)):
+            copy = place.function, place.inlined[depth:]
+            if copy not in firsts or place.address < firsts[copy].address:
+                firsts[copy] = place
+    return [(inlined, place) for (_, inlined), place in firsts.items()]
+
+
 def line_counts(walk):
     """How often each line of each file ran: of its instructions in a copy of the code, which an
     inlined function has at each call, the most; and this of all copies together.
     """
     most = {}
-    for place in walk.places.values():
-        if place.file and place.line:
-            copy = (place.file, place.line, place.function, place.inlined)
+
+    def add(file, line, place, inlined):
+        if file and line:
+            copy = file, line, place.function, inlined
             most[copy] = max(most.get(copy, 0), place.count)
+    for place in walk.places.values():
+        add(place.file, place.line, place, place.inlined)
+    for (call, *outer), place in inlined_calls(walk):
+        add(call.call_file, call.call_line, place, tuple(outer))
     counts = {}
     for (file, line, _, _), count in most.items():
         lines = counts.setdefault(file, {})
@@ -166,19 +195,15 @@ def function_counts(walk):
     instruction runs.
     """
     counts = {}
+
+    def add(one, number):
+        if one.file:
+            key = one.file, one.line, one.name
+            counts[key] = counts.get(key, 0) + number
     for function in walk.firmware.functions:
-        if function.file:
-            key = function.file, function.line, function.name
-            counts[key] = counts.get(key, 0) + function.entries
-    copies = {}
-    for place in walk.places.values():
-        for depth in range(len(place.inlined)):
-            copy = place.function, place.inlined[depth:]
-            if copy not in copies or place.address < copies[copy].address:
-                copies[copy] = place
-    for (_, inlined), place in copies.items():
-        name, file, line = inlined[0]
-        counts[file, line, name] = counts.get((file, line, name), 0) + place.count
+        add(function, function.entries)
+    for inlined, place in inlined_calls(walk):
+        add(inlined[0], place.count)
     return counts
 
 
