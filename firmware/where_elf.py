@@ -65,21 +65,20 @@ def answer(*command, given=None):
     return done.stdout.decode()
 
 
-def sections_of(elf):
+def sections_in(table):
     """Name, first address, size and flags of each section that is in memory."""
-    form = re.compile(r"^ *\[ *\d+\] (\S+) +\S+ +([0-9a-f]+) [0-9a-f]+ ([0-9a-f]+) \S+ +(\w*)")
-    found = map(form.match, answer("llvm-readelf", "-SW", elf).split("\n"))
-    return [(match[1], int(match[2], 16), int(match[3], 16), match[4])
-            for match in found if match and "A" in match[4]]
+    found = re.findall(r"^ *\[ *\d+\] (\S+) +\S+ +([0-9a-f]+) [0-9a-f]+ ([0-9a-f]+) \w+ +"
+                       r"(\w*A\w*) ", table, re.M)
+    return [(name, int(first, 16), int(size, 16), flags) for name, first, size, flags in found]
 
 
-def symbols_of(elf):
+def symbols_in(table):
     """Address, size, type, binding and name of each symbol; the type is ABS where it is a number.
     """
-    form = re.compile(r"^ *\d+: ([0-9a-f]+) +(\d+) (\w+) +(\w+) +\w+ +(\w+) (\S+)")
-    found = map(form.match, answer("llvm-readelf", "-sW", elf).split("\n"))
-    return [(int(match[1], 16), int(match[2]), "ABS" if match[5] == "ABS" else match[3], match[4],
-             match[6]) for match in found if match and match[3] in ("NOTYPE", "FUNC", "OBJECT")]
+    found = re.findall(r"^ *\d+: ([0-9a-f]+) +(\d+) (NOTYPE|FUNC|OBJECT) +(\w+) +\w+ +(\w+) (\S+)$",
+                       table, re.M)
+    return [(int(address, 16), int(size), "ABS" if section == "ABS" else kind, binding, name)
+            for address, size, kind, binding, section, name in found]
 
 
 def instructions_of(elf):
@@ -102,7 +101,8 @@ class Firmware:
     """The ELF: its places, functions and data."""
 
     def __init__(self, elf):
-        self.sections, self.symbols = sections_of(elf), symbols_of(elf)
+        table = answer("llvm-readelf", "-SsW", elf)
+        self.sections, self.symbols = sections_in(table), symbols_in(table)
         self.nowhere = Function("(no function)")
         code = instructions_of(elf)
         addresses = [address for address in code if address not in VECTORS]

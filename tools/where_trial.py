@@ -1,0 +1,286 @@
+#!/usr/bin/env python3
+"""Trials of firmware/where, over traces of examples and beside other tools, where those are.
+
+Run as a program it writes what `where` is expected to print of the examples, examples/NAME/where,
+with the proved program or the one that is named.
+"""
+import itertools
+import os
+import re
+import resource
+import shutil
+import subprocess
+import sys
+import tempfile
+
+from firmware_trial import PLACE, PUMPS, is_compiler_there
+from sample_files import EXAMPLES, read, write
+from trial import ROOT, Trial, program_of
+
+WHERE = [sys.executable, f"{ROOT}/firmware/where"]
+ELF = "build/firmware.elf"
+VIEWS = {"lines": ("lines",), "calls": ("lines", "--calls"), "profile": ("profile",),
+         "resets": ("lines", "--before-reset", "4"), "coverage": ("coverage",),
+         "stack": ("stack",)}
+# The examples with the names of their sources, the views whose text is kept, and the steps.
+SHOWN = {"echo": (("echo.c",), ("lines", "profile", "coverage", "stack"), "150"),
+         "sensor": (("sensor.c",), ("resets", "profile", "coverage", "stack"), "18000"),
+         "pump/stop": (PUMPS["stop"], ("calls", "profile", "coverage", "stack"), "4000"),
+         "meter": (("main.c", "samples.c", "filter.c", "meter.h"),
+                   ("resets", "profile", "coverage", "stack"), "100000")}
+# A program that only computes, which any simulator of the processor runs.
+COMPUTES = b"""
+#include <stdint.h>
+static uint16_t numbers[5];
+static volatile uint16_t sum;
+static __attribute__((noinline)) void fill(uint16_t seed) {
+    for (int i = 0; i < 5; i++) {
+        seed = seed * 5 + 3;
+        numbers[i] = seed % 100;
+    }
+}
+static __attribute__((noinline)) uint16_t sum_to(uint16_t n) {
+    return n ? sum_to(n - 1) + numbers[n] : 0;
+}
+int main(void) {
+    fill(7);
+    sum = sum_to(4);
+    for (;;) {
+    }
+}
+"""
+COMPUTED = 5000  # instructions of it, up to its last loop and some of that
+
+
+def skips(tool, what):
+    """Whether a tool is missing, with a line that says what is not tried without it."""
+    if shutil.which(tool):
+        return False
+    print(f"check-program: no {tool}: {what} is not tried", file=sys.stderr)
+    return True
+
+
+class Run:
+    """A folder with sources, what the kit makes of them, and the trace of a run."""
+
+    def __init__(self, trial, sources, script, key, steps, *options):
+        self.trial, self.holder = trial, tempfile.TemporaryDirectory(prefix="where-trial-")
+        self.folder = os.path.realpath(self.holder.name)
+        for name, text in sources.items():
+            write(f"{self.folder}/{name}", text)
+        write(f"{self.folder}/script.txt", script)
+        write(f"{self.folder}/key.txt", key)
+        self.options = (*options, f"FOLDGNEISS={trial.program}", f"STEPS={steps}")
+        self.make("image.hex")
+        trace = trial.expect(0, "", "trace", *(f"{self.folder}/{name}" for name in
+                                               ("image.hex", "script.txt", "key.txt")), steps)
+        self.trace = write(f"{self.folder}/trace.txt", trace)
+        self.texts = {}  # what was printed of it, by view
+
+    def make(self, target):
+        """What a target of the kit prints."""
+        return self.trial.expect(0, "", "-s", "-C", self.folder, "-f",
+                                 f"{ROOT}/firmware/Makefile", *self.options, target,
+                                 command=["make"]).decode()
+
+    def where(self, view, *traces, **options):
+        """What a view of traces prints."""
+        return self.trial.expect(0, "", *VIEWS[view], ELF, *traces, command=WHERE,
+                                 cwd=self.folder, **options).decode()
+
+    def text(self, view):
+        """What a view of its trace prints."""
+        if view not in self.texts:
+            self.texts[view] = self.where(view, self.trace)
+        return self.texts[view]
+
+    def told(self, view):
+        """Likewise, without the names of folders."""
+        text = self.text(view)
+        return text.replace(f"{self.folder}/", "").replace(f"{ROOT}/", "").encode()
+
+
+def run_of(trial, name):
+    """The run of an example."""
+    sources, _, steps = SHOWN[name]
+    home = f"{EXAMPLES}/{os.path.dirname(name) or name}"
+    script, key = (read(f"{EXAMPLES}/{name}/{file}.txt") for file in ("script", "key"))
+    options = [PLACE] if name.startswith("pump") else []
+    return Run(trial, {source: read(f"{home}/{source}") for source in sources}, script, key, steps,
+               *options)
+
+
+def expected_name(name, view):
+    return f"{EXAMPLES}/{name}/where/{view}.txt"
+
+
+def prints_expected(trial, runs):
+    """Each view of an example is the text that is kept of it."""
+    for name, run in runs.items():
+        for view in SHOWN[name][1]:
+            text = run.told(view)
+            if text != read(expected_name(name, view)):
+                trial.fault(f"where: {view} of {name} is not the expected text")
+
+
+def functions_of(folder):
+    """First and last place of each function of C, as llvm-nm has them."""
+    text = subprocess.run(["llvm-nm", "-S", f"{folder}/{ELF}"], stdout=subprocess.PIPE,
+                          check=True).stdout.decode()
+    found = re.findall(r"^(\w+) (\w+) [tT] (\S+)$", text, re.M)
+    return {name: (int(first, 16), int(first, 16) + int(size, 16) - 1)
+            for first, size, name in found if int(size, 16)}
+
+
+def by_function(folder, places):
+    """How many of these places are in each function."""
+    counts = {}
+    for name, (first, last) in functions_of(folder).items():
+        count = sum(first <= place <= last for place in places)
+        if count:
+            counts[name] = count
+    return counts
+
+
+def fetched(run):
+    """Where instructions were fetched."""
+    return [int(place, 16) for place in re.findall(rb"^t \d+ cpu (\w{4}) f\1 .* -$",
+                                                   read(run.trace), re.M)]
+
+
+def summed(rows):
+    """Numbers by name, of rows that may have a name more than once."""
+    counts = {}
+    for name, number in rows:
+        counts[name] = counts.get(name, 0) + int(number.replace(",", ""))
+    return counts
+
+
+def annotates(trial, runs):
+    """callgrind_annotate reads of each profile the instructions of each function that were
+    fetched, and all steps.
+    """
+    if skips("callgrind_annotate", "the profile of firmware/where"):
+        return
+    for name, run in runs.items():
+        write(f"{run.folder}/callgrind.out", run.text("profile").encode())
+        text = trial.expect(0, "", "--threshold=100", "--auto=no", "--show-percs=no",
+                            "callgrind.out", command=["callgrind_annotate"],
+                            cwd=run.folder).decode()
+        counts = summed((function, number) for number, function in re.findall(
+            r"^ *[\d,]+ +([\d,]+) +[\d,]+ +[^:\n]*:(\w+)", text, re.M))
+        wanted = by_function(run.folder, fetched(run))
+        if not wanted or {function: counts.get(function) for function in wanted} != wanted:
+            trial.fault(f"profile of {name}: {counts}, where the trace has {wanted}")
+        total = re.search(r"^ *([\d,]+) +[\d,]+ +([\d,]+) +PROGRAM TOTALS", text, re.M)
+        steps = sum(int(number.replace(",", "")) for number in total.groups())
+        if steps != int(SHOWN[name][2]):
+            trial.fault(f"profile of {name}: {steps} steps")
+
+
+def covers(trial, runs):
+    """genhtml takes a coverage, and two runs that lcov adds are two traces that are given."""
+    if skips("genhtml", "the coverage of firmware/where"):
+        return
+    run = runs["sensor"]
+    info = write(f"{run.folder}/one.info", run.text("coverage").encode())
+    both = f"{run.folder}/both.info"
+    trial.expect(0, "", "-q", "-a", info, "-a", info, "-o", both, command=["lcov"])
+    twice = run.where("coverage", run.trace, run.trace)
+    for word in ("SF:", "FNDA:", "DA:"):
+        found = [sorted(line for line in text.split("\n") if line.startswith(word))
+                 for text in (read(both).decode(), twice)]
+        if not found[0] or found[0] != found[1]:
+            trial.fault(f"coverage: lcov adds {found[0]}, where {found[1]}")
+    text = trial.expect(0, "", "-o", f"{run.folder}/html", info, command=["genhtml"]).decode()
+    found = re.findall(r"^ *(?:lines|functions)\.*: [\d.]+% \((\d+) of (\d+) ", text, re.M)
+    counts = [tuple(str(sum(map(int, re.findall(f"^{word}:(\\d+)", read(info).decode(), re.M))))
+                    for word in words) for words in (("LH", "LF"), ("FNH", "FNF"))]
+    if found != counts:
+        trial.fault(f"coverage: genhtml counts {found}, not {counts}")
+
+
+def simulates(trial):
+    """mspdebug's simulator goes through the same instructions, with the same lowest SP."""
+    if skips("mspdebug", "firmware/where beside a simulator"):
+        return
+    run = Run(trial, {"computes.c": COMPUTES}, b"", b"0" * 128, str(4 * COMPUTED))
+    commands = ["prog build/firmware.elf", "reset", *["step"] * COMPUTED]
+    write(f"{run.folder}/commands.txt", "\n".join(commands).encode())
+    text = trial.call("-n", "-q", "sim", "read commands.txt", command=["mspdebug"],
+                      cwd=run.folder).output.decode()
+    places, stacks = ([int(place, 16) for place in re.findall(rf"\( {register}: 0(\w+)\)", text)]
+                      for register in ("PC", "SP"))
+    places.insert(0, 0xC000)
+    cut = write(f"{run.folder}/cut.txt", first_lines(run, COMPUTED))
+    own = re.findall(r"^ *\d+  ([0-9a-f]{4})", run.where("lines", cut), re.M)
+    if len(places) != COMPUTED + 1 or [int(place, 16) for place in own] != places[:-1]:
+        trial.fault("lines: other instructions than mspdebug's simulator has")
+    if not re.search(f"^stack_top +2200 +{min(stacks):x} ", run.where("stack", cut), re.M):
+        trial.fault(f"stack: the lowest SP of mspdebug's simulator is {min(stacks):x}")
+    parts = re.findall(r"^fn=(\w+)\n((?:.+\n)*)", without_calls(run.where("profile", cut)), re.M)
+    counts = summed((name, number) for name, part in parts
+                    for number in re.findall(r"^\d+ \d+ (\d+) \d+$", part, re.M))
+    wanted = by_function(run.folder, places[:-1])
+    if "sum_to" not in wanted or {name: counts.get(name) for name in wanted} != wanted:
+        trial.fault(f"profile: {counts}, where mspdebug's simulator has {wanted}")
+
+
+def first_lines(run, instructions):
+    """The trace's lines of the boot and of so many instructions."""
+    text = read(run.trace)
+    starts = re.finditer(rb"^t \d+ cpu (\w{4}) f\1 ", text, re.M)
+    return text[:next(itertools.islice(starts, instructions, None)).start()]
+
+
+def without_calls(profile):
+    return re.sub(r"^calls=.*\n.*\n", "", profile, flags=re.M)
+
+
+def streams(trial, run):
+    """A trace of 250,000 steps takes no more memory than a short one."""
+    def limit_memory():
+        resource.setrlimit(resource.RLIMIT_DATA, (24_000_000, 24_000_000))
+    lines = read(run.trace) * 3
+    for view in ("profile", "lines"):
+        run.where(view, write(f"{run.folder}/long.txt", lines), preexec_fn=limit_memory)
+
+
+def refusals(trial, runs):
+    """What is no trace, no ELF, or of another image."""
+    echo, sensor = runs["echo"], runs["sensor"]
+    for words, text, line in (
+            (("stack", ELF), b"", "where: there is no step in the trace"),
+            (("stack", ELF), b"hello\n", "where: no line of a trace: b'hello\\n'"),
+            (("stack", "none"), b"", "where: there is no none"),
+            (("stack", ELF, "none"), b"", "where: none: No such file or directory")):
+        trial.expect(1, line, *words, input=text, command=WHERE, cwd=echo.folder)
+    other = trial.call("stack", ELF, sensor.trace, command=WHERE, cwd=echo.folder)
+    if not re.fullmatch(r"where: \d+ of \d+ instructions are not those of the ELF", other.line):
+        trial.fault(f"where: a trace of another image: {other}")
+
+
+def where(trial, files):
+    if not is_compiler_there() or skips("llvm-symbolizer", "firmware/where"):
+        return
+    runs = {name: run_of(trial, name) for name in SHOWN}
+    prints_expected(trial, runs)
+    annotates(trial, runs)
+    covers(trial, runs)
+    simulates(trial)
+    streams(trial, runs["meter"])
+    refusals(trial, runs)
+
+
+def write_expected(arguments):
+    trial = Trial("where-trial", program_of("where-trial", arguments))
+    for name, (_, views, _) in SHOWN.items():
+        run = run_of(trial, name)
+        os.makedirs(f"{EXAMPLES}/{name}/where", exist_ok=True)
+        for view in views:
+            write(expected_name(name, view), run.told(view))
+    return trial.end()
+
+
+if __name__ == "__main__":
+    sys.exit(write_expected(sys.argv[1:]))
