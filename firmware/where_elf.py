@@ -10,7 +10,7 @@ import sys
 from collections import namedtuple
 
 # A function that was inlined, with its first line, and where it was called.
-Inlined = namedtuple("Inlined", "name file line call_file call_line")
+Inlined = namedtuple("Inlined", "name file line call_file call_line call_column")
 RAM = range(0x0200, 0x2200)
 VECTORS = range(0xFFE0, 0x10000)
 CALL_IMMEDIATE = b"\xb0\x12"
@@ -157,7 +157,7 @@ class Firmware:
         frames = self.frames.get(address, [])
         inner = frames[0] if frames else {}
         inlined = tuple(Inlined(frame["FunctionName"], frame["StartFileName"], frame["StartLine"],
-                                outer["FileName"], outer["Line"])
+                                outer["FileName"], outer["Line"], outer["Column"])
                         for frame, outer in zip(frames, frames[1:]))
         return Place(address, b"%02x%02x" % (word[1], word[0]), text, self.function_of(address),
                      inner.get("FileName", ""), inner.get("Line", 0), inlined)

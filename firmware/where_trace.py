@@ -63,10 +63,8 @@ def units(file):
                 continue
             if now == b"cpu":
                 starts = access[1:] == here and access[:1] == b"f" or kind != now
-            elif now == b"idle":
+            elif now in (b"idle", b"irq"):
                 starts = kind != now
-            elif now == b"irq":
-                starts = kind != now or steps == ENTRY_STEPS
             else:
                 starts = now != b"rom" or here == ROM_ENTRY or kind != now
             if starts:

@@ -17,6 +17,10 @@ from firmware_trial import PLACE, PUMPS, is_compiler_there
 from sample_files import EXAMPLES, read, write
 from trial import ROOT, Trial, program_of
 
+sys.path.append(f"{ROOT}/firmware")
+from where_elf import Firmware  # noqa: E402
+from where_trace import Walk  # noqa: E402
+
 WHERE = [sys.executable, f"{ROOT}/firmware/where"]
 ELF = "build/firmware.elf"
 VIEWS = {"lines": ("lines",), "calls": ("lines", "--calls"), "profile": ("profile",),
@@ -28,28 +32,55 @@ SHOWN = {"echo": (("echo.c",), ("lines", "profile", "coverage", "stack"), "150")
          "pump/stop": (PUMPS["stop"], ("calls", "profile", "coverage", "stack"), "4000"),
          "meter": (("main.c", "samples.c", "filter.c", "meter.h"),
                    ("resets", "profile", "coverage", "stack"), "100000")}
-# A program that only computes, which any simulator of the processor runs.
+# A program that only computes, for any simulator of the processor; where HOST is set it ends, for
+# the computer that it is tried on. The lines marked `counted` are one statement each, of which any
+# compiler makes code that runs as often as the statement.
 COMPUTES = b"""
 #include <stdint.h>
 static uint16_t numbers[5];
-static volatile uint16_t sum;
+static volatile uint16_t sum, few = 3;
 static __attribute__((noinline)) void fill(uint16_t seed) {
-    for (int i = 0; i < 5; i++) {
+    for (uint16_t i = 0; i < few + 2; i++) {
         seed = seed * 5 + 3;
-        numbers[i] = seed % 100;
+        numbers[i] = seed & 63; // counted
     }
 }
+#ifndef HOST
+inline __attribute__((always_inline))
+#endif
+static uint16_t weigh(uint16_t from, uint16_t n) {
+    uint16_t weight = 0;
+    for (uint16_t i = 0; i < n; i++) {
+        sum = weight += numbers[i] ^ from; // counted
+    }
+    return weight;
+}
 static __attribute__((noinline)) uint16_t sum_to(uint16_t n) {
-    return n ? sum_to(n - 1) + numbers[n] : 0;
+    volatile uint16_t kept[3] = {n, n};
+    if (n == 0) {
+        sum = 5; // counted
+        return 0;
+    }
+    kept[2] = sum_to(n - 1) + numbers[n]; // counted
+    return kept[0] + kept[2];
+}
+static __attribute__((noinline)) uint16_t spread(uint16_t a, uint16_t b, uint16_t c, uint16_t d,
+                                                 uint16_t e, uint16_t f, uint16_t g) {
+    return sum_to(a & 1) + b * c + d + e + f + g; // counted
 }
 int main(void) {
-    fill(7);
-    sum = sum_to(4);
+    fill(7); // counted
+    sum = sum_to(4); // counted
+    sum = weigh(1, few) + weigh(2, few + 1);
+    sum = spread(1, 2, 3, 4, 5, 6, few); // counted
+#ifdef HOST
+    return 0;
+#endif
     for (;;) {
     }
 }
 """
-COMPUTED = 5000  # instructions of it, up to its last loop and some of that
+COMPUTED = 2000  # instructions of it, with some of its last loop
 
 
 def skips(tool, what):
@@ -200,30 +231,54 @@ def covers(trial, runs):
         trial.fault(f"coverage: genhtml counts {found}, not {counts}")
 
 
-def simulates(trial):
-    """mspdebug's simulator goes through the same instructions, with the same lowest SP."""
+def simulated(run):
+    """PC and SP before each instruction in mspdebug's simulator, from the first one on."""
+    commands = ["prog build/firmware.elf", "reset", "regs", *["step"] * COMPUTED]
+    write(f"{run.folder}/commands.txt", "\n".join(commands).encode())
+    text = run.trial.call("-n", "-q", "sim", "read commands.txt", command=["mspdebug"],
+                          cwd=run.folder).output.decode()
+    return [(int(place, 16), int(stack, 16)) for place, stack in re.findall(
+        r"\( PC: 0(\w+)\).*\n *\( SP: 0(\w+)\)", text)]
+
+
+def simulates(trial, run):
+    """mspdebug's simulator has the same PC and SP before each instruction, the same lowest SP, and
+    as many instructions of each function.
+    """
     if skips("mspdebug", "firmware/where beside a simulator"):
         return
-    run = Run(trial, {"computes.c": COMPUTES}, b"", b"0" * 128, str(4 * COMPUTED))
-    commands = ["prog build/firmware.elf", "reset", *["step"] * COMPUTED]
-    write(f"{run.folder}/commands.txt", "\n".join(commands).encode())
-    text = trial.call("-n", "-q", "sim", "read commands.txt", command=["mspdebug"],
-                      cwd=run.folder).output.decode()
-    places, stacks = ([int(place, 16) for place in re.findall(rf"\( {register}: 0(\w+)\)", text)]
-                      for register in ("PC", "SP"))
-    places.insert(0, 0xC000)
+    wanted = simulated(run)
     cut = write(f"{run.folder}/cut.txt", first_lines(run, COMPUTED))
-    own = re.findall(r"^ *\d+  ([0-9a-f]{4})", run.where("lines", cut), re.M)
-    if len(places) != COMPUTED + 1 or [int(place, 16) for place in own] != places[:-1]:
-        trial.fault("lines: other instructions than mspdebug's simulator has")
-    if not re.search(f"^stack_top +2200 +{min(stacks):x} ", run.where("stack", cut), re.M):
-        trial.fault(f"stack: the lowest SP of mspdebug's simulator is {min(stacks):x}")
+    walk = Walk(Firmware(f"{run.folder}/{ELF}"))
+    with open(run.trace, "rb") as file:
+        own = [(place.address, walk.sp) for unit, place in walk.go(file) if unit.kind == b"cpu"]
+    if len(wanted) != COMPUTED + 1 or own[:COMPUTED + 1] != wanted:
+        trial.fault("where: other instructions or another SP than mspdebug's simulator has")
+    lowest = min(stack for _, stack in wanted if stack)
+    if not re.search(f"^stack_top +2200 +{lowest:x} ", run.where("stack", cut), re.M):
+        trial.fault(f"stack: the lowest SP of mspdebug's simulator is {lowest:x}")
     parts = re.findall(r"^fn=(\w+)\n((?:.+\n)*)", without_calls(run.where("profile", cut)), re.M)
     counts = summed((name, number) for name, part in parts
                     for number in re.findall(r"^\d+ \d+ (\d+) \d+$", part, re.M))
-    wanted = by_function(run.folder, places[:-1])
+    wanted = by_function(run.folder, [place for place, _ in wanted[:-1]])
     if "sum_to" not in wanted or {name: counts.get(name) for name in wanted} != wanted:
         trial.fault(f"profile: {counts}, where mspdebug's simulator has {wanted}")
+
+
+def counts_as_gcov(trial, run):
+    """gcov, of the same program on this computer, counts its lines and functions as often."""
+    if skips("gcc", "firmware/where beside gcov") or skips("gcov", "firmware/where beside gcov"):
+        return
+    text = trial.expect(0, "", "gcc --coverage -DHOST -c computes.c && gcc --coverage computes.o "
+                        "-o host && ./host && gcov -t -b computes.gcda", command=["bash", "-c"],
+                        cwd=run.folder).decode()
+    lines = re.findall(r"^ *(\d+): +(\d+):.*// counted$", text, re.M)
+    wanted = {*(f"DA:{line},{count}" for count, line in lines)}
+    wanted |= {f"FNDA:{count},{name}" for name, count in re.findall(
+        r"^function (\w+) called (\d+)", text, re.M)}
+    missing = wanted - {*run.text("coverage").split("\n")}
+    if len(lines) != 8 or len(wanted) != 13 or missing:
+        trial.fault(f"coverage: nothing of {missing}, which gcov counts")
 
 
 def first_lines(run, instructions):
@@ -267,7 +322,9 @@ def where(trial, files):
     prints_expected(trial, runs)
     annotates(trial, runs)
     covers(trial, runs)
-    simulates(trial)
+    computes = Run(trial, {"computes.c": COMPUTES}, b"", b"0" * 128, str(4 * COMPUTED))
+    simulates(trial, computes)
+    counts_as_gcov(trial, computes)
     streams(trial, runs["meter"])
     refusals(trial, runs)
 
