@@ -2,6 +2,7 @@
 the function, and the lines of the sources behind it.
 """
 import bisect
+import functools
 import json
 import os
 import re
@@ -9,8 +10,11 @@ import subprocess
 import sys
 from collections import namedtuple
 
+# What llvm-symbolizer says of an address: a function with its first line, and the line in it.
+Frame = namedtuple("Frame", "name first_file first_line file line column")
 # A function that was inlined, with its first line, and where it was called.
 Inlined = namedtuple("Inlined", "name file line call_file call_line call_column")
+NO_FRAME = Frame("", "", 0, "", 0, 0)
 RAM = range(0x0200, 0x2200)
 VECTORS = range(0xFFE0, 0x10000)
 CALL_IMMEDIATE = b"\xb0\x12"
@@ -93,8 +97,16 @@ def frames_of(elf, addresses):
     """The frames of each address, the innermost inlined function first."""
     given = "".join(f"{address:#x}\n" for address in addresses).encode()
     told = answer("llvm-symbolizer", "--output-style=JSON", "-i", "-e", elf, given=given)
-    return {address: json.loads(line)["Symbol"]
+    return {address: [Frame(frame["FunctionName"], real(frame["StartFileName"]),
+                            frame["StartLine"], real(frame["FileName"]), frame["Line"],
+                            frame["Column"]) for frame in json.loads(line)["Symbol"]]
             for address, line in zip(addresses, told.split("\n"))}
+
+
+@functools.lru_cache(maxsize=None)
+def real(path):
+    """The path of a file without links, which the kit's files are reached by."""
+    return os.path.realpath(path) if path else ""
 
 
 class Firmware:
@@ -142,9 +154,8 @@ class Firmware:
 
     def function_at(self, start, name):
         """With the line on which it begins."""
-        frame = self.frames.get(start, [{}])[-1]
-        line = frame.get("StartLine") or frame.get("Line", 0)
-        return Function(name, frame.get("StartFileName") or frame.get("FileName", ""), line)
+        frame = self.frames.get(start, [NO_FRAME])[-1]
+        return Function(name, frame.first_file or frame.file, frame.first_line or frame.line)
 
     def function_of(self, address):
         found = bisect.bisect_right(self.first, address) - 1
@@ -154,13 +165,11 @@ class Firmware:
 
     def place_of(self, address, word, text):
         """The place, where the ELF has one; `word` is the bytes of its instruction."""
-        frames = self.frames.get(address, [])
-        inner = frames[0] if frames else {}
-        inlined = tuple(Inlined(frame["FunctionName"], frame["StartFileName"], frame["StartLine"],
-                                outer["FileName"], outer["Line"], outer["Column"])
+        frames = self.frames.get(address, [NO_FRAME])
+        inlined = tuple(Inlined(*frame[:3], *outer[3:])
                         for frame, outer in zip(frames, frames[1:]))
         return Place(address, b"%02x%02x" % (word[1], word[0]), text, self.function_of(address),
-                     inner.get("FileName", ""), inner.get("Line", 0), inlined)
+                     frames[0].file, frames[0].line, inlined)
 
     def place_beside(self, address, word):
         """A place at which the ELF has no instruction, or another one."""
@@ -171,9 +180,17 @@ class Firmware:
                      old.inlined)
 
     def end_of_data_below(self, top):
-        """Where the data below a stack end, and the name of what ends there."""
-        ends = [(first + size, name) for name, first, size, _ in self.sections
-                if size and first + size <= top and first in RAM]
-        ends += [(first + size, name) for first, size, kind, _, name in self.symbols
-                 if kind == "OBJECT" and first in RAM and first + size <= top]
-        return max(ends, default=(RAM.start, "nothing: RAM begins"))
+        """Where a stack that begins there has to end, and why: data, the word that guards it, or
+        the beginning of its section.
+        """
+        ends = [(RAM.start, "where RAM begins")]
+        for name, first, size, _ in self.sections:
+            end = first + size
+            if size and first in RAM and first < top:
+                ends.append((end, f"the end of {name}") if end <= top
+                            else (first, f"where {name} begins"))
+        for first, size, kind, _, name in self.symbols:
+            end = first + (2 if name.endswith("_guard") else size)
+            if first in RAM and kind != "ABS" and first < end <= top:
+                ends.append((end, f"the end of {name}"))
+        return max(ends)

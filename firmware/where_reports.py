@@ -231,11 +231,11 @@ def stack_of(walk):
     """The stacks, and what of them each function took."""
     yield f"{'stack':<20} {'from':>5} {'lowest':>6} {'bytes':>6} {'left':>6}  down to\n"
     for stack in sorted(walk.stacks.values(), key=lambda one: -one.top):
-        end, name = walk.firmware.end_of_data_below(stack.top)
+        end, why = walk.firmware.end_of_data_below(stack.top)
         lowest = f"lowest in {stack.place.shown()}" if stack.place else "not used"
         left = stack.lowest - end
         yield (f"{stack_name(walk, stack.top):<20} {stack.top:>5x} {stack.lowest:>6x} "
-               f"{stack.top - stack.lowest:>6} {max(left, 0):>6}  {end:04x}, the end of {name}\n"
+               f"{stack.top - stack.lowest:>6} {max(left, 0):>6}  {end:04x}, {why}\n"
                f"{'':<20} {lowest}\n")
         if left < 0:
             yield f"{'':<20} OVER THE DATA by {-left} bytes\n"

@@ -13,7 +13,7 @@ import subprocess
 import sys
 import tempfile
 
-from firmware_trial import PLACE, PUMPS, is_compiler_there
+from firmware_trial import PLACE, PUMPS
 from sample_files import EXAMPLES, read, write
 from trial import ROOT, Trial, program_of
 
@@ -21,6 +21,7 @@ sys.path.append(f"{ROOT}/firmware")
 from where_elf import Firmware  # noqa: E402
 from where_trace import Walk  # noqa: E402
 
+BUILT_WITH = ("make", "clang", "ld.lld", "llvm-objcopy", "llvm-symbolizer")
 WHERE = [sys.executable, f"{ROOT}/firmware/where"]
 ELF = "build/firmware.elf"
 VIEWS = {"lines": ("lines",), "calls": ("lines", "--calls"), "profile": ("profile",),
@@ -316,7 +317,7 @@ def refusals(trial, runs):
 
 
 def where(trial, files):
-    if not is_compiler_there() or skips("llvm-symbolizer", "firmware/where"):
+    if any(skips(tool, "firmware/where") for tool in BUILT_WITH):
         return
     runs = {name: run_of(trial, name) for name in SHOWN}
     prints_expected(trial, runs)
