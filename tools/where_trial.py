@@ -4,6 +4,8 @@
 Run as a program it writes what `where` is expected to print of the examples, examples/NAME/where,
 with the proved program or the one that is named.
 """
+import glob
+import html
 import itertools
 import os
 import re
@@ -104,16 +106,20 @@ class Run:
         write(f"{self.folder}/key.txt", key)
         self.options = (*options, f"FOLDGNEISS={trial.program}", f"STEPS={steps}")
         self.make("image.hex")
-        trace = trial.expect(0, "", "trace", *(f"{self.folder}/{name}" for name in
-                                               ("image.hex", "script.txt", "key.txt")), steps)
-        self.trace = write(f"{self.folder}/trace.txt", trace)
+        self.files = [f"{self.folder}/{name}" for name in ("image.hex", "script.txt", "key.txt")]
+        self.steps = steps
+        self.trace = write(f"{self.folder}/trace.txt",
+                           trial.expect(0, "", "trace", *self.files, steps))
         self.texts = {}  # what was printed of it, by view
 
-    def make(self, target):
-        """What a target of the kit prints."""
+    def make(self, *targets):
+        """What targets of the kit print."""
         return self.trial.expect(0, "", "-s", "-C", self.folder, "-f",
-                                 f"{ROOT}/firmware/Makefile", *self.options, target,
+                                 f"{ROOT}/firmware/Makefile", *self.options, *targets,
                                  command=["make"]).decode()
+
+    def play(self):
+        return self.trial.expect(0, "", "play", *self.files, self.steps).decode()
 
     def where(self, view, *traces, **options):
         """What a view of traces prints."""
@@ -293,6 +299,37 @@ def without_calls(profile):
     return re.sub(r"^calls=.*\n.*\n", "", profile, flags=re.M)
 
 
+def page(name):
+    """The text of a page of genhtml."""
+    return html.unescape(re.sub("<[^>]*>", "", read(name).decode()))
+
+
+def debugging(trial, run):
+    """What docs/debugging.md quotes of examples/meter is what the kit prints, and with the two
+    changes that it names 16 values are told.
+    """
+    if skips("callgrind_annotate", "docs/debugging.md") or skips("genhtml", "docs/debugging.md"):
+        return
+    told = read(f"{ROOT}/docs/debugging.md").decode().split("## A fault and a slow function")[1]
+    printed = run.play() + run.make("LAST=4", "resets", "profile", "coverage")
+    for name in glob.glob(f"{run.folder}/build/coverage/**/*.c.gcov.html", recursive=True):
+        printed += page(name)
+    printed = {re.sub(r"^\d+ (?=\d+ :)", "", " ".join(line.split()))
+               for line in printed.split("\n")}
+    quoted = [" ".join(line.split()) for line in
+              re.findall(r"^    +((?:tx|reset|end|\d).*)", told, re.M)]
+    if len(quoted) != 19 or not printed.issuperset(quoted):
+        trial.fault(f"docs/debugging.md: not printed: {[line for line in quoted if line not in printed]}")
+    for name, old, new in (("samples.c", b"sizeof meter)", b"sizeof meter.samples)"),
+                           ("filter.c", b"[i] / count", b"[i]"),
+                           ("filter.c", b"return value", b"return value / count")):
+        text = read(f"{run.folder}/{name}")
+        write(f"{run.folder}/{name}", text.replace(old, new))
+    run.make("image.hex")
+    if run.play().count("tx ") != 16 or "reset" in run.play():
+        trial.fault(f"docs/debugging.md: mended, it prints {run.play()}")
+
+
 def streams(trial, run):
     """A trace of 250,000 steps takes no more memory than a short one."""
     def limit_memory():
@@ -328,6 +365,7 @@ def where(trial, files):
     counts_as_gcov(trial, computes)
     streams(trial, runs["meter"])
     refusals(trial, runs)
+    debugging(trial, runs["meter"])
 
 
 def write_expected(arguments):
