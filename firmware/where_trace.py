@@ -22,12 +22,14 @@ CONSTANTS = {(2, 2): 4, (2, 3): 8, (3, 0): 0, (3, 1): 1, (3, 2): 2, (3, 3): 0xFF
 
 
 def chunks(file):
-    """Lists of lines, with the progress on standard error where that is a terminal."""
-    shows, steps, then = sys.stderr.isatty(), 0, time.monotonic()
+    """Lists of lines, with the progress on standard error where that is a terminal, and standard
+    output is none.
+    """
+    shows, steps, then = sys.stderr.isatty() and not sys.stdout.isatty(), 0, time.monotonic()
     for lines in iter(lambda: file.readlines(CHUNK), []):
         yield lines
         steps += len(lines)
-        if shows and time.monotonic() - then > 0.5:
+        if shows and time.monotonic() - then > 0.2:
             then = time.monotonic()
             print(f"\rwhere: {steps:,} steps", end="", file=sys.stderr, flush=True)
     if shows and steps:

@@ -8,6 +8,7 @@ import glob
 import html
 import itertools
 import os
+import pty
 import re
 import resource
 import shutil
@@ -331,12 +332,21 @@ def debugging(trial, run):
 
 
 def streams(trial, run):
-    """A trace of 250,000 steps takes no more memory than a short one."""
+    """A trace of 300,000 steps takes no more memory than a short one, and a terminal shows how far
+    it is.
+    """
     def limit_memory():
         resource.setrlimit(resource.RLIMIT_DATA, (24_000_000, 24_000_000))
-    lines = read(run.trace) * 3
-    for view in ("profile", "lines"):
-        run.where(view, write(f"{run.folder}/long.txt", lines), preexec_fn=limit_memory)
+    lines = write(f"{run.folder}/long.txt", read(run.trace) * 3)
+    run.where("profile", lines, preexec_fn=limit_memory)
+    reader, terminal = pty.openpty()
+    trial.call(*VIEWS["lines"], ELF, lines, command=WHERE, cwd=run.folder, stderr=terminal,
+               preexec_fn=limit_memory)
+    os.close(terminal)
+    shown = os.read(reader, 4096)
+    os.close(reader)
+    if not re.fullmatch(rb"(\rwhere: [\d,]+ steps)+\r\x1b\[K", shown):
+        trial.fault(f"where: its progress is {shown}")
 
 
 def refusals(trial, runs):
