@@ -4,6 +4,7 @@
 Run as a program it writes what `where` is expected to print of the examples, examples/NAME/where,
 with the proved program or the one that is named.
 """
+import contextlib
 import glob
 import html
 import itertools
@@ -339,12 +340,14 @@ def streams(trial, run):
         resource.setrlimit(resource.RLIMIT_DATA, (24_000_000, 24_000_000))
     lines = write(f"{run.folder}/long.txt", read(run.trace) * 3)
     run.where("profile", lines, preexec_fn=limit_memory)
-    reader, terminal = pty.openpty()
+    shown, (reader, terminal) = b"", pty.openpty()
     trial.call(*VIEWS["lines"], ELF, lines, command=WHERE, cwd=run.folder, stderr=terminal,
                preexec_fn=limit_memory)
-    os.close(terminal)
-    shown = os.read(reader, 4096)
+    os.set_blocking(reader, False)
+    with contextlib.suppress(BlockingIOError):
+        shown = os.read(reader, 4096)
     os.close(reader)
+    os.close(terminal)
     if not re.fullmatch(rb"(\rwhere: [\d,]+ steps)+\r\x1b\[K", shown):
         trial.fault(f"where: its progress is {shown}")
 
