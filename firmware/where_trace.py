@@ -13,7 +13,7 @@ from where_elf import Function, Place
 Unit = namedtuple("Unit", "kind step pc word steps proposed access rest rule")
 CHUNK = 1 << 20
 ENTRY_STEPS = 3  # of an interrupt
-ROM_ENTRY, ROM_EXIT = b"a000", b"bffe"
+ROM_ENTRY = b"a000"
 # What an instruction does to the stack.
 CALL, PUSH, RETURN, END_OF_HANDLER, POP, SET = range(1, 7)
 MOV, ADD, SUB = 4, 5, 8
@@ -144,8 +144,7 @@ class Walk:
         self.calls = {}  # number and costs, by the place of a call and what was called
         self.used = {}  # own bytes, all bytes and lowest SP, by function
         self.stacks = {}
-        self.unknown = {}  # by function: instructions with SP unknown
-        self.rules = {}
+        self.unknown = {}  # instructions before which SP was not known, by function
         self.begin()
 
     def begin(self):
@@ -167,11 +166,16 @@ class Walk:
         return [*self.places.values(), *self.others.values(), self.rom, self.boot]
 
     def go(self, file):
-        """Each unit of a trace with its place, before what it does to the stack."""
+        """Each unit of a trace with its place, before what it does to the stack. The last may not
+        be whole, and does nothing to it.
+        """
         self.begin()
-        places, total = self.places, self.total
+        places, total, acts = self.places, self.total, None
         for unit in units(file):
             kind, _, pc, word, steps, _, _, _, rule = unit
+            if acts is not None:
+                self.act(acts, before)
+                acts = None
             if kind == b"cpu":
                 place = places.get(pc)
                 if place is None or place.word != word:
@@ -184,15 +188,13 @@ class Walk:
                     place.count += 1
                     total[1] += 1
                 if self.sp is None:
-                    self.miss(place)
-                yield unit, place
+                    self.unknown[place.function] = self.unknown.get(place.function, 0) + 1
                 if place.action and rule is None:
-                    self.act(place, unit)
+                    acts, before = place, unit
                 self.last = place
+                yield unit, place
             else:
                 yield unit, self.other(unit)
-            if rule is not None:
-                self.rules[rule] = self.rules.get(rule, 0) + 1
         self.leave(0)
         self.begin()
 
@@ -217,7 +219,7 @@ class Walk:
             place = self.interrupt(place, unit)
         place.steps += unit.steps
         total[0] += unit.steps
-        if kind == b"rom" and unit.rule is None:
+        if kind == b"rom" and unit.access[:1] == b"r" and place_in(unit.access) in self.slots:
             self.come_back(place_in(unit.access))
         if kind == b"boot":
             self.enter(None, place, None)
@@ -289,13 +291,12 @@ class Walk:
             frame.own = sp
             frame.lowest = min(frame.lowest, sp)
 
-    def miss(self, place):
-        self.unknown[place.function] = self.unknown.get(place.function, 0) + 1
-
     def jump(self, place):
-        """The function at this place runs now, and another one did before."""
+        """The function at this place runs now, and another one did before: it was called, or jumped
+        to, which goes back to a function that was left by a jump or begins another.
+        """
         function, frames = place.function, self.frames
-        if frames and frames[-1].function is None:  # it was called
+        if frames and frames[-1].function is None:
             frames[-1].function = function
             function.entries += 1
         else:
@@ -316,10 +317,10 @@ class Walk:
             self.leave(self.slots[slot])
         if slot is not None:
             self.slots[slot] = len(self.frames)
-        stack = self.stack
-        if slot is not None and (stack is None or self.sp is None):
-            stack = self.stack = self.stack_of(slot + 2, False)
         base = self.sp if slot is None else slot + 2
+        if slot is not None and (self.stack is None or self.sp is None):
+            self.stack = self.stack_of(base, False)
+        stack = None if base is None else self.stack
         self.frames.append(Frame(function, site, slot, handles, (*self.total,), stack, base))
         self.handlers += handles
         self.function = function
@@ -341,7 +342,7 @@ class Walk:
                 del self.slots[frame.slot]
             self.handlers -= frame.handles
             self.account(frame)
-            if frames and frames[-1].stack is frame.stack and frame.lowest is not None:
+            if frames and frame.stack and frames[-1].stack is frame.stack:
                 frames[-1].lowest = min(frames[-1].lowest, frame.lowest)
         self.function = frames[-1].function if frames else None
 
@@ -354,7 +355,7 @@ class Walk:
             call[0] += 1
             for at, (now, then) in enumerate(zip(self.total, frame.counts), 1):
                 call[at] += now - then
-        if frame.stack is not None and frame.base is not None:
+        if frame.stack is not None:
             used = self.used.setdefault(frame.function, [0, 0, 0xFFFF])
             used[0] = max(used[0], frame.base - frame.own)
             used[1] = max(used[1], frame.base - frame.lowest)

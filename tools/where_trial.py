@@ -88,6 +88,20 @@ int main(void) {
 COMPUTED = 2000  # instructions of it, with some of its last loop
 
 
+REGISTERS = b"""
+        .section .start, "ax"
+        .globl start, other
+        .type other, @function
+start:  mov     #0x2100, r12
+        mov     r12, r1
+        nop
+        br      #other
+other:  push    r5
+        nop
+ended:  jmp     ended
+"""
+
+
 def skips(tool, what):
     """Whether a tool is missing, with a line that says what is not tried without it."""
     if shutil.which(tool):
@@ -332,6 +346,14 @@ def debugging(trial, run):
         trial.fault(f"docs/debugging.md: mended, it prints {run.play()}")
 
 
+def unknown_stack(trial):
+    """SP is not known from where it is set from a register to the next access by it."""
+    run = Run(trial, {"registers.s": REGISTERS}, b"", b"0" * 128, "40")
+    if "SP was not known in 3 instructions, most of them in start.\n" not in run.where(
+            "stack", run.trace):
+        trial.fault(f"stack: {run.where('stack', run.trace)}")
+
+
 def streams(trial, run):
     """A trace of 300,000 steps takes no more memory than a short one, and a terminal shows how far
     it is.
@@ -376,6 +398,7 @@ def where(trial, files):
     computes = Run(trial, {"computes.c": COMPUTES}, b"", b"0" * 128, str(4 * COMPUTED))
     simulates(trial, computes)
     counts_as_gcov(trial, computes)
+    unknown_stack(trial)
     streams(trial, runs["meter"])
     refusals(trial, runs)
     debugging(trial, runs["meter"])
