@@ -89,8 +89,8 @@ def instructions_of(elf):
     """Bytes and text of the instruction at each address."""
     form = re.compile(r"^ *([0-9a-f]+): ((?:[0-9a-f]{2} )+)\s*(.*)")
     found = map(form.match, answer("llvm-objdump", "-d", elf).split("\n"))
-    return {int(match[1], 16): (bytes.fromhex(match[2]), match[3].replace("\t", " "))
-            for match in found if match}
+    return {int(match[1], 16): (bytes.fromhex(match[2]).ljust(2, b"\0"),
+                                match[3].replace("\t", " ")) for match in found if match}
 
 
 def frames_of(elf, addresses):
@@ -116,41 +116,43 @@ class Firmware:
         table = answer("llvm-readelf", "-SsW", elf)
         self.sections, self.symbols = sections_in(table), symbols_in(table)
         self.nowhere = Function("(no function)")
+        self.text = [range(first, first + size) for _, first, size, flags in self.sections
+                     if "X" in flags and first not in VECTORS]
         code = instructions_of(elf)
-        addresses = [address for address in code if address not in VECTORS]
-        self.frames = frames_of(elf, addresses)
-        self.starts = self.find_starts(code)
-        self.functions = [self.function_at(start, name) for start, name in self.starts]
-        self.first = [start for start, _ in self.starts]
+        self.frames = frames_of(elf, [address for part in self.text for address in part[::2]])
+        starts = self.find_starts(code)
+        self.functions = [self.function_at(start, name) for start, name in starts]
+        self.first = [start for start, _ in starts]
         self.ends = {address: address + size for address, size, kind, _, _ in self.symbols
                      if kind == "FUNC" and size}
-        self.places = {b"%04x" % address: self.place_of(address, *code[address])
-                       for address in addresses}
+        self.places = {b"%04x" % address: self.place_of(address, b"%02x%02x" % (word[1], word[0]),
+                                                        text)
+                       for address, (word, text) in code.items() if address not in VECTORS}
 
     def find_starts(self, code):
         """Where functions start: each of C; and of the labels of assembler code those that are
         called or a vector names, and the first one of a section or behind a function of C.
         """
-        text = [(first, first + size) for _, first, size, flags in self.sections
-                if "X" in flags and first not in VECTORS]
         called = {int.from_bytes(word[2:4], "little") for word, _ in code.values()
                   if word[:2] == CALL_IMMEDIATE}
         called |= {int.from_bytes(word[:2], "little") for address, (word, _) in code.items()
                    if address in VECTORS}
-        starts, ends = {}, [first for first, _ in text]
+        starts, ends = {}, [part.start for part in self.text]
         for address, size, kind, binding, name in sorted(
                 self.symbols, key=lambda symbol: (symbol[0], symbol[2] != "FUNC",
                                                   symbol[3] != "GLOBAL", symbol[4])):
-            if (address in starts or kind == "ABS"
-                    or not any(first <= address < end for first, end in text)):
+            if address in starts or kind == "ABS" or not self.has_code(address):
                 continue
             behind = any(end <= address for end in ends)
             if kind == "FUNC" or address in called or behind:
                 starts[address] = name
                 ends = [end for end in ends if end > address]
-            if kind == "FUNC":
+            if kind == "FUNC" and size:
                 ends.append(address + size)
         return sorted(starts.items())
+
+    def has_code(self, address):
+        return any(address in part for part in self.text)
 
     def function_at(self, start, name):
         """With the line on which it begins."""
@@ -159,25 +161,18 @@ class Firmware:
 
     def function_of(self, address):
         found = bisect.bisect_right(self.first, address) - 1
-        if found < 0 or address >= self.ends.get(self.first[found], 0x10000):
+        if (found < 0 or not self.has_code(address)
+                or address >= self.ends.get(self.first[found], 0x10000)):
             return self.nowhere
         return self.functions[found]
 
     def place_of(self, address, word, text):
-        """The place, where the ELF has one; `word` is the bytes of its instruction."""
+        """An address with the first word of an instruction."""
         frames = self.frames.get(address, [NO_FRAME])
         inlined = tuple(Inlined(*frame[:3], *outer[3:])
                         for frame, outer in zip(frames, frames[1:]))
-        return Place(address, b"%02x%02x" % (word[1], word[0]), text, self.function_of(address),
-                     frames[0].file, frames[0].line, inlined)
-
-    def place_beside(self, address, word):
-        """A place at which the ELF has no instruction, or another one."""
-        old = self.places.get(b"%04x" % address)
-        if old is None:
-            return Place(address, word, f".word 0x{word.decode()}", self.nowhere)
-        return Place(address, word, f".word 0x{word.decode()}", old.function, old.file, old.line,
-                     old.inlined)
+        return Place(address, word, text, self.function_of(address), frames[0].file,
+                     frames[0].line, inlined)
 
     def end_of_data_below(self, top):
         """Where a stack that begins there has to end, and why: data, the word that guards it, or

@@ -157,7 +157,7 @@ class Walk:
         """Where the ELF has no such instruction."""
         place = self.others.get((pc, word))
         if place is None:
-            place = self.firmware.place_beside(int(pc, 16), word)
+            place = self.firmware.place_of(int(pc, 16), word, f".word 0x{word.decode()}")
             place.action = action_of(word)
             self.others[pc, word] = place
         return place

@@ -92,7 +92,8 @@ REGISTERS = b"""
         .section .start, "ax"
         .globl start, other
         .type other, @function
-start:  mov     #0x2100, r12
+start:  mov     #0x2200, r1
+        mov     #0x2100, r12
         mov     r12, r1
         nop
         br      #other
