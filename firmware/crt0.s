@@ -1,8 +1,9 @@
 ; What runs before main, and attest. A `start` of the firmware's own takes the place of this one.
 
-        .section .start, "ax"
+        .section .start.kit, "ax"
         .weak   start
 start:  mov     #stack_top, r1
+        mov     #0x5afe, &stack_guard   ; below the stack, where no push has to come: stacks.py
         mov     #data_values, r12       ; after a reset too, so that globals begin anew
         mov     #data_start, r13
 .Lcopy: cmp     #data_end, r13
@@ -40,6 +41,7 @@ attest: push    r2
         mov     #0x026c, r13            ; counter and token
         mov     #0x0290, r14
         call    #store
+        mov     #0x5afe, &region_guard
         call    #er_min                 ; a write to the metadata after this would clear EXEC
         mov     #0x0202, r13            ; the MAC behind its first word
 .Lclear:
@@ -69,7 +71,8 @@ store:  mov.b   @r12, 0(r13)            ; bytes of the request, to r13 and up to
         ret
 
 ; The executable region is entered at its first instruction alone, and left at its last. It has a
-; stack of its own: whoever calls it may have put theirs on the output.
+; stack of its own: whoever calls it may have put theirs on the output. It clears the output: whoever
+; calls it may have left there what the region does not write.
         .section .er.entry, "ax"
         .weak   er_min                  ; a guard in .er.guard takes this name, and goes to er_entry
         .globl  er_entry, er_leave, er_max
@@ -77,6 +80,14 @@ er_min:
 er_entry:
         mov     r1, &caller_stack
         mov     #region_stack, r1
+        mov     #or_min, r12
+.Lclear_output:
+        cmp     #or_max + 2, r12
+        jeq     .Loutput_clear
+        clr     0(r12)
+        incd    r12
+        jmp     .Lclear_output
+.Loutput_clear:
         call    #region
 er_leave:
         mov     &caller_stack, r1
@@ -85,7 +96,9 @@ er_leave:
         .section .er.exit, "ax"
 er_max: ret
 
-        .section .bss.region_stack, "aw", @nobits
+        .section .er_stack, "aw", @nobits
+region_guard:
+        .space  2
         .space  128
 region_stack:
 caller_stack:

@@ -1,6 +1,8 @@
 /* RAM from 0300 on is the firmware's: below stand MAC (0200 to 021F) and metadata (0240 to 028F).
-   The stack grows down from the end of RAM. clang names the vector of an interrupt function of
-   number N __interrupt_vector_N. */
+   The region's stack comes first, so that what grows out of it meets no variable but the metadata,
+   and both flags fall. The stack grows down from the end of RAM. clang names the vector of an
+   interrupt function of number N __interrupt_vector_N. region.py lays what the region uses into
+   .er.own. */
 ENTRY(start)
 MEMORY
 {
@@ -10,15 +12,33 @@ MEMORY
 }
 SECTIONS
 {
-    .text : { *(.start) *(.text .text.*) *(.rodata .rodata.*) . = ALIGN(2); } > program
-    .er DEFINED(er_place) ? er_place : . : { *(.er.guard) *(.er.entry) *(.er) *(.er.exit) } > program
-    .data : { data_start = .; *(.data .data.*) . = ALIGN(2); data_end = .; } > ram AT > program
-    .bss (NOLOAD) : { *(.bss .bss.* COMMON) . = ALIGN(2); bss_end = .; } > ram
+    .text : SUBALIGN(2) {
+        *(.start) *(.start.kit) *(.text .text.* .runtime.*) *(.rodata .rodata.*)
+        . = ALIGN(2);
+    } > program
+    .er DEFINED(er_place) ? er_place : . : SUBALIGN(2) {
+        *(.er.guard) *(.er.entry) *(.er) *(.er.own.*)
+        . = ALIGN(2);
+        *(.er.exit)
+    } > program
+    .er_stack (NOLOAD) : { *(.er_stack) } > ram
     .or (NOLOAD) : ALIGN(2) { or_min = .; KEEP(*(.or)) . = ALIGN(2); or_max = . - 2; } > ram
+    .data : ALIGN(2) {
+        data_start = .;
+        *(.foreign) *(.data .data.*)
+        . = ALIGN(2);
+        data_end = .;
+    } > ram AT > program
+    .bss (NOLOAD) : { *(.bss .bss.* COMMON) . = ALIGN(2); bss_end = .; } > ram
     data_values = LOADADDR(.data);
+    stack_guard = bss_end;
     stack_top = 0x2200;
+    ASSERT(stack_top - stack_guard - 2 >= stack_bytes,
+           "too little stack: fewer or smaller variables, or a smaller STACK (128 if unset)")
     .timer_vector 0xFFF2 : { KEEP(*(.timer_vector __interrupt_vector_9)) } > vectors
     .serial_vector 0xFFF4 : { KEEP(*(.serial_vector __interrupt_vector_10)) } > vectors
     .reset_vector 0xFFFE : { KEEP(*(.reset_vector)) } > vectors
+    ASSERT(SIZEOF(.timer_vector) <= 2, "INTERRUPT(TIMER) has two handlers: leave one")
+    ASSERT(SIZEOF(.serial_vector) <= 2, "INTERRUPT(SERIAL) has two handlers: leave one")
     /DISCARD/ : { *(.comment) *(.note*) }
 }

@@ -33,18 +33,22 @@
 #define TIMER_VECTOR 9    // the word at FFF2
 #define SERIAL_VECTOR 10  // the word at FFF4
 
-static inline void enable_interrupts(void) { __asm__ volatile("bis #8, r2" ::: "memory"); }
-static inline void disable_interrupts(void) { __asm__ volatile("bic #8, r2" ::: "memory"); }
+#define FOLDGNEISS_INLINE static inline __attribute__((always_inline))  // into a region too
+FOLDGNEISS_INLINE void enable_interrupts(void) { __asm__ volatile("bis #8, r2" ::: "memory"); }
+FOLDGNEISS_INLINE void disable_interrupts(void) { __asm__ volatile("bic #8, r2" ::: "memory"); }
 
 // Sleeps with interrupts enabled. A handler that returns sends the processor back to sleep.
-static inline void sleep(void) { __asm__ volatile("bis #0x18, r2" ::: "memory"); }
+FOLDGNEISS_INLINE void sleep(void) { __asm__ volatile("bis #0x18, r2" ::: "memory"); }
 
 // The code whose run a report proves is `region`, which the firmware defines, and the functions
-// that it calls, each with the word REGION; a call out of the region ends the proof (EXEC becomes
-// 0). What it proves is the value of the variables with the word OUTPUT, which only this code may
-// write. Its stack has 128 bytes. Interrupts are off in it; examples/pump has one that allows them.
+// that it calls, each with the word REGION. Its constants, and what it uses of the kit, are laid
+// beside it. What it proves is the value of the variables with the word OUTPUT, which are 0 when it
+// begins, and which only this code may write. Of all other variables it may use those with the word
+// FOREIGN alone; of what stands there when it begins the report proves nothing. Its stack has 128
+// bytes. Interrupts are off in it; examples/pump has one that allows them.
 #define REGION __attribute__((section(".er"), noinline))
 #define OUTPUT volatile __attribute__((section(".or")))
+#define FOREIGN __attribute__((section(".foreign")))
 void region(void);
 
 // A request as it comes from a verifier: a challenge of 32 bytes, a counter of 4, the low one

@@ -1,7 +1,9 @@
 // What clang calls where the processor has no instruction: products, quotients and shifts of 16 and
-// 32 bits, by their names in the MSP430 ABI (Texas Instruments, SLAA534), and copies of memory.
-#include <stddef.h>
+// 32 bits, by their names in the MSP430 ABI (Texas Instruments, SLAA534), copies of memory, and
+// abort for what is never reached. runtime.s has 64 bits.
 #include <stdint.h>
+#include <stdlib.h>
+#include <string.h>
 
 uint32_t __mspabi_mpyl(uint32_t left, uint32_t right) {
     uint32_t product = 0;
@@ -96,4 +98,40 @@ void *memset(void *to, int byte, size_t count) {
         *write++ = byte;
     }
     return to;
+}
+
+void *memmove(void *to, const void *from, size_t count) {
+    uint8_t *write = to;
+    const uint8_t *read = from;
+    if (write <= read) {
+        return memcpy(to, from, count);
+    }
+    while (count--) {
+        write[count] = read[count];
+    }
+    return to;
+}
+
+int memcmp(const void *left, const void *right, size_t count) {
+    const uint8_t *first = left, *second = right;
+    for (; count; count--, first++, second++) {
+        if (*first != *second) {
+            return *first - *second;
+        }
+    }
+    return 0;
+}
+
+size_t strlen(const char *text) {
+    size_t length = 0;
+    while (text[length]) {
+        length++;
+    }
+    return length;
+}
+
+void abort(void) {
+    for (;;) {
+        __asm__ volatile("dint\n bis #0x10, r2");  // sleeps for good
+    }
 }

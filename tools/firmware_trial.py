@@ -1,6 +1,5 @@
 """Trials of the kit in firmware/, where clang is."""
 import os
-import random
 import re
 import shutil
 import tempfile
@@ -11,32 +10,6 @@ from trial import ROOT
 # The folders of examples/pump with the sources of their images.
 PUMPS = {"stop": ("dose.c", "guard.s", "pump.c"), "forged": ("dose.c", "forger.s"),
          "guarded": ("dose.c", "forger.s", "guard.s")}
-# The operators that clang calls functions for, and the types of C with their bits.
-OPERATORS = ("*", "/", "%", "<<", ">>")
-TYPES = {"uint16_t": 16, "int16_t": 16, "uint32_t": 32, "int32_t": 32}
-FIRMWARE = """
-#include "foldgneiss.h"
-static void send(uint32_t value) {
-    for (int i = 0; i < 4; i++, value >>= 8) {
-        STXD = value;
-    }
-}
-void *memcpy(void *, const void *, unsigned);
-void *memset(void *, int, unsigned);
-static uint8_t from[] = {7, 8}, to[4];
-int main(void) {
-    memset(to, 5, sizeof to);
-    memcpy(to, from, sizeof from);
-    for (int i = 0; i < 4; i++) {
-        STXD = to[i];
-    }
-%s    STXD = 'E';
-    for (;;) {
-    }
-}
-"""
-
-
 # Firmware that sends a byte of a header, and some that attests without an output.
 LETTER = b'#include "letter.h"\nint main(void) { *(volatile char *)0x76 = LETTER; for (;;) { } }\n'
 NO_OUTPUT = b"""
@@ -44,17 +17,27 @@ NO_OUTPUT = b"""
 REGION void region(void) { }
 int main(void) { attest((const uint8_t *)0x0300); for (;;) { } }
 """
+TOOLS = ("make", "clang", "ld.lld", "llvm-dwarfdump", "llvm-nm", "llvm-objcopy", "llvm-objdump",
+         "llvm-readelf", "llvm-symbolizer")
 PLACE = "LDFLAGS=--defsym=er_place=0xD000"
 
 
-def is_compiler_there():
-    return all(map(shutil.which, ("make", "clang", "ld.lld", "llvm-objcopy", "llvm-nm")))
+def is_compiler_there(trial):
+    """Whether the kit's tools are there; a line says so where they are not."""
+    missing = [tool for tool in TOOLS if not shutil.which(tool)]
+    if missing:
+        print(f"{trial.name}: firmware in C is not tried: no {', '.join(missing)}")
+    return not missing
 
 
 def made_image(trial, folder, *options):
     """The image that the Makefile makes in this folder, or None."""
     trial.expect(0, "", "-s", "-C", folder, "-f", f"{ROOT}/firmware/Makefile", *options,
                  command=["make"])
+    return image_in(folder)
+
+
+def image_in(folder):
     name = f"{folder}/image.hex"
     return read(name) if os.path.exists(name) else None
 
@@ -65,56 +48,6 @@ def image_of(trial, sources, *options):
         for name, text in sources.items():
             write(f"{folder}/{name}", text)
         return made_image(trial, folder, *options)
-
-
-def value_of(operator, kind, left, right):
-    """What C says of an operation, in 32 bits."""
-    bits = TYPES[kind]
-    if operator in "/%":
-        quotient = abs(left) // abs(right) * (1 if (left < 0) == (right < 0) else -1)
-        value = quotient if operator == "/" else left - quotient * right
-    elif operator == "*":
-        value = left * right
-    else:
-        value = left << right if operator == "<<" else left >> right
-    value %= 1 << bits
-    if not kind.startswith("u") and value >> bits - 1:
-        value -= 1 << bits
-    return value % 2**32
-
-
-def operations():
-    """Pairs of a statement in C and the value that it sends."""
-    rng = random.Random(1)
-    for kind, bits in TYPES.items():
-        least = 0 if kind.startswith("u") else -(1 << bits - 1)
-        for operator in OPERATORS:
-            if operator == "<<" and least:
-                continue  # (undefined in C)
-            for divisor in (1, 10, 1000, -7 if least else 7, least + (1 << bits) - 1):
-                left = rng.randrange(least, least + (1 << bits))
-                right = rng.randrange(bits) if operator in "<<>>" else divisor
-                yield (f"    {{ volatile {kind} left = {left}, right = {right}; "
-                       f"send(({kind})(left {operator} right)); }}\n",
-                       value_of(operator, kind, left, right))
-
-
-def arithmetic(trial, files):
-    """Products, quotients, shifts and copies of C firmware are those of C."""
-    pairs = list(operations())
-    text = FIRMWARE % "".join(statement for statement, _ in pairs)
-    image = image_of(trial, {"arithmetic.c": text.encode()})
-    if image is None:
-        return
-    name = files.add("arithmetic.hex", image)
-    text = trial.expect(0, "", "play", name, files.script, files.key, "1000000")
-    sent = bytes.fromhex(b"".join(re.findall(rb"^tx \d+ (..)", text, re.M)).decode())
-    pairs.insert(0, ("    memset and memcpy", 0x05050807))
-    for number, (statement, value) in enumerate(pairs):
-        if sent[4 * number:4 * number + 4] != value.to_bytes(4, "little"):
-            return trial.fault(f"arithmetic: other bytes of {statement.strip()}")
-    if sent[4 * len(pairs):] != b"E":
-        trial.fault("arithmetic: no end")
 
 
 def readme(trial, files):
@@ -183,10 +116,30 @@ def regions(trial):
                 trial.fault(f"firmware: regions.txt of {text}: {answer}")
 
 
+def paths(trial):
+    """The kit and the sources may lie in folders with a blank in their names, and a Makefile may
+    include the kit's; a source itself with a blank in its name is refused.
+    """
+    with tempfile.TemporaryDirectory(prefix="fold gneiss ") as folder:
+        shutil.copytree(f"{ROOT}/firmware", f"{folder}/the kit's/firmware")
+        own = f"{folder}/my own"
+        os.mkdir(own)
+        write(f"{own}/Makefile", f"include {ROOT}/firmware/Makefile\n".encode())
+        shutil.copy(f"{EXAMPLES}/sensor/sensor.c", own)
+        for words in (("-f", f"{folder}/the kit's/firmware/Makefile"), ()):
+            trial.expect(0, "", "-s", "-C", own, *words, command=["make"])
+            if image_in(own) != read(f"{EXAMPLES}/sensor/image.hex"):
+                trial.fault("firmware: another image where paths have blanks")
+        write(f"{own}/a b.c", b"")
+        answer = trial.call("-s", "-C", own, command=["make"])
+        if answer.status != 2 or "a source has a blank in its name: rename it" not in answer.line:
+            trial.fault(f"firmware: a source with a blank in its name: {answer}")
+
+
 def firmware(trial, files):
-    if is_compiler_there():
+    if is_compiler_there(trial):
         examples(trial)
         stale_images(trial)
         regions(trial)
         readme(trial, files)
-        arithmetic(trial, files)
+        paths(trial)

@@ -1,0 +1,309 @@
+"""link.py JOINED ELF LD [ARGUMENT..]
+
+Links JOINED, the joined object files of a firmware, to ELF by the linker LD, with its region
+closed: the constants and the functions of the kit that the region refers to are laid into it, in
+the sections .er.own.*. What it then still refers to outside itself but output, its stack and
+FOREIGN variables is an error, with the line that does so and a remedy. So are an output with an
+initializer and interrupts that do not do what their author means.
+"""
+import os
+import re
+import subprocess
+import sys
+from typing import NamedTuple
+
+REGION, OWN, KIT = (".er", ".er.guard", ".er.entry", ".er.exit"), ".er.own", ".runtime.text."
+OUTPUT, FOREIGN, STACK = ".or", ".foreign", ".er_stack"
+BOUNDS = ("er_min", "er_max", "or_min", "or_max")
+ENTRIES = ("attest", "region", "er_min", "er_entry")
+VECTORS = ("__interrupt_vector_9", ".timer_vector", "__interrupt_vector_10", ".serial_vector")
+# Places that a region may name by a number: peripherals, metadata, and the vectors, which a guard
+# compares.
+NUMBERS = (range(0x0200), range(0x0240, 0x0290), range(0xFFE0, 0x10000))
+HINTS = (
+    (r"undefined symbol: (__mspabi_|__\w+[sd]f)",
+     "floating point is not in the kit: count in integers (firmware/README.md)"),
+    (r"undefined symbol: region$",
+     "attest runs a function of the firmware: write REGION void region(void) { .. }"),
+)
+
+COUNT = re.compile(r"(?:There are|contains) (\d+)")
+SECTION_ROW = re.compile(
+    r"^ *\[ *(\d+)\] (\S+) +[A-Z]\S* +[0-9a-f]+ (\w+) (\w+) \w+ +([A-Za-z]*) +\d+ +\d+ +\d+$", re.M)
+SYMBOL_ROW = re.compile(r"^ +\d+: (\w+) +\d+ (\w+) +(\w+) +\w+ +(\w+) (.*)$", re.M)
+RELOCATION_ROW = re.compile(r"^([0-9a-f]+) +([0-9a-f]+) R_\S+ .* ([+-]) ([0-9a-f]+)$", re.M)
+MAP_ROW = re.compile(r"^ *([0-9a-f]+) +[0-9a-f]+ +[0-9a-f]+ +\d+ +\S.*:\((\S+)\)$", re.M)
+CODE_ROW = re.compile(r"^ +([0-9a-f]+): (?:[0-9a-f]{2} )+\s*(.*)$", re.M)
+DECLARED = re.compile(r'decl_file\s+\("(.*)"\)\s+DW_AT_decl_line\s+\((\d+)\)')
+
+
+class Section(NamedTuple):
+    file_place: int
+    size: int
+    flags: str
+
+
+class Symbol(NamedTuple):
+    name: str
+    kind: str
+    section: str  # "" where it is defined nowhere, "ABS" where it is a number
+    place: int
+    is_global: bool
+
+
+class Relocation(NamedTuple):
+    section: str
+    place: int
+    symbol: Symbol
+    addend: int
+
+
+def tool(*words):
+    """What a tool prints."""
+    return subprocess.run(words, check=True, stdout=subprocess.PIPE, text=True).stdout
+
+
+def rows(form, text, count):
+    """The rows of a form in a text: so many, lest one is passed over."""
+    found = form.findall(text)
+    if len(found) != count:
+        sys.exit("link.py: LLVM's tools print other tables than those of LLVM 14")
+    return found
+
+
+class Program:
+    """An object file: its sections, symbols, and the relocations of what is in memory."""
+
+    def __init__(self, path):
+        self.path = path
+        text = tool("llvm-readelf", "--wide", "--sections", "--symbols", "--relocations", path)
+        count, *counts = map(int, COUNT.findall(text))
+        names = {"ABS": "ABS"}
+        self.sections, self.relocations = {}, []
+        for number, name, place, size, flags in rows(SECTION_ROW, text, count - 1):
+            names[number] = name
+            # (Two of one name can differ in their flags.)
+            self.sections[name] = Section(int(place, 16), int(size, 16), flags + self.flags(name))
+        self.symbols = [
+            Symbol(name, kind, names.get(number, ""), int(place, 16), binding != "LOCAL")
+            for place, kind, binding, number, name in rows(SYMBOL_ROW, text, counts.pop())]
+        for part in text.split("\nRelocation section '.rela")[1:]:
+            section = part[:part.index("'")]
+            if "A" in self.flags(section):
+                self.relocations += [
+                    Relocation(section, int(place, 16), self.symbols[int(info, 16) >> 8],
+                               int(sign + addend, 16))
+                    for place, info, sign, addend in rows(
+                        RELOCATION_ROW, part, int(COUNT.search(part)[1]))]
+
+    def flags(self, section):
+        return self.sections[section].flags if section in self.sections else ""
+
+    def is_constant(self, section):
+        flags = set(self.flags(section))
+        return section not in (OUTPUT, FOREIGN) and "A" in flags and not flags & set("WX")
+
+    def at(self, section, place):
+        """The symbol that a place of a section belongs to, None where it has none."""
+        before = [symbol for symbol in self.symbols if symbol.section == section
+                  and symbol.kind != "SECTION" and symbol.place <= max(place, 0)]
+        return max(before, key=lambda symbol: symbol.place, default=None)
+
+    def named(self, relocation):
+        """The symbol that a relocation refers to: of a section the one at its place."""
+        symbol = relocation.symbol
+        found = symbol.kind == "SECTION" and self.at(symbol.section, relocation.addend)
+        return found or symbol
+
+    def of_function(self, function):
+        """The relocations of a function, up to the next one."""
+        end = min((symbol.place for symbol in self.symbols
+                   if symbol.section == function.section and symbol.place > function.place
+                   and (symbol.is_global or symbol.kind == "FUNC")),
+                  default=self.sections[function.section].size)
+        return [relocation for relocation in self.relocations
+                if relocation.section == function.section
+                and function.place <= relocation.place < end]
+
+    def numbers(self):
+        """The numbers by which the region's instructions name places, each with its instruction's
+        section and place.
+        """
+        text = tool("llvm-objdump", "--disassemble", self.path)
+        for part in text.split("\nDisassembly of section ")[1:]:
+            section = part[:part.index(":\n")]
+            if is_region(section):
+                for place, code in CODE_ROW.findall(part):
+                    for number in re.findall(r"&(-?\d+)", code):
+                        yield section, int(place, 16), int(number) & 0xFFFF
+
+
+class Lines:
+    """The source lines of a linked program."""
+
+    def __init__(self, elf, map_file):
+        self.elf = elf
+        with open(map_file, encoding="utf-8") as file:
+            text = file.read()
+        self.places = {name: int(place, 16)
+                       for place, name in rows(MAP_ROW, text, text.count(":("))}
+
+    def of_code(self, section, place):
+        """The line of a place in a section, "" where it is unknown."""
+        text = tool("llvm-symbolizer", f"--obj={self.elf}", "--functions=none", "--no-inlines",
+                    hex(self.places[section] + place))
+        path, line = text.split("\n")[0].rsplit(":", 2)[:2]
+        return f"{shown(path)}:{line}" if line != "0" else ""
+
+    def of_name(self, name):
+        """The line of a variable or function, its name where that is unknown."""
+        text = tool("llvm-dwarfdump", f"--name={name.split('.')[-1]}", self.elf)
+        found = DECLARED.search(text)
+        return f"{shown(found[1])}:{found[2]}" if found else name
+
+    def of(self, program, relocation):
+        symbol = program.at(relocation.section, relocation.place)
+        return ("X" in program.flags(relocation.section)
+                and self.of_code(relocation.section, relocation.place)
+                or self.of_name(symbol.name if symbol else relocation.section))
+
+
+def shown(path):
+    """A path as short as it can be named from here."""
+    return min(path, os.path.relpath(path), key=len)
+
+
+def is_region(section):
+    return section in REGION or section.startswith(f"{OWN}.")
+
+
+def own_sections(program):
+    """The constants and the functions of the kit that the region refers to."""
+    reached = [section for section in program.sections if is_region(section)]
+    for section in reached:
+        for relocation in program.relocations:
+            found = relocation.symbol.section
+            if (relocation.section == section and found not in reached
+                    and (found.startswith(KIT) or program.is_constant(found))):
+                reached.append(found)
+    return [section for section in reached if not is_region(section)]
+
+
+def stray(program, relocation):
+    """What is wrong with a reference of the region, "" where nothing is."""
+    symbol, name = relocation.symbol, program.named(relocation).name
+    section = symbol.section
+    if (is_region(section) or section in (OUTPUT, FOREIGN, STACK)
+            or not section and name in BOUNDS):
+        return ""
+    if section == "ABS":
+        return stray_number(symbol.place + relocation.addend)
+    if "X" in program.flags(section):
+        return (f"the region calls or names the function '{name}', which lies outside it: "
+                "say REGION before its definition")
+    return (f"the region refers to '{name}', which lies outside it: make it a local variable of a "
+            "function, or OUTPUT if it is a result, or say FOREIGN before its definition if the "
+            "region may believe whatever stands there")
+
+
+def stray_number(place):
+    """What is wrong with a place that the region names by a number."""
+    return "" if any(place in places for places in NUMBERS) else (
+        f"the region refers to the place {place:04x}, which lies outside it: "
+        "define a variable, with FOREIGN before its definition")
+
+
+def region_faults(program, lines):
+    for relocation in program.relocations:
+        section = relocation.section
+        text = is_region(section) and section in lines.places and stray(program, relocation)
+        if text:
+            yield lines.of(program, relocation), text
+    for symbol in program.symbols:
+        if symbol.kind == "OBJECT" and symbol.section in REGION:
+            yield lines.of_name(symbol.name), (
+                f"the variable '{symbol.name}' has the word REGION, which is for functions: "
+                "a static const table needs no word; say OUTPUT or FOREIGN before another one")
+    for section, place, number in program.numbers():
+        text = section in lines.places and stray_number(number)
+        if text:
+            yield lines.of_code(section, place), text
+
+
+def output_faults(program, lines):
+    """Outputs that have a first value, which nothing lays there."""
+    section = program.sections.get(OUTPUT)
+    if not section:
+        return
+    with open(program.path, "rb") as file:
+        file.seek(section.file_place)
+        places = [place for place, byte in enumerate(file.read(section.size)) if byte]
+    places += [relocation.place for relocation in program.relocations
+               if relocation.section == OUTPUT]
+    for place in places:
+        name = program.at(OUTPUT, place).name
+        yield lines.of_name(name), (
+            f"the output '{name}' has an initializer, and nothing lays it there: "
+            "have the region write it")
+
+
+def handler_faults(program, lines):
+    for relocation in program.relocations:
+        section, handler = relocation.section, program.named(relocation)
+        if section in VECTORS:
+            yield from entry_faults(program, lines, handler)
+        elif section.startswith("__interrupt_vector_"):
+            yield lines.of_name(handler.name), (
+                f"the interrupt {section[19:]} of '{handler.name}' has no vector: "
+                "INTERRUPT(TIMER) and INTERRUPT(SERIAL) have")
+
+
+def entry_faults(program, lines, handler):
+    """Ways from a handler to the entries of the region."""
+    if handler.name in ENTRIES:
+        yield lines.of_name(handler.name), (
+            f"'{handler.name}' is called by an interrupt, and attest alone runs the region: "
+            "take another function for the handler")
+        return
+    reached = [handler]
+    for function in reached:
+        for relocation in program.of_function(function):
+            symbol = program.named(relocation)
+            if symbol.name in ENTRIES:
+                yield lines.of(program, relocation), (
+                    f"the interrupt handler '{handler.name}' leads to '{symbol.name}': "
+                    "have it set a variable, and main call attest where that is set")
+            elif symbol not in reached and "X" in program.flags(symbol.section):
+                reached.append(symbol)
+
+
+def faults_of(program, lines):
+    """The lines with what is wrong there, each text once."""
+    faults = {}
+    for kind in (region_faults, output_faults, handler_faults):
+        for line, text in kind(program, lines):
+            faults.setdefault(text, line)
+    return [f"{line}: error: {text}" for text, line in faults.items()]
+
+
+def main():
+    joined, elf, *linker = sys.argv[1:]
+    closed, map_file = f"{joined}.closed", f"{elf}.map"
+    renamed = [f"--rename-section={section}={OWN}{section}"
+               for section in own_sections(Program(joined))]
+    tool("llvm-objcopy", *renamed, joined, closed)
+    linked = subprocess.run([*linker, f"-Map={map_file}", "-o", elf, closed],
+                            stderr=subprocess.PIPE, text=True, check=False)
+    errors = [linked.stderr.rstrip("\n")] if linked.stderr else []
+    errors += [f"error: {hint}" for form, hint in HINTS if re.search(form, linked.stderr, re.M)]
+    status = linked.returncode
+    if not status:
+        faults = faults_of(Program(closed), Lines(elf, map_file))
+        errors, status = errors + faults, 1 if faults else 0
+    if errors:
+        print(*errors, sep="\n", file=sys.stderr)
+    return status
+
+
+if __name__ == "__main__":
+    sys.exit(main())
