@@ -198,9 +198,16 @@ def by_function(folder, places):
 
 
 def fetched(run):
-    """Where instructions were fetched."""
-    return [int(place, 16) for place in re.findall(rb"^t \d+ cpu (\w{4}) f\1 .* -$",
-                                                   read(run.trace), re.M)]
+    """Where the instructions of a trace stand, but for those of which a step was refused."""
+    places = []
+    for kind, place, access, rule in re.findall(
+            rb"^t \d+ (\w+) (\w+) (\S+) .* (\S+)$", read(run.trace), re.M):
+        is_opcode = kind == b"cpu" and access == b"f" + place
+        if is_opcode and rule == b"-":
+            places.append(int(place, 16))
+        elif kind == b"cpu" and rule != b"-" and not is_opcode:
+            places.pop()
+    return places
 
 
 def summed(rows):
