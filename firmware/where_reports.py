@@ -4,9 +4,6 @@ import os
 
 from where_elf import position, relative
 
-STEPS, INSTRUCTIONS, ASLEEP = range(3)
-
-
 OTHER_KINDS = {b"boot": "boot", b"rom": "the attestation ROM", b"idle": "asleep",
                b"irq": "interrupt"}
 
@@ -128,7 +125,17 @@ def calls_by_function(walk):
 
 
 def source(path):
-    return relative(path) or "(no file)"
+    return relative(path) or "???"  # as callgrind itself has it
+
+
+def rows_of(costs, calls):
+    """The rows of a function, each with its file."""
+    for (path, line), (steps, instructions, asleep) in sorted(costs.items()):
+        yield path, f"{line} {steps} {instructions} {asleep}\n"
+    for (path, line, callee), (number, steps, instructions, asleep) in sorted(
+            calls.items(), key=lambda one: (*one[0][:2], one[0][2].name)):
+        yield path, (f"cfi={source(callee.file)}\ncfn={callee.name}\n"
+                     f"calls={number} {callee.line}\n{line} {steps} {instructions} {asleep}\n")
 
 
 def profile_of(walk, elf):
@@ -141,21 +148,14 @@ def profile_of(walk, elf):
     for function in sorted({*costs, *calls}, key=lambda one: (one.file, one.line, one.name)):
         yield f"\nfl={source(function.file)}\nfn={function.name}\n"
         file = function.file
-        for (path, line), cost in sorted(costs.get(function, {}).items()):
+        for path, text in rows_of(costs.get(function, {}), calls.get(function, {})):
             if path != file:
                 yield f"{'fe' if path == function.file else 'fi'}={source(path)}\n"
                 file = path
-            yield f"{line} {cost[STEPS]} {cost[INSTRUCTIONS]} {cost[ASLEEP]}\n"
-        for (path, line, callee), (number, *cost) in sorted(
-                calls.get(function, {}).items(), key=lambda one: (*one[0][:2], one[0][2].name)):
-            if path != file:
-                yield f"{'fe' if path == function.file else 'fi'}={source(path)}\n"
-                file = path
-            yield (f"cfi={source(callee.file)}\ncfn={callee.name}\ncalls={number} {callee.line}\n"
-                   f"{line} {cost[STEPS]} {cost[INSTRUCTIONS]} {cost[ASLEEP]}\n")
-    totals = [sum(cost[at] for lines in costs.values() for cost in lines.values())
-              for at in range(3)]
-    yield f"\ntotals: {totals[STEPS]} {totals[INSTRUCTIONS]} {totals[ASLEEP]}\n"
+            yield text
+    places = walk.all_places()
+    yield (f"\ntotals: {sum(place.steps for place in places)} "
+           f"{sum(place.count for place in places)} {sum(place.idle for place in places)}\n")
 
 
 def inlined_calls(walk):

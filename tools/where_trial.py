@@ -88,6 +88,15 @@ int main(void) {
 COMPUTED = 2000  # instructions of it, with some of its last loop
 
 
+# Of 13,000 steps the first three are before the loop, which has three.
+GROWN = (13000 - 3) // 3
+GROWS = b"""
+        .section .start, "ax"
+        .globl start
+start:  mov     #0x2200, r1
+again:  push    r5
+        jmp     again
+"""
 REGISTERS = b"""
         .section .start, "ax"
         .globl start, other
@@ -342,8 +351,9 @@ def debugging(trial, run):
                for line in printed.split("\n")}
     quoted = [" ".join(line.split()) for line in
               re.findall(r"^    +((?:tx|reset|end|\d).*)", told, re.M)]
-    if len(quoted) != 19 or not printed.issuperset(quoted):
-        trial.fault(f"docs/debugging.md: not printed: {[line for line in quoted if line not in printed]}")
+    missing = [line for line in quoted if line not in printed]
+    if len(quoted) != 19 or missing:
+        trial.fault(f"docs/debugging.md: not printed: {missing}")
     for name, old, new in (("samples.c", b"sizeof meter)", b"sizeof meter.samples)"),
                            ("filter.c", b"[i] / count", b"[i]"),
                            ("filter.c", b"return value", b"return value / count")):
@@ -354,12 +364,17 @@ def debugging(trial, run):
         trial.fault(f"docs/debugging.md: mended, it prints {run.play()}")
 
 
-def unknown_stack(trial):
-    """SP is not known from where it is set from a register to the next access by it."""
+def odd_stacks(trial):
+    """SP is not known from where it is set from a register to the next access by it; and a stack
+    that grows over the data, or out of RAM, is told.
+    """
     run = Run(trial, {"registers.s": REGISTERS}, b"", b"0" * 128, "40")
-    if "SP was not known in 3 instructions, most of them in start.\n" not in run.where(
-            "stack", run.trace):
-        trial.fault(f"stack: {run.where('stack', run.trace)}")
+    told = "SP was not known in 3 instructions, most of them in start.\n"
+    if told not in run.text("stack"):
+        trial.fault(f"stack: {run.text('stack')}")
+    run = Run(trial, {"grows.s": GROWS}, b"", b"0" * 128, "13000")
+    if not re.search(f"OVER THE DATA by {2 * GROWN - 0x2000} bytes\n", run.text("stack")):
+        trial.fault(f"stack: {run.text('stack')}")
 
 
 def streams(trial, run):
@@ -406,7 +421,7 @@ def where(trial, files):
     computes = Run(trial, {"computes.c": COMPUTES}, b"", b"0" * 128, str(4 * COMPUTED))
     simulates(trial, computes)
     counts_as_gcov(trial, computes)
-    unknown_stack(trial)
+    odd_stacks(trial)
     streams(trial, runs["meter"])
     refusals(trial, runs)
     debugging(trial, runs["meter"])
