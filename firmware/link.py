@@ -29,7 +29,7 @@ HINTS = (
 
 COUNT = re.compile(r"(?:There are|contains) (\d+)")
 SECTION_ROW = re.compile(
-    r"^ *\[ *(\d+)\] (\S+) +[A-Z]\S* +[0-9a-f]+ (\w+) (\w+) \w+ +([A-Za-z]*) +\d+ +\d+ +\d+$", re.M)
+    r"^ *\[ *(\d+)\] (\S+) +([A-Z]\S*) +[0-9a-f]+ (\w+) (\w+) \w+ +([A-Za-z]*)(?: +\d+){3}$", re.M)
 SYMBOL_ROW = re.compile(r"^ +\d+: (\w+) +\d+ (\w+) +(\w+) +\w+ +(\w+) (.*)$", re.M)
 RELOCATION_ROW = re.compile(r"^([0-9a-f]+) +([0-9a-f]+) R_\S+ .* ([+-]) ([0-9a-f]+)$", re.M)
 MAP_ROW = re.compile(r"^ *([0-9a-f]+) +[0-9a-f]+ +[0-9a-f]+ +\d+ +\S.*:\((\S+)\)$", re.M)
@@ -38,6 +38,7 @@ DECLARED = re.compile(r'decl_file\s+\("(.*)"\)\s+DW_AT_decl_line\s+\((\d+)\)')
 
 
 class Section(NamedTuple):
+    kind: str
     file_place: int
     size: int
     flags: str
@@ -80,10 +81,11 @@ class Program:
         count, *counts = map(int, COUNT.findall(text))
         names = {"ABS": "ABS"}
         self.sections, self.relocations = {}, []
-        for number, name, place, size, flags in rows(SECTION_ROW, text, count - 1):
+        for number, name, kind, place, size, flags in rows(SECTION_ROW, text, count - 1):
             names[number] = name
             # (Two of one name can differ in their flags.)
-            self.sections[name] = Section(int(place, 16), int(size, 16), flags + self.flags(name))
+            self.sections[name] = Section(kind, int(place, 16), int(size, 16),
+                                          flags + self.flags(name))
         self.symbols = [
             Symbol(name, kind, names.get(number, ""), int(place, 16), binding != "LOCAL")
             for place, kind, binding, number, name in rows(SYMBOL_ROW, text, counts.pop())]
@@ -127,14 +129,18 @@ class Program:
 
     def numbers(self):
         """The numbers by which the region's instructions name places, each with its instruction's
-        section and place.
+        section and place: those of absolute operands, and those of indexed ones that are no
+        distance within a structure.
         """
         text = tool("llvm-objdump", "--disassemble", self.path)
         for part in text.split("\nDisassembly of section ")[1:]:
             section = part[:part.index(":\n")]
             if is_region(section):
                 for place, code in CODE_ROW.findall(part):
-                    for number in re.findall(r"&(-?\d+)", code):
+                    numbers = re.findall(r"&(-?\d+)", code)
+                    numbers += [number for number in re.findall(r"(-?\d+)\(r\d", code)
+                                if not -512 <= int(number) < 512]
+                    for number in numbers:
                         yield section, int(place, 16), int(number) & 0xFFFF
 
 
@@ -233,7 +239,7 @@ def region_faults(program, lines):
 def output_faults(program, lines):
     """Outputs that have a first value, which nothing lays there."""
     section = program.sections.get(OUTPUT)
-    if not section:
+    if not section or section.kind == "NOBITS":
         return
     with open(program.path, "rb") as file:
         file.seek(section.file_place)

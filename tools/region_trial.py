@@ -10,10 +10,9 @@ from runtime_trial import LEVELS
 from sample_files import read, write
 from trial import ROOT
 
+HEADER = b'#include "foldgneiss.h"\n'
 # A region with a switch, a table, a text, products, quotients and a copied struct.
-CLOSED = rb"""#include "foldgneiss.h"
-struct samples { uint16_t of[12]; };
-static uint8_t request[REQUEST_BYTES];
+OWN = rb"""struct samples { uint16_t of[12]; };
 OUTPUT static uint16_t measurement;
 static const uint16_t curve[] = {300, 313, 329, 350, 377, 410, 451, 502, 561};
 REGION static uint16_t scaled(uint16_t kind, uint16_t value) {
@@ -41,6 +40,9 @@ REGION void region(void) {
     }
     measurement = sum / 3;
 }
+"""
+# A program around it that attests each request.
+MAIN = rb"""static uint8_t request[REQUEST_BYTES];
 int main(void) {
     for (;;) {
         for (uint8_t *next = request; next < request + sizeof request; next++) {
@@ -51,6 +53,21 @@ int main(void) {
         STXD = attest(request);
     }
 }
+"""
+CLOSED = HEADER + OWN + MAIN
+# A region and its output in assembler, with a constant.
+ASSEMBLER = b"""
+        .section .rodata.values, "a"
+values: .byte   3, 4, 5
+        .section .er, "ax"
+        .globl  region
+region: mov     &0x0020, r12
+        and     #1, r12
+        mov.b   values(r12), &measured
+        ret
+        .section .or, "aw", @nobits
+measured:
+        .space  2
 """
 # A function of another program, with a text, a table, variables and functions of the kit.
 OTHER = rb"""static const char *volatile said = "other text";
@@ -130,6 +147,10 @@ WRONG = {
         {"value": " + FOLDGNEISS_WORD(0xC000)"},
         "main.c:5: error: the region refers to the place c000, which lies outside it: "
         "define a variable, with FOREIGN before its definition"),
+    "array at a number": (
+        {"value": " + MAC[P1IN]"},
+        "main.c:5: error: the region refers to the place 0200, which lies outside it: "
+        "define a variable, with FOREIGN before its definition"),
     "number by a name": (
         {"before": 'extern volatile uint16_t far; __asm__(".globl far\\nfar = 0xc000");',
          "value": " + far"},
@@ -181,7 +202,10 @@ WRONG = {
 }
 # Changes that leave the region whole.
 RIGHT = (
-    {}, {"value": " + P1IN % 7 * (uint16_t)COUNTER"},
+    {}, {"value": " + P1IN % 7 * (uint16_t)COUNTER + TOKEN[P1IN]"},
+    {"before": "FOREIGN uint8_t held[1000]; "
+               "REGION uint8_t at(const uint8_t *of) { return of[P1IN - 300] + of[300]; }",
+     "value": " + at(held) + held[P1IN + 700]"},
     {"before": "REGION static uint16_t twice(void) { return P1IN + P1IN; }", "value": "+ twice()"},
     {"before": "FOREIGN volatile uint16_t scale = 3;", "value": " * scale"},
     {"before": 'static const char *const words[] = {"one", "two"};', "value": " + words[P1IN][1]"},
@@ -206,11 +230,13 @@ def bounds_of(regions):
 
 
 class Device:
-    """A device with the image that the kit makes of a source, a request, and the policy for it."""
+    """A device with the image that the kit makes of a source, and of others beside it, a request,
+    and the policy for it.
+    """
 
-    def __init__(self, trial, files, source, *options):
+    def __init__(self, trial, files, source, *options, **others):
         self.trial, self.files = trial, files
-        image, regions = attestable(trial, {"main.c": source}, *options)
+        image, regions = attestable(trial, {"main.c": source, **others}, *options)
         self.memory, self.image = read_image(image), files.add("attested.hex", image)
         challenge = bytes(range(32))
         token = attestation_model.token(bytes.fromhex(read(files.key).decode()), challenge, 1)
@@ -261,13 +287,10 @@ class Device:
 
 def same_region(trial):
     """A region in a file of its own is the same in each program."""
-    request = b"static uint8_t request[REQUEST_BYTES];\n"
-    own, main = CLOSED.replace(request, b"").split(b"int main(void)")
-    main = b'#include "foldgneiss.h"\n%sint main(void)' % request + main
-    other = main.replace(request, request + OTHER).replace(b"STXD = a", b"STXD = other(P1IN) + a")
     codes = set()
-    for text in (main, other):
-        image, regions = attestable(trial, {"curve.c": own, "main.c": text}, PLACE)
+    for text in (MAIN, OTHER + MAIN.replace(b"STXD = a", b"STXD = other(P1IN) + a")):
+        image, regions = attestable(
+            trial, {"curve.c": HEADER + OWN, "main.c": HEADER + text}, PLACE)
         er_min, er_max, *_ = bounds_of(regions)
         memory = read_image(image)
         codes.add(bytes(memory.get(place, 0) for place in range(er_min, er_max + 2)))
@@ -276,19 +299,21 @@ def same_region(trial):
 
 
 def accepted(trial, files):
-    """At each level of optimization a region with all that clang lays elsewhere is accepted, and
-    one that ends with an odd number of bytes.
+    """At each level of optimization a region with all that clang lays elsewhere is accepted, and so
+    is one that ends with an odd number of bytes, and one in assembler.
     """
-    def is_accepted(source, *options):
-        device = Device(trial, files, source, *options)
+    def is_accepted(source, *options, **others):
+        device = Device(trial, files, source, *options, **others)
         return device.accepts(device.played("play", device.image))
     for level in LEVELS:
         if not is_accepted(CLOSED, f"CFLAGS={level} -Wall -Wextra"):
             trial.fault(f"firmware: {level}: a closed region is not accepted")
-    text = b'REGION void region(void) { measurement = "text"[P1IN & 3]; }\n'
-    start, end = CLOSED.index(b"static const"), CLOSED.index(b"int main")
-    if not is_accepted(CLOSED[:start] + text + CLOSED[end:]):
+    text = (b'OUTPUT static uint16_t measurement;\n'
+            b'REGION void region(void) { measurement = "text"[P1IN & 3]; }\n')
+    if not is_accepted(HEADER + text + MAIN):
         trial.fault("firmware: a region with a text is not accepted")
+    if not is_accepted(HEADER + MAIN, **{"region.s": ASSEMBLER}):
+        trial.fault("firmware: a region in assembler is not accepted")
 
 
 def cleared(trial, files):
