@@ -373,7 +373,10 @@ def odd_stacks(trial):
     if told not in run.text("stack"):
         trial.fault(f"stack: {run.text('stack')}")
     run = Run(trial, {"grows.s": GROWS}, b"", b"0" * 128, "13000")
-    if not re.search(f"OVER THE DATA by {2 * GROWN - 0x2000} bytes\n", run.text("stack")):
+    found = re.search(r"2200 +(\w+) .* (\w{4}), .*\n.*\n +OVER THE DATA by (\d+) bytes\n",
+                      run.text("stack"))
+    lowest, end = (int(place, 16) for place in found.groups()[:2]) if found else (0, 0)
+    if lowest != 0x2200 - 2 * GROWN or int(found[3]) != end - lowest:
         trial.fault(f"stack: {run.text('stack')}")
 
 
