@@ -1,7 +1,7 @@
 /* RAM from 0300 on is the firmware's: below stand MAC (0200 to 021F) and metadata (0240 to 028F).
    The region's stack comes first, so that what grows out of it meets no variable but the metadata,
    and both flags fall. The stack grows down from the end of RAM. clang names the vector of an
-   interrupt function of number N __interrupt_vector_N. region.py lays what the region uses into
+   interrupt function of number N __interrupt_vector_N. link.py lays what the region uses into
    .er.own. */
 ENTRY(start)
 MEMORY

@@ -84,9 +84,9 @@ def examples(trial):
         sources = {source: read(f"{EXAMPLES}/{folder}/{source}") for source in names}
         if image_of(trial, sources, *options) != read(f"{EXAMPLES}/{name}/image.hex"):
             trial.fault(f"{name}: not the image that firmware/Makefile makes")
-    for name in ("letter-a", "echo", "attest", "sensor"):
+    for name in ("letter-a", "echo", "attest", "sensor", "meter"):
         try_image(name, name, [source for source in os.listdir(f"{EXAMPLES}/{name}")
-                               if source.endswith((".c", ".s"))])
+                               if source.endswith((".c", ".h", ".s"))])
     for name, names in PUMPS.items():
         try_image(f"pump/{name}", "pump", names, PLACE)
 
