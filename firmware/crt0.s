@@ -71,8 +71,8 @@ store:  mov.b   @r12, 0(r13)            ; bytes of the request, to r13 and up to
         ret
 
 ; The executable region is entered at its first instruction alone, and left at its last. It has a
-; stack of its own: whoever calls it may have put theirs on the output. It clears the output: whoever
-; calls it may have left there what the region does not write.
+; stack of its own: whoever calls it may have put theirs on the output. It clears the output:
+; whoever calls it may have left there what the region does not write.
         .section .er.entry, "ax"
         .weak   er_min                  ; a guard in .er.guard takes this name, and goes to er_entry
         .globl  er_entry, er_leave, er_max
