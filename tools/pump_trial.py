@@ -7,7 +7,7 @@ from sample_files import EXAMPLES, read
 
 # Values of TCMP, up to one that a dose is shorter than. Where interrupts are allowed before the
 # region it is entered only at those from LEAST on: a shorter period leaves no step between two.
-LEAST, PAST = 8, 160
+LEAST, PAST = 4, 160
 DOSE = 6
 # Enters the region once for each period and each of these handlers of the timer, with the output of
 # a whole dose already written. Where AUX is 1 behind it, sends A and what the report would tell,
