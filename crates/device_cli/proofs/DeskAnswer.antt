@@ -1,10 +1,12 @@
 -- Answers of a desk: after a refusal of its files, and after it served.
-use Rattle.std.proofs.Common.{◌≡◌, ◌<◌, ◌≤◌, ◌⊎◌, ℕ, List, length, Option, Some, None, IfSome, Err, refl, inl, inr, arith, length-append}
+use Rattle.std.proofs.Common.{◌≡◌, ◌<◌, ◌≤◌, ◌⊎◌, ℕ, List, [], length, Option, Some, None, IfSome, Err, refl, inl, inr, arith, length-append}
 use Rattle.outside_edge.specs.Count.{Rose}
 use Rattle.outside_edge.specs.Shelf.{KeepsFiles}
 use Rattle.verifier_desk.specs.declared.served.Served.{Served}
 use Rattle.verifier_desk.specs.declared.served.Served.TheVariants as served
 use Rattle.verifier_desk.specs.Replies.{DeskFields}
+use Rattle.desk_memory.specs.declared.no_memory.NoMemory.{NoMemory}
+use Rattle.desk_memory.specs.NoMemory.{forgets}
 use Rattle.verifier_desk.specs.Serving.{AreTaken, HasCause, most_input}
 use Rattle.device_cli.specs.declared.refusal.Refusal.{Refusal}
 use Rattle.device_cli.specs.declared.status.Status.{Status}
@@ -78,6 +80,44 @@ refused-IsDeskAnswer files faults misses left source_faults stands sink_faults s
       sink_counted = omega arith;
     })
 
+-- why a desk without a memory ended so
+abbrev EndCause : Option (List ℕ) → ℕ → Type 0 → Type 0 → Served → Type 0
+EndCause rest count source_rose sink_rose served.Done =
+    IfSome rest (λ bytes. bytes ≡ []) × (count < most_input)
+EndCause rest count source_rose sink_rose served.Spent = count ≡ most_input
+EndCause rest count source_rose sink_rose served.ReadFault = source_rose × (count < most_input)
+EndCause rest count source_rose sink_rose served.WriteFault = sink_rose
+EndCause rest count source_rose sink_rose served.Memory = Unit {0}
+EndCause rest count source_rose sink_rose (served.Unkept fault) = ⊥
+
+never-rises : Rose 0 0 → ⊥
+never-rises (inl more) = omega (arith, more)
+never-rises (inr end) = cc end
+
+end-cause : {R W : Type 0} (left : R → Option (List ℕ)) (source_faults : R → ℕ)
+    (stands : W → List ℕ → Type 0) (sink_faults : W → ℕ) (source source_after : R)
+    (memory memory_after : NoMemory) (sink sink_after : W) (count : ℕ) (ended : Served)
+    → HasCause (record { left = left; faults = source_faults }) forgets
+    (record { stands = stands; faults = sink_faults })
+    (record { source = source; memory = memory; sink = sink })
+    (record { source = source_after; memory = memory_after; sink = sink_after }) count ended
+    → EndCause (left source_after) count (Rose (source_faults source) (source_faults source_after))
+    (Rose (sink_faults sink) (sink_faults sink_after)) ended
+end-cause left source_faults stands sink_faults source source_after memory memory_after sink
+    sink_after count served.Done cause = cause
+end-cause left source_faults stands sink_faults source source_after memory memory_after sink
+    sink_after count served.Spent cause = cause
+end-cause left source_faults stands sink_faults source source_after memory memory_after sink
+    sink_after count served.ReadFault cause = cause
+end-cause left source_faults stands sink_faults source source_after memory memory_after sink
+    sink_after count served.WriteFault cause = cause
+end-cause left source_faults stands sink_faults source source_after memory memory_after sink
+    sink_after count served.Memory cause = cause
+end-cause left source_faults stands sink_faults source source_after memory memory_after sink
+    sink_after count (served.Unkept fault) (inl lacks) = lacks.1
+end-cause left source_faults stands sink_faults source source_after memory memory_after sink
+    sink_after count (served.Unkept fault) (inr rose) = never-rises rose
+
 -- a desk that served does not answer that its words are none
 served-words : (ended : Served) → status_of_served ended ≡ Words → ⊥
 served-words served.Done is = cc is
@@ -85,6 +125,7 @@ served-words served.Spent is = cc is
 served-words served.ReadFault is = cc is
 served-words served.WriteFault is = cc is
 served-words served.Memory is = cc is
+served-words (served.Unkept fault) is = cc is
 
 -- no more were taken than were left
 few-taken : (lines : List ℕ) (rest : Option (List ℕ)) (taken : List ℕ)
@@ -95,7 +136,7 @@ few-taken lines (Some rest) taken are_taken = rw (are_taken, length-append) (ome
 served-all : (lines : List ℕ) (rest : Option (List ℕ)) (taken : List ℕ) (ended : Served)
     (source_rose sink_rose : Type 0)
     → AreTaken (Some lines) rest taken
-    → HasCause rest (length taken) source_rose sink_rose ended
+    → EndCause rest (length taken) source_rose sink_rose ended
     → length lines < most_input → ¬ source_rose → ¬ sink_rose
     → (status_of_served ended ≡ Done) ⊎ (status_of_served ended ≡ Memory)
 served-all lines rest taken served.Done source_rose sink_rose are_taken cause few no_source no_sink
@@ -108,11 +149,13 @@ served-all lines rest taken served.WriteFault source_rose sink_rose are_taken ca
     no_sink = absurd (no_sink cause)
 served-all lines rest taken served.Memory source_rose sink_rose are_taken cause few no_source
     no_sink = inr refl
+served-all lines rest taken (served.Unkept fault) source_rose sink_rose are_taken cause few no_source
+    no_sink = inr refl
 
 served-complete : (told : Files) (left rest : Option (List ℕ)) (taken : List ℕ) (ended : Served)
     (row : Row) (shelf_rose source_rose sink_rose : Type 0)
     → AreTaken left rest taken
-    → HasCause rest (length taken) source_rose sink_rose ended
+    → EndCause rest (length taken) source_rose sink_rose ended
     → IfSome told (λ contents. IfSome left (λ lines.
     first_refusal row contents ≡ None
     → length lines < most_input
@@ -142,15 +185,17 @@ pub served-IsDeskAnswer : {S R W : Type 0} (files : S → Files) (faults misses 
     source source_after sink sink_after named status
 served-IsDeskAnswer files faults misses left source_faults stands sink_faults shelf shelf_after
     source source_after sink sink_after names named desk status names_files keeps opens
-    (ended, is, serves) source_counts sink_counts =
+    (ended, is, memory, memory_after, serves) source_counts sink_counts =
     rw (← names_files, is) (record {
       words = (λ is. absurd (served-words ended is), λ none. absurd (cc none));
       unread = λ is. absurd (served-words ended is);
-      answers = inr (desk, opens, (ended, refl, serves));
+      answers = inr (desk, opens, (ended, refl, memory, memory_after, serves));
       complete = served-complete (files shelf) (left source) (left source_after) serves.taken ended
           (files_row names) (Rose (faults shelf) (faults shelf_after))
           (Rose (source_faults source) (source_faults source_after))
-          (Rose (sink_faults sink) (sink_faults sink_after)) serves.are_taken serves.cause;
+          (Rose (sink_faults sink) (sink_faults sink_after)) serves.are_taken
+          (end-cause left source_faults stands sink_faults source source_after memory memory_after
+          sink sink_after (length serves.taken) ended serves.cause);
       kept = keeps;
       source_counted = source_counts;
       sink_counted = sink_counts;
@@ -175,7 +220,7 @@ refused-fault files counts row status (inr (inr (inr (bad, is, reaches)))) no_re
 
 served-fault : (rest : Option (List ℕ)) (count : ℕ) (ended : Served)
     (source_rose sink_rose : Type 0)
-    → HasCause rest count source_rose sink_rose ended → ¬ source_rose → ¬ sink_rose
+    → EndCause rest count source_rose sink_rose ended → ¬ source_rose → ¬ sink_rose
     → (status_of_served ended ≡ ReadFault) ⊎ (status_of_served ended ≡ WriteFault) → ⊥
 served-fault rest count served.Done source_rose sink_rose cause no_source no_sink (inl read) =
     cc read
@@ -193,6 +238,8 @@ served-fault rest count served.Memory source_rose sink_rose cause no_source no_s
     cc read
 served-fault rest count served.Memory source_rose sink_rose cause no_source no_sink (inr write) =
     cc write
+served-fault rest count (served.Unkept fault) source_rose sink_rose cause no_source no_sink ended =
+    cause
 
 desk-fault : {S R W : Type 0} (files : S → Files) (faults misses : S → ℕ)
     (left : R → Option (List ℕ)) (source_faults : R → ℕ) (stands : W → List ℕ → Type 0)
@@ -224,10 +271,12 @@ desk-fault files faults misses left source_faults stands sink_faults shelf shelf
     by_answer (inl refused) =
         refused-fault (files shelf) (counts_of faults misses shelf shelf_after) (files_row names)
         status refused.cause no_read fault
-    by_answer (inr (desk, opens, (ended, is, serves))) =
+    by_answer (inr (desk, opens, (ended, is, memory, memory_after, serves))) =
         served-fault (left source_after) (length serves.taken) ended
         (Rose (source_faults source) (source_faults source_after))
-        (Rose (sink_faults sink) (sink_faults sink_after)) serves.cause no_source no_sink
+        (Rose (sink_faults sink) (sink_faults sink_after))
+        (end-cause left source_faults stands sink_faults source source_after memory memory_after
+        sink sink_after (length serves.taken) ended serves.cause) no_source no_sink
         (rw is at fault)
 
 pub no-fault-of_any : {S R W : Type 0} {files : S → Files} {faults misses : S → ℕ}

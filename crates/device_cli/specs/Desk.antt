@@ -2,6 +2,8 @@
 use Rattle.std.specs.Prelude.{◌≡◌, ◌<◌, ◌≤◌, ◌⊎◌, ◌↔◌, ℕ, List, [], ◌∷◌, length, Option, Some, None, IfSome, if◌then◌else◌, bytes_eq, codes}
 use Rattle.outside_edge.specs.Count.{Rose}
 use Rattle.outside_edge.specs.Shelf.{KeepsFiles}
+use Rattle.desk_memory.specs.declared.no_memory.NoMemory.{NoMemory}
+use Rattle.desk_memory.specs.NoMemory.{forgets}
 use Rattle.verifier_desk.specs.declared.served.Served.{Served}
 use Rattle.verifier_desk.specs.Desk.{desk_with}
 use Rattle.verifier_desk.specs.Replies.{DeskFields}
@@ -36,7 +38,8 @@ abbrev pub opening_row : DeskNames → (DeskFields → Row) → Row
 opening_row names onward =
     read_file keys_kind names.keys (λ devices.
     read_file image_kind names.image (λ image.
-    read_file desk_policy_kind names.policy (λ policy. onward (desk_with devices image policy))))
+    read_file desk_policy_kind names.policy (λ policy.
+    onward (desk_with devices image policy []))))
 
 -- the row of its files alone
 abbrev pub files_row : DeskNames → Row
@@ -47,12 +50,16 @@ abbrev pub Opens : Files → DeskNames → DeskFields → Type 0
 Opens files names desk =
     (onward : DeskFields → Row) → Leaves files (opening_row names onward) (onward desk)
 
--- a desk served the source
+-- a desk without a memory served the source
 abbrev pub HasServed : {R W : Type 0} → (R → Option (List ℕ)) → (R → ℕ)
     → (W → List ℕ → Type 0) → (W → ℕ) → DeskFields → R → R → W → W → Status → Type 0
 HasServed left source_faults stands sink_faults desk source source_after sink sink_after status =
     (ended : Served) × (status ≡ status_of_served ended)
-    × Serves left source_faults stands sink_faults desk source source_after sink sink_after ended
+    × (memory memory_after : NoMemory)
+    × Serves (record { left = left; faults = source_faults }) forgets
+    (record { stands = stands; faults = sink_faults }) desk
+    (record { source = source; memory = memory; sink = sink })
+    (record { source = source_after; memory = memory_after; sink = sink_after }) ended
 
 -- the files were refused, for a cause, and nothing was taken or put
 pub record IsRefused {S R W : Type 0} (files : S → Files) (faults misses : S → ℕ)

@@ -1,4 +1,4 @@
-ghost use Rattle.std.specs.Prelude.{◌≡◌, ◌≤◌, option_map};
+ghost use Rattle.std.specs.Prelude.{◌≡◌, ◌≤◌, [], option_map};
 ghost use Rattle.mem_map.specs.Image.{byte_in};
 ghost use Rattle.verifier_desk.specs.DeviceKey.{devices_in};
 ghost use Rattle.verifier_desk.specs.Desk.{desk_with};
@@ -12,6 +12,7 @@ use crate::kind::desk_policy::DeskPolicy;
 use crate::kind::image::Image;
 use crate::kind::keys::Keys;
 use crate::status::Status;
+use desk_memory::NoMemory;
 use outside_edge::{Shelf, Sink, Source};
 use report_verifier::Policy;
 use std::alloc::Global;
@@ -80,14 +81,14 @@ fn serve_with<R: Source, W: Sink>(
     sink: &mut W,
 ) -> Status
     ensures served { HasServed R.left R.faults W.stands W.faults
-        (desk_with (devices_in values.0.bytes.items) (byte_in values.1.0) values.1.1) source.old
+        (desk_with (devices_in values.0.bytes.items) (byte_in values.1.0) values.1.1 []) source.old
         source.new sink.old sink.new result }
     ensures source_faults { R.faults source.old ≤ R.faults source.new }
     ensures sink_faults { W.faults sink.old ≤ W.faults sink.new }
 {
     let (keys, (image, policy)) = values;
-    match open_desk(alloc, &keys.bytes, image, policy) {
-        Ok(mut desk) => Status::of_served(serve(alloc, &mut desk, source, sink)),
+    match open_desk(alloc, &keys.bytes, image, policy, &[]) {
+        Ok(mut desk) => { Status::of_served(serve(alloc, &mut desk, source, &mut NoMemory, sink)) }
         Err(TextFault::At(_)) => unreachable!(),
         Err(TextFault::Memory(_)) => Status::Memory,
     }

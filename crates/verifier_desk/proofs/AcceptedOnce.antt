@@ -14,12 +14,13 @@ use Rattle.report_verifier.specs.declared.decision.Decision.TheVariants.{Accept,
 use Rattle.report_verifier.specs.declared.expect.Expect.{Expect}
 use Rattle.report_verifier.specs.Judge.{Judge}
 use Rattle.report_verifier.specs.Verdict.{verdict_on, same_version}
-use Rattle.verifier_desk.specs.declared.answer.Answer.{Answer}
-use Rattle.verifier_desk.specs.declared.answer.Answer.TheVariants.{Judged}
-use Rattle.verifier_desk.specs.declared.device_state.DeviceState.{DeviceState}
+use Rattle.desk_memory.specs.declared.answer.Answer.{Answer}
+use Rattle.desk_memory.specs.declared.answer.Answer.TheVariants.{Judged}
+use Rattle.desk_memory.specs.declared.device_state.DeviceState.{DeviceState}
 use Rattle.verifier_desk.specs.DeviceLine.{DeviceLine}
-use Rattle.verifier_desk.specs.DeviceReply.{LAST_COUNT, answer_to_ask, answer_to_give, by_number, count_after, is_new, new_answer, outstanding_after, state_of}
-use Rattle.verifier_desk.specs.Law.{Descends, IsAcceptedOnce, accepted, accepted_counter, counter_of, requested}
+use Rattle.desk_memory.specs.DeviceState.{by_number, count_after, is_new, outstanding_after}
+use Rattle.verifier_desk.specs.DeviceReply.{LAST_COUNT, answer_to_ask, answer_to_give, new_answer}
+use Rattle.verifier_desk.specs.Law.{Descends, IsAcceptedOnce, JudgedLine, accepted, accepted_counter, counter_of, requested, state_through}
 
 -- an accepted report has the counter that is expected
 counts_agree : (version chal count : Bool) (later : Decision)
@@ -157,21 +158,22 @@ pub new_by_number : (number : ℕ) (last : Option (ℕ × Answer)) (answer : Ans
 new_by_number number None answer new = refl
 new_by_number number (Some (last, kept)) answer new = grind (arith, nat_tests, new)
 
-counted : (judge : Judge) (lines : List DeviceLine)
-    → IsCounted (state_of judge lines).count (state_of judge lines).outstanding
-    (requested judge lines) (accepted judge lines)
-counted judge [] = nothing_counted
-counted judge (line ∷ earlier) =
-    let state : DeviceState = state_of judge earlier in
+counted : (lines : List JudgedLine)
+    → IsCounted (state_through lines).count (state_through lines).outstanding
+    (requested lines) (accepted lines)
+counted [] = nothing_counted
+counted (now ∷ earlier) =
+    let state : DeviceState = state_through earlier in
     ⊎_elim
-    (λ new. rw new (rw (new_by_number line.number state.last (new_answer judge state line) new)
-    (line_counts judge state line (requested judge earlier) (accepted judge earlier)
-    (counted judge earlier))))
-    (λ old. rw old (counted judge earlier))
-    (cases_Bool (is_new line.number state.last))
+    (λ new. rw new (rw (new_by_number now.line.number state.last
+    (new_answer now.judge state now.line) new)
+    (line_counts now.judge state now.line (requested earlier) (accepted earlier)
+    (counted earlier))))
+    (λ old. rw old (counted earlier))
+    (cases_Bool (is_new now.line.number state.last))
 
 pub report_is_accepted_once : IsAcceptedOnce
-report_is_accepted_once judge lines =
-    let so : IsCounted (state_of judge lines).count (state_of judge lines).outstanding
-    (requested judge lines) (accepted judge lines) = counted judge lines in
+report_is_accepted_once lines =
+    let so : IsCounted (state_through lines).count (state_through lines).outstanding
+    (requested lines) (accepted lines) = counted lines in
     (so.requests_descend, so.accepts_descend, so.known)

@@ -11,10 +11,10 @@ use Rattle.report_verifier.specs.declared.decision.Decision.TheVariants.{Accept,
 use Rattle.report_verifier.specs.declared.expect.Expect.{Expect}
 use Rattle.report_verifier.specs.Judge.{Judge}
 use Rattle.report_verifier.specs.Verdict.{verdict_on, same_version}
-use Rattle.verifier_desk.specs.declared.answer.Answer.TheVariants.{Judged, Requested, Spent}
-use Rattle.verifier_desk.specs.declared.device_state.DeviceState.{DeviceState}
+use Rattle.desk_memory.specs.declared.answer.Answer.TheVariants.{Judged, Requested, Spent}
+use Rattle.desk_memory.specs.declared.device_state.DeviceState.{DeviceState}
 use Rattle.verifier_desk.specs.DeviceLine.{DeviceLine}
-use Rattle.verifier_desk.specs.DeviceReply.{LAST_COUNT, answer_to_ask, answer_to_give, desk_challenge, new_answer, state_of}
+use Rattle.verifier_desk.specs.DeviceReply.{LAST_COUNT, answer_to_ask, answer_to_give, desk_challenge, new_answer}
 use Rattle.verifier_desk.specs.Law.{AnswersRequest, IsAnswered}
 use Rattle.verifier_desk.proofs.AcceptedOnce.{accepted_count, new_by_number}
 
@@ -68,7 +68,6 @@ answered judge state line true accepts =
 answered judge state line false accepts = absurd (asked state.count line.words accepts)
 
 pub accept_is_answered : IsAnswered
-accept_is_answered judge earlier line new accepts =
-    let state : DeviceState = state_of judge earlier in
+accept_is_answered judge state line new accepts =
     answered judge state line line.is_give
     (sym (new_by_number line.number state.last (new_answer judge state line) new) ∙ accepts)

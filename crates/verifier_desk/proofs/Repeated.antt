@@ -1,14 +1,15 @@
 -- The same number again.
-use Rattle.std.proofs.Common.{◌≡◌, ◌∙◌, ℕ, ◌∷◌, Option, Some, None, refl, arith, ap, ⊎_elim}
+use Rattle.std.proofs.Common.{◌≡◌, ◌∙◌, ℕ, Option, Some, None, refl, arith, ap, ⊎_elim}
 use Rattle.std.specs.Prelude.{if◌then◌else◌}
 use Rattle.std.proofs.lemmas.Bool.{cases_Bool}
 use Rattle.std.proofs.lemmas.Bool.Decides.{nat_tests}
 use Rattle.report_verifier.specs.Judge.{Judge}
-use Rattle.verifier_desk.specs.declared.answer.Answer.{Answer}
-use Rattle.verifier_desk.specs.declared.answer.Answer.TheVariants.{Stale}
-use Rattle.verifier_desk.specs.declared.device_state.DeviceState.{DeviceState}
+use Rattle.desk_memory.specs.declared.answer.Answer.{Answer}
+use Rattle.desk_memory.specs.declared.answer.Answer.TheVariants.{Stale}
+use Rattle.desk_memory.specs.declared.device_state.DeviceState.{DeviceState}
 use Rattle.verifier_desk.specs.DeviceLine.{DeviceLine}
-use Rattle.verifier_desk.specs.DeviceReply.{answer_of, is_new, by_number, new_answer, state_after, state_of}
+use Rattle.desk_memory.specs.DeviceState.{by_number, is_new}
+use Rattle.verifier_desk.specs.DeviceReply.{answer_after, new_answer, state_after}
 use Rattle.verifier_desk.specs.Law.{IsRepeated}
 
 -- the last number and its answer after a line
@@ -42,14 +43,13 @@ kept_state judge state line number answer last same =
     rw last (grind (arith, nat_tests, same))
 
 pub answer_is_repeated : IsRepeated
-answer_is_repeated judge earlier line again same fresh =
-    let state : DeviceState = state_of judge earlier in
-    let answer : Answer = answer_of judge earlier line in
-    let last : (state_of judge (line ∷ earlier)).last ≡ Some (line.number, answer) =
+answer_is_repeated judge state line again same fresh =
+    let after : DeviceState = state_after judge state line in
+    let answer : Answer = answer_after judge state line in
+    let last : after.last ≡ Some (line.number, answer) =
     last_after judge state line
     ∙ last_is_of_line line.number state.last (new_answer judge state line) fresh in (
-      ap (λ kept. by_number again.number kept
-          (new_answer judge (state_of judge (line ∷ earlier)) again)) last
+      ap (λ kept. by_number again.number kept (new_answer judge after again)) last
           ∙ kept_answer line.number again.number answer _ same,
-      kept_state judge (state_of judge (line ∷ earlier)) again line.number answer last same,
+      kept_state judge after again line.number answer last same,
     )

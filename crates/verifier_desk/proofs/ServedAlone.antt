@@ -11,8 +11,7 @@ use Rattle.text_scan.specs.Word.{words_of}
 use Rattle.verifier_desk.specs.DeskLine.{DeskLine, TooLong, Silent, Foreign, Own, LONGEST_LINE, is_verb, own_or_foreign, line_of_words, line_of}
 use Rattle.verifier_desk.specs.DeviceKey.{DeviceKey, key_named}
 use Rattle.verifier_desk.specs.DeviceLine.{DeviceLine}
-use Rattle.verifier_desk.specs.DeviceReply.{answer_of}
-use Rattle.verifier_desk.specs.Replies.{DeskFields, judge_at, answer_line, own_line, own_lines, reply_to, reply, replies}
+use Rattle.verifier_desk.specs.Replies.{DeskFields, own_line, own_lines, own_reply, reply_to, reply, replies}
 use Rattle.verifier_desk.specs.Law.{alone, is_named, is_of, lines_of_device, replies_to_device, IsServedAlone}
 use Rattle.verifier_desk.proofs.KeyPlaces.{same_name}
 
@@ -119,8 +118,7 @@ reply_to-alone desk device earlier Silent known named = absurd (false≢true nam
 reply_to-alone desk device earlier Foreign known named = absurd (false≢true named)
 reply_to-alone desk device earlier (Own owner line) known named =
     let is : owner.name ≡ device.name = same_name owner.name device.name named in
-    ap (λ lines. answer_line desk.digest owner line.number
-    (answer_of (judge_at desk owner) lines line))
+    ap (λ lines. own_reply desk lines owner line)
     (subst (λ name. own_lines desk.devices name earlier
     ≡ own_lines (device ∷ []) name (lines_of_device desk device.name earlier)) (sym is)
     (own_lines-alone desk device earlier known))

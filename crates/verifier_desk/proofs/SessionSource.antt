@@ -1,38 +1,21 @@
 -- What a desk serves of a source, piece after piece.
-use Rattle.std.proofs.Common.{◌≡◌, ◌≤◌, ◌<◌, ◌+◌, ◌-◌, ◌∙◌, ◌++◌, ℕ, List, [], ◌∷◌, Option, Some, None, length, take, drop, refl, ap, sym, subst, arith, append_assoc, length-append, inr}
+use Rattle.std.proofs.Common.{◌≡◌, ◌≤◌, ◌<◌, ◌+◌, ◌-◌, ◌∙◌, ◌++◌, ℕ, List, [], ◌∷◌, Option, Some, None, length, take, refl, ap, sym, subst, arith, append_assoc, length-append, inr}
 use Rattle.std.specs.Prelude.{IfSome}
-use Rattle.std.proofs.Math.Seq.{take-append_seam}
-use Rattle.std.proofs.lemmas.List.{append-nil, length-take-le, take-append-drop}
+use Rattle.std.proofs.lemmas.List.{append-nil, length-take-le}
 use Rattle.outside_edge.specs.Count.{Rose}
-use Rattle.outside_edge.specs.Source.{Gives}
-use Rattle.verifier_desk.specs.declared.desk.Desk.{Desk}
+use Rattle.outside_edge.specs.declared.sink.Sink as sink
+use Rattle.outside_edge.specs.declared.source.Source as source
+use Rattle.desk_memory.specs.declared.memory.Memory as memory
 use Rattle.verifier_desk.specs.declared.served.Served.{Served}
-use Rattle.verifier_desk.specs.declared.served.Served.TheVariants.{Done, Spent, ReadFault, WriteFault, Memory}
+use Rattle.verifier_desk.specs.declared.served.Served.TheVariants.{Done, Spent, ReadFault, WriteFault, Memory, Unkept}
 use Rattle.verifier_desk.specs.Desk.{DeskStandsFor, no_lines_of}
-use Rattle.verifier_desk.specs.LineCut.{LineCut, cut_of, no_lines, with_bytes, with_last, all_lines}
+use Rattle.verifier_desk.specs.LineCut.{LineCut, all_lines, cut_of, no_lines, whole_lines, with_bytes, with_last}
 use Rattle.verifier_desk.specs.Replies.{DeskFields}
-use Rattle.verifier_desk.specs.Serving.{AreTaken, HasCause, HasServed, PutsReplies, Serves, ServesLines, ServesPiece, most_input}
+use Rattle.verifier_desk.specs.Serving.{AreTaken, HasAnswered, HasCause, Keeps, Outside, PutsLines, PutsPiece, PutsReplies, Serves, most_input, nothing_withheld}
+use Rattle.verifier_desk.proofs.MoreLines.{puts_more, puts_since, rose_more}
 use Rattle.verifier_desk.proofs.Pieces.{cut_anywhere}
-use Rattle.verifier_desk.proofs.SessionPiece.{prefix_of_lines, rose_more, stops_among_lines}
-
--- the bytes of one take
-first_given : (n : ℕ) (left old new : List ℕ) → n ≤ length left
-    → new ≡ take n left ++ drop n old → take n new ≡ take n left
-first_given n left old new held is =
-    ap (take n) is
-    ∙ subst (λ (count : ℕ). take count (take n left ++ drop n old) ≡ take n left)
-    (length-take-le n left held) (take-append_seam (take n left) (drop n old))
-
-pub taken_next : (left rest : Option (List ℕ)) (n : ℕ) (old new : List ℕ)
-    → Gives left rest n old new → AreTaken left rest (take n new)
-taken_next (Some left) (Some rest) n old new gives =
-    sym (take-append-drop n left)
-    ∙ ap (λ (one : List ℕ). one ++ drop n left) (sym (first_given n left old new gives.held
-    gives.written))
-    ∙ ap (λ (one : List ℕ). take n new ++ one) (sym gives.after)
-taken_next None None n old new gives = tt
-taken_next (Some left) None n old new gives = absurd gives
-taken_next None (Some rest) n old new gives = absurd gives
+use Rattle.verifier_desk.proofs.SessionLast.{answered_of_told, told_anew}
+use Rattle.verifier_desk.proofs.SessionPiece.{Moment, ServedAt}
 
 -- one take after another
 pub taken_both : (first left rest : Option (List ℕ)) (one two : List ℕ)
@@ -45,243 +28,262 @@ taken_both None (Some left) rest one two before next = absurd before
 taken_both (Some first) (Some left) None one two before next = absurd next
 taken_both None None (Some rest) one two before next = absurd next
 
--- a desk took these bytes so far, and served what they hold
-pub record IsServedTo {R W : Type 0} (left : R → Option (List ℕ)) (source_faults : R → ℕ)
-    (stands : W → List ℕ → Type 0) (sink_faults : W → ℕ) (desk : Desk) (held : Option (List ℕ))
-    (source : R) (sink : W) (desk_now : Desk) (held_now : Option (List ℕ)) (source_now : R)
-    (sink_now : W) (room : ℕ) : Type 0 where
-  pub taken : List ℕ
-  pub are_taken : AreTaken (left source) (left source_now) taken
-  pub count : length taken + room ≡ most_input
-  pub serves : (fields : DeskFields) → DeskStandsFor desk fields no_lines_of → held ≡ Some []
-      → HasServed stands sink sink_now fields desk_now held_now (cut_of taken)
-  pub source_rises : source_faults source ≤ source_faults source_now
-  pub sink_rises : sink_faults sink ≤ sink_faults sink_now
-
--- why it ended, where a line was answered last
-line_puts : {W : Type 0} (stands : W → List ℕ → Type 0) (faults : W → ℕ) (first old new : W)
-    (fields : DeskFields) (taken : List ℕ) (served : Served)
-    → ServesLines stands faults first old new fields (all_lines taken) served
-    → PutsReplies stands first new fields taken served
-line_puts stands faults first old new fields taken Done so = so
-line_puts stands faults first old new fields taken WriteFault so = so.0
-line_puts stands faults first old new fields taken Memory so = inr so
-line_puts stands faults first old new fields taken Spent so = absurd so
-line_puts stands faults first old new fields taken ReadFault so = absurd so
-
-line_cause : {W : Type 0} (stands : W → List ℕ → Type 0) (faults : W → ℕ) (first start old new : W)
-    (fields : DeskFields) (lines : List (List ℕ)) (served : Served) (rest : Option (List ℕ))
-    (count : ℕ) (failed : Type 0)
-    → IfSome rest (λ bytes. bytes ≡ []) → count < most_input → faults start ≤ faults old
-    → ServesLines stands faults first old new fields lines served
-    → HasCause rest count failed (Rose (faults start) (faults new)) served
-line_cause stands faults first start old new fields lines Done rest count failed ends few rises so =
-    (ends, few)
-line_cause stands faults first start old new fields lines WriteFault rest count failed ends few
-    rises so =
-    rose_more (faults start) (faults old) (faults new) rises so.1
-line_cause stands faults first start old new fields lines Memory rest count failed ends few rises
-    so =
-    tt
-line_cause stands faults first start old new fields lines Spent rest count failed ends few rises so
-    =
-    absurd so
-line_cause stands faults first start old new fields lines ReadFault rest count failed ends few
-    rises so =
-    absurd so
-
 no_more : (first left rest : Option (List ℕ)) (one two : List ℕ) → two ≡ []
     → AreTaken first left one → AreTaken left rest two → AreTaken first rest one
 no_more first left rest one two none before next =
     subst (AreTaken first rest) (ap (λ (more : List ℕ). one ++ more) none ∙ append-nil one)
     (taken_both first left rest one two before next)
 
--- the source is at its end
-pub end_served : {R W : Type 0} (left : R → Option (List ℕ)) (source_faults : R → ℕ)
-    (stands : W → List ℕ → Type 0) (sink_faults : W → ℕ) (desk desk_now : Desk)
-    (held held_now : Option (List ℕ)) (source source_now source_new : R) (sink sink_now sink_new :
-    W)
-    (room n : ℕ) (piece : List ℕ) (served : Served)
-    → IsServedTo left source_faults stands sink_faults desk held source sink desk_now held_now
-    source_now sink_now room
-    → 0 < room → n ≡ 0
-    → AreTaken (left source_now) (left source_new) (take n piece)
-    → (n ≡ 0 → IfSome (left source_new) (λ bytes. bytes ≡ []))
-    → ((fields : DeskFields) (cut : LineCut) (first : W)
-    → HasServed stands first sink_now fields desk_now held_now cut
-    → ServesLines stands sink_faults first sink_now sink_new fields (with_last cut.lines cut.rest)
-    served)
-    → (fields : DeskFields) → DeskStandsFor desk fields no_lines_of → held ≡ Some []
-    → Serves left source_faults stands sink_faults fields source source_new sink sink_new served
-end_served left source_faults stands sink_faults desk desk_now held held_now source source_now
-    source_new sink sink_now sink_new room n piece served so some none next ends last fields stood
-    empty =
-    let lines = last fields (cut_of so.taken) sink (so.serves fields stood empty) in
-    record {
-      taken = so.taken;
-      are_taken = no_more (left source) (left source_now) (left source_new) so.taken (take n piece)
-          (ap (λ (count : ℕ). take count piece) none) so.are_taken next;
-      few = omega (arith, so.count);
-      puts = line_puts stands sink_faults sink sink_now sink_new fields so.taken served lines;
-      cause = line_cause stands sink_faults sink sink sink_now sink_new fields (all_lines so.taken)
-          served (left source_new) (length so.taken) _ (ends none) (omega (arith, so.count, some))
-          so.sink_rises lines;
-    }
+-- no bytes are taken of those that are left
+none_of : (left : Option (List ℕ)) → AreTaken left left []
+none_of (Some left) = refl
+none_of None = tt
 
--- the source failed
-pub fault_served : {R W : Type 0} (left : R → Option (List ℕ)) (source_faults : R → ℕ)
-    (stands : W → List ℕ → Type 0) (sink_faults : W → ℕ) (desk desk_now : Desk)
-    (held held_now : Option (List ℕ)) (source source_now source_new : R) (sink sink_now : W)
-    (room : ℕ)
-    → IsServedTo left source_faults stands sink_faults desk held source sink desk_now held_now
-    source_now sink_now room
-    → 0 < room → left source_new ≡ left source_now
-    → Rose (source_faults source_now) (source_faults source_new)
-    → (fields : DeskFields) → DeskStandsFor desk fields no_lines_of → held ≡ Some []
-    → Serves left source_faults stands sink_faults fields source source_new sink sink_now ReadFault
-fault_served left source_faults stands sink_faults desk desk_now held held_now source source_now
-    source_new sink sink_now room so some kept rose fields stood empty =
-    record {
-      taken = so.taken;
-      are_taken = subst (λ (rest : Option (List ℕ)). AreTaken (left source) rest so.taken) (sym
-          kept)
-          so.are_taken;
-      few = omega (arith, so.count);
-      puts = (so.serves fields stood empty).put;
-      cause = (
-        rose_more (source_faults source) (source_faults source_now) (source_faults source_new)
-            so.source_rises rose,
-        omega (arith, so.count, some),
-      );
-    }
-
--- as many bytes were taken as are taken at most
-pub spent_served : {R W : Type 0} (left : R → Option (List ℕ)) (source_faults : R → ℕ)
-    (stands : W → List ℕ → Type 0) (sink_faults : W → ℕ) (desk desk_now : Desk)
-    (held held_now : Option (List ℕ)) (source source_now : R) (sink sink_now : W) (room : ℕ)
-    → IsServedTo left source_faults stands sink_faults desk held source sink desk_now held_now
-    source_now sink_now room
-    → room ≡ 0
-    → (fields : DeskFields) → DeskStandsFor desk fields no_lines_of → held ≡ Some []
-    → Serves left source_faults stands sink_faults fields source source_now sink sink_now Spent
-spent_served left source_faults stands sink_faults desk desk_now held held_now source source_now
-    sink sink_now room so none fields stood empty =
-    record {
-      taken = so.taken;
-      are_taken = so.are_taken;
-      few = omega (arith, so.count);
-      puts = (so.serves fields stood empty).put;
-      cause = omega (arith, so.count, none);
-    }
-
--- one piece more
-pub piece_taken : {R W : Type 0} (left : R → Option (List ℕ)) (source_faults : R → ℕ)
-    (stands : W → List ℕ → Type 0) (sink_faults : W → ℕ) (desk desk_now desk_new : Desk)
-    (held held_now held_new : Option (List ℕ)) (source source_now source_new : R)
-    (sink sink_now sink_new : W) (room room_new : ℕ) (bytes : List ℕ)
-    → IsServedTo left source_faults stands sink_faults desk held source sink desk_now held_now
-    source_now sink_now room
-    → room_new + length bytes ≡ room
-    → AreTaken (left source_now) (left source_new) bytes
-    → source_faults source_now ≤ source_faults source_new
-    → sink_faults sink_now ≤ sink_faults sink_new
-    → ((fields : DeskFields) (cut : LineCut) (first : W)
-    → HasServed stands first sink_now fields desk_now held_now cut
-    → HasServed stands first sink_new fields desk_new held_new (with_bytes cut bytes))
-    → IsServedTo left source_faults stands sink_faults desk held source sink desk_new held_new
-    source_new sink_new room_new
-piece_taken left source_faults stands sink_faults desk desk_now desk_new held held_now held_new
-    source source_now source_new sink sink_now sink_new room room_new bytes so less next
-    source_rises sink_rises serves =
-    record {
-      taken = so.taken ++ bytes;
-      are_taken = taken_both (left source) (left source_now) (left source_new) so.taken bytes
-          so.are_taken next;
-      count = omega (arith, so.count, less, length-append so.taken bytes);
-      serves = λ fields stood empty. rw (cut_anywhere no_lines so.taken bytes)
-          (serves fields (cut_of so.taken) sink (so.serves fields stood empty));
-      source_rises = omega (arith, so.source_rises, source_rises);
-      sink_rises = omega (arith, so.sink_rises, sink_rises);
-    }
-
--- a piece was answered up to a fault
+-- the whole lines are among all
 last_more : (lines : List (List ℕ)) (rest : List ℕ)
     → (more : List (List ℕ)) × (with_last lines rest ≡ more ++ lines)
 last_more lines [] = ([], refl)
 last_more lines (byte ∷ rest) = ((byte ∷ rest) ∷ [], refl)
 
-all_puts : {W : Type 0} (stands : W → List ℕ → Type 0) (faults : W → ℕ) (first old new : W)
-    (fields : DeskFields) (taken : List ℕ) (cut : LineCut) (desk : Desk) (held : Option (List ℕ))
-    (served : Served) → cut_of taken ≡ cut → (served ≡ Done → ⊥)
-    → ServesPiece stands faults first old new fields desk held cut served
-    → ServesLines stands faults first old new fields (all_lines taken) served
-all_puts stands faults first old new fields taken cut desk held Done is other so =
-    absurd (other refl)
-all_puts stands faults first old new fields taken cut desk held WriteFault is other so =
-    let more = last_more cut.lines cut.rest in
-    rw is (
-      prefix_of_lines stands first new fields cut.lines more.0 (with_last cut.lines cut.rest) more.1
-          so.0,
-      so.1,
-    )
-all_puts stands faults first old new fields taken cut desk held Memory is other so =
-    let more = last_more cut.lines cut.rest in
-    rw is (stops_among_lines stands first new fields cut.lines more.0 (with_last cut.lines cut.rest)
-    more.1 so)
-all_puts stands faults first old new fields taken cut desk held Spent is other so = absurd so
-all_puts stands faults first old new fields taken cut desk held ReadFault is other so = absurd so
+module _ {M W : Type 0} (m : memory.Ghosts M) (w : sink.Ghosts W) where
+  -- before the first byte, no reply is due
+  answered_none : (first : W) (now : M) (fields : DeskFields) → Keeps m now fields.entries
+      → HasAnswered m w first first now fields []
+  answered_none first now fields keeps =
+      record { put = λ before holds. rw (append-nil before) holds; keeps = keeps }
 
-fault_cause : {W : Type 0} (stands : W → List ℕ → Type 0) (faults : W → ℕ) (first start old new : W)
-    (fields : DeskFields) (lines : List (List ℕ)) (served : Served) (rest : Option (List ℕ))
-    (count : ℕ) (failed : Type 0) → (served ≡ Done → ⊥) → faults start ≤ faults old
-    → ServesLines stands faults first old new fields lines served
-    → HasCause rest count failed (Rose (faults start) (faults new)) served
-fault_cause stands faults first start old new fields lines Done rest count failed other rises so =
-    absurd (other refl)
-fault_cause stands faults first start old new fields lines WriteFault rest count failed other rises
-    so =
-    rose_more (faults start) (faults old) (faults new) rises so.1
-fault_cause stands faults first start old new fields lines Memory rest count failed other rises so =
-    tt
-fault_cause stands faults first start old new fields lines Spent rest count failed other rises so =
-    absurd so
-fault_cause stands faults first start old new fields lines ReadFault rest count failed other rises
-    so =
-    absurd so
+  -- what was put of a piece is what was put of its lines
+  lines_of_put : (first old new : W) (memory_old memory_new : M) (fields : DeskFields)
+      (now : Moment M W) (cut : LineCut) (served : Served)
+      → PutsPiece m w first old new memory_old memory_new fields now.desk now.held cut served
+      → PutsLines m w first old new memory_old memory_new fields cut.lines served
+  lines_of_put first old new memory_old memory_new fields now cut Done so =
+      answered_of_told m w first new memory_new nothing_withheld fields cut.lines refl so.told
+  lines_of_put first old new memory_old memory_new fields now cut WriteFault so = so
+  lines_of_put first old new memory_old memory_new fields now cut (Unkept fault) so = so
+  lines_of_put first old new memory_old memory_new fields now cut Memory so = so
+  lines_of_put first old new memory_old memory_new fields now cut Spent so = absurd so
+  lines_of_put first old new memory_old memory_new fields now cut ReadFault so = absurd so
 
-pub piece_ended : {R W : Type 0} (left : R → Option (List ℕ)) (source_faults : R → ℕ)
-    (stands : W → List ℕ → Type 0) (sink_faults : W → ℕ) (desk desk_now desk_new : Desk)
-    (held held_now held_new : Option (List ℕ)) (source source_now source_new : R)
-    (sink sink_now sink_new : W) (room : ℕ) (bytes : List ℕ) (served : Served)
-    → IsServedTo left source_faults stands sink_faults desk held source sink desk_now held_now
-    source_now sink_now room
-    → length bytes ≤ room
-    → AreTaken (left source_now) (left source_new) bytes
-    → (served ≡ Done → ⊥)
-    → ((fields : DeskFields) (cut : LineCut) (first : W)
-    → HasServed stands first sink_now fields desk_now held_now cut
-    → ServesPiece stands sink_faults first sink_now sink_new fields desk_new held_new
-    (with_bytes cut bytes) served)
-    → (fields : DeskFields) → DeskStandsFor desk fields no_lines_of → held ≡ Some []
-    → Serves left source_faults stands sink_faults fields source source_new sink sink_new served
-piece_ended left source_faults stands sink_faults desk desk_now desk_new held held_now held_new
-    source source_now source_new sink sink_now sink_new room bytes served so few next other serves
-    fields stood empty =
-    let lines = all_puts stands sink_faults sink sink_now sink_new fields (so.taken ++ bytes)
-    (with_bytes (cut_of so.taken) bytes) desk_new held_new served
-    (cut_anywhere no_lines so.taken bytes) other
-    (serves fields (cut_of so.taken) sink (so.serves fields stood empty)) in
-    record {
-      taken = so.taken ++ bytes;
-      are_taken = taken_both (left source) (left source_now) (left source_new) so.taken bytes
-          so.are_taken next;
-      few = omega (arith, so.count, few, length-append so.taken bytes);
-      puts = line_puts stands sink_faults sink sink_now sink_new fields (so.taken ++ bytes) served
-          lines;
-      cause = fault_cause stands sink_faults sink sink sink_now sink_new fields
-          (all_lines (so.taken ++ bytes)) served (left source_new) (length (so.taken ++ bytes)) _
-          other so.sink_rises lines;
-    }
+module _ {R M W : Type 0} (r : source.Ghosts R) (m : memory.Ghosts M) (w : sink.Ghosts W) where
+  -- a desk took these bytes so far, and served what they hold
+  pub record IsServedTo (start : Moment M W) (source : R) (now : Moment M W) (source_now : R)
+      (room : ℕ) : Type 0 where
+    pub taken : List ℕ
+    pub are_taken : AreTaken (r.left source) (r.left source_now) taken
+    pub count : length taken + room ≡ most_input
+    pub serves : (fields : DeskFields) → DeskStandsFor start.desk fields no_lines_of
+        → Keeps m start.memory fields.entries → start.held ≡ Some []
+        → start.withheld ≡ nothing_withheld
+        → ServedAt m w start.sink now fields (cut_of taken)
+    pub empty : start.withheld ≡ nothing_withheld → now.withheld ≡ nothing_withheld
+    pub source_rises : r.faults source ≤ r.faults source_now
+    pub memory_rises : m.faults start.memory ≤ m.faults now.memory
+    pub sink_rises : w.faults start.sink ≤ w.faults now.sink
+
+  -- what a run from one moment to another serves
+  abbrev pub ServesRun : Moment M W → R → R → M → W → Served → Type 0
+  ServesRun start source source_new memory_new sink_new served =
+      (fields : DeskFields) → DeskStandsFor start.desk fields no_lines_of
+      → Keeps m start.memory fields.entries → start.held ≡ Some []
+      → start.withheld ≡ nothing_withheld
+      → Serves r m w fields
+      (record { source = source; memory = start.memory; sink = start.sink })
+      (record { source = source_new; memory = memory_new; sink = sink_new }) served
+
+  -- nothing was taken yet
+  pub none_taken : (start : Moment M W) (source : R)
+      → IsServedTo start source start source most_input
+  none_taken start source =
+      record {
+        taken = [];
+        are_taken = none_of (r.left source);
+        count = refl;
+        serves = λ fields stood keeps empty none. record {
+          desk_stands = stood;
+          holds = rw empty refl;
+          told = rw none (told_anew m w start.sink start.sink start.memory fields []
+              (answered_none m w start.sink start.memory fields keeps));
+        };
+        empty = λ none. none;
+        source_rises = omega arith;
+        memory_rises = omega arith;
+        sink_rises = omega arith;
+      }
+
+  -- the replies to the whole lines were put
+  whole_put : (start : Moment M W) (source : R) (now : Moment M W) (source_now : R) (room : ℕ)
+      → (so : IsServedTo start source now source_now room)
+      → (fields : DeskFields) → DeskStandsFor start.desk fields no_lines_of
+      → Keeps m start.memory fields.entries → start.held ≡ Some []
+      → start.withheld ≡ nothing_withheld
+      → HasAnswered m w start.sink now.sink now.memory fields (whole_lines so.taken)
+  whole_put start source now source_now room so fields stood keeps empty none =
+      answered_of_told m w start.sink now.sink now.memory now.withheld fields
+      (whole_lines so.taken) (so.empty none) (so.serves fields stood keeps empty none).told
+
+  -- what was put of all lines, and why it ended
+  line_puts : (old new : Outside R M W) (fields : DeskFields) (taken : List ℕ) (served : Served)
+      → PutsLines m w old.sink old.sink new.sink old.memory new.memory fields (all_lines taken)
+      served
+      → PutsReplies m w old.sink new.sink new.memory fields taken served
+  line_puts old new fields taken Done so = so
+  line_puts old new fields taken WriteFault so = so.0
+  line_puts old new fields taken (Unkept fault) so = so.0
+  line_puts old new fields taken Memory so = inr so
+  line_puts old new fields taken Spent so = absurd so
+  line_puts old new fields taken ReadFault so = absurd so
+
+  line_cause : (old new : Outside R M W) (fields : DeskFields) (lines : List (List ℕ))
+      (count : ℕ) (served : Served)
+      → (served ≡ Done → IfSome (r.left new.source) (λ bytes. bytes ≡ []) × (count < most_input))
+      → PutsLines m w old.sink old.sink new.sink old.memory new.memory fields lines served
+      → HasCause r m w old new count served
+  line_cause old new fields lines count Done ends so = ends refl
+  line_cause old new fields lines count WriteFault ends so = so.1
+  line_cause old new fields lines count (Unkept fault) ends so = so.1
+  line_cause old new fields lines count Memory ends so = tt
+  line_cause old new fields lines count Spent ends so = absurd so
+  line_cause old new fields lines count ReadFault ends so = absurd so
+
+  -- the source is at its end
+  pub end_served : {start : Moment M W} {source : R} {now : Moment M W}
+      {source_now source_new : R} {memory_new : M} {sink_new : W} {room n : ℕ}
+      (piece : List ℕ) {served : Served}
+      → IsServedTo start source now source_now room
+      → 0 < room → n ≡ 0
+      → AreTaken (r.left source_now) (r.left source_new) (take n piece)
+      → (n ≡ 0 → IfSome (r.left source_new) (λ bytes. bytes ≡ []))
+      → ((fields : DeskFields) (cut : LineCut) (first : W) → ServedAt m w first now fields cut
+      → PutsLines m w first now.sink sink_new now.memory memory_new fields
+      (with_last cut.lines cut.rest) served)
+      → ServesRun start source source_new memory_new sink_new served
+  end_served {start} {source} {now} {source_now} {source_new} {memory_new} {sink_new} {room} {n}
+      piece {served} so some none next ends last fields stood keeps empty nothing =
+      let old : Outside R M W =
+      record { source = source; memory = start.memory; sink = start.sink } in
+      let new : Outside R M W =
+      record { source = source_new; memory = memory_new; sink = sink_new } in
+      let lines = puts_since m w start.sink start.sink now.sink sink_new start.memory now.memory
+      memory_new fields (all_lines so.taken) served so.memory_rises so.sink_rises
+      (last fields (cut_of so.taken) start.sink (so.serves fields stood keeps empty nothing)) in
+      record {
+        taken = so.taken;
+        are_taken = no_more (r.left source) (r.left source_now) (r.left source_new) so.taken
+            (take n piece) (ap (λ (count : ℕ). take count piece) none) so.are_taken next;
+        few = omega (arith, so.count);
+        puts = line_puts old new fields so.taken served lines;
+        cause = line_cause old new fields (all_lines so.taken) (length so.taken) served
+            (λ done. (ends none, omega (arith, so.count, some))) lines;
+      }
+
+  -- the source failed
+  pub fault_served : {start : Moment M W} {source : R} {now : Moment M W}
+      {source_now source_new : R} {room : ℕ}
+      → IsServedTo start source now source_now room
+      → 0 < room → r.left source_new ≡ r.left source_now
+      → Rose (r.faults source_now) (r.faults source_new)
+      → ServesRun start source source_new now.memory now.sink ReadFault
+  fault_served {start} {source} {now} {source_now} {source_new} {room} so some kept rose fields
+      stood keeps empty nothing =
+      record {
+        taken = so.taken;
+        are_taken = subst (λ (rest : Option (List ℕ)). AreTaken (r.left source) rest so.taken)
+            (sym kept) so.are_taken;
+        few = omega (arith, so.count);
+        puts = whole_put start source now source_now room so fields stood keeps empty nothing;
+        cause = (
+          rose_more (r.faults source) (r.faults source_now) (r.faults source_new) so.source_rises
+              rose,
+          omega (arith, so.count, some),
+        );
+      }
+
+  -- as many bytes were taken as are taken at most
+  pub spent_served : {start : Moment M W} {source : R} {now : Moment M W} {source_now : R}
+      {room : ℕ}
+      → IsServedTo start source now source_now room → room ≡ 0
+      → ServesRun start source source_now now.memory now.sink Spent
+  spent_served {start} {source} {now} {source_now} {room} so none fields stood keeps empty
+      nothing =
+      record {
+        taken = so.taken;
+        are_taken = so.are_taken;
+        few = omega (arith, so.count);
+        puts = whole_put start source now source_now room so fields stood keeps empty nothing;
+        cause = omega (arith, so.count, none);
+      }
+
+  -- one piece more
+  pub piece_taken : {start : Moment M W} {source : R} {now : Moment M W} {source_now : R}
+      {new : Moment M W} {source_new : R} {room room_new : ℕ} (bytes : List ℕ)
+      → IsServedTo start source now source_now room
+      → room_new + length bytes ≡ room
+      → AreTaken (r.left source_now) (r.left source_new) bytes
+      → r.faults source_now ≤ r.faults source_new
+      → m.faults now.memory ≤ m.faults new.memory → w.faults now.sink ≤ w.faults new.sink
+      → ((fields : DeskFields) (cut : LineCut) (first : W) → ServedAt m w first now fields cut
+      → ServedAt m w first (record new { withheld = nothing_withheld }) fields
+      (with_bytes cut bytes))
+      → new.withheld ≡ nothing_withheld
+      → IsServedTo start source new source_new room_new
+  piece_taken {start} {source} {now} {source_now} {new} {source_new} {room} {room_new} bytes so
+      less next source_rises memory_rises sink_rises serves nothing =
+      record {
+        taken = so.taken ++ bytes;
+        are_taken = taken_both (r.left source) (r.left source_now) (r.left source_new) so.taken
+            bytes so.are_taken next;
+        count = omega (arith, so.count, less, length-append so.taken bytes);
+        serves = λ fields stood keeps empty none.
+            rw (nothing, cut_anywhere no_lines so.taken bytes)
+            (serves fields (cut_of so.taken) start.sink (so.serves fields stood keeps empty none));
+        empty = λ none. nothing;
+        source_rises = omega (arith, so.source_rises, source_rises);
+        memory_rises = omega (arith, so.memory_rises, memory_rises);
+        sink_rises = omega (arith, so.sink_rises, sink_rises);
+      }
+
+  -- a piece was answered up to a fault
+  pub piece_ended : {start : Moment M W} {source : R} {now : Moment M W} {source_now : R}
+      (new : Moment M W) {source_new : R} {room : ℕ} (bytes : List ℕ) {served : Served}
+      → IsServedTo start source now source_now room
+      → length bytes ≤ room
+      → AreTaken (r.left source_now) (r.left source_new) bytes
+      → (served ≡ Done → ⊥)
+      → ((fields : DeskFields) (cut : LineCut) (first : W) → ServedAt m w first now fields cut
+      → PutsPiece m w first now.sink new.sink now.memory new.memory fields new.desk new.held
+      (with_bytes cut bytes) served)
+      → ServesRun start source source_new new.memory new.sink served
+  piece_ended {start} {source} {now} {source_now} new {source_new} {room} bytes {served} so
+      few next other serves fields stood keeps empty nothing =
+      let taken : List ℕ = so.taken ++ bytes in
+      let cut : LineCut = with_bytes (cut_of so.taken) bytes in
+      let is : cut_of taken ≡ cut = cut_anywhere no_lines so.taken bytes in
+      let more = last_more cut.lines cut.rest in
+      let same : all_lines taken ≡ more.0 ++ cut.lines =
+      ap (λ (one : LineCut). with_last one.lines one.rest) is ∙ more.1 in
+      let outside_old : Outside R M W =
+      record { source = source; memory = start.memory; sink = start.sink } in
+      let outside_new : Outside R M W =
+      record { source = source_new; memory = new.memory; sink = new.sink } in
+      let lines : PutsLines m w start.sink start.sink new.sink start.memory new.memory fields
+      (all_lines taken) served =
+      rw same (puts_more m w start.sink start.sink new.sink start.memory new.memory fields more.0
+      cut.lines served other
+      (puts_since m w start.sink start.sink now.sink new.sink start.memory now.memory new.memory
+      fields cut.lines served so.memory_rises so.sink_rises
+      (lines_of_put m w start.sink now.sink new.sink now.memory new.memory fields new cut served
+      (serves fields (cut_of so.taken) start.sink (so.serves fields stood keeps empty nothing)))))
+      in
+      record {
+        taken = taken;
+        are_taken = taken_both (r.left source) (r.left source_now) (r.left source_new) so.taken
+            bytes so.are_taken next;
+        few = omega (arith, so.count, few, length-append so.taken bytes);
+        puts = line_puts outside_old outside_new fields taken served lines;
+        cause = line_cause outside_old outside_new fields (all_lines taken) (length taken) served
+            (λ done. absurd (other done)) lines;
+      }
 
 -- the room that is left
 pub less_room : (room count : ℕ) (piece : List ℕ) → count ≤ length piece → count ≤ room

@@ -8,12 +8,11 @@ use Rattle.std.proofs.lemmas.Bool.Decides.{nat_tests}
 use Rattle.std.proofs.lemmas.Slice.Eq.{bytes_eq-Decides}
 use Rattle.report_verifier.specs.Judge.{Judge}
 use Rattle.report_verifier.specs.Policy.{PolicyFields}
-use Rattle.verifier_desk.specs.declared.device_state.DeviceState.{DeviceState}
+use Rattle.desk_memory.specs.declared.device_state.DeviceState.{DeviceState}
 use Rattle.verifier_desk.specs.DeskLine.{Own}
 use Rattle.verifier_desk.specs.DeviceKey.{DeviceKey}
 use Rattle.verifier_desk.specs.DeviceLine.{DeviceLine}
-use Rattle.verifier_desk.specs.DeviceReply.{state_after, state_of}
-use Rattle.verifier_desk.specs.Replies.{DeskFields, judge_at}
+use Rattle.verifier_desk.specs.Replies.{DeskFields, judge_at, state_at}
 use Rattle.verifier_desk.specs.Standing.{IsKeptAtItsPlace, StatesStand, with_said}
 
 set-here : (states : List DeviceState) (place : ℕ) (state s : DeviceState) → place < length states
@@ -47,32 +46,30 @@ kept-here : (desk : DeskFields) (states : List DeviceState) (lines : List ℕ �
     (d : DeviceKey) (s : DeviceState)
     → place < length states
     → slice_index_or desk.devices place d ≡ device
-    → state ≡ state_after (judge_at desk device) (state_of (judge_at desk device) (lines
-    device.name))
-    line
+    → state ≡ state_at desk device (line ∷ lines device.name)
     → slice_index_or (slice_set states place state) place s
-    ≡ state_of (judge_at desk (slice_index_or desk.devices place d))
+    ≡ state_at desk (slice_index_or desk.devices place d)
     (with_said (Own device line) lines (slice_index_or desk.devices place d).name)
 kept-here desk states lines place device line state d s within is after =
     set-here states place state s within
     ∙ after
-    ∙ ap (state_of (judge_at desk device)) (sym (own-here device line lines))
-    ∙ ap (λ (owner : DeviceKey). state_of (judge_at desk owner)
-    (with_said (Own device line) lines owner.name)) (sym is)
+    ∙ ap (state_at desk device) (sym (own-here device line lines))
+    ∙ ap (λ (owner : DeviceKey). state_at desk owner (with_said (Own device line) lines owner.name))
+    (sym is)
 
 pub kept_at_its_place : IsKeptAtItsPlace
 kept_at_its_place desk states lines place device line state distinct long within is after stands i
     d s below =
     ⊎_elim
     (λ same. subst (λ (at : ℕ). slice_index_or (slice_set states place state) at s
-    ≡ state_of (judge_at desk (slice_index_or desk.devices at d))
+    ≡ state_at desk (slice_index_or desk.devices at d)
     (with_said (Own device line) lines (slice_index_or desk.devices at d).name))
     (sym (equal i place same))
     (kept-here desk states lines place device line state d s (omega (arith, long, within)) (is d)
     after))
     (λ differ. set-elsewhere states place i state s (unequal i place differ)
     ∙ stands i d s below
-    ∙ ap (state_of (judge_at desk (slice_index_or desk.devices i d)))
+    ∙ ap (state_at desk (slice_index_or desk.devices i d))
     (sym (own-elsewhere device line lines (slice_index_or desk.devices i d).name
     (λ named. unequal i place differ (distinct i place d below within
     (sym named ∙ ap (λ (owner : DeviceKey). owner.name) (sym (is d))))))))
@@ -89,17 +86,16 @@ pub said_at_place : {X : Type 0} (says : Judge → DeviceState → X)
     → StatesStand desk states lines
     → old ≡ slice_index_or states place s
     → says (record { digest = digest; key = key; image = image; policy = policy }) old
-    ≡ says (judge_at desk device) (state_of (judge_at desk device) (lines device.name))
+    ≡ says (judge_at desk device) (state_at desk device (lines device.name))
 said_at_place says desk states lines place device old s digest key image policy same_digest
     same_image same_policy same_key within is stands read =
     let judge : Judge = record { digest = digest; key = key; image = image; policy = policy } in
     let same : judge_at desk device ≡ judge =
     cc (same_digest, same_image, same_policy, same_key) in
-    let state : old ≡ state_of (judge_at desk device) (lines device.name) =
+    let state : old ≡ state_at desk device (lines device.name) =
     read
     ∙ stands place device s within
-    ∙ ap (λ (owner : DeviceKey). state_of (judge_at desk owner) (lines owner.name))
-    (is device) in
+    ∙ ap (λ (owner : DeviceKey). state_at desk owner (lines owner.name)) (is device) in
     ap (λ (one : Judge). says one old) (sym same)
     ∙ ap (λ (one : DeviceState). says (judge_at desk device) one) state
 

@@ -6,6 +6,7 @@ use Rattle.text_scan.specs.declared.fault_at.FaultAt.{FaultAt}
 use Rattle.text_scan.specs.declared.text_fault.TextFault.{TextFault}
 use Rattle.text_scan.specs.declared.text_fault.TextFault.TheVariants.{At, Memory}
 use Rattle.report_verifier.specs.Policy.{PolicyFields}
+use Rattle.desk_memory.specs.Entry.{Entry}
 use Rattle.verifier_desk.specs.declared.desk.Desk.{Desk}
 use Rattle.verifier_desk.specs.DeviceKey.{DeviceKey}
 use Rattle.verifier_desk.specs.DeviceLine.{DeviceLine}
@@ -25,16 +26,23 @@ pub record DeskStandsFor (desk : Desk) (fields : DeskFields) (lines : List ℕ �
 abbrev pub no_lines_of : List ℕ → List DeviceLine
 no_lines_of name = []
 
--- a desk of these devices, by SHA-256
-abbrev pub desk_with : List DeviceKey → (ℕ → Option ℕ) → PolicyFields → DeskFields
-desk_with devices image policy =
-    record { digest = sha256; devices = devices; image = image; policy = policy }
+-- a desk of these devices, by SHA-256, whose memory has these entries
+abbrev pub desk_with :
+    List DeviceKey → (ℕ → Option ℕ) → PolicyFields → List Entry → DeskFields
+desk_with devices image policy entries =
+    record {
+      digest = sha256;
+      devices = devices;
+      image = image;
+      policy = policy;
+      entries = entries;
+    }
 
 -- a desk was opened for the devices that a text has, or its first fault was given
 abbrev pub Opens : Result Desk TextFault → Result (List DeviceKey) FaultAt → (ℕ → Option ℕ)
-    → PolicyFields → Type 0
-Opens (Ok desk) read image policy =
+    → PolicyFields → List Entry → Type 0
+Opens (Ok desk) read image policy entries =
     (devices : List DeviceKey) × (read ≡ Ok devices)
-    × DeskStandsFor desk (desk_with devices image policy) no_lines_of
-Opens (Err (At fault)) read image policy = read ≡ Err fault
-Opens (Err (Memory _)) read image policy = Unit {0}
+    × DeskStandsFor desk (desk_with devices image policy entries) no_lines_of
+Opens (Err (At fault)) read image policy entries = read ≡ Err fault
+Opens (Err (Memory _)) read image policy entries = Unit {0}

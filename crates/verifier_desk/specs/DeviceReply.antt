@@ -1,20 +1,19 @@
 -- What a desk answers to one device, from that device's lines alone.
-use Rattle.std.specs.Prelude.{ℕ, ◌==◌, ◌&&◌, ◌+◌, Bool, List, [], ◌∷◌, if◌then◌else◌, nat_lt, Option, Some, None, option_map, unwrap_or, Result, Ok, Err}
-use Rattle.std.specs.Option.{is_none}
+use Rattle.std.specs.Prelude.{ℕ, ◌==◌, ◌&&◌, ◌+◌, Bool, List, [], ◌∷◌, if◌then◌else◌, Option, option_map, Result, Ok, Err}
 use Rattle.bus_signals.specs.Report.{ReportFields}
 use Rattle.part_definitions.specs.Hmac.{hmac}
 use Rattle.text_scan.specs.declared.fault_kind.FaultKind.{FaultKind}
 use Rattle.text_scan.specs.declared.fault_kind.FaultKind.TheVariants.{Extra}
 use Rattle.report_text.specs.ReportFile.{report2_of}
 use Rattle.report_verifier.specs.declared.asked.Asked.{Asked}
-use Rattle.report_verifier.specs.declared.decision.Decision.TheVariants.{Accept}
 use Rattle.report_verifier.specs.Expectation.{count_bytes}
 use Rattle.report_verifier.specs.Judge.{Judge}
 use Rattle.report_verifier.specs.Policy.{expectation}
 use Rattle.report_verifier.specs.Verdict.{verdict}
-use Rattle.verifier_desk.specs.declared.answer.Answer.{Answer}
-use Rattle.verifier_desk.specs.declared.answer.Answer.TheVariants.{Stale, Bad, Spent, Requested, Judged}
-use Rattle.verifier_desk.specs.declared.device_state.DeviceState.{DeviceState}
+use Rattle.desk_memory.specs.declared.answer.Answer.{Answer}
+use Rattle.desk_memory.specs.declared.answer.Answer.TheVariants.{Bad, Spent, Requested, Judged}
+use Rattle.desk_memory.specs.declared.device_state.DeviceState.{DeviceState}
+use Rattle.desk_memory.specs.DeviceState.{by_number, is_new, with_answer}
 use Rattle.verifier_desk.specs.DeviceLine.{DeviceLine}
 
 -- the greatest counter of a request
@@ -28,10 +27,6 @@ desk_challenge digest key count = hmac digest key (2 ∷ count_bytes count)
 abbrev pub request_with : (List ℕ → List ℕ) → List ℕ → ℕ → Asked
 request_with digest key count =
     record { chal = desk_challenge digest key count; count = count }
-
--- nothing was asked
-abbrev pub new_device : DeviceState
-new_device = record { count = 0; outstanding = None; last = None }
 
 -- to a line that asks: a request, unless the counter is spent
 abbrev pub answer_to_ask : ℕ → List (List ℕ) → Answer
@@ -54,47 +49,15 @@ new_answer judge state line =
     if line.is_give then answer_to_give judge state.outstanding (report2_of line.words)
     else answer_to_ask state.count line.words
 
--- what was answered before: a smaller number is stale, and the last one has its answer
-abbrev pub earlier_answer : ℕ → Option (ℕ × Answer) → Option Answer
-earlier_answer number None = None
-earlier_answer number (Some last) =
-    if nat_lt number last.0 then Some Stale
-    else if number == last.0 then Some last.1
-    else None
-
--- all other numbers are new
-abbrev pub is_new : ℕ → Option (ℕ × Answer) → Bool
-is_new number last = is_none (earlier_answer number last)
-
 -- a line gives a report and has a new number: memory is taken for no other
 abbrev pub is_new_give : Option (ℕ × Answer) → DeviceLine → Bool
 is_new_give last line = line.is_give && is_new line.number last
 
-abbrev pub by_number : ℕ → Option (ℕ × Answer) → Answer → Answer
-by_number number last answer = unwrap_or (earlier_answer number last) answer
-
+-- the last number has its answer, a smaller one is stale, and all others are new
 abbrev pub answer_after : Judge → DeviceState → DeviceLine → Answer
 answer_after judge state line = by_number line.number state.last (new_answer judge state line)
 
--- a request counts and is outstanding, until its report is accepted
-abbrev pub count_after : ℕ → Answer → ℕ
-count_after count (Requested next) = next
-count_after count answer = count
-
-abbrev pub outstanding_after : Option ℕ → Answer → Option ℕ
-outstanding_after outstanding (Requested next) = Some next
-outstanding_after outstanding (Judged Accept) = None
-outstanding_after outstanding answer = outstanding
-
 -- the answer to a new number is kept
-abbrev pub with_answer : DeviceState → ℕ → Answer → DeviceState
-with_answer state number answer =
-    record {
-      count = count_after state.count answer;
-      outstanding = outstanding_after state.outstanding answer;
-      last = Some (number, answer);
-    }
-
 abbrev pub state_after : Judge → DeviceState → DeviceLine → DeviceState
 state_after judge state line =
     if is_new line.number state.last
@@ -102,10 +65,6 @@ state_after judge state line =
     else state
 
 -- after a device's lines, newest first
-abbrev pub state_of : Judge → List DeviceLine → DeviceState
-state_of judge [] = new_device
-state_of judge (line ∷ earlier) = state_after judge (state_of judge earlier) line
-
--- the answer to a device's line after its earlier ones
-abbrev pub answer_of : Judge → List DeviceLine → DeviceLine → Answer
-answer_of judge earlier line = answer_after judge (state_of judge earlier) line
+abbrev pub state_from : Judge → DeviceState → List DeviceLine → DeviceState
+state_from judge state [] = state
+state_from judge state (line ∷ earlier) = state_after judge (state_from judge state earlier) line

@@ -8,20 +8,23 @@ use Rattle.report_text.specs.VerdictName.{verdict_name}
 use Rattle.report_verifier.specs.Expectation.{count_bytes}
 use Rattle.report_verifier.specs.Judge.{Judge}
 use Rattle.report_verifier.specs.Policy.{PolicyFields}
-use Rattle.verifier_desk.specs.declared.answer.Answer.{Answer}
-use Rattle.verifier_desk.specs.declared.answer.Answer.TheVariants.{Stale, Bad, Spent, Requested, Judged}
+use Rattle.desk_memory.specs.declared.answer.Answer.{Answer}
+use Rattle.desk_memory.specs.declared.answer.Answer.TheVariants.{Stale, Bad, Spent, Requested, Judged}
+use Rattle.desk_memory.specs.declared.device_state.DeviceState.{DeviceState}
+use Rattle.desk_memory.specs.Entry.{Entry, state_named}
+use Rattle.desk_memory.specs.FaultName.{fault_name}
 use Rattle.verifier_desk.specs.DeskLine.{DeskLine, TooLong, Silent, Foreign, Own, line_of}
 use Rattle.verifier_desk.specs.DeviceKey.{DeviceKey}
 use Rattle.verifier_desk.specs.DeviceLine.{DeviceLine}
-use Rattle.verifier_desk.specs.DeviceReply.{answer_of, desk_challenge, is_new_give, state_of}
-use Rattle.verifier_desk.specs.FaultName.{fault_name}
+use Rattle.verifier_desk.specs.DeviceReply.{answer_after, desk_challenge, is_new_give, state_from}
 
--- whom a desk serves, and what it judges reports by
+-- whom a desk serves, what it judges reports by, and what its memory has as it starts
 pub record DeskFields : Type 0 where
   pub digest : List ℕ → List ℕ
   pub devices : List DeviceKey
   pub image : ℕ → Option ℕ
   pub policy : PolicyFields
+  pub entries : List Entry
 
 abbrev pub judge_at : DeskFields → DeviceKey → Judge
 judge_at desk device =
@@ -31,6 +34,11 @@ judge_at desk device =
       image = desk.image;
       policy = desk.policy;
     }
+
+-- the state of a device after these lines of it, newest first
+abbrev pub state_at : DeskFields → DeviceKey → List DeviceLine → DeviceState
+state_at desk device lines =
+    state_from (judge_at desk device) (state_named desk.entries device.name) lines
 
 -- ` H64 n token H64`
 abbrev pub request_words : (List ℕ → List ℕ) → List ℕ → ℕ → List ℕ
@@ -68,10 +76,15 @@ own_lines devices name [] = []
 own_lines devices name (line ∷ earlier) =
     own_line name (line_of devices line) ++ own_lines devices name earlier
 
+-- the lines of each device among these
+abbrev pub lines_said : DeskFields → List (List ℕ) → List ℕ → List DeviceLine
+lines_said desk lines name = own_lines desk.devices name lines
+
 -- the reply to a line of a device, where these were its earlier ones
 abbrev pub own_reply : DeskFields → List DeviceLine → DeviceKey → DeviceLine → List ℕ
 own_reply desk earlier device line =
-    answer_line desk.digest device line.number (answer_of (judge_at desk device) earlier line)
+    answer_line desk.digest device line.number
+    (answer_after (judge_at desk device) (state_at desk device earlier) line)
 
 -- the reply to what a line says, where these were the earlier lines of the device of each name
 abbrev pub reply_to : DeskFields → (List ℕ → List DeviceLine) → DeskLine → List ℕ
@@ -83,13 +96,12 @@ reply_to desk earlier (Own device line) = own_reply desk (earlier device.name) d
 -- whether what a line says is a new report of a device
 abbrev pub gives_report : DeskFields → (List ℕ → List DeviceLine) → DeskLine → Bool
 gives_report desk earlier (Own device line) =
-    is_new_give (state_of (judge_at desk device) (earlier device.name)).last line
+    is_new_give (state_at desk device (earlier device.name)).last line
 gives_report desk earlier said = false
 
 -- the reply to a line after earlier ones
 abbrev pub reply : DeskFields → List (List ℕ) → List ℕ → List ℕ
-reply desk earlier line =
-    reply_to desk (λ name. own_lines desk.devices name earlier) (line_of desk.devices line)
+reply desk earlier line = reply_to desk (lines_said desk earlier) (line_of desk.devices line)
 
 -- the replies to lines, the newest first, in the order of the lines
 abbrev pub replies : DeskFields → List (List ℕ) → List ℕ

@@ -1,11 +1,10 @@
 -- The states of a desk's devices stand for what each device's lines are.
-use Rattle.std.specs.Prelude.{◌≡◌, ◌<◌, ◌++◌, ℕ, List, length, slice_index_or, slice_set}
-use Rattle.verifier_desk.specs.declared.device_state.DeviceState.{DeviceState}
+use Rattle.std.specs.Prelude.{◌≡◌, ◌<◌, ◌++◌, ◌∷◌, ℕ, List, length, slice_index_or, slice_set}
+use Rattle.desk_memory.specs.declared.device_state.DeviceState.{DeviceState}
 use Rattle.verifier_desk.specs.DeskLine.{DeskLine, Own}
 use Rattle.verifier_desk.specs.DeviceKey.{DeviceKey}
 use Rattle.verifier_desk.specs.DeviceLine.{DeviceLine}
-use Rattle.verifier_desk.specs.DeviceReply.{state_after, state_of}
-use Rattle.verifier_desk.specs.Replies.{DeskFields, judge_at, own_line}
+use Rattle.verifier_desk.specs.Replies.{DeskFields, own_line, state_at}
 
 -- no two devices have one name
 abbrev pub AreDistinct : List DeviceKey → Type 0
@@ -20,8 +19,7 @@ abbrev pub StatesStand :
 StatesStand desk states lines =
     (i : ℕ) (d : DeviceKey) (s : DeviceState) → i < length desk.devices
     → slice_index_or states i s
-    ≡ state_of (judge_at desk (slice_index_or desk.devices i d))
-    (lines (slice_index_or desk.devices i d).name)
+    ≡ state_at desk (slice_index_or desk.devices i d) (lines (slice_index_or desk.devices i d).name)
 
 -- the lines of each device after one more line
 abbrev pub with_said : DeskLine → (List ℕ → List DeviceLine) → List ℕ → List DeviceLine
@@ -37,6 +35,6 @@ IsKeptAtItsPlace =
     → place < length desk.devices
     → ((d : DeviceKey) → slice_index_or desk.devices place d ≡ device)
     → state
-    ≡ state_after (judge_at desk device) (state_of (judge_at desk device) (lines device.name)) line
+    ≡ state_at desk device (line ∷ lines device.name)
     → StatesStand desk states lines
     → StatesStand desk (slice_set states place state) (with_said (Own device line) lines)

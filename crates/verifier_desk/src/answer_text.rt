@@ -1,12 +1,11 @@
 ghost use Rattle.std.specs.Prelude.{◌≡◌, ◌≤◌, ◌+◌, ◌++◌, length, codes};
 ghost use Rattle.sha2.specs.Sha256.{sha256};
 ghost use Rattle.report_text.specs.VerdictName.{verdict_name};
-ghost use Rattle.verifier_desk.specs.FaultName.{fault_name};
+ghost use Rattle.desk_memory.specs.FaultName.{fault_name};
 ghost use Rattle.verifier_desk.specs.Replies.{answer_line, answer_verb, answer_words, request_words};
 
-use crate::answer::Answer;
 use crate::challenge::desk_challenge;
-use crate::fault_name::fault_name;
+use desk_memory::{Answer, fault_name};
 use line_buffer::LineBuffer;
 use report_text::verdict_name;
 use report_verifier::token;
@@ -15,8 +14,9 @@ use report_verifier::token;
 /// it says.
 pub fn answer_line(key: &[u8; 64], name: &[u8], number: u32, answer: Answer) -> LineBuffer
     requires { length name.now ≤ 32 }
-    ensures { result
+    ensures text { result
         ≡ answer_line sha256 (record { name = name.now; key = key.now }) number answer }
+    ensures short { length result ≤ 256 }
 {
     let mut line = LineBuffer::new();
     line.push(verb_of(answer));

@@ -1,22 +1,23 @@
-ghost use Rattle.std.specs.Prelude.{◌≡◌, ◌<◌, ◌↔◌, ℕ, List, All, None, IsTrue, IfOk, OnOk, OnErr, length, slice_index_or, unwrap_or, vec_len, []};
+ghost use Rattle.std.specs.Prelude.{◌≡◌, ◌<◌, ◌↔◌, ◌∷◌, ℕ, List, Ok, All, None, IsTrue, IfOk, OnOk, OnErr, length, slice_index_or, vec_len, []};
 ghost use Rattle.mem_map.specs.Image.{byte_in};
 ghost use Rattle.text_scan.specs.Word.{words_of};
+ghost use Rattle.desk_memory.specs.Entry.{state_named};
 ghost use Rattle.verifier_desk.specs.declared.desk_line.SaidLine.TheVariants.{Silent};
 ghost use Rattle.verifier_desk.specs.DeskLine.{Own, line_of_words};
 ghost use Rattle.verifier_desk.specs.DeviceKey.{DeviceKey as DeviceFields, key_named};
 ghost use Rattle.verifier_desk.specs.DeviceLine.{DeviceLine};
-ghost use Rattle.verifier_desk.specs.DeviceReply.{new_device};
 ghost use Rattle.verifier_desk.specs.OwnLine.{line_in, own_or_none, said_at};
 ghost use Rattle.verifier_desk.specs.Replies.{DeskFields};
-ghost use Rattle.verifier_desk.specs.Standing.{with_said};
+ghost use Rattle.verifier_desk.specs.Reply.{reply_in};
 
+use crate::answer_fault::AnswerFault;
 use crate::answer_text::answer_line;
 use crate::desk_line::{OwnLine, SaidLine, read_desk_line};
 use crate::device_answer::answer_device;
-use crate::device_state::DeviceState;
 use crate::key_list::KeyList;
+use crate::noting::note_new;
 use crate::reply::Reply;
-use line_buffer::LineBuffer;
+use desk_memory::{DeviceState, Entry, Memory, state_of};
 use mem_map::Image;
 use report_verifier::Policy;
 use std::alloc::{AllocError, Global};
@@ -32,28 +33,41 @@ pub struct Desk<'a> {
     ghost whole: { vec_len states ≡ length keys },
 }
 
-fn new_states(alloc: Global, count: usize) -> Result<Vec<DeviceState>, AllocError>
-    ensures count { IfOk result (λ states. vec_len states ≡ count) }
-    ensures new { IfOk result (λ states. All (λ state. state ≡ new_device) states.items) }
+// The states of devices, in their order, as these entries have them.
+fn states_in(
+    alloc: Global,
+    keys: &KeyList<'_>,
+    entries: &[Entry],
+) -> Result<Vec<DeviceState>, AllocError>
+    ensures count { IfOk result (λ states. vec_len states ≡ length keys.now) }
+    ensures states { IfOk result (λ states. (i : ℕ) (d : DeviceFields) (s : DeviceState)
+        → i < length keys.now
+        → slice_index_or states.items i s
+        ≡ state_named entries.now (slice_index_or keys.now i d).name) }
 {
-    vec![in alloc; DeviceState::new(); count]
+    let mut states = Vec::new(alloc);
+    for place in 0..keys.len() {
+        states.push(state_of(entries, keys.device_at(place).name()))?;
+    }
+    Ok(states)
 }
 
 impl<'a> Desk<'a> {
+    ghost use Rattle.verifier_desk.specs.Answering.{Answers, OnlyNotes};
     ghost use Rattle.verifier_desk.specs.Desk.{DeskStandsFor, desk_with, no_lines_of};
-    ghost use Rattle.verifier_desk.specs.Replies.{gives_report, own_reply, reply_to};
 
-    /// A desk of these devices, none of which has sent a line.
+    /// A desk of these devices, in the states that these entries have.
     pub(crate) fn new(
         alloc: Global,
         keys: KeyList<'a>,
         image: Image,
         policy: Policy,
+        entries: &[Entry],
     ) -> Result<Desk<'a>, AllocError>
-        ensures { IfOk result (λ desk.
-            DeskStandsFor desk (desk_with keys.entry (byte_in image) policy) no_lines_of) }
+        ensures { IfOk result (λ desk. DeskStandsFor desk
+            (desk_with keys.entry (byte_in image) policy entries.now) no_lines_of) }
     {
-        let states = new_states(alloc, keys.len())?;
+        let states = states_in(alloc, &keys, entries)?;
         Ok(Desk {
             alloc,
             keys,
@@ -63,94 +77,82 @@ impl<'a> Desk<'a> {
         })
     }
 
-    /// The reply to a line of at most 65,536 bytes, `None` exactly where it has no words. Memory is
-    /// taken for a report alone; where there is none the desk stays as it was.
-    pub fn answer(&mut self, line: &[u8]) -> Result<Option<Reply>, AllocError>
-        ensures reply { (fields : DeskFields) (lines : List ℕ → List DeviceLine)
+    /// The reply to a line of at most 65,536 bytes, `None` exactly where it has no words; where it
+    /// has a new number, the state that it leads to is noted. After an error the desk is as it was.
+    pub fn answer<M: Memory>(
+        &mut self,
+        line: &[u8],
+        memory: &mut M,
+    ) -> Result<Option<Reply>, AnswerFault>
+        ensures answers { (fields : DeskFields) (lines : List ℕ → List DeviceLine)
             → DeskStandsFor self.old fields lines
-            → IfOk result (λ reply. unwrap_or reply []
-            ≡ reply_to fields lines (line_of_words fields.devices (words_of line.now))) }
-        ensures stands { (fields : DeskFields) (lines : List ℕ → List DeviceLine)
-            → DeskStandsFor self.old fields lines
-            → OnOk result (DeskStandsFor self.new fields
-            (with_said (line_of_words fields.devices (words_of line.now)) lines)) }
+            → Answers M.Memory memory.old memory.new self.new fields lines
+            (line_of_words fields.devices (words_of line.now)) (reply_in result) }
         ensures kept { OnErr result (self.new ≡ self.old) }
-        ensures memory { (fields : DeskFields) (lines : List ℕ → List DeviceLine)
-            → DeskStandsFor self.old fields lines
-            → OnErr result (IsTrue (gives_report fields lines
-            (line_of_words fields.devices (words_of line.now)))) }
         ensures silent { IfOk result (λ reply. (reply ≡ None) ↔ (words_of line.now ≡ [])) }
+        ensures only { OnlyNotes M.Memory memory.old memory.new }
     {
-        self.answer_said(&read_desk_line(line))
+        self.answer_said(&read_desk_line(line), memory)
     }
 
     // Answers what a line says.
-    fn answer_said(&mut self, said: &SaidLine<'_>) -> Result<Option<Reply>, AllocError>
-        ensures reply { (fields : DeskFields) (lines : List ℕ → List DeviceLine)
+    fn answer_said<M: Memory>(
+        &mut self,
+        said: &SaidLine<'_>,
+        memory: &mut M,
+    ) -> Result<Option<Reply>, AnswerFault>
+        ensures answers { (fields : DeskFields) (lines : List ℕ → List DeviceLine)
             → DeskStandsFor self.old fields lines
-            → IfOk result (λ reply. unwrap_or reply []
-            ≡ reply_to fields lines (said_at fields.devices said.now)) }
-        ensures stands { (fields : DeskFields) (lines : List ℕ → List DeviceLine)
-            → DeskStandsFor self.old fields lines
-            → OnOk result (DeskStandsFor self.new fields
-            (with_said (said_at fields.devices said.now) lines)) }
+            → Answers M.Memory memory.old memory.new self.new fields lines
+            (said_at fields.devices said.now) (reply_in result) }
         ensures kept { OnErr result (self.new ≡ self.old) }
-        ensures memory { (fields : DeskFields) (lines : List ℕ → List DeviceLine)
-            → DeskStandsFor self.old fields lines
-            → OnErr result (IsTrue (gives_report fields lines
-            (said_at fields.devices said.now))) }
         ensures silent { IfOk result (λ reply. (reply ≡ None) ↔ (said.now ≡ Silent)) }
+        ensures only { OnlyNotes M.Memory memory.old memory.new }
     {
         match said {
             SaidLine::Silent => Ok(None),
             SaidLine::Foreign => Ok(Some(Reply::refused())),
-            SaidLine::Own(own) => Ok(Some(self.answer_own(own)?)),
+            SaidLine::Own(own) => Ok(Some(self.answer_own(own, memory)?)),
         }
     }
 
     // Answers a line of a device, if the desk has that device.
-    fn answer_own(&mut self, own: &OwnLine<'_>) -> Result<Reply, AllocError>
-        ensures reply { (fields : DeskFields) (lines : List ℕ → List DeviceLine)
+    fn answer_own<M: Memory>(
+        &mut self,
+        own: &OwnLine<'_>,
+        memory: &mut M,
+    ) -> Result<Reply, AnswerFault>
+        ensures answers { (fields : DeskFields) (lines : List ℕ → List DeviceLine)
             → DeskStandsFor self.old fields lines
-            → IfOk result (λ reply. reply ≡ reply_to fields lines
-            (own_or_none (key_named own.now.name.now fields.devices) own.now)) }
-        ensures stands { (fields : DeskFields) (lines : List ℕ → List DeviceLine)
-            → DeskStandsFor self.old fields lines
-            → OnOk result (DeskStandsFor self.new fields
-            (with_said (own_or_none (key_named own.now.name.now fields.devices) own.now) lines)) }
+            → Answers M.Memory memory.old memory.new self.new fields lines
+            (own_or_none (key_named own.now.name.now fields.devices) own.now) result }
         ensures kept { OnErr result (self.new ≡ self.old) }
-        ensures memory { (fields : DeskFields) (lines : List ℕ → List DeviceLine)
-            → DeskStandsFor self.old fields lines
-            → OnErr result (IsTrue (gives_report fields lines
-            (own_or_none (key_named own.now.name.now fields.devices) own.now))) }
+        ensures only { OnlyNotes M.Memory memory.old memory.new }
     {
         match self.keys.place_of(own.name) {
             None => Ok(Reply::refused()),
-            Some(place) => Ok(Reply::new(self.answer_at(place, own)?)),
+            Some(place) => self.answer_at(place, own, memory),
         }
     }
 
     // Answers a line of the device at a place.
-    fn answer_at(&mut self, place: usize, own: &OwnLine<'_>) -> Result<LineBuffer, AllocError>
+    fn answer_at<M: Memory>(
+        &mut self,
+        place: usize,
+        own: &OwnLine<'_>,
+        memory: &mut M,
+    ) -> Result<Reply, AnswerFault>
         requires { place < length self.old.keys }
-        ensures reply { (fields : DeskFields) (lines : List ℕ → List DeviceLine)
+        ensures answers { (fields : DeskFields) (lines : List ℕ → List DeviceLine)
             (device : DeviceFields) → DeskStandsFor self.old fields lines
             → ((d : DeviceFields) → slice_index_or fields.devices place d ≡ device)
-            → IfOk result (λ reply.
-            reply ≡ own_reply fields (lines device.name) device (line_in own.now)) }
-        ensures stands { (fields : DeskFields) (lines : List ℕ → List DeviceLine)
-            (device : DeviceFields) → DeskStandsFor self.old fields lines
-            → ((d : DeviceFields) → slice_index_or fields.devices place d ≡ device)
-            → OnOk result (DeskStandsFor self.new fields
-            (with_said (Own device (line_in own.now)) lines)) }
+            → Answers M.Memory memory.old memory.new self.new fields lines
+            (Own device (line_in own.now)) result }
         ensures kept { OnErr result (self.new ≡ self.old) }
-        ensures memory { (fields : DeskFields) (lines : List ℕ → List DeviceLine)
-            (device : DeviceFields) → DeskStandsFor self.old fields lines
-            → ((d : DeviceFields) → slice_index_or fields.devices place d ≡ device)
-            → OnErr result (IsTrue (gives_report fields lines
-            (Own device (line_in own.now)))) }
+        ensures only { OnlyNotes M.Memory memory.old memory.new }
     {
         let mut state = self.states[place];
+        let is_new = state.is_new(own.number);
         let device = self.keys.device_at(place);
         let answer = answer_device(
             self.alloc,
@@ -160,8 +162,9 @@ impl<'a> Desk<'a> {
             &mut state,
             own,
         )?;
+        note_new(is_new, device, state, memory)?;
         let line = answer_line(device.key(), device.name(), own.number, answer);
         self.states[place] = state;
-        Ok(line)
+        Ok(Reply::new(line, is_new))
     }
 }

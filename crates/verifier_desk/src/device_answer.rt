@@ -9,10 +9,9 @@ ghost use Rattle.report_text.specs.ReportFile.{report2_of};
 ghost use Rattle.verifier_desk.specs.DeviceReply.{answer_after, answer_to_ask, answer_to_give, is_new_give, new_answer, request_with, state_after};
 ghost use Rattle.verifier_desk.specs.OwnLine.{line_in};
 
-use crate::answer::Answer;
 use crate::challenge::desk_challenge;
 use crate::desk_line::OwnLine;
-use crate::device_state::DeviceState;
+use desk_memory::{Answer, DeviceState};
 use mem_map::Image;
 use report_text::read_report2;
 use report_verifier::{Expect, Policy, decide};

@@ -1,5 +1,7 @@
 ghost use Rattle.verifier_desk.specs.HeldLine.{IsCutAnywhere, IsHeld, IsPlain};
-ghost use Rattle.verifier_desk.specs.Law.{IsServedAlone, IsAcceptedOnce, IsAnswered, IsRepeated};
+ghost use Rattle.verifier_desk.specs.KeyOwner.{IsKeyKept, IsUnderOneName};
+ghost use Rattle.verifier_desk.specs.Law.{IsServedAlone, IsAcceptedOnce, IsAnswered, IsGoneOn, IsRemembered, IsRepeated};
+ghost use Rattle.verifier_desk.specs.Run.{IsOfAllRuns};
 ghost use Rattle.verifier_desk.specs.Standing.{IsKeptAtItsPlace};
 
 /// The replies to a device are those at a desk whose devices and lines are that device's alone.
@@ -7,7 +9,8 @@ pub fn device_is_served_alone()
     ensures { IsServedAlone }
 {}
 
-/// No counter is requested twice or accepted twice, and what is accepted was requested.
+/// No counter is requested twice or accepted twice, and what is accepted was requested, through all
+/// runs.
 pub fn report_is_accepted_once()
     ensures { IsAcceptedOnce }
 {}
@@ -40,4 +43,30 @@ pub fn plain_piece_lengthens_line()
 /// A line of the device at a place changes the state there alone.
 pub fn state_is_kept_at_its_place()
     ensures { IsKeptAtItsPlace }
+{}
+
+/// The memory has the state of each device after its lines, and of other names what it had.
+pub fn memory_has_states()
+    ensures { IsRemembered }
+{}
+
+/// A desk that is started with what the memory of another had goes on as if it had not been
+/// stopped.
+pub fn desk_goes_on()
+    ensures { IsGoneOn }
+{}
+
+/// The memory has the state of each device after its lines of all runs, each judged as in its run.
+pub fn memory_has_all_runs()
+    ensures { IsOfAllRuns }
+{}
+
+/// Keys that stand apart go on to, and a device that was served owns its key.
+pub fn keys_are_kept()
+    ensures { IsKeyKept }
+{}
+
+/// No key is served under two names, through all runs.
+pub fn key_is_under_one_name()
+    ensures { IsUnderOneName }
 {}

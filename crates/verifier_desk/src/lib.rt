@@ -7,35 +7,39 @@
 //! requested and accepted at most once, that the same number gets the same answer again, and that
 //! what is accepted answers the outstanding request.
 //!
-//! All of it is of one run: a desk that is opened anew has forgotten its devices.
+//! What a desk knows of its devices it notes in a memory, and no reply is put before the memory
+//! keeps it. A desk that is started anew with what its memory has goes on as if it had not been
+//! stopped.
 #![tactic(auto)]
 
-mod answer;
+mod answer_fault;
 mod answer_text;
 mod challenge;
 mod desk;
 mod desk_line;
 mod device_answer;
 mod device_key;
-mod device_state;
-mod fault_name;
 mod held_line;
 mod key_check;
 mod key_list;
+mod key_owner;
 mod law;
+mod noting;
 mod opening;
 mod places;
 mod reply;
 mod served;
 mod session;
+mod telling;
+mod withheld;
 
-pub use answer::Answer;
+pub use answer_fault::AnswerFault;
 pub use desk::Desk;
-pub use device_state::DeviceState;
 pub use key_check::keys_fault;
 pub use law::{
-    accept_answers_request, answer_is_repeated, bytes_are_cut_anywhere, device_is_served_alone,
-    line_is_held_whole, plain_piece_lengthens_line, report_is_accepted_once,
+    accept_answers_request, answer_is_repeated, bytes_are_cut_anywhere, desk_goes_on,
+    device_is_served_alone, key_is_under_one_name, keys_are_kept, line_is_held_whole,
+    memory_has_all_runs, memory_has_states, plain_piece_lengthens_line, report_is_accepted_once,
     state_is_kept_at_its_place,
 };
 pub use opening::open_desk;

@@ -1,3 +1,5 @@
+use desk_memory::MemoryFault;
+
 /// How the serving of a source ended.
 #[derive(Clone, Copy, Debug, PartialEq, Eq)]
 pub enum Served {
@@ -11,4 +13,6 @@ pub enum Served {
     WriteFault,
     /// There was no memory: for a line, before the first byte was taken, or for a report.
     Memory,
+    /// The desk's memory failed. The replies to some of the lines before were put.
+    Unkept(MemoryFault),
 }

@@ -1,16 +1,19 @@
-ghost use Rattle.std.specs.Prelude.{◌≡◌, ◌≢◌, ◌<◌, ◌≤◌, ℕ, List, [], Some, IfNone, IfOk, IfSome, OnErr, length, option_map, slice_index, take};
+ghost use Rattle.std.specs.Prelude.{◌≡◌, ◌≢◌, ◌<◌, ◌≤◌, ℕ, List, [], Some, IfNone, IfOk, IfSome, OnErr, length, slice_index, take};
 ghost use Rattle.outside_edge.specs.Sink.{CountsFaults};
-ghost use Rattle.verifier_desk.specs.HeldLine.{short_line};
-ghost use Rattle.verifier_desk.specs.LineCut.{LineCut, with_bytes, with_last};
 ghost use Rattle.verifier_desk.specs.Desk.{DeskStandsFor, no_lines_of};
+ghost use Rattle.verifier_desk.specs.declared.served.Served.TheVariants.{Done};
+ghost use Rattle.verifier_desk.specs.LineCut.{LineCut, with_bytes, with_last};
 ghost use Rattle.verifier_desk.specs.Replies.{DeskFields};
-ghost use Rattle.verifier_desk.specs.Serving.{AreTaken, HasServed, PutsReply, PutsText, Serves, ServesLines, ServesPiece, lines_said};
+ghost use Rattle.verifier_desk.specs.Serving.{AreTaken, HasServed, Keeps, PutsLines, PutsPiece, Serves, ServesPiece, nothing_withheld};
 
 use crate::desk::Desk;
 use crate::held_line::HeldLine;
 use crate::served::Served;
+use crate::telling::{answer_line, put_after};
+use crate::withheld::Withheld;
+use desk_memory::Memory;
 use memchr::memchr;
-use outside_edge::{Failed, Sink, Source, put_all};
+use outside_edge::{Failed, Sink, Source};
 use std::alloc::{AllocError, Global};
 
 /// The most bytes that are taken of a source.
@@ -19,51 +22,65 @@ pub const MOST_INPUT: u64 = 1_073_741_824;
 // The most bytes that are taken at once.
 const PIECE: usize = 65_536;
 
-/// Answers each line of a source as soon as it is whole: its reply is put before more is taken. A
+/// Answers the lines of a source, those that end in a piece at a time: what they lead to is kept by
+/// the memory before the first of their replies is put, and all are put before more is taken. A
 /// line ends at LF or CRLF, and the last may have no end.
-pub fn serve<R: Source, W: Sink>(
+pub fn serve<R: Source, M: Memory, W: Sink>(
     alloc: Global,
     desk: &mut Desk<'_>,
     source: &mut R,
+    memory: &mut M,
     sink: &mut W,
 ) -> Served
     ensures serves { (fields : DeskFields)
         → DeskStandsFor desk.old fields no_lines_of
-        → Serves R.left R.faults W.stands W.faults fields source.old source.new sink.old sink.new
-        result }
+        → Keeps M.Memory memory.old fields.entries
+        → Serves R.Source M.Memory W.Sink fields
+        (record { source = source.old; memory = memory.old; sink = sink.old })
+        (record { source = source.new; memory = memory.new; sink = sink.new }) result }
     ensures source_faults { R.faults source.old ≤ R.faults source.new }
+    ensures memory_faults { M.faults memory.old ≤ M.faults memory.new }
     ensures sink_faults { W.faults sink.old ≤ W.faults sink.new }
 {
-    match HeldLine::new(alloc) {
-        Ok(mut held) => serve_with(desk, &mut held, source, sink),
-        Err(AllocError) => Served::Memory,
-    }
+    let Ok(mut held) = HeldLine::new(alloc) else {
+        return Served::Memory;
+    };
+    let Ok(mut withheld) = Withheld::new(alloc) else {
+        return Served::Memory;
+    };
+    serve_with(desk, &mut held, &mut withheld, source, memory, sink)
 }
 
-// The same with room for a line.
-fn serve_with<R: Source, W: Sink>(
+// The same with room for a line and for replies.
+fn serve_with<R: Source, M: Memory, W: Sink>(
     desk: &mut Desk<'_>,
     held: &mut HeldLine,
+    withheld: &mut Withheld,
     source: &mut R,
+    memory: &mut M,
     sink: &mut W,
 ) -> Served
     ensures serves { (fields : DeskFields)
         → DeskStandsFor desk.old fields no_lines_of
+        → Keeps M.Memory memory.old fields.entries
         → held.old ≡ Some []
-        → Serves R.left R.faults W.stands W.faults fields source.old source.new sink.old sink.new
-        result }
+        → withheld.old ≡ nothing_withheld
+        → Serves R.Source M.Memory W.Sink fields
+        (record { source = source.old; memory = memory.old; sink = sink.old })
+        (record { source = source.new; memory = memory.new; sink = sink.new }) result }
     ensures source_faults { R.faults source.old ≤ R.faults source.new }
+    ensures memory_faults { M.faults memory.old ≤ M.faults memory.new }
     ensures sink_faults { W.faults sink.old ≤ W.faults sink.new }
 {
     let mut piece = [0; PIECE];
     let mut room = MOST_INPUT;
     while room > 0 {
         let count = match take_piece(source, &mut piece, room) {
-            Ok(0) => return answer_last(desk, held, sink),
+            Ok(0) => return answer_last(desk, held, withheld, memory, sink),
             Ok(count) => count,
             Err(Failed) => return Served::ReadFault,
         };
-        match answer_piece(desk, held, &piece[..count], sink) {
+        match answer_piece(desk, held, &piece[..count], withheld, memory, sink) {
             Served::Done => room -= count as u64,
             ended => return ended,
         }
@@ -86,23 +103,49 @@ fn take_piece<R: Source>(source: &mut R, piece: &mut [u8], room: u64) -> Result<
     source.take(&mut piece[..most])
 }
 
-// Answers the lines that end in a piece, and holds what follows them.
-fn answer_piece<W: Sink>(
+// Answers the lines that end in a piece, holds what follows them, and puts the replies.
+fn answer_piece<M: Memory, W: Sink>(
     desk: &mut Desk<'_>,
     held: &mut HeldLine,
     piece: &[u8],
+    withheld: &mut Withheld,
+    memory: &mut M,
     sink: &mut W,
 ) -> Served
     ensures serves { (fields : DeskFields) (cut : LineCut) (first : W)
-        → HasServed W.stands first sink.old fields desk.old held.old cut
-        → ServesPiece W.stands W.faults first sink.old sink.new fields desk.new held.new
-        (with_bytes cut piece.now) result }
+        → HasServed M.Memory W.Sink first sink.old memory.old withheld.old fields desk.old held.old
+        cut
+        → PutsPiece M.Memory W.Sink first sink.old sink.new memory.old memory.new fields desk.new
+        held.new (with_bytes cut piece.now) result }
+    ensures empty { result ≡ Done → withheld.new ≡ nothing_withheld }
+    ensures memory_faults { M.faults memory.old ≤ M.faults memory.new }
+    ensures sink_faults { W.faults sink.old ≤ W.faults sink.new }
+{
+    let answered = answer_lines(desk, held, piece, withheld, memory, sink);
+    put_after(answered, withheld, memory, sink)
+}
+
+// Answers the lines that end in a piece, and holds what follows them.
+fn answer_lines<M: Memory, W: Sink>(
+    desk: &mut Desk<'_>,
+    held: &mut HeldLine,
+    piece: &[u8],
+    withheld: &mut Withheld,
+    memory: &mut M,
+    sink: &mut W,
+) -> Served
+    ensures serves { (fields : DeskFields) (cut : LineCut) (first : W)
+        → HasServed M.Memory W.Sink first sink.old memory.old withheld.old fields desk.old held.old
+        cut
+        → ServesPiece M.Memory W.Sink first sink.old sink.new memory.old memory.new withheld.new
+        fields desk.new held.new (with_bytes cut piece.now) result }
+    ensures memory_faults { M.faults memory.old ≤ M.faults memory.new }
     ensures sink_faults { W.faults sink.old ≤ W.faults sink.new }
 {
     let mut rest = piece;
     while let Some(end) = line_end(rest) {
         held.push(&rest[..end]);
-        match put_reply(desk, held.ended(), sink) {
+        match answer_line(desk, held.ended(), withheld, memory, sink) {
             Served::Done => held.clear(),
             ended => return ended,
         }
@@ -123,40 +166,21 @@ fn line_end(bytes: &[u8]) -> Option<usize>
 }
 
 // Answers the line that the input ends in, if it ends in one: to no bytes there is no reply.
-fn answer_last<W: Sink>(desk: &mut Desk<'_>, held: &HeldLine, sink: &mut W) -> Served
+fn answer_last<M: Memory, W: Sink>(
+    desk: &mut Desk<'_>,
+    held: &HeldLine,
+    withheld: &mut Withheld,
+    memory: &mut M,
+    sink: &mut W,
+) -> Served
     ensures serves { (fields : DeskFields) (cut : LineCut) (first : W)
-        → HasServed W.stands first sink.old fields desk.old held.now cut
-        → ServesLines W.stands W.faults first sink.old sink.new fields
+        → HasServed M.Memory W.Sink first sink.old memory.old withheld.old fields desk.old held.now
+        cut
+        → PutsLines M.Memory W.Sink first sink.old sink.new memory.old memory.new fields
         (with_last cut.lines cut.rest) result }
+    ensures memory_faults { M.faults memory.old ≤ M.faults memory.new }
     ensures sink_faults { W.faults sink.old ≤ W.faults sink.new }
 {
-    put_reply(desk, held.last(), sink)
-}
-
-// Puts the reply to a line, where it has one; `None` is a line that is too long.
-fn put_reply<W: Sink>(desk: &mut Desk<'_>, line: Option<&[u8]>, sink: &mut W) -> Served
-    ensures reply { (fields : DeskFields) (earlier : List (List ℕ)) (bytes : List ℕ)
-        → DeskStandsFor desk.old fields (lines_said fields earlier)
-        → option_map (λ line. line.now) line.entry ≡ short_line bytes
-        → PutsReply W.stands W.faults sink.old sink.new fields earlier bytes desk.new result }
-    ensures sink_faults { W.faults sink.old ≤ W.faults sink.new }
-{
-    let Some(line) = line else {
-        return put_line(b"too-long\n", sink);
-    };
-    match desk.answer(line) {
-        Ok(None) => Served::Done,
-        Ok(Some(reply)) => put_line(reply.as_slice(), sink),
-        Err(AllocError) => Served::Memory,
-    }
-}
-
-fn put_line<W: Sink>(line: &[u8], sink: &mut W) -> Served
-    ensures puts { PutsText W.stands W.faults sink.old sink.new line.now result }
-    ensures sink_faults { W.faults sink.old ≤ W.faults sink.new }
-{
-    match put_all(sink, line) {
-        Ok(()) => Served::Done,
-        Err(Failed) => Served::WriteFault,
-    }
+    let answered = answer_line(desk, held.last(), withheld, memory, sink);
+    put_after(answered, withheld, memory, sink)
 }

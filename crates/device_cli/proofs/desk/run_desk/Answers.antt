@@ -13,10 +13,10 @@ returns-in-Ok g c =
     served-IsDeskAnswer g.S.Shelf.files g.S.Shelf.faults g.S.Shelf.misses g.R.Source.left
     g.R.Source.faults g.W.Sink.stands g.W.Sink.faults c.args.shelf.now c.read.new.shelf
     c.args.source.now c.serve_with.new.source c.args.sink.now c.serve_with.new.sink _ _
-    (desk_with (devices_in values.0.bytes.items) (byte_in values.1.0) values.1.1)
+    (desk_with (devices_in values.0.bytes.items) (byte_in values.1.0) values.1.1 [])
     c.serve_with.result c.in-Some.ensures
     (reads (λ values. put (plain []))).kept
-    (λ onward. (reads (λ values. onward (desk_with values.0 values.1.0 values.1.1))).values)
+    (λ onward. (reads (λ values. onward (desk_with values.0 values.1.0 values.1.1 []))).values)
     c.serve_with.ensures.served c.serve_with.ensures.source_faults c.serve_with.ensures.sink_faults
 
 pub returns-in-Err : goal.returns-in-Err

@@ -12,5 +12,8 @@ returns-in-Ok-clause-served g c =
     let same = devices-are c.deref.result.now opened.0 opened.1 in (
       c.serve.result,
       c.of_served.ensures,
-      rw (← c.deref.ensures.value, ← same) (c.serve.ensures.serves _ opened.2),
+      _,
+      _,
+      rw (← c.deref.ensures.value, ← same)
+          (c.serve.ensures.serves _ opened.2 (record { has = tt; keeps = λ honest found may. absurd may })),
     )

@@ -1,8 +1,23 @@
-use Rattle.verifier_desk.proofs.SessionLast.{last_served}
+use Rattle.verifier_desk.proofs.SessionLast.{last_put}
 use Rattle.verifier_desk.proofs.session.answer_last.Goals as goal
 
 pub returns-clause-serves : goal.returns-clause-serves
 returns-clause-serves g c =
-    last_served g.W.Sink.stands g.W.Sink.faults c.args.sink.now c.put_reply.new.sink c.args.desk.now
-    c.put_reply.new.desk c.args.held.now _ c.put_reply.result c.last.ensures
-    c.put_reply.ensures.reply
+    let answered = c.answer_line-answered in
+    last_put g.M.Memory g.W.Sink
+    (record {
+      desk = c.args.desk.now;
+      held = c.args.held.now;
+      withheld = c.args.withheld.now;
+      memory = c.args.memory.now;
+      sink = c.args.sink.now;
+    })
+    (record {
+      desk = answered.new.desk;
+      held = c.args.held.now;
+      withheld = answered.new.withheld;
+      memory = answered.new.memory;
+      sink = answered.new.sink;
+    })
+    _ _ _ _ _ c.last.ensures answered.ensures.reply answered.ensures.memory_faults
+    answered.ensures.sink_faults c.put_after.ensures.puts

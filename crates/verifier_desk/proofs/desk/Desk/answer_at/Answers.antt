@@ -1,39 +1,31 @@
-use Rattle.std.proofs.Common.{rules, ◌≡◌, ◌<◌, ◌∙◌, ap, sym, ℕ, List, length}
+use Rattle.std.proofs.Common.{rules, ◌≡◌, ◌<◌, ◌∙◌, ap, sym, ℕ, List, ◌∷◌, length, true, refl}
 use Rattle.std.specs.Prelude.{slice_index_or}
+use Rattle.std.proofs.lemmas.Result.{err_from_is_err_and}
 use Rattle.sha2.specs.Sha256.{sha256}
 use Rattle.report_verifier.specs.Judge.{Judge}
-use Rattle.verifier_desk.specs.declared.answer.Answer.{Answer}
-use Rattle.verifier_desk.specs.declared.device_state.DeviceState.{DeviceState}
+use Rattle.desk_memory.specs.declared.device_state.DeviceState.{DeviceState}
+use Rattle.desk_memory.specs.DeviceState.{is_new}
 use Rattle.verifier_desk.specs.DeviceKey.{DeviceKey}
-use Rattle.verifier_desk.specs.DeviceReply.{answer_after, answer_of, is_new_give, state_after}
+use Rattle.verifier_desk.specs.DeviceLine.{DeviceLine}
+use Rattle.verifier_desk.specs.DeviceReply.{answer_after, is_new_give, state_after}
 use Rattle.verifier_desk.specs.OwnLine.{line_in}
-use Rattle.verifier_desk.specs.Replies.{answer_line, judge_at}
+use Rattle.verifier_desk.specs.Reply.{ReplyFields}
+use Rattle.verifier_desk.specs.Replies.{answer_line, judge_at, state_at}
 use Rattle.verifier_desk.proofs.DeskError.{on_error, same_desk}
+use Rattle.verifier_desk.proofs.NotedReply.{line_noted}
 use Rattle.verifier_desk.proofs.Standing.{kept_at_its_place, said_at_place, same_device}
 use Rattle.verifier_desk.proofs.desk.Desk.answer_at.Goals as goal
 
 pub returns-in_err-answer-clause-kept : goal.returns-in_err-answer-clause-kept
-returns-in_err-answer-clause-kept c =
+returns-in_err-answer-clause-kept g c =
     on_error c.from_residual.result (same_desk c.args.self.now _)
 
-pub returns-in_err-answer-clause-memory : goal.returns-in_err-answer-clause-memory
-returns-in_err-answer-clause-memory c = λ fields lines device so at.
-    let within : c.args.place < length fields.devices = search (rules, sym so.devices) in
-    let here : slice_index_or c.args.self.now.keys c.args.place device
-    ≡ c.device_at-device.result.now = sym (c.device_at-device.ensures device) in
-    let same_key : device.key ≡ c.key.result.now =
-    ap (λ (owner : DeviceKey). owner.key) (sym (at device)
-    ∙ ap (λ (all : List DeviceKey). slice_index_or all c.args.place device) so.devices ∙ here)
-    ∙ sym c.key.ensures in
-    on_error c.from_residual.result
-    (sym (said_at_place (λ (judge : Judge) (state : DeviceState).
-    is_new_give state.last (line_in c.args.own.now)) fields c.args.self.now.states.items lines
-    c.args.place device c.index.result.now c.index.result.now _ c.key.result.now _ _
-    so.digest so.image so.policy same_key within at so.states (search rules))
-    ∙ c.in_err-answer.ensures.memory)
+pub returns-in_err-note_new-clause-kept : goal.returns-in_err-note_new-clause-kept
+returns-in_err-note_new-clause-kept g c =
+    on_error c.from_residual-in_err-note_new.result (same_desk c.args.self.now _)
 
-pub returns-clause-reply : goal.returns-clause-reply
-returns-clause-reply c = λ fields lines device so at.
+pub returns-in_err-answer-clause-answers : goal.returns-in_err-answer-clause-answers
+returns-in_err-answer-clause-answers g c = λ fields lines device so at.
     let within : c.args.place < length fields.devices = search (rules, sym so.devices) in
     let here : device ≡ c.device_at-device.result.now =
     sym (at device)
@@ -41,44 +33,72 @@ returns-clause-reply c = λ fields lines device so at.
     ∙ sym (c.device_at-device.ensures device) in
     let same_key : device.key ≡ c.key.result.now =
     ap (λ (owner : DeviceKey). owner.key) here ∙ sym c.key.ensures in
-    c.answer_line-line.ensures
-    ∙ ap (λ (owner : DeviceKey). answer_line sha256 owner c.args.own.now.number
-    c.in_ok-answer.answer)
+    let gives : is_new_give (state_at fields device (lines device.name)).last
+    (line_in c.args.own.now)
+    ≡ true =
+    sym (said_at_place (λ (judge : Judge) (state : DeviceState).
+    is_new_give state.last (line_in c.args.own.now)) fields c.args.self.now.states.items lines
+    c.args.place device c.index.result.now c.index.result.now _ c.key.result.now _ _
+    so.digest so.image so.policy same_key within at so.states (search rules))
+    ∙ c.in_err-answer.ensures.memory in
+    let fault = err_from_is_err_and c.from_residual.result c.from_residual.ensures.1 in
+    rw (fault.1, fault.2) (refl, gives)
+
+pub returns-clause-answers : goal.returns-clause-answers
+returns-clause-answers g c = λ fields lines device so at.
+    let line : DeviceLine = line_in c.args.own.now in
+    let states : List DeviceState = c.args.self.now.states.items in
+    let within : c.args.place < length fields.devices = search (rules, sym so.devices) in
+    let here : device ≡ c.device_at-device.result.now =
+    sym (at device)
+    ∙ ap (λ (all : List DeviceKey). slice_index_or all c.args.place device) so.devices
+    ∙ sym (c.device_at-device.ensures device) in
+    let same_key : device.key ≡ c.key.result.now =
+    ap (λ (owner : DeviceKey). owner.key) here ∙ sym c.key.ensures in
+    let reply : c.new.result.text
+    ≡ answer_line fields.digest device line.number
+    (answer_after (judge_at fields device) (state_at fields device (lines device.name)) line) =
+    ap (λ (one : ReplyFields). one.text) c.new.ensures
+    ∙ c.answer_line-line.ensures.text
+    ∙ ap (λ (owner : DeviceKey). answer_line sha256 owner line.number c.in_ok-answer.answer)
     (sym (same_device device c.name.result.now c.key-2.result.now
     (ap (λ (owner : DeviceKey). owner.name) here ∙ sym c.name.ensures.bytes)
     (ap (λ (owner : DeviceKey). owner.key) here ∙ sym c.key-2.ensures)))
-    ∙ ap (λ (answer : Answer). answer_line sha256 device c.args.own.now.number answer)
+    ∙ ap (answer_line sha256 device line.number)
     (c.in_ok-answer.ensures.answer
-    ∙ said_at_place (λ (judge : Judge) (state : DeviceState).
-    answer_after judge state (line_in c.args.own.now)) fields c.args.self.now.states.items lines
-    c.args.place device c.index.result.now c.index.result.now _ c.key.result.now _ _
-    so.digest so.image so.policy same_key within at so.states (search rules))
-    ∙ ap (λ (digest : List ℕ → List ℕ). answer_line digest device c.args.own.now.number
-    (answer_of (judge_at fields device) (lines device.name) (line_in c.args.own.now)))
-    (sym so.digest)
-
-pub returns-clause-stands : goal.returns-clause-stands
-returns-clause-stands c = λ fields lines device so at.
-    let within : c.args.place < length fields.devices = search (rules, sym so.devices) in
-    let here : slice_index_or c.args.self.now.keys c.args.place device
-    ≡ c.device_at-device.result.now = sym (c.device_at-device.ensures device) in
-    let same_key : device.key ≡ c.key.result.now =
-    ap (λ (owner : DeviceKey). owner.key) (sym (at device)
-    ∙ ap (λ (all : List DeviceKey). slice_index_or all c.args.place device) so.devices ∙ here)
-    ∙ sym c.key.ensures in
-    record {
-      digest = so.digest;
-      devices = so.devices;
-      image = so.image;
-      policy = so.policy;
-      distinct = so.distinct;
-      states = kept_at_its_place fields c.args.self.now.states.items lines c.args.place device
-          (line_in c.args.own.now) c.answer_device.new.state so.distinct
-          (search (rules, sym so.devices)) within at
-          (c.in_ok-answer.ensures.state
-          ∙ said_at_place (λ (judge : Judge) (state : DeviceState).
-          state_after judge state (line_in c.args.own.now)) fields
-          c.args.self.now.states.items lines c.args.place device c.index.result.now
-          c.index.result.now _ c.key.result.now _ _ so.digest so.image so.policy same_key within at
-          so.states (search rules)) so.states;
-    }
+    ∙ said_at_place (λ (judge : Judge) (state : DeviceState). answer_after judge state line)
+    fields states lines c.args.place device c.index.result.now c.index.result.now _
+    c.key.result.now _ _ so.digest so.image so.policy same_key within at so.states (search rules))
+    ∙ ap (λ (digest : List ℕ → List ℕ). answer_line digest device line.number
+    (answer_after (judge_at fields device) (state_at fields device (lines device.name)) line))
+    (sym so.digest) in
+    let after : c.answer_device.new.state ≡ state_at fields device (line ∷ lines device.name) =
+    c.in_ok-answer.ensures.state
+    ∙ said_at_place (λ (judge : Judge) (state : DeviceState). state_after judge state line)
+    fields states lines c.args.place device c.index.result.now c.index.result.now _
+    c.key.result.now _ _ so.digest so.image so.policy same_key within at so.states
+    (search rules) in
+    let new : c.is_new-is_new.result
+    ≡ is_new line.number (state_at fields device (lines device.name)).last =
+    c.is_new-is_new.ensures
+    ∙ said_at_place (λ (judge : Judge) (state : DeviceState). is_new line.number state.last)
+    fields states lines c.args.place device c.index.result.now c.index.result.now _
+    c.key.result.now _ _ so.digest so.image so.policy same_key within at so.states
+    (search rules) in
+    let notes = line_noted g.M.Memory _ _ fields lines device line c.is_new-is_new.result sha256
+    c.device_at-device.result.now c.answer_device.new.state new so.digest here after
+    c.in_ok-note_new.ensures.notes in (
+      reply,
+      record {
+        digest = so.digest;
+        devices = so.devices;
+        image = so.image;
+        policy = so.policy;
+        distinct = so.distinct;
+        states = kept_at_its_place fields states lines c.args.place device line
+            c.answer_device.new.state so.distinct (search (rules, sym so.devices)) within at after
+            so.states;
+      },
+      notes.stands,
+      λ not. notes.still (sym (ap (λ (one : ReplyFields). one.is_noted) c.new.ensures) ∙ not),
+    )

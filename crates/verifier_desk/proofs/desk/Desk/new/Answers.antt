@@ -1,4 +1,4 @@
-use Rattle.std.proofs.Common.{rules, subst, refl}
+use Rattle.std.proofs.Common.{subst, refl}
 use Rattle.verifier_desk.specs.Standing.{AreDistinct}
 use Rattle.verifier_desk.proofs.desk.Desk.new.Goals as goal
 
@@ -10,5 +10,5 @@ returns c =
       image = refl;
       policy = refl;
       distinct = subst AreDistinct c.keys.view_is c.keys.invariant.distinct;
-      states = λ i d s below. c.in_ok-states.ensures.new i s (search (rules, below));
+      states = λ i d s below. c.in_ok-states.ensures.states i d s below;
     }

@@ -1,0 +1,8 @@
+-- What tells a key from others without telling the key.
+use Rattle.std.specs.Prelude.{ℕ, List, [], ◌∷◌, take}
+use Rattle.part_definitions.specs.Hmac.{hmac}
+
+-- the mark of a key: the first 16 bytes of an HMAC under it. The byte 3 sets its message apart from
+-- those of tokens and challenges, which begin with 1 and 2.
+abbrev pub key_mark : (List ℕ → List ℕ) → List ℕ → List ℕ
+key_mark digest key = take 16 (hmac digest key (3 ∷ []))

@@ -1,0 +1,11 @@
+pub mod AnswerText
+pub mod DeviceState
+pub mod Entry
+pub mod EntryPlace
+pub mod FaultName
+pub mod Kept
+pub mod KeyMark
+pub mod Law
+pub mod NoMemory
+pub mod MemMemory
+pub mod SizedEntry

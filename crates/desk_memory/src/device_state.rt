@@ -1,0 +1,61 @@
+ghost use Rattle.std.specs.Prelude.{◌≡◌};
+ghost use Rattle.desk_memory.specs.DeviceState.{new_device, earlier_answer, is_new, with_answer};
+
+use crate::answer::Answer;
+use report_verifier::Decision;
+
+/// What a desk knows of a device.
+#[derive(Clone, Copy, Debug, PartialEq, Eq)]
+pub struct DeviceState {
+    /// How many requests were made; the counter of the last.
+    pub count: u32,
+    /// The counter of the request whose report was not accepted yet.
+    pub outstanding: Option<u32>,
+    /// The last number of a line, with its answer.
+    pub last: Option<(u32, Answer)>,
+}
+
+impl DeviceState {
+    pub fn new() -> DeviceState
+        ensures { result ≡ new_device }
+    {
+        DeviceState {
+            count: 0,
+            outstanding: None,
+            last: None,
+        }
+    }
+
+    /// What was answered before to a line of this number, or of a greater one.
+    pub fn earlier_answer(&self, number: u32) -> Option<Answer>
+        ensures { result ≡ earlier_answer number self.now.last }
+    {
+        match self.last {
+            Some((last, _)) if number < last => Some(Answer::Stale),
+            Some((last, answer)) if number == last => Some(answer),
+            _ => None,
+        }
+    }
+
+    /// Whether a line of this number is new.
+    pub fn is_new(&self, number: u32) -> bool
+        ensures { result ≡ is_new number self.now.last }
+    {
+        self.earlier_answer(number).is_none()
+    }
+
+    /// Keeps the answer to a new number.
+    pub fn keep(&mut self, number: u32, answer: Answer)
+        ensures { self.new ≡ with_answer self.old number answer }
+    {
+        match answer {
+            Answer::Requested(next) => {
+                self.count = next;
+                self.outstanding = Some(next);
+            }
+            Answer::Judged(Decision::Accept) => self.outstanding = None,
+            _ => {}
+        }
+        self.last = Some((number, answer));
+    }
+}

@@ -1,0 +1,39 @@
+//! What a desk knows of a device, and what it is kept in.
+//!
+//! A [`DeviceState`] is all that a desk has to know of a device's earlier lines. A [`Memory`] keeps
+//! the states of devices: what was noted in it is found again after each crash, once it was
+//! settled. [`NoMemory`] is that of a desk that is started once, [`MemMemory`] one for tests. An
+//! [`Entry`] has a device's name, the mark of the key that it was served under, and its state;
+//! [`state_of`] and [`owner_of`] look through entries, and [`place_for`] says where one more goes.
+//! The laws say that it changes the state of its device alone, and takes no key from a name.
+#![tactic(auto)]
+
+mod answer;
+mod device_state;
+mod entry;
+mod entry_copy;
+mod entry_place;
+mod fault_text;
+mod key_mark;
+mod key_owner;
+mod law;
+mod mem_memory;
+mod memory;
+mod memory_fault;
+mod named_state;
+mod no_memory;
+
+pub use answer::Answer;
+pub use device_state::DeviceState;
+pub use entry::Entry;
+pub use entry_copy::copy_of;
+pub use entry_place::{place_for, set_entry};
+pub use fault_text::fault_name;
+pub use key_mark::{MARK, mark_of};
+pub use key_owner::owner_of;
+pub use law::{owner_is_kept, owner_is_noted, state_is_noted};
+pub use mem_memory::MemMemory;
+pub use memory::Memory;
+pub use memory_fault::MemoryFault;
+pub use named_state::state_of;
+pub use no_memory::NoMemory;

@@ -1,0 +1,5 @@
+pub mod Table
+pub mod Fault
+pub mod Held
+pub mod Begun
+pub mod Opening

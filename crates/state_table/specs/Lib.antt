@@ -1,0 +1,4 @@
+pub mod Law
+pub mod Opening
+pub mod Rows
+pub mod Table

@@ -1,0 +1,41 @@
+ghost use Rattle.std.specs.Prelude.{◌≡◌};
+ghost use Rattle.state_table.specs.declared.open_fault.OpenFault.TheVariants.{Memory};
+
+use sqlite_trees::error::StoreError;
+use std::alloc::AllocError;
+use thiserror::Error;
+
+/// Why a store could not be opened as a memory.
+#[derive(Clone, Copy, Debug, PartialEq, Eq, Error)]
+pub enum OpenFault {
+    /// There was no memory for it.
+    #[error("no memory")]
+    Memory,
+    /// It could not be read.
+    #[error("the memory could not be read")]
+    Failed,
+    /// It has no table of devices.
+    #[error("no memory of a desk")]
+    Foreign,
+}
+
+impl From<AllocError> for OpenFault {
+    ghost from_gives = { λ error fault. fault ≡ Memory };
+
+    fn from(_error: AllocError) -> OpenFault {
+        OpenFault::Memory
+    }
+}
+
+impl From<StoreError> for OpenFault {
+    ghost use Rattle.state_table.specs.Opening.{open_fault_of};
+
+    ghost from_gives = { λ error fault. fault ≡ open_fault_of error };
+
+    fn from(error: StoreError) -> OpenFault {
+        match error {
+            StoreError::OutOfMemory => OpenFault::Memory,
+            _ => OpenFault::Failed,
+        }
+    }
+}

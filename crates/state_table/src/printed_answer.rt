@@ -1,0 +1,30 @@
+ghost use Rattle.std.specs.Prelude.{◌≡◌};
+ghost use Rattle.desk_memory.specs.AnswerText.{answer_text};
+
+use desk_memory::{Answer, fault_name};
+use line_buffer::LineBuffer;
+use report_text::verdict_name;
+
+/// An answer in words.
+pub fn answer_text(answer: Answer) -> LineBuffer
+    ensures { result ≡ answer_text answer }
+{
+    let mut text = LineBuffer::new();
+    match answer {
+        Answer::Stale => text.push(b"stale"),
+        Answer::Bad(kind) => {
+            text.push(b"bad ");
+            text.push(fault_name(kind));
+        }
+        Answer::Spent => text.push(b"spent"),
+        Answer::Requested(count) => {
+            text.push(b"request ");
+            text.push_decimal(u64::from(count));
+        }
+        Answer::Judged(decision) => {
+            text.push(b"verdict ");
+            text.push(verdict_name(decision));
+        }
+    }
+    text
+}

@@ -1,0 +1,70 @@
+-- What was noted of a line, and what its reply says of it.
+use Rattle.std.proofs.Common.{◌≡◌, ◌∙◌, ℕ, Bool, true, false, List, ◌∷◌, Option, Some, None, Ok, refl, ap, sym, subst}
+use Rattle.std.specs.Prelude.{if◌then◌else◌}
+use Rattle.desk_memory.specs.declared.memory.Memory.{Ghosts}
+use Rattle.desk_memory.specs.declared.device_state.DeviceState.{DeviceState}
+use Rattle.desk_memory.specs.DeviceState.{is_new}
+use Rattle.desk_memory.specs.Entry.{Entry}
+use Rattle.desk_memory.specs.KeyMark.{key_mark}
+use Rattle.verifier_desk.specs.Answering.{NotesIf}
+use Rattle.verifier_desk.specs.DeskLine.{Own}
+use Rattle.verifier_desk.specs.DeviceKey.{DeviceKey}
+use Rattle.verifier_desk.specs.DeviceLine.{DeviceLine}
+use Rattle.verifier_desk.specs.Noted.{entry_at, noted_of, with_noted}
+use Rattle.verifier_desk.specs.Replies.{DeskFields, state_at}
+
+-- an entry was noted, or none
+pub record Notes {M : Type 0} (m : Ghosts M) (old new : M) (is : Bool) (noted : Option Entry)
+    : Type 0 where
+  pub stands : (entries : List Entry) → m.stands old entries
+      → m.stands new (with_noted noted entries)
+  pub still : is ≡ false → (new ≡ old) × (noted ≡ None)
+
+notes_if : {M : Type 0} (m : Ghosts M) (old new : M) (is : Bool) (entry : Entry)
+    → NotesIf m old new is entry (Ok tt)
+    → Notes m old new is (if is then Some entry else None)
+notes_if m old new true entry so =
+    record { stands = so; still = λ not. absurd (cc not) }
+notes_if m old new false entry so =
+    record {
+      stands = λ entries stood. subst (λ now. m.stands now entries) (sym so.0) stood;
+      still = λ is. (so.0, refl);
+    }
+
+-- of a line of a device, where its entry is made of the device's parts
+pub line_noted : {M : Type 0} (m : Ghosts M) (old new : M) (fields : DeskFields)
+    (lines : List ℕ → List DeviceLine) (device : DeviceKey) (line : DeviceLine) (is : Bool)
+    (digest : List ℕ → List ℕ) (owner : DeviceKey) (state : DeviceState)
+    → is ≡ is_new line.number (state_at fields device (lines device.name)).last
+    → fields.digest ≡ digest
+    → device ≡ owner
+    → state ≡ state_at fields device (line ∷ lines device.name)
+    → NotesIf m old new is
+    (record { name = owner.name; mark = key_mark digest owner.key; state = state }) (Ok tt)
+    → Notes m old new is (noted_of fields lines (Own device line))
+line_noted m old new fields lines device line is digest owner state new_is same_digest same_device
+    after so =
+    let noted : noted_of fields lines (Own device line)
+    ≡ (if is then Some (record {
+      name = owner.name;
+      mark = key_mark digest owner.key;
+      state = state;
+    }) else None) =
+    ap (λ (new : Bool). if new then Some (entry_at fields device (line ∷ lines device.name))
+    else None) (sym new_is)
+    ∙ ap (λ (after : DeviceState). if is then Some (record {
+      name = device.name;
+      mark = key_mark fields.digest device.key;
+      state = after;
+    }) else None) (sym after)
+    ∙ ap (λ (one : DeviceKey). if is then Some (record {
+      name = one.name;
+      mark = key_mark fields.digest one.key;
+      state = state;
+    }) else None) same_device
+    ∙ ap (λ (one : List ℕ → List ℕ). if is then Some (record {
+      name = owner.name;
+      mark = key_mark one owner.key;
+      state = state;
+    }) else None) same_digest in
+    subst (Notes m old new is) (sym noted) (notes_if m old new is _ so)

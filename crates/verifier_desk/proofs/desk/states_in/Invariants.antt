@@ -1,0 +1,13 @@
+use Rattle.std.proofs.Common.{◌≡◌, ◌<◌, ℕ, vec_len}
+use Rattle.std.specs.Prelude.{slice_index_or}
+use Rattle.desk_memory.specs.declared.device_state.DeviceState.{DeviceState}
+use Rattle.desk_memory.specs.Entry.{state_named}
+use Rattle.verifier_desk.specs.DeviceKey.{DeviceKey}
+use Rattle.verifier_desk.proofs.desk.states_in.Given as goal
+
+abbrev pub invariant-loop-place : goal.invariant-loop-place
+invariant-loop-place l =
+    (vec_len l.states ≡ l.place)
+    × ((i : ℕ) (d : DeviceKey) (s : DeviceState) → i < l.place
+    → slice_index_or l.states.items i s
+    ≡ state_named l.entries (slice_index_or l.keys i d).name)

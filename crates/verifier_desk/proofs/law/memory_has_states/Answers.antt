@@ -1,0 +1,5 @@
+use Rattle.verifier_desk.proofs.law.memory_has_states.Goals as goal
+use Rattle.verifier_desk.proofs.Remembered.{memory_has_states}
+
+pub returns : goal.returns
+returns c = memory_has_states
