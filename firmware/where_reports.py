@@ -128,12 +128,18 @@ def source(path):
     return relative(path) or "???"  # as callgrind itself has it
 
 
+def in_order(row):
+    """Where a row stands among others, wherever the kit lies."""
+    path, line = row[0][:2]
+    return relative(path), line
+
+
 def rows_of(costs, calls):
     """The rows of a function, each with its file."""
-    for (path, line), (steps, instructions, asleep) in sorted(costs.items()):
+    for (path, line), (steps, instructions, asleep) in sorted(costs.items(), key=in_order):
         yield path, f"{line} {steps} {instructions} {asleep}\n"
     for (path, line, callee), (number, steps, instructions, asleep) in sorted(
-            calls.items(), key=lambda one: (*one[0][:2], one[0][2].name)):
+            calls.items(), key=lambda one: (*in_order(one), one[0][2].name)):
         yield path, (f"cfi={source(callee.file)}\ncfn={callee.name}\n"
                      f"calls={number} {callee.line}\n{line} {steps} {instructions} {asleep}\n")
 
@@ -145,7 +151,8 @@ def profile_of(walk, elf):
            "event: Steps : bus steps\nevent: Instructions : instructions\n"
            "event: Asleep : bus steps asleep\nevents: Steps Instructions Asleep\n")
     costs, calls = by_function(walk), calls_by_function(walk)
-    for function in sorted({*costs, *calls}, key=lambda one: (one.file, one.line, one.name)):
+    for function in sorted({*costs, *calls},
+                           key=lambda one: (relative(one.file), one.line, one.name)):
         yield f"\nfl={source(function.file)}\nfn={function.name}\n"
         file = function.file
         for path, text in rows_of(costs.get(function, {}), calls.get(function, {})):
@@ -210,7 +217,7 @@ def function_counts(walk):
 def coverage_of(walk):
     """The coverage, in lcov's format."""
     functions = function_counts(walk)
-    for file, lines in sorted(line_counts(walk).items()):
+    for file, lines in sorted(line_counts(walk).items(), key=lambda row: relative(row[0])):
         own = sorted((line, name, count) for (path, line, name), count in functions.items()
                      if path == file)
         yield f"TN:\nSF:{os.path.abspath(file)}\n"
