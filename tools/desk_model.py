@@ -19,31 +19,68 @@ class State(NamedTuple):
     count: int = 0
     outstanding: Optional[int] = None
     number: int = 0
-    said: bytes = b""  # the kept reply: its verb, and what it says behind the number
+    said: bytes = b""  # the kept answer: its verb, and its counter, fault or verdict
 
 
-def with_end(verb, *words):
-    return verb, b" ".join([b"", *words])
+def key_mark(key):
+    """What a memory has of a key."""
+    return attestation_model.hmac_of(key, b"\x03")[:16]
+
+
+class Entry(NamedTuple):
+    """What a memory has of a device under one of its keys."""
+    name: bytes
+    mark: bytes
+    state: State
+
+    def line(self):
+        """Its line among those that `states` prints."""
+        state = self.state
+        last = b"%d %s" % (state.number, state.said) if state.number else b"none"
+        outstanding = b"none" if state.outstanding is None else b"%d" % state.outstanding
+        return b"state %s key %s count %d outstanding %s last %s\n" % (
+            self.name, self.mark.hex().encode(), state.count, outstanding, last)
+
+
+def states_text(entries):
+    return b"".join(entry.line() for entry in entries)
 
 
 class Desk:
-    """The states of its devices by their names."""
+    """The states of its devices by their names, and what its memory has."""
 
-    def __init__(self, keys, image, policy, last_count=MOST):
+    def __init__(self, keys, image, policy, last_count=MOST, entries=()):
         self.keys, self.image, self.policy = keys, image, policy
         self.last_count = last_count
-        self.states = {name: State() for name in keys}
+        self.entries = self.states = self.places = None
+        self.start(entries)
+
+    def start(self, entries=()):
+        """Starts it anew, with what a memory has."""
+        self.entries = [*entries]
+        self.places = {entry.name: place for place, entry in enumerate(entries)}
+        self.states = {name: State() for name in self.keys}
+        self.states.update((entry.name, entry.state) for entry in entries
+                           if entry.name in self.keys)
+
+    def note(self, name, state):
+        self.states[name] = state
+        entry = Entry(name, key_mark(self.keys[name]), state)
+        place = self.places.get(name)
+        if place is None or self.entries[place].mark != entry.mark:
+            self.places[name] = len(self.entries)
+            self.entries.append(entry)
+        else:
+            self.entries[place] = entry
 
     def ask(self, key, state, rest):
         """The new state, and what is said."""
         if rest:
-            return state, with_end(b"bad", b"Extra")
+            return state, b"bad Extra"
         if state.count == self.last_count:
-            return state, with_end(b"spent")
+            return state, b"spent"
         count = state.count + 1
-        request = attestation_model.request_line(key, challenge(key, count), count)
-        return (state._replace(count=count, outstanding=count),
-                with_end(b"request", *request.split()[1:]))
+        return state._replace(count=count, outstanding=count), b"request %d" % count
 
     def give(self, key, state, rest):
         words = Words(0, b" ".join(rest))
@@ -51,25 +88,29 @@ class Desk:
             words.keyword(b"report2")
             report = read_report(words, 2)
         except Fault as fault:
-            return state, with_end(b"bad", fault.kind.encode())
+            return state, b"bad " + fault.kind.encode()
         count = state.outstanding
         policy = self.policy._replace(requests=[(challenge(key, count), count)] if count else [])
         verdict = verifier_model.verdict(self.image, policy, key, 0, report)
         if verdict == "accept":
             state = state._replace(outstanding=None)
-        return state, with_end(b"verdict", verdict.encode())
+        return state, b"verdict " + verdict.encode()
 
     def answer(self, verb, name, number, rest):
         state = self.states[name]
         if number < state.number:
-            said = with_end(b"stale")
+            said = b"stale"
         elif number == state.number:
             said = state.said
         else:
             answer = self.ask if verb == b"ask" else self.give
             state, said = answer(self.keys[name], state, rest)
-            self.states[name] = state._replace(number=number, said=said)
-        return b"%s %s %d%s\n" % (said[0], name, number, said[1])
+            self.note(name, state._replace(number=number, said=said))
+        verb, *rest = said.split(b" ")
+        if verb == b"request":
+            key, count = self.keys[name], int(rest[0])
+            rest = attestation_model.request_line(key, challenge(key, count), count).split()[1:]
+        return b" ".join((verb, name, b"%d" % number, *rest)) + b"\n"
 
     def reply(self, line):
         """The reply to a line without its end; none where it has no words."""

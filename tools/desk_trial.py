@@ -1,22 +1,34 @@
-"""Trials of the desk: its replies, its files, pipes, the journal, and the example."""
+"""Trials of the desk: its replies, its files, pipes, its memory, and the example."""
 import contextlib
 import os
 import random
+import resource
 import select
 import signal
+import socket
 import subprocess
-import sys
+import tempfile
 import time
+from concurrent.futures import ThreadPoolExecutor
 
 import desk_model
+from memory_trial import try_memory
 from readers import READERS
-from sample_files import EXAMPLES, read, write
-from trial import ABSENT, ROOT, UNREADABLE, WORDS
+from reference import STATUSES
+from sample_files import EXAMPLES, Example, database, read, remove_memory
+from trial import ABSENT, UNREADABLE, WORDS
 
 # The first fault of files of keys in SampleFiles, each by the end of its name.
-KEYS_FAULTS = {"twice": "2: Twice", "twice-last": "5: Twice", "name": "1: Digit",
-               "name-long": "1: Count", "short": "1: Count", "digit": "2: Digit",
-               "word": "1: Word", "extra": "1: Extra", "missing": "1: Missing", "utf8": "1: Utf8"}
+KEYS_FAULTS = {"twice": "2: Twice", "twice-last": "5: Twice", "twice-key": "3: Twice",
+               "name": "1: Digit", "name-long": "1: Count", "short": "1: Count",
+               "digit": "2: Digit", "word": "1: Word", "extra": "1: Extra",
+               "missing": "1: Missing", "utf8": "1: Utf8"}
+STATES_FAULTS = {"twice": "2: Twice", "taken": "2: Twice", "word": "1: Word", "name": "1: Digit",
+                 "mark": "1: Count", "digit": "1: Digit", "range": "1: Range", "answer": "1: Word",
+                 "extra": "1: Extra", "missing": "1: Missing", "utf8": "1: Utf8"}
+NO_MEMORY = "bad memory: no memory of a desk, or damaged"
+TAKEN = "bad memory: the key of device {} stands under another name"
+IN_USE, UNWRITTEN = (STATUSES[status].line for status in (17, 18))
 LONG = b"x" * desk_model.LONGEST_LINE
 
 
@@ -59,7 +71,7 @@ def desk_files(trial, files):
         trial.expect(status, line, *files.words_of_round("desk", **others), input=b"ask a 1\n")
 
     words = files.words_of_round("desk")
-    for wrong in (words[:1], words[:-1], (*words, words[-1])):
+    for wrong in (words[:1], words[:-1], (*words, words[-1], words[-1])):
         trial.expect(2, WORDS, *wrong, input=b"ask a 1\n")
     for name, fault in KEYS_FAULTS.items():
         refused(14, f"bad keys: line {fault}", keys=files[f"keys-{name}"], image=files["none"])
@@ -98,7 +110,7 @@ def desk_pipes(trial, files):
     """A reply is out while the beginning of the next line waits; a line may come in parts; a closed
     output ends a desk.
     """
-    words = [trial.program, *files.words_of_round("desk")]
+    words = [trial.desk, *files.words_of_round("desk")]
     with subprocess.Popen(words, stdin=subprocess.PIPE, stdout=subprocess.PIPE, bufsize=0) as desk:
         for data, count in ((b"ask a 1\nask", 1), (b" a 2\r", 0), (b"\n", 1), (b"x\ny\nz\n", 3)):
             if count:
@@ -115,185 +127,255 @@ def desk_pipes(trial, files):
     os.close(writer)
 
 
-class JournalTrial:
-    """Calls of tools/desk-journal on one journal, with the files of the example `round`."""
+class MemoryTrial:
+    """Desks with one memory, the files of the example `round`, and the model of them."""
 
     def __init__(self, trial, files, keys="keys-among"):
-        self.trial, self.files, self.journal = trial, files, files["journal"]
-        self.tool = [f"{ROOT}/tools/desk-journal", "--program", trial.program]
-        self.words = [*files.words_of_round("desk", keys=files[keys])[1:]]
-        self.keys, self.image = READERS["keys"](read(files[keys])), files.round.value("image")
+        self.trial, self.files, self.memory = trial, files, files["memory"]
+        remove_memory(self.memory)
+        self.keys = files[keys]
+        self.model = desk_model.Desk(READERS["keys"](read(self.keys)),
+                                     files.round.value("image"), files.policy)
 
-    def model(self):
-        return desk_model.Desk(self.keys, self.image, self.files.policy)
+    def words(self, **others):
+        return *self.files.words_of_round("desk", **{"keys": self.keys, **others}), self.memory
 
-    def remove(self):
-        for name in (self.journal, f"{self.journal}.lock"):
-            if os.path.exists(name):
-                os.remove(name)
+    def serve(self, lines, **others):
+        """A desk replies as the model does, and has the same states at its end."""
+        self.trial.prints(self.model.replies(lines), *self.words(**others), input=lines)
+        self.tells()
 
-    def prints(self, text, lines, *options, words=None, **others):
-        self.trial.prints(text, *options, self.journal, *(words or self.words), command=self.tool,
-                          input=lines, **others)
+    def start_with(self, keys):
+        """The desks from now on have this file of keys."""
+        self.keys, self.model.keys = keys, READERS["keys"](read(keys))
+        self.model.start(self.model.entries)
 
-    def refuses(self, status, line, *options, words=None, **others):
-        self.trial.expect(status, line, *options, self.journal, *(words or self.words),
-                          command=self.tool, **{"input": b"ask a 1\n", **others})
+    def tells(self):
+        self.trial.prints(desk_model.states_text(self.model.entries), "states", self.memory)
+
+    def refuses(self, status, line, *words, **options):
+        """These words are refused, and the memory stays as it is."""
+        before = read(self.memory)
+        self.trial.expect(status, line, *(words or self.words()),
+                          **{"input": b"ask a 1\n", **options})
+        if read(self.memory) != before:
+            self.trial.fault(f"{words}: refused, and the memory is another")
 
     def open_desk(self):
         """One that serves."""
-        process = subprocess.Popen([*self.tool, self.journal, *self.words], stdin=subprocess.PIPE,
+        process = subprocess.Popen([self.trial.desk, *self.words()], stdin=subprocess.PIPE,
                                    stdout=subprocess.PIPE, bufsize=0)
         process.stdin.write(b"x\n")
         process.stdout.readline()
         return process
 
 
-def desk_journal(trial, files):
-    """A desk that tools/desk-journal runs replies as one that is never stopped; its journal has the
-    lines of its devices, but for one that was cut off.
+def desk_memory(trial, files):
+    """A desk with a memory replies as one that is never stopped, whatever its image and policy; it
+    is killed a dozen times.
     """
-    runs, rng = JournalTrial(trial, files), random.Random(2)
-    for short_from in ("1000000", "0", "200"):
-        model = runs.model()
-        runs.remove()
-        for start in range(12):
-            number = 10 * start
-            lines = b"".join(rng.choice((
-                b"ask a %d\n", b"ask A_9 %d\n", b"give a %d " + files.desk_report(start // 2 + 1),
-                b"give A_9 %d report2\n", b"ask a %d x\n", b"nonsense %d\n", b"ask b %d\n"))
-                % (number + at) for at in range(1, 8))
-            runs.prints(model.replies(lines), lines, "--short-from", short_from)
-            with open(runs.journal, "ab") as file:
-                file.write(b"ask a 99"[:rng.randrange(9)])
-    answer = trial.call("12", "1", trial.program, command=[f"{ROOT}/tools/try-desk-journal"])
-    if answer.status != 0:
-        trial.fault(f"{answer.line} {answer.output.decode()}")
+    runs, rng = MemoryTrial(trial, files), random.Random(2)
+    trial.prints(b"", *runs.words(), input=b"")
+    runs.tells()
+    for start in range(12):
+        number = 10 * start
+        runs.serve(b"".join(rng.choice((
+            b"ask a %d\n", b"ask A_9 %d\n", b"give a %d " + files.desk_report(start // 2 + 1),
+            b"give A_9 %d report2\n", b"ask a %d x\n", b"nonsense %d\n", b"ask b %d\n"))
+            % (number + at) for at in range(1, 8)))
+    runs.serve(b"ask a 200\r\nask a 200\n\n \t\nask a 201")
+    count = runs.model.states[b"a"].count
+    report = files.desk_report(count)
+    other = files.add("policy-aux", read(files["policy"]).replace(b"exec", b"aux"))
+    runs.serve(b"give a 202 " + report)
+    runs.model.policy = runs.model.policy._replace(flag="aux")
+    runs.serve(b"give a 203 " + report + b"ask a 204\n", policy=other)
+    runs.model.image = Example("attest").value("image")
+    runs.serve(b"give a 205 " + files.desk_report(count + 1), policy=other,
+               image=Example("attest").file("image"))
+    with tempfile.TemporaryDirectory(prefix="check-program-") as folder:
+        try_memory(trial, folder, rng, "kills", 12)
 
 
-def desk_journal_lines(trial, files):
-    """A line without its end is dropped, and its number stays new. Lines in a journal that are of
-    no device change no reply, and those of a device that KEYS has not stay, short or not.
+def desk_memory_keys(trial, files):
+    """A device's counter goes on under another key, and the old key is no other device's."""
+    runs, key, other = MemoryTrial(trial, files, "keys"), read(files.key), b"1" * 128 + b"\n"
+    runs.serve(b"ask a 1\nask a 2\n")
+    runs.start_with(files.add("keys-other", b"device a " + other + b"device b " + b"2" * 128))
+    runs.serve(b"ask a 2\nask a 3\nask b 1\n")
+    for number, text in ((1, b"device b " + key), (2, b"device a " + key + b"device c " + other)):
+        runs.refuses(16, TAKEN.format(number), *runs.words(keys=files.add("keys-taken", text)))
+    runs.start_with(files["keys"])
+    runs.serve(b"ask a 4\n")
+
+
+def desk_memory_states(trial, files):
+    """What `states` prints is remembered, in a memory that is not there yet; a desk goes on with
+    it. The faults of states.
     """
-    runs = JournalTrial(trial, files)
-    model, report = runs.model(), files.desk_report(1)
-    runs.prints(model.replies(b"ask a 1\n"), b"ask a 1\ngive a 2 " + report[:-20])
-    runs.prints(model.replies(b"give a 2 " + report), b"give a 2 " + report)
-    with open(runs.journal, "ab") as file:
-        file.write(b"\n \t\r\nhello\n\xff\0\nask a 99\rx\nask a 0\nask a 4294967296\n"
-                   b"ask a 99" + bytes(1) * desk_model.LONGEST_LINE + b"\n")
-    for options in ((), ("--short-from", "0")):
-        runs.prints(model.replies(b"ask a 3\nx\nask A_9 1\n"), b"ask a 3\nx\nask A_9 1\n", *options)
-        runs.prints(b"refused\n" * 2, b"ask a 9\nask A_9 9\n", *options,
-                    words=[files["empty"], *runs.words[1:]])
-    runs.prints(model.replies(b"give a 4 " + report + b"ask a 5\n"),
-                b"give a 4 " + report + b"ask a 5\n")
+    runs = MemoryTrial(trial, files)
+    runs.serve(b"ask a 1\ngive A_9 1\ngive a 2 " + files.desk_report(1) + b"ask a 3\n")
+    states = files.add("states-told", desk_model.states_text(runs.model.entries))
+    runs.refuses(16, NO_MEMORY, "remember", states, runs.memory)
+    runs.memory = files["memory-new"]
+    trial.prints(b"", "remember", states, runs.memory)
+    runs.tells()
+    runs.serve(b"ask a 3\ngive a 4 " + files.desk_report(2))
+    raised = files.add("states-raised", read(states).replace(b"count 2 ", b"count 70000 "))
+    runs.model.states[b"a"] = runs.model.states[b"a"]._replace(count=70000)
+    runs.memory = files["memory-raised"]
+    trial.prints(b"", "remember", raised, runs.memory)
+    trial.prints(read(raised), "states", runs.memory)
+    trial.prints(b"", "remember", files["empty"], files["memory-empty"])
+    trial.prints(b"", "states", files["memory-empty"])
+    for name, fault in STATES_FAULTS.items():
+        trial.expect(19, f"bad states: line {fault}", "remember", files[f"states-{name}"],
+                     files["none"])
+    for words in (("states",), ("states", runs.memory, runs.memory), ("remember", states),
+                  ("remember", states, runs.memory, runs.memory), (*runs.words(), runs.memory)):
+        trial.expect(2, WORDS, *words)
+    trial.expect(3, ABSENT, "states", files["none"])
+    trial.expect(3, ABSENT, "remember", files["none"], files["none"])
+    trial.expect(4, UNREADABLE, "states", files.folder)
+    with open("/dev/full", "wb") as full:
+        trial.expect(5, "writing failed", "states", runs.memory, stdout=full)
+    if os.path.exists(files["none"]):
+        trial.fault("remember: a memory of faulty states")
 
 
-def desk_journal_files(trial, files):
-    """A journal is of one image and policy. It goes over to others where each device was asked
-    last, and an accepted report is accepted under none of them again.
+def desk_memory_files(trial, files):
+    """What is no memory is refused and stays as it is. Where a file of the desk is refused there is
+    no memory.
     """
-    runs = JournalTrial(trial, files)
-    (keys, image, policy), model, report = runs.words, runs.model(), files.desk_report(1)
-    other = keys, image, files.add("policy-aux", read(policy).replace(b"exec", b"aux"))
-    what, how = f"desk-journal: {runs.journal}", "docs/desk.md has how to go over"
-    for lines in (b"ask a 1\ngive a 2 " + report, b"ask a 3 x\n"):
-        runs.prints(model.replies(lines), lines)
-        for words in (other, (keys, files.image, policy)):
-            runs.refuses(1, f"{what} is of another image or policy: {how}", words=words)
-            runs.refuses(1, f"{what}: the last line of a is no ask: {how}", "--go-over",
-                         words=words)
-    runs.prints(model.replies(b"ask a 4\n"), b"ask a 4\n", "--go-over")
-    runs.refuses(1, f"{what} is of another image or policy: {how}", words=other)
-    model.policy = model.policy._replace(flag="aux")
-    lines = b"give a 5 " + report + b"give a 6 " + files.desk_report(2)
-    for options in (("--go-over",), ()):
-        runs.prints(model.replies(lines), lines, *options, words=other)
-    runs.refuses(1, f"{what} is of another image or policy: {how}")
+    runs = MemoryTrial(trial, files)
+    for status, others in ((3, {"keys": files["none"]}), (14, {"keys": files["keys-twice"]}),
+                           (8, {"image": files["empty"]}), (10, {"policy": files["empty"]})):
+        if trial.call(*runs.words(**others), input=b"").status != status:
+            trial.fault(f"desk: {others} with a memory: another status than {status}")
+        if os.path.exists(runs.memory):
+            trial.fault(f"desk: {others}: a memory is made")
+    runs.serve(b"ask a 1\n")
+    damaged = bytearray(read(runs.memory))
+    damaged[len(damaged) // 2] ^= 1
+    device = "create table device (place integer primary key, name text)"
+    for name in (files["keys"], files.image, files["policy"], files["states"],
+                 files.add("text", b"any text\n"), files.add("damaged", bytes(damaged)),
+                 files.add("cut", read(runs.memory)[:-100]), *filter(None, (
+                     database(files["other"], "create table other (number integer)"),
+                     database(files["device"], device)))):
+        copy = runs.memory = files.add("memory-wrong", read(name))
+        for words in (runs.words(), ("states", copy), ("remember", files["states"], copy)):
+            runs.refuses(16, NO_MEMORY, *words)
+    runs.memory = files["empty"]
+    runs.model.start()
+    runs.serve(b"ask a 1\n")
 
 
-def desk_journal_ends(trial, files):
-    """The statuses of a desk are those of tools/desk-journal, at once and whatever its journal."""
-    runs = JournalTrial(trial, files)
-    with runs.open_desk() as desk:
-        with open(f"/proc/{desk.pid}/task/{desk.pid}/children") as children:
-            os.kill(int(children.read()), signal.SIGKILL)
-        with contextlib.suppress(subprocess.TimeoutExpired):
-            desk.wait(trial.seconds)
-        if desk.poll() != 128 + signal.SIGKILL:
-            trial.fault(f"desk-journal: the end of a desk that was killed: {desk.poll()}")
-            desk.kill()
-    runs.prints(runs.model().replies(b"ask a 1\n"), b"ask a 1\n")
-    (keys, image, policy), none, empty = runs.words, files["none"], files["empty"]
-    for lines in (read(runs.journal), b""):
-        files.add("journal", lines)
-        for status, line, words in (
-                (8, "bad image: line 0: NoEnd", (keys, empty, policy)),
-                (10, "bad policy: line 0: Missing", (keys, image, empty)),
-                (14, "bad keys: line 1: Word", (policy, image, policy)),
-                (3, ABSENT, (none, image, policy)), (3, ABSENT, (keys, image, none)),
-                (4, UNREADABLE, (keys, files.folder, policy))):
-            runs.refuses(status, line, words=words)
-        trial.expect(1, f"desk-journal: no proved program at {none}: ./foldgneiss build",
-                     "--program", none, runs.journal, *runs.words, command=runs.tool[:1])
-
-
-def desk_journal_lock(trial, files):
-    """Two desks can't have one journal, whatever its name; and no reply goes to the lock."""
-    runs, link = JournalTrial(trial, files), files["link"]
-    os.symlink(runs.journal, link)
+def desk_memory_ends(trial, files):
+    """A memory has one desk, by whatever name; what it can't write ends it; a reply that can't be
+    written is kept.
+    """
+    runs, link = MemoryTrial(trial, files), files["link"]
+    os.symlink(runs.memory, link)
     with runs.open_desk():
-        for name in (runs.journal, link):
-            trial.expect(1, f"desk-journal: {name}: another desk has it", name, *runs.words,
-                         command=runs.tool)
-    trial.expect(5, "", 'exec "$@" >&-', "bash", *runs.tool, runs.journal, *runs.words,
-                 command=["bash", "-c"], input=b"ask a 1\n")
-    if read(f"{runs.journal}.lock"):
-        trial.fault("desk-journal: a reply in the lock")
+        for words in (runs.words(), (*runs.words()[:-1], link), ("states", link),
+                      ("remember", files["states"], runs.memory)):
+            runs.refuses(17, IN_USE, *words)
+    with open("/dev/full", "wb") as full:
+        trial.expect(5, "writing failed", *runs.words(), input=b"ask a 1\n", stdout=full)
+    runs.model.replies(b"ask a 1\n")
+    runs.tells()
+    os.link(runs.memory, files["second"])
+    runs.refuses(18, UNWRITTEN)
+    os.remove(files["second"])
+    for name in (files.folder, f"{files['none']}/memory", "/dev/null", ""):
+        trial.expect(18, UNWRITTEN, *runs.words()[:-1], name, input=b"ask a 1\n")
+
+    def limit_files():
+        signal.signal(signal.SIGXFSZ, signal.SIG_IGN)
+        resource.setrlimit(resource.RLIMIT_FSIZE, (0, 0))
+    trial.expect(18, UNWRITTEN, *runs.words(), input=b"ask a 2\n", preexec_fn=limit_files)
+    runs.tells()
 
 
-# tools/desk-journal, but that a desk takes few bytes before it is started anew.
-FEW_BYTES = """
-import importlib.machinery, importlib.util, sys
-loader = importlib.machinery.SourceFileLoader("desk_journal_script", sys.argv[1])
-script = importlib.util.module_from_spec(importlib.util.spec_from_loader(loader.name, loader))
-sys.path.insert(0, sys.argv[1].rpartition("/")[0])
-loader.exec_module(script)
-del sys.argv[1]
-script.MOST_INPUT = 1
-sys.exit(script.main())
-"""
+def received(client, count):
+    """So many replies from a socket, or what came before its end, or within some seconds."""
+    client.settimeout(10)
+    replies = b""
+    with contextlib.suppress(OSError):
+        while replies.count(b"\n") < count and (piece := client.recv(65536)):
+            replies += piece
+    return replies
 
 
-def desk_journal_anew(trial, files):
-    """A desk that took much is started anew, with the files of the start; no reply changes. Where
-    it did not end well, its status is the last.
+class Bridge:
+    """The bridge of the example, while it serves."""
+
+    def __init__(self, trial, files, program, words):
+        self.trial, self.path = trial, files["socket"]
+        self.process = subprocess.Popen([f"{EXAMPLES}/desk/bridge.py", "--socket", self.path,
+                                         "--idle", "0.5", "--program", program, *words])
+
+    def __enter__(self):
+        until = time.monotonic() + self.trial.seconds
+        while not os.path.exists(self.path) and time.monotonic() < until:
+            time.sleep(0.02)
+        return self
+
+    def __exit__(self, *_):
+        self.process.terminate()
+        self.process.wait()
+        os.remove(self.path)
+
+    def client(self):
+        client = socket.socket(socket.AF_UNIX)
+        client.connect(self.path)
+        return client
+
+    def asked(self, lines, count=1):
+        """The replies to a client of its own."""
+        with self.client() as client:
+            client.sendall(lines)
+            return received(client, count)
+
+    def gives(self, lines, wanted):
+        self.trial.tries += 1
+        if self.asked(lines, max(1, wanted.count(b"\n"))) != wanted:
+            self.trial.fault(f"bridge: other replies to {lines[:60]!r}")
+
+
+LENGTHS = b"#!/bin/bash\nwhile IFS= read -r line; do echo ${#line}; done\n"
+
+
+def desk_bridge(trial, files):
+    """Each client of the bridge gets its own replies; a line without an end is none, of one that
+    does not end a desk gets little, and who is silent is closed.
     """
-    runs, keys = JournalTrial(trial, files), files.add("keys-now", read(files["keys-among"]))
-    runs.tool, runs.words[0] = [sys.executable, "-c", FEW_BYTES, *runs.tool], keys
-    lines = b"".join(b"ask a %d%s\n" % (number, b" " * 99) for number in range(1, 2000))
-    runs.prints(runs.model().replies(lines), lines)
-    runs.remove()
-    replies = runs.model().replies(b"x\nask a 1\nask a 2\nask a 3\n").splitlines(keepends=True)
-    with runs.open_desk() as desk:
-        write(keys, b"")
-        for number in (1, 2, 3):
-            desk.stdin.write(b"ask a %d\n" % number)
-            if desk.stdout.readline() != replies[number]:
-                trial.fault("desk-journal: KEYS was read again")
-    runs.remove()
-    once = files.add("once", f"""#!/bin/bash
-{trial.program} "$@"
-[ -e {files["ended"]} ] || {{ touch {files["ended"]}; exit 6; }}
-""".encode())
-    os.chmod(once, 0o755)
-    runs.tool[-1], runs.words[0] = once, files["keys-among"]
-    trial.expect(6, "", runs.journal, *runs.words, command=runs.tool, input=b"ask a 1\n",
-                 stdout=subprocess.DEVNULL)
+    runs, lengths = MemoryTrial(trial, files), files.add("lengths", LENGTHS)
+    os.chmod(lengths, 0o755)
+    with Bridge(trial, files, lengths, runs.words()[1:]) as bridge:
+        for count in (65536, 65537, 65538, 1 << 22):
+            bridge.gives(b"x" * count + b"\n", b"%d\n" % min(count, 65538))
+    with Bridge(trial, files, trial.desk, runs.words()[1:]) as bridge:
+        for lines in (b"ask a 1\nask A_9 1\n\n \t\r\nx\n", LONG + b"\r\nask a 2\n",
+                      LONG + b"x\n", LONG + b"\rx\n", b" " * len(LONG) + b" \n",
+                      LONG * 40 + b"\nask a 3\n"):
+            bridge.gives(lines, runs.model.replies(lines))
+        with bridge.client() as silent:
+            silent.sendall(b"ask a 9")
+            bridge.gives(b"ask a 4\n", runs.model.replies(b"ask a 4\n"))
+            began = time.monotonic()
+            if received(silent, 1) or time.monotonic() - began > 5:
+                trial.fault("bridge: a line without its end has a reply, or its client stays")
+        lines = [b"ask %s %d\n" % (name, number) for name in (b"a", b"A_9")
+                 for number in range(10, 30)]
+        with ThreadPoolExecutor(8) as threads:
+            for line, reply in zip(lines, threads.map(bridge.asked, lines)):
+                if reply.split()[1:3] != line.split()[1:]:
+                    trial.fault(f"bridge: {reply!r} to {line}")
 
 
 def desk_example(trial, files):
     """The example's script carries requests to two devices, and their reports back."""
-    trial.prints(read(f"{EXAMPLES}/desk/expected.txt"), trial.program,
+    trial.prints(read(f"{EXAMPLES}/desk/expected.txt"), trial.program, trial.desk,
                  command=[f"{EXAMPLES}/desk/carry.sh"])

@@ -14,12 +14,23 @@ import reference
 HEX = set(string.hexdigits.encode())
 RULES = [name.encode() for name in reference.RULES]
 VERDICTS = [name.encode() for name in reference.VERDICTS]
+FAULT_KINDS = sorted({kind.encode() for faults in reference.FAULTS.values() for kind in faults})
 COUNTS = {1: 0, 2: 2, 3: 4, 4: 2, 5: 4}
 # The first and the last place of the MAC, and of the metadata by versions.
 MAC = (0x0200, 0x021F)
 METADATA = {1: (0x0240, 0x0269), 2: (0x0240, 0x028F)}
 FLAGS = (b"exec", b"aux", b"plain")
 MOST = 4294967295  # of a step, the number of a report, and a counter
+
+
+class Entry(NamedTuple):
+    """What a desk's memory has of a device and a key."""
+    name: bytes
+    mark: bytes
+    count: int
+    outstanding: Optional[int]
+    last: Optional[int]
+    answer: Optional[tuple]
 
 
 class Fault(Exception):
@@ -66,18 +77,44 @@ def read_keys(text):
     keys = {}
     for words in texts_of(text, "keys")[0]:
         words.keyword(b"device")
-        wanted = "a name of 1 to 32 letters, digits and _"
-        name = words.take(wanted)
-        if not re.fullmatch(rb"[0-9A-Za-z_]+", name):
-            words.fault("Digit", wanted)
-        if len(name) > 32:
-            words.fault("Count", wanted)
+        name = words.name()
         key = words.bytes(64)
         words.end()
-        if name in keys:
+        if name in keys or key in keys.values():
             words.fault("Twice")
         keys[name] = key
     return keys
+
+
+def read_answer(words):
+    """What was said to the last line of a device, as it is printed."""
+    verb = words.keyword(b"stale", b"spent", b"bad", b"verdict", b"request")
+    if verb in (b"bad", b"verdict"):
+        return verb, words.keyword(*(FAULT_KINDS if verb == b"bad" else VERDICTS))
+    return verb, words.decimal(MOST) if verb == b"request" else None
+
+
+def read_states(text):
+    """The entries of a desk's memory: names, marks of keys, and states."""
+    entries, marks, names = [], {}, {}  # (the last mark of a name, and the name of a mark)
+    for words in texts_of(text, "states")[0]:
+        words.keyword(b"state")
+        name = words.name()
+        words.keyword(b"key")
+        mark = words.bytes(16)
+        words.keyword(b"count")
+        count = words.decimal(MOST)
+        words.keyword(b"outstanding")
+        outstanding = words.decimal_or_none(count)
+        words.keyword(b"last")
+        last = words.decimal_or_none(MOST)
+        answer = None if last is None else read_answer(words)
+        words.end()
+        if marks.get(name) == mark or names.setdefault(mark, name) != name:
+            words.fault("Twice")
+        marks[name] = mark
+        entries.append(Entry(name, mark, count, outstanding, last, answer))
+    return entries
 
 
 def is_place(place):
@@ -165,6 +202,21 @@ class Words:
         if len(word) > 10 or not least <= int(word) <= most:
             self.fault("Range", wanted)
         return int(word)
+
+    def decimal_or_none(self, most):
+        """A decimal, None for `none`."""
+        if self.matches and self.matches[0].group() == b"none":
+            self.take()
+            return None
+        return self.decimal(most)
+
+    def name(self):
+        """That of a device."""
+        wanted = "a name of 1 to 32 letters, digits and _"
+        name = self.take(wanted)
+        if not re.fullmatch(rb"[0-9A-Za-z_]+", name):
+            self.fault("Digit", wanted)
+        return name if len(name) <= 32 else self.fault("Count", wanted)
 
     def digits(self, is_right, wanted="hexadecimal digits, an even number"):
         word = self.take(wanted)

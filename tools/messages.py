@@ -13,16 +13,17 @@ import sys
 
 sys.dont_write_bytecode = True
 import file_readers  # noqa: E402
+import memory_faults  # noqa: E402
 import mistaken_files  # noqa: E402
 import reference_texts  # noqa: E402
 from readers import READERS  # noqa: E402
-from reference import COMMANDS, FAULTS, FILES, STATUSES, VALUES  # noqa: E402
+from reference import COMMANDS, FAULTS, FILES, STATUSES, VALUES, said_of  # noqa: E402
 
 WIDTH = 76
 
 SCRIPT_HELP = """
 The script ./foldgneiss has these too:
-  foldgneiss build           proves all crates and makes the proved program
+  foldgneiss build           proves all crates and makes the proved programs
   foldgneiss help [COMMAND]  prints this, or what it says of one command; so do
                              -h and --help, also after a command
 Its own statuses are 125 where the sources do not compile, 127 where there is
@@ -48,10 +49,11 @@ def wrong_words(words):
     if name not in COMMANDS:
         return unknown_command(name)
     command = COMMANDS[name]
-    if len(arguments) != len(command.words):
-        count = len(command.words)
-        return f"{name} takes {count} argument{'s' * (count > 1)}, not {len(arguments)}"
-    for word, argument in zip(command.words, arguments):
+    most = len(command.all_words)
+    if not len(command.words) <= len(arguments) <= most:
+        counts = f"{len(command.words)} or {most}" if command.last else most
+        return f"{name} takes {counts} argument{'s' * (most > 1)}, not {len(arguments)}"
+    for word, argument in zip(command.all_words, arguments):
         try:
             argument.encode()
         except UnicodeEncodeError:
@@ -72,10 +74,14 @@ def usage_of(name):
     return reference_texts.usages()
 
 
+def names_of(words):
+    """What stands in a call for each of its command's words."""
+    return dict(zip(COMMANDS[words[0]].all_words, words[1:]))
+
+
 def files_of(words):
     """The kinds and names of a call's files, in the order in which they are read."""
-    command = COMMANDS[words[0]]
-    names = dict(zip(command.words, words[1:]))
+    names = names_of(words)
     return [(kind, names[kind]) for kind in FILES if kind in names]
 
 
@@ -88,8 +94,9 @@ def contents(name):
 
 
 def unread_file(words):
-    """What is said of the first file that is absent or cannot be read."""
-    for kind, name in files_of(words):
+    """What is said of the first file that is absent or cannot be read, MEMORY of `states` too."""
+    memory = [("memory", words[1])] if words[0] == "states" else []
+    for kind, name in files_of(words) + memory:
         try:
             contents(name)
         except OSError as error:
@@ -121,7 +128,7 @@ def place_of(kind, text, fault):
 
 def meaning_of(kind, fault):
     """What a fault means; of a meaning in two parts the second is that of line 0."""
-    parts = FAULTS[kind].get(fault.kind, fault.kind).split("; or ")
+    parts = said_of(None, FAULTS[kind].get(fault.kind, fault.kind)).split("; or ")
     wanted = f" (wanted: {fault.wanted})" if fault.wanted else ""
     return (fault.cause[1] if fault.cause else parts[0 if fault.line else -1]) + wanted
 
@@ -177,6 +184,8 @@ def explanation(status, line, words):
         return [unread_file(words) or ("standard input cannot be read" if is_desk else None)]
     if status == 15:
         return [STATUSES[status].remedy.replace("`", "")]
+    if status in memory_faults.STATUSES:
+        return memory_faults.explanation(status, line, names_of(words))
     return file_fault(line, words)
 
 

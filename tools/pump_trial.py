@@ -1,6 +1,5 @@
 """Programs that lie, around the region of examples/pump: no report may tell what was not so."""
 import re
-from typing import NamedTuple
 
 from assembler_model import hex_text
 from readers import READERS
@@ -10,10 +9,9 @@ from sample_files import EXAMPLES, read
 # region it is entered only at those from LEAST on: a shorter period leaves no step between two.
 LEAST, PAST = 4, 160
 DOSE = 6
-TIMER, SERIAL = 0xFFF2, 0xFFF4
-# Enters the region once for each period and each of these handlers of a vector, with the output of
+# Enters the region once for each period and each of these handlers of the timer, with the output of
 # a whole dose already written. Where AUX is 1 behind it, sends A and what the report would tell,
-# else N.
+# else N, and E at the end.
 SOURCE = """
         .equ period, 0x1000
         .equ handler, 0x1002
@@ -28,10 +26,9 @@ SOURCE = """
         mov #{first}, &handler
         inc &begun
 anew:   mov #{least}, &period
-try:    mov &handler, &{vector}
+try:    mov &handler, &0xFFF2
         mov #{dose}, &{or_min}
         clr &{or_min}+2
-        mov #0x21FE, &{or_min}-2        ; where the region keeps its caller's stack
         mov #{dose}, r12                ; what the region keeps in registers: a loop that is
         clr r13                         ; entered in its midst ends
         {wait}
@@ -55,17 +52,14 @@ next:   inc &period
         incd &handler
         cmp #{past}, &handler
         jne anew
+        mov.b #0x45, &0x76
 end:    jmp end
-        .org 0xFFF2
-        .word {own}, {own}
+        .org 0xFFF4
+        .word {serial}
         .org 0xFFFE
         .word 0xC000
 """
 WAIT = "bit #1, &0x72\n        jz $-4"  # for a byte, that waits then
-# Allows the interrupt of the bytes that come from here on, where at most one has come.
-BYTES = "mov &0x74, r14\n        mov #1, &0x70\n        eint"
-# Steps from one byte to the next: more than a dose takes, and more than a refused attempt does.
-SLOT, SHORT = 400, 97
 
 
 class Region:
@@ -85,107 +79,50 @@ class Region:
                     if (self.code[place], self.code[place + 1]) == (0xB0, 0x12))
 
 
-def places(first, last):
-    return range(first, last + 2, 2)
-
-
-class Way(NamedTuple):
-    """How the region is entered: one vector names each of these handlers, the other its own."""
-    handlers: range
-    vector: int = TIMER
-    allow: str = ""  # what allows interrupts before, if anything does
-    waits: bool = False  # whether a byte stands at the serial port before
-
-    def periods(self):
-        return range(LEAST if self.allow else 1, PAST)
-
-    def arrivals(self):
-        """The steps of the bytes: where one waits before, its stop comes ever later behind it."""
-        for number in range(len(self.handlers) * PAST):
-            if self.waits:
-                yield SLOT * (number + 1)
-            if self.vector == SERIAL:
-                yield SLOT * (number + 1) + number % PAST if self.waits else SHORT * (number + 1)
-
-    def attempt(self, number):
-        """The handler and TCMP of an attempt, of which the first is 0."""
-        handler, period = divmod(number, len(self.periods()))
-        return (f"handler {self.handlers.start + 2 * handler:04x}, "
-                f"TCMP {self.periods().start + period}")
-
-
-def leaving(region, vector, **rest):
-    """With the way out of the region as the handler."""
-    return Way(places(region.leave(), region.leave()), vector, **rest)
-
-
-def attempts(trial, files, region, way):
-    """Of each attempt that ended how many strokes were sent, and where AUX is 1 the two words of
-    the output.
+def attempts(trial, files, region, handlers, allow="eint", waits=False):
+    """Of each attempt how many strokes were sent, and where AUX is 1 the two words of the output.
+    With `waits` a byte stands at the serial port before each.
     """
     names = dict(zip(("er_min", "er_max", "or_min", "or_max"), region.bounds))
-    source = SOURCE.format(**names, first=way.handlers.start, past=way.handlers.stop, dose=DOSE,
-                           least=way.periods().start, most=PAST, own=region.handler,
-                           vector=way.vector, allow=way.allow, wait=WAIT if way.waits else "")
+    source = SOURCE.format(**names, first=handlers[0], past=handlers[-1] + 2, dose=DOSE,
+                           least=LEAST if allow else 1, most=PAST, serial=region.handler,
+                           allow=allow, wait=WAIT if waits else "")
     image = trial.expect(0, "", "asm", files.add("pump.asm", source.encode()))
     image = files.add("pump.hex", hex_text({**READERS["image"](image), **region.code}))
-    events = [b"at 0 p1 %04x\n" % DOSE, *(b"at %d rx 00\n" % step for step in way.arrivals())]
+    events = [b"at 0 p1 %04x\n" % DOSE]
+    events += [b"at %d rx 00\n" % (1000 * number) for number in range(1, PAST)] * waits
     text = trial.expect(0, "", "play", image, files.add("pump.txt", b"".join(events)), files.key,
                         "10000000")
     sent = bytes.fromhex(b"".join(re.findall(rb"^tx \d+ (..)", text, re.M)).decode())
-    sent = sent[:max(sent.rfind(b"A") + 3, sent.rfind(b"N") + 1)]
+    if not sent.endswith(b"E"):
+        trial.fault("pump: the attempts have no end")
+        return []
     return [(strokes.count(b"S"), tuple(told) if told else None) for strokes, told
             in re.findall(rb"([^AN]*)(?:A(..)|N)", sent, re.S)]
 
 
-def truths(way):
-    """Each attempt with AUX 1 that there is: without a stop only a whole dose, and with one at most
-    the strokes that are told, of which the stop may have taken the last.
-    """
-    stopped = {(sent, (given, 1)) for given in range(DOSE + 1) for sent in (given - 1, given)}
-    return {(DOSE, (DOSE, 0)), *(stopped - {(-1, (0, 1))} if way.vector == SERIAL else ())}
-
-
-def lies(told, way):
-    true = truths(way)
-    return [f"{way.attempt(number)}: {attempt}" for number, attempt in enumerate(told)
-            if attempt[1] and attempt not in true]
-
-
-def guarded(trial, files, region, name, way):
-    """What a guard is for: all that is believed is so, and nothing is with a foreign handler."""
-    told, own = attempts(trial, files, region, way), region.handler in way.handlers
-    if len(told) != len(way.handlers) * len(way.periods()):
-        trial.fault(f"pump, {name}: {way.attempt(len(told))}: the region is not left, since "
-                    "interrupts that its guard keeps off go on")
-    elif own and truths(way).difference(told):
-        trial.fault(f"pump, {name}: never came {truths(way).difference(told)}")
-    wrong = lies(told, way)
-    if wrong:
-        trial.fault(f"pump, {name}: {len(wrong)} of {len(told)} are lies: {wrong[0]}")
-    believed = sum(attempt[1] is not None for attempt in told)
-    if believed > len(way.periods()) * own:
-        trial.fault(f"pump, {name}: AUX is 1 in {believed} attempts, also with a foreign handler")
+def is_lie(attempt):
+    """No stop came, so that only a whole dose is true."""
+    strokes, told = attempt
+    return told is not None and (told != (DOSE, 0) or strokes != DOSE)
 
 
 def pump(trial, files):
-    """With its guard the region tells the truth whatever the timer does, at each of its periods,
-    whenever a byte arrives, and with each place of the region as the handler of either; and where a
-    byte waited before. Without the guard it does not.
+    """With its guard the region tells the truth whatever the timer does, at each of its periods and
+    with each place of the region as the timer's handler, and where a byte waited before; without
+    the guard it does not.
     """
     region = Region("guarded")
-    own, every = places(region.handler, region.handler), places(*region.bounds[:2])
-    ways = {"with its own handler": Way(own, allow="eint"),
-            "where a byte waited": Way(own, waits=True),
-            "with every handler": Way(every, allow="eint"),
-            "without interrupts": Way(every),
-            "where bytes arrive": Way(own, SERIAL, waits=True),
-            "with every handler of bytes": Way(every, SERIAL, waits=True),
-            "with interrupts of bytes": leaving(region, SERIAL, allow=BYTES)}
-    for name, way in ways.items():
-        guarded(trial, files, region, name, way)
+    own, every = [region.handler], [*range(region.bounds[0], region.bounds[1] + 2, 2)]
+    tries = {"with its own handler": (own, "eint", False), "where a byte waited": (own, "", True),
+             "with every handler": (every, "eint", False), "without interrupts": (every, "", False)}
+    for name, (handlers, allow, waits) in tries.items():
+        told = attempts(trial, files, region, handlers, allow, waits)
+        if len(told) != len(handlers) * (PAST - (LEAST if allow else 1)):
+            trial.fault(f"pump, {name}: {len(told)} attempts")
+        lies = [*filter(is_lie, told)]
+        if lies or (DOSE, (DOSE, 0)) not in told:
+            trial.fault(f"pump, {name}: {len(lies)} of {len(told)} are lies: {lies[:1]}")
     region = Region("forged")
-    for way in (leaving(region, TIMER, allow="eint"), leaving(region, SERIAL, waits=True),
-                leaving(region, SERIAL, allow=BYTES)):
-        if not lies(attempts(trial, files, region, way), way):
-            trial.fault(f"pump, without its guard: no lie is found with {way}")
+    if not any(map(is_lie, attempts(trial, files, region, [region.leave()]))):
+        trial.fault("pump, without its guard: no lie is found")

@@ -12,6 +12,7 @@ READERS = {
     "reports": file_readers.read_reports,
     "source": assembler_model.assemble,
     "trace": file_readers.read_trace,
+    "states": file_readers.read_states,
 }
 
 

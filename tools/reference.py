@@ -14,10 +14,17 @@ class Command(NamedTuple):
     prints: str
     about: str
     example: str
+    program: str = "device_cli"
+    last: tuple = ()  # an argument behind all others that may be left out
 
     @property
     def usage(self):
-        return " ".join([self.name, *map(str.upper, self.words)])
+        may = [f"[{word.upper()}]" for word in self.last]
+        return " ".join([self.name, *map(str.upper, self.words), *may])
+
+    @property
+    def all_words(self):
+        return self.words + self.last
 
     @property
     def files(self):
@@ -53,6 +60,15 @@ class Digits(NamedTuple):
 
     def takes(self, word):
         return bool(re.fullmatch(f"[0-9A-Fa-f]{{{self.count}}}", word))
+
+
+class Memory(NamedTuple):
+    """An argument that is the file of a desk's memory."""
+    about: str
+
+    @staticmethod
+    def takes(word):
+        return True
 
 
 COMMANDS = {command.name: command for command in (
@@ -106,9 +122,21 @@ COMMANDS = {command.name: command for command in (
             "their reports",
             "Answers each line of standard input with one line, at once. `ask NAME R`, in which R "
             "numbers the line, is answered by a request, `request NAME R H64 N token H64`, and "
-            "`give NAME R report2 ..` by a verdict on the report, `verdict NAME R V`. A desk that "
-            "is started anew has forgotten its devices: run it by tools/desk-journal.",
-            "desk keys.txt image.hex policy.txt"),
+            "`give NAME R report2 ..` by a verdict on the report, `verdict NAME R V`. What it must "
+            "not forget is in MEMORY before a reply is out, and a desk that is started anew with "
+            "it goes on; without MEMORY it is forgotten at the end.",
+            "desk keys.txt image.hex policy.txt desk.db", "desk_cli", ("memory",)),
+    Command("states", ("memory",),
+            "the state of each device in a desk's memory, one a line",
+            "Prints a line for each device in MEMORY, the oldest first, `state NAME key H32 count "
+            "N outstanding N last R ANSWER`: the mark of its key, how many requests were made, the "
+            "counter of the outstanding one, and the last line's number and answer; `none` where "
+            "there is none. No desk may run over MEMORY meanwhile.",
+            "states desk.db > states.txt", "desk_cli"),
+    Command("remember", ("states", "memory"),
+            "nothing: a new memory of a desk is made of such lines",
+            "Makes the new MEMORY of lines as states prints them.",
+            "remember states.txt desk.db", "desk_cli"),
     Command("audit", ("trace",),
             "whether each line of a trace file names the right rule and EXEC",
             "Prints `clean N` where each of the N lines of TRACE names the first rule that its "
@@ -129,6 +157,8 @@ COMMANDS = {command.name: command for command in (
             "work 7"),
 )}
 
+PROGRAMS = ("device_cli", "desk_cli")
+
 # In the order in which they are read.
 FILES = {
     "key": File(7, 256, "the device's key: 128 hexadecimal digits"),
@@ -139,6 +169,7 @@ FILES = {
     "reports": File(11, 1048576, "lines as play prints them, and reports of version 1"),
     "source": File(12, 1048576, "an assembler source"),
     "trace": File(13, 67108864, "lines as trace prints them"),
+    "states": File(19, 4194304, "lines as states prints them"),
 }
 
 # The arguments that are no files.
@@ -147,14 +178,34 @@ VALUES = {
     "counter": Decimal(1, 4294967295),
     "steps": Decimal(1, 10000000),
     "seed": Decimal(0, 4294967295),
+    "memory": Memory("a file that keeps the states of a desk's devices; made where there is none"),
 }
+
+
+class Part(NamedTuple):
+    """A part of a text that is said of this command, or of one that has this argument, alone."""
+    word: str
+    text: str
+
+
+def said_of(words, text):
+    """The text, which may be a tuple with parts in it, as it is said of these commands and
+    arguments; of none that are named, the whole text.
+    """
+    parts = [Part("", text)] if isinstance(text, str) else [
+        Part("", part) if isinstance(part, str) else part for part in text]
+    return "".join(part.text for part in parts
+                   if words is None or not part.word or part.word in words)
 
 
 class Status(NamedTuple):
     line: str  # on standard error; L is a fault's line, K its kind
     cause: str
     remedy: str
+    commands: tuple = ()  # those that end so, where not all do
 
+
+WITH_MEMORY = tuple(name for name, command in COMMANDS.items() if "memory" in command.all_words)
 
 STATUSES = {
     0: Status("", "all of the text was printed", ""),
@@ -162,20 +213,26 @@ STATUSES = {
               "all of the text was printed, and a verdict in it is not `accept`, or `audit` found "
               "an offence",
               "`docs/verifier.md` says what each verdict means, `docs/formats.md` what an offence "
-              "is"),
+              "is", ("verify", "round", "audit")),
     2: Status("words are no command",
-              "the arguments are no command, STEPS is no decimal in 1..10,000,000, SEED none in "
-              "0..4,294,967,295, COUNTER none in 1..4,294,967,295, CHAL is not 64 hexadecimal "
-              "digits, or an argument is not UTF-8", "compare with `--help`"),
+              ("the arguments are no command",
+               Part("steps", ", STEPS is no decimal in 1..10,000,000"),
+               Part("seed", ", SEED none in 0..4,294,967,295"),
+               Part("counter", ", COUNTER none in 1..4,294,967,295"),
+               Part("chal", ", CHAL is not 64 hexadecimal digits"),
+               ", or an argument is not UTF-8"), "compare with `--help`"),
     3: Status("file is absent", "one of the files is not there", "look for them in this order"),
     4: Status("reading failed",
-              "a file is there and cannot be read: a folder, a path through a file, a lack of "
-              "rights, a broken disk; or standard input of `desk` cannot be read", "likewise"),
+              ("a file is there and cannot be read: a folder, a path through a file, a lack of "
+               "rights, a broken disk",
+               Part("desk", "; or standard input of `desk` cannot be read")), "likewise"),
     5: Status("writing failed", "standard output took only a prefix of the text",
               "free space, or keep the pipe open"),
     6: Status("no memory",
-              "the system refused memory; nothing was printed, or in `round` a prefix that ends "
-              "before a `collision` line, or in `desk` the replies to all lines before a report",
+              ("the system refused memory; nothing was printed",
+               Part("round", ", or in `round` a prefix that ends before a `collision` line"),
+               Part("desk", ", or in `desk` the replies to all lines before a report, or to some "
+                            "lines where it was refused for MEMORY")),
               "the program needs a few MiB, and for the largest sources some 40, the largest "
               "trace files some 70"),
     7: Status("bad key: line L: K", "the key is not 128 hexadecimal digits in one line",
@@ -188,7 +245,19 @@ STATUSES = {
     13: Status("bad trace: line L: K", "the first fault of the trace file", "likewise"),
     14: Status("bad keys: line L: K", "the first fault of a desk's keys", "likewise"),
     15: Status("input is too long", "`desk` took 1,073,741,824 bytes of standard input",
-               "start the desk anew from its journal, made short: `docs/desk.md`"),
+               "start the desk anew with its memory: `docs/desk.md`", ("desk",)),
+    16: Status("bad memory: M",
+               "MEMORY is no memory of a desk, or is damaged; or a key of KEYS stands under "
+               "another name in it; or `remember` was to make it, and it has devices",
+               "`docs/desk.md` says what to do", WITH_MEMORY),
+    17: Status("memory is in use", "another desk, `states`, `remember` or sqlite3 has MEMORY open",
+               "end it first", WITH_MEMORY),
+    18: Status("the memory could not be written",
+               "MEMORY cannot be opened, made, read or written: no such folder, a lack of rights, "
+               "a full or broken disk; no reply was put that it does not keep",
+               "mend that, and start the desk anew", WITH_MEMORY),
+    19: Status("bad states: line L: K", "the first fault of a text of states",
+               "`--help` says what K means"),
 }
 
 # What a fault's kind means, of each file.
@@ -218,7 +287,7 @@ FAULTS = {
         "Digit": "a character of a name is no letter, digit or `_`, or one of a key no digit",
         "Count": "a name has more than 32 characters, or a key not 128 digits",
         "Extra": "a word too many",
-        "Twice": "the name was given before",
+        "Twice": "the name or the key was given before",
     },
     "image": {
         **TOO_LONG,
@@ -235,8 +304,8 @@ FAULTS = {
     "policy": {
         **IN_WORDS,
         "Missing": "a word is not there, or the file ends before `flag`, in version 1 before `or`",
-        "Word": "not the keyword that is wanted here; or the policy of a `desk` is of version 1 "
-                "(line 0)",
+        "Word": ("not the keyword that is wanted here",
+                 Part("desk", "; or the policy of a `desk` is of version 1 (line 0)")),
         "Order": "the lines are not `version`, `er`, `or`, `flag`, then `ask` lines, in version 1 "
                  "`er`, `or`, then `chal` lines",
         "Twice": "an earlier `ask` line has this challenge and this counter",
@@ -265,6 +334,15 @@ FAULTS = {
         "Range": "a number is out of range, or a word is at an odd address",
         "Extra": "a word too many",
         "Order": "the number of the step is not that of the lines before it",
+    },
+    "states": {
+        **IN_WORDS,
+        "Word": "not the keyword that is wanted here, or no answer",
+        "Digit": "a character of a name is no letter, digit or `_`, or one of a key or a number no "
+                 "digit",
+        "Count": "a name has more than 32 characters, or the mark of a key not 32 digits",
+        "Range": "a number is out of range, or the outstanding counter is greater than the count",
+        "Twice": "the last line of this device has this key, or the key stands under another name",
     },
 }
 

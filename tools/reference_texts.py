@@ -1,7 +1,7 @@
 """The texts that are written from the table of reference.py."""
 import textwrap
 
-from reference import COMMANDS, FAULTS, FILES, RULES, STATUSES, VALUES, VERSION
+from reference import COMMANDS, FAULTS, FILES, RULES, STATUSES, VALUES, VERSION, said_of
 
 WIDTH = 80
 
@@ -12,14 +12,15 @@ def entry(name, text, indent):
                          subsequent_indent=" " * indent, break_on_hyphens=False) + "\n"
 
 
-def usages():
+def usages(commands=tuple(COMMANDS.values())):
     return "".join(f"{'usage:' if not number else '      '} foldgneiss {command.usage}\n"
-                   for number, command in enumerate(COMMANDS.values()))
+                   for number, command in enumerate(commands))
 
 
-def command_entry(command):
-    return (entry(f"{command.name:8}", command.about, 8)
-            + f"          foldgneiss {command.example}\n")
+def command_entries(commands):
+    indent = max(8, *(len(command.name) + 1 for command in commands))
+    return [entry(command.name, command.about, indent)
+            + f"{'':{indent + 2}}foldgneiss {command.example}\n" for command in commands]
 
 
 def argument_text(word):
@@ -29,7 +30,7 @@ def argument_text(word):
 
 
 def words_of(commands):
-    words = [word for command in commands for word in command.words]
+    words = [word for command in commands for word in command.all_words]
     return [word for word in [*FILES, *VALUES] if word in words]
 
 
@@ -38,23 +39,35 @@ def arguments_of(commands):
                    for word in words_of(commands))
 
 
-def faults_by_meaning(kinds):
+def kinds_of(commands):
+    """The kinds of files that some commands read."""
+    return [kind for kind in FILES if any(kind in command.files for command in commands)]
+
+
+def said_words(commands):
+    """The commands and their arguments, of which a part of a text may be."""
+    return {word for command in commands for word in (command.name, *command.all_words)}
+
+
+def faults_by_meaning(commands):
     """Pairs of a fault's kind and the files in which it has one meaning, with this meaning."""
     meanings = {}
-    for kind in kinds:
-        for fault, meaning in FAULTS[kind].items():
+    for kind in kinds_of(commands):
+        for fault, text in FAULTS[kind].items():
+            meaning = said_of(said_words(commands), text)
             meanings.setdefault((fault, meaning), []).append(kind)
     return meanings.items()
 
 
-def faults_of(kinds):
-    """The faults of some files, those that several share first."""
-    groups = {}
-    for (fault, meaning), names in faults_by_meaning(kinds):
+def faults_of(commands):
+    """The faults of the files of some commands, those that several share first."""
+    groups, kinds = {}, kinds_of(commands)
+    for (fault, meaning), names in faults_by_meaning(commands):
         groups.setdefault(tuple(names), []).append((fault, meaning))
     lines = []
     for names, faults in sorted(groups.items(), key=lambda group: -len(group[0])):
-        lines.append(f"  of {'each file' if names == tuple(FILES) else ', '.join(names)}\n")
+        is_each = len(names) > 3 and names == tuple(kinds)
+        lines.append(f"  of {'each file' if is_each else ', '.join(names)}\n")
         lines += [entry(f"    {fault}", meaning, 16) for fault, meaning in faults]
     return "".join(lines)
 
@@ -63,35 +76,56 @@ def rules():
     return "".join(entry(f"  {rule}", meaning, 6) for rule, meaning in RULES.items())
 
 
-def status_text(status):
+def cause_of(status, words=None):
     line = f" ({status.line})" if status.line else ""
-    return status.cause + line
+    return said_of(words, status.cause) + line
 
 
-def statuses():
-    return "".join(entry(f"  {code}", status_text(status), 6) for code, status in STATUSES.items())
+def codes_of(commands):
+    """The exit statuses of a program with these commands."""
+    names = {command.name for command in commands}
+    others = {FILES[kind].status for kind in {*FILES} - {*kinds_of(commands)}}
+    return [code for code, status in STATUSES.items()
+            if code not in others and (not status.commands or names & {*status.commands})]
+
+
+def statuses(commands):
+    return "".join(entry(f"  {code}", cause_of(STATUSES[code], said_words(commands)), 6)
+                   for code in codes_of(commands))
+
+
+def help_on(commands):
+    """What --help says of some commands."""
+    has_resets = any("script" in command.files for command in commands)
+    return "\n".join([
+        usages(commands),
+        "\n".join(command_entries(commands)),
+        "  --help     prints this\n  --version  prints the version\n",
+        "Arguments, files in the order in which they are read:\n" + arguments_of(commands),
+        *(["Rules (reset S R):\n" + rules()] if has_resets else []),
+        "Faults (bad FILE: line L: K), the first of the first faulty file:\n"
+        + faults_of(commands),
+        "Exit status, and the line on standard error:\n" + statuses(commands),
+    ])
 
 
 def help_text():
-    commands = list(COMMANDS.values())
-    return "\n".join([
-        usages(),
-        "\n".join(map(command_entry, commands)),
-        "  --help     prints this\n  --version  prints the version\n",
-        "Arguments, files in the order in which they are read:\n" + arguments_of(commands),
-        "Rules (reset S R):\n" + rules(),
-        "Faults (bad FILE: line L: K), the first of the first faulty file:\n" + faults_of(FILES),
-        "Exit status, and the line on standard error:\n" + statuses(),
-    ])
+    """What ./foldgneiss --help says: of the commands of both programs."""
+    return help_on(list(COMMANDS.values()))
+
+
+def program_help(program):
+    """What --help of one program says."""
+    return help_on([command for command in COMMANDS.values() if command.program == program])
 
 
 def command_help(name):
     """What --help says of one command."""
     command = COMMANDS[name]
-    parts = [f"usage: foldgneiss {command.usage}\n", command_entry(command),
+    parts = [f"usage: foldgneiss {command.usage}\n", *command_entries([command]),
              "Arguments:\n" + arguments_of([command])]
     if command.files:
-        parts.append("Faults:\n" + faults_of(command.files))
+        parts.append("Faults:\n" + faults_of([command]))
     return "\n".join(parts)
 
 
@@ -109,8 +143,9 @@ def command_table():
 
 def status_table():
     return table(("Code", "Line on standard error", "Cause", "Remedy"),
-                 *((str(code), f"`{status.line}`" if status.line else "none", status.cause,
-                    status.remedy) for code, status in STATUSES.items()))
+                 *((str(code), f"`{status.line}`" if status.line else "none",
+                    said_of(None, status.cause), status.remedy)
+                   for code, status in STATUSES.items()))
 
 
 def roff(text):
@@ -129,7 +164,7 @@ def man_page():
         return f".SH {name}\n" + "".join(parts)
     commands = COMMANDS.values()
     faults = (tagged(fault, f"{meaning} ({', '.join(kinds)})")
-              for (fault, meaning), kinds in faults_by_meaning(FILES))
+              for (fault, meaning), kinds in faults_by_meaning(commands))
     return "".join([
         f'.TH FOLDGNEISS 1 "" "foldgneiss {VERSION}"\n',
         section("NAME", roff("foldgneiss - an attested MSP430 microcontroller, emulated, with its "
@@ -141,7 +176,7 @@ def man_page():
                                for word in words_of(commands))),
         section("RULES", *(tagged(rule, meaning) for rule, meaning in RULES.items())),
         section("FAULTS", *faults),
-        section("EXIT STATUS", *(tagged(str(code), status_text(status))
+        section("EXIT STATUS", *(tagged(str(code), cause_of(status))
                                  for code, status in STATUSES.items())),
     ])
 

@@ -1,7 +1,10 @@
 """The files that tools/check-program gives to the program."""
+import contextlib
 import os
 import re
 import tempfile
+from string import ascii_letters
+from typing import NamedTuple
 
 import attestation_model
 import desk_model
@@ -13,7 +16,13 @@ from readers import READERS, first_fault
 from reference import COMMANDS, FILES
 from trial import ROOT
 
+try:
+    import sqlite3
+except ImportError:  # (a Python that was made without it)
+    sqlite3 = None
+
 EXAMPLES = f"{ROOT}/examples"
+MOST_DEVICES = 1886  # of a file of keys, with names of one character and of two
 
 
 def read(name):
@@ -25,6 +34,33 @@ def write(name, text):
     with open(name, "wb") as file:
         file.write(text)
     return name
+
+
+def database(name, *lines):
+    """A file that another program made; None where Python has no SQLite."""
+    if not sqlite3:
+        return None
+    with contextlib.closing(sqlite3.connect(name)) as made:
+        for line in lines:
+            made.execute(line)
+        made.commit()
+    return name
+
+
+def remove_memory(name):
+    """Removes a desk's memory with its log, as far as they are there."""
+    for each in (name, f"{name}-wal"):
+        if os.path.exists(each):
+            os.remove(each)
+
+
+class DeskCall(NamedTuple):
+    """A call of the desk's program, and what it prints."""
+    words: tuple
+    text: bytes
+    lines: bytes = None  # its input
+    replies: bytes = b""  # those that may be out before memory runs out
+    made: str = None  # the memory that it makes anew
 
 
 def steps_of(text):
@@ -106,7 +142,8 @@ class SampleFiles:
         """
         return self.round.words(command, **{
             "chal": self.report.challenge.hex(), "counter": str(self.report.count),
-            "policy": self["policy"], "reports": self["reports"], "keys": self["keys"], **others})
+            "policy": self["policy"], "reports": self["reports"], "keys": self["keys"],
+            "states": self["states"], "memory": self["desk.db"], **others})
 
     def desk_of_round(self):
         """The model of a desk whose device `a` has the key of the example `round`."""
@@ -138,6 +175,19 @@ class SampleFiles:
             ("asm", self["letter.asm"]): self.texts["image"],
             ("work", "7"): self.texts["work"],
         }
+
+    def each_desk_call(self):
+        """Each command of the desk with files that it takes, in an order in which `states` has the
+        memory that was made before.
+        """
+        words, lines, replies = self.desk_call()
+        text, memory = b"".join(replies), self["memory"]
+        return [
+            DeskCall(words, text, lines, replies[0]),
+            DeskCall((*words, memory), text, lines, replies[0], memory),
+            DeskCall(("remember", self["states"], memory), b"", made=memory),
+            DeskCall(("states", memory), read(self["states"])),
+        ]
 
     @staticmethod
     def letter_image():
@@ -231,13 +281,14 @@ class SampleFiles:
         self.add("key-upper", key.upper())
         self.add("key-digit", key.replace(b"f", b"g"))
         self.add("key-extra", key[:128] + b"0\n")
-        device = b"device a " + key
+        device, others = b"device a " + key, [key[at:128] + key[:at] + b"\n" for at in (1, 3, 5)]
         self.add("keys", device)
-        self.add("keys-among", b"# keys\n\ndevice A_9 " + key.upper() + b"\tdevice  a\t" + key[:128]
-                 + b"\r\ndevice " + b"Z" * 32 + b" " + key)
-        self.add("keys-twice", device + device)
-        self.add("keys-twice-last", device + b"# a\n" + device.replace(b" a ", b" b ")
-                 + device.replace(b" a ", b" c ") + device.replace(b" a ", b" c "))
+        self.add("keys-among", b"# keys\n\ndevice A_9 " + others[0].upper() + b"\tdevice  a\t"
+                 + key[:128] + b"\r\ndevice " + b"Z" * 32 + b" " + others[1])
+        self.add("keys-twice", device + b"device a " + others[0])
+        self.add("keys-twice-last", device + b"# a\ndevice b " + others[0] + b"device c "
+                 + others[1] + b"device c " + others[2])
+        self.add("keys-twice-key", device + b"device b " + others[0] + b"device c " + key.upper())
         self.add("keys-name", device.replace(b" a ", b" a-b "))
         self.add("keys-name-long", device.replace(b" a ", b" %s " % (b"a" * 33)))
         self.add("keys-short", device[:-2])
@@ -246,6 +297,7 @@ class SampleFiles:
         self.add("keys-extra", device[:-1] + b" b\n")
         self.add("keys-missing", b"device a\n")
         self.add("keys-utf8", b"# \xff\n")
+        self.add_states()
         self.add("key-256", b"0" * 256)
         self.add("key-257", b"0" * 257)
         self.add("image-no-end", b"".join(lines[:2]))
@@ -259,10 +311,26 @@ class SampleFiles:
         self.add("script-range", b"at 10000000 reset\n")
         self.add("script-utf8", b"# \xff\n")
 
+    def add_states(self):
+        """States as a memory of the desk has them, and files with one fault each."""
+        desk = self.desk_of_round()
+        desk.replies(b"ask a 1\ngive a 2 " + self.desk_report(1) + b"ask a 3\nask a 4 x\n")
+        line = desk_model.states_text(desk.entries)
+        self.add("states", line)
+        self.add("states-twice", line + line)
+        for name, old, new in (
+                ("word", b"state ", b"states "), ("name", b" a ", b" a-b "),
+                ("mark", b"key ", b"key 0"),
+                ("digit", b"count ", b"count x"), ("range", b"outstanding 2", b"outstanding 3"),
+                ("answer", b" bad Extra", b" bad Extras"), ("extra", b"\n", b" b\n"),
+                ("missing", b" bad Extra", b""), ("utf8", b"state", b"# \xff\nstate"),
+                ("taken", b"\n", b"\n" + line.replace(b" a key", b" b key"))):
+            self.add(f"states-{name}", line.replace(old, new))
+
     def add_cut_files(self):
         """Real files cut in the middle, where that is a fault; the faults by their kinds."""
         own = {"policy": self["policy"], "reports": self["reports"], "source": self["letter.asm"],
-               "trace": self["trace"], "keys": self["keys"]}
+               "trace": self["trace"], "keys": self["keys"], "states": self["states"]}
         self.cut_faults = {}
         for kind in FILES:
             text = read(own.get(kind) or self.round.file(kind))
@@ -295,15 +363,23 @@ class SampleFiles:
 
     def add_largest_files(self):
         """Files of each kind up to their limits, full of lines that change nothing: records that
-        are written again, bytes that nobody reads, names that nobody uses, and requests with one
-        challenge, with the reports on them again and again. The numbers of requests and of reports.
+        are written again, bytes that nobody reads, names that nobody uses, requests with one
+        challenge, with the reports on them again and again, and devices that send nothing. The
+        numbers of requests and of reports.
         """
         lines = read(self.image).splitlines(keepends=True)
         counts = range(1, FILES["policy"].limit // (len("ask  9999\n") + 64))
         reports = b"".join(self.report_with(count=count) for count in counts)
         policy = verifier_model.policy_text(self.policy._replace(
             requests=[(self.report.challenge, count) for count in counts]))
+        names = [letter + other for other in ("", *ascii_letters) for letter in ascii_letters]
+        self.add("states-many", b"".join(
+            b"state d%d key %032d count 7 outstanding 7 last 9 request 7\n" % (number, number)
+            for number in range(2000)))
         many = {
+            "keys": b"".join(b"device %s %0128d\n" % (name.encode(), number)
+                             for number, name in enumerate(names[:MOST_DEVICES])),
+            "states": read(self["states-many"]) + b"# a comment\n" * 200000,
             "image": lines[0] * 37447 + b"".join(lines[-2:]),
             "script": b"at 4 rx 000000 \n" * 65536,
             "source": b"".join(b".equ n%05d,1\n" % number for number in range(1, 74891))

@@ -5,10 +5,10 @@ import subprocess
 import sys
 from typing import NamedTuple
 
-from reference import STATUSES
+from reference import COMMANDS, PROGRAMS, STATUSES
 
 ROOT = os.path.dirname(os.path.dirname(os.path.realpath(__file__)))
-PROGRAM = f"{ROOT}/crates/device_cli/out/device_cli"
+PROVED = [f"{ROOT}/crates/{crate}/out/{crate}" for crate in PROGRAMS]
 WORDS, ABSENT, UNREADABLE = (STATUSES[status].line for status in (2, 3, 4))
 
 
@@ -21,11 +21,25 @@ class Answer(NamedTuple):
         return f"status {self.status}, '{self.line}', printed {self.output[:80]!r}"
 
 
-class Trial:
-    """The calls of one program, each within a time limit, and what was wrong."""
+class Programs:
+    """That of the device, and that of the desk."""
 
-    def __init__(self, name, program, seconds=60):
-        self.name, self.program, self.seconds = name, program, seconds
+    def __init__(self, name, paths):
+        paths = [*paths, *PROVED[len(paths):]]
+        self.device, self.desk = (program_of(name, [path]) for path in paths)
+
+    def that_has(self, words):
+        """The one that has the command of these words."""
+        command = COMMANDS.get(words[0]) if words else None
+        return self.desk if command and command.program == "desk_cli" else self.device
+
+
+class Trial:
+    """The calls of the programs, each within a time limit, and what was wrong."""
+
+    def __init__(self, name, paths, seconds=60):
+        self.name, self.programs, self.seconds = name, Programs(name, paths), seconds
+        self.program, self.desk = self.programs.device, self.programs.desk
         self.tries, self.wrong = 0, 0
 
     def fault(self, what):
@@ -33,13 +47,15 @@ class Trial:
         self.wrong += 1
 
     def call(self, *arguments, command=None, seconds=None, **options):
-        """What the program, or another command, answers; options are those of subprocess.Popen, and
-        `input` for its standard input."""
+        """What the program of these words, or another command, answers; options are those of
+        subprocess.Popen, and `input` for its standard input.
+        """
         self.tries += 1
         taken = options.pop("input", None)
         options = {"stdin": subprocess.DEVNULL if taken is None else subprocess.PIPE,
                    "stdout": subprocess.PIPE, "stderr": subprocess.PIPE, **options}
-        process = subprocess.Popen([*(command or [self.program]), *arguments],
+        command = command or [self.programs.that_has(arguments)]
+        process = subprocess.Popen([*command, *arguments],
                                    start_new_session=True, **options)
         try:
             output, errors = process.communicate(taken, timeout=seconds or self.seconds)
@@ -72,13 +88,18 @@ class Trial:
         return 1 if self.wrong else 0
 
 
+def random_bytes(rng, count):
+    """As the randbytes of Python 3.9."""
+    return rng.getrandbits(8 * count).to_bytes(count, "little") if count else b""
+
+
 def spelled(arguments):
     return " ".join(map(str, arguments)) or "no arguments"
 
 
 def program_of(name, arguments):
-    """The program that the arguments of a tool name, the proved one if none."""
-    program = os.path.realpath(arguments[0] if arguments else PROGRAM)
+    """The program that the arguments of a tool name, the proved one of the device if none."""
+    program = os.path.realpath(arguments[0] if arguments else PROVED[0])
     if not os.access(program, os.X_OK):
         sys.exit(f"{name}: no proved program at {program}: ./foldgneiss build")
     return program

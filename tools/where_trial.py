@@ -19,7 +19,7 @@ import tempfile
 
 from firmware_trial import PLACE, PUMPS
 from sample_files import EXAMPLES, read, write
-from trial import ROOT, Trial, program_of
+from trial import ROOT, Trial
 
 sys.path.append(f"{ROOT}/firmware")
 from where_elf import Firmware  # noqa: E402
@@ -431,7 +431,7 @@ def where(trial, files):
 
 
 def write_expected(arguments):
-    trial = Trial("where-trial", program_of("where-trial", arguments))
+    trial = Trial("where-trial", arguments)
     for name, (_, views, _) in SHOWN.items():
         run = run_of(trial, name)
         os.makedirs(f"{EXAMPLES}/{name}/where", exist_ok=True)

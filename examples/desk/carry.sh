@@ -1,15 +1,28 @@
 #!/usr/bin/env bash
-# carry.sh [PROGRAM]: carries requests from one desk to two devices, and their reports back.
+# carry.sh [PROGRAM [DESK]]: carries requests from a desk to two devices, and their reports back.
+# Before the last line the desk is ended and started again with its memory.
 set -eu
 folder=$(dirname "$(readlink -f "$0")")
-program=$(readlink -f "${1:-$folder/../../crates/device_cli/out/device_cli}")
+crates=$folder/../../crates
+program=$(readlink -f "${1:-$crates/device_cli/out/device_cli}")
+desk=$(readlink -f "${2:-$crates/desk_cli/out/desk_cli}")
 cd "$folder"
 image=../round/image.hex
 work=$(mktemp -d)
 trap 'rm -rf "$work"' EXIT
 mkfifo "$work/lines" "$work/replies"
-"$program" desk keys.txt $image policy.txt <"$work/lines" >"$work/replies" &
-exec 3>"$work/lines" 4<"$work/replies"
+
+# start: a desk that goes on with the memory
+start() {
+    "$desk" desk keys.txt $image policy.txt "$work/memory" <"$work/lines" >"$work/replies" &
+    exec 3>"$work/lines" 4<"$work/replies"
+}
+
+# end: the desk's input ends, and so does the desk
+end() {
+    exec 3>&-
+    wait $!
+}
 
 # say LINE: a line to the desk; its reply is printed, and stands in `reply`
 say() {
@@ -28,11 +41,14 @@ play() {
     report=$("$program" play $image "$work/script" "$1.txt" 1192 | grep '^report2 ')
 }
 
+start
 for device in a b; do
     say "ask $device 1"
     play $device
     say "give $device 2 $report"
 done
+end
+"$desk" states "$work/memory"
+start
 say "give b 3 $report" # once more: a replay
-exec 3>&-
-wait $!
+end

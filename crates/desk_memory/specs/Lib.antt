@@ -1,3 +1,4 @@
+pub mod AnswerRead
 pub mod AnswerText
 pub mod DeviceState
 pub mod Entry

@@ -2,16 +2,18 @@
 //!
 //! A [`DeviceState`] is all that a desk has to know of a device's earlier lines. A [`Memory`] keeps
 //! the states of devices: what was noted in it is found again after each crash, once it was
-//! settled. [`NoMemory`] is that of a desk that is started once, [`MemMemory`] one for tests. An
-//! [`Entry`] has a device's name, the mark of the key that it was served under, and its state;
-//! [`state_of`] and [`owner_of`] look through entries, and [`place_for`] says where one more goes.
-//! The laws say that it changes the state of its device alone, and takes no key from a name.
+//! settled. An [`EntryMemory`] tells its entries. [`NoMemory`] is that of a desk that is started
+//! once, [`MemMemory`] one for tests. An [`Entry`] has a device's name, the mark of the key that it
+//! was served under, and its state; [`state_of`] and [`owner_of`] look through entries, and
+//! [`place_for`] says where one more goes. The laws say that it changes the state of its device
+//! alone, and takes no key from a name.
 #![tactic(auto)]
 
 mod answer;
 mod device_state;
 mod entry;
 mod entry_copy;
+mod entry_memory;
 mod entry_place;
 mod fault_text;
 mod key_mark;
@@ -27,6 +29,7 @@ pub use answer::Answer;
 pub use device_state::DeviceState;
 pub use entry::Entry;
 pub use entry_copy::copy_of;
+pub use entry_memory::EntryMemory;
 pub use entry_place::{place_for, set_entry};
 pub use fault_text::fault_name;
 pub use key_mark::{MARK, mark_of};

@@ -8,8 +8,9 @@ ghost use Rattle.desk_memory.specs.declared.memory_fault.MemoryFault.TheVariants
 use crate::device_state::DeviceState;
 use crate::entry::Entry;
 use crate::entry_copy::copy_of;
+use crate::entry_memory::EntryMemory;
 use crate::entry_place::{place_for, set_entry};
-use crate::key_mark::mark_of;
+use crate::key_mark::{MARK, mark_of};
 use crate::memory::Memory;
 use crate::memory_fault::MemoryFault;
 use outside_edge::{MemSink, Sink};
@@ -60,18 +61,37 @@ impl MemMemory {
         })
     }
 
-    /// The entries with all that was noted.
-    pub fn entries(&self) -> &[Entry]
-        ensures { result.now ≡ self.now.entries }
-    {
-        &self.entries
-    }
-
     /// The entries that a crash leaves.
     pub fn settled(&self) -> &[Entry]
         ensures { result.now ≡ self.now.settled }
     {
         &self.settled
+    }
+
+    // Notes the state of the device of a name, served under a key of this mark.
+    fn note_marked(
+        &mut self,
+        name: &[u8],
+        mark: &[u8; MARK],
+        state: DeviceState,
+    ) -> Result<(), MemoryFault>
+        ensures noted { OnOk result (self.new.entries ≡ with_entry self.old.entries
+            (record { name = name.now; mark = mark.now; state = state })) }
+        ensures unnoted { OnErr result (self.new.entries ≡ self.old.entries) }
+        ensures crash { self.new.settled ≡ self.old.settled }
+        ensures failed { (result ≡ Err Failed)
+            ↔ Contains self.old.counts.failing self.new.counts.calls }
+        ensures counts { CountsOrLacks (λ memory. memory.counts.faults) (Unit {0})
+            self.old self.new result }
+    {
+        if self.calls.put(b"").is_err() {
+            return Err(MemoryFault::Failed);
+        }
+        let entry = Entry::new(self.alloc, name, mark, state)?;
+        let place = place_for(&self.entries, &entry);
+        self.entries.reserve(1)?;
+        set_entry(&mut self.entries, place, entry);
+        Ok(())
     }
 }
 
@@ -98,14 +118,7 @@ impl Memory for MemMemory {
         ensures counts { CountsOrLacks (λ memory. memory.counts.faults) (Unit {0})
             self.old self.new result }
     {
-        if self.calls.put(b"").is_err() {
-            return Err(MemoryFault::Failed);
-        }
-        let entry = Entry::new(self.alloc, name, &mark_of(key), state)?;
-        let place = place_for(&self.entries, &entry);
-        self.entries.reserve(1)?;
-        set_entry(&mut self.entries, place, entry);
-        Ok(())
+        self.note_marked(name, &mark_of(key), state)
     }
 
     fn settle(&mut self) -> Result<(), MemoryFault>
@@ -122,5 +135,18 @@ impl Memory for MemMemory {
         }
         self.settled = copy_of(self.alloc, &self.entries)?;
         Ok(())
+    }
+}
+
+impl EntryMemory for MemMemory {
+    /// With all that was noted.
+    fn entries(&self) -> &[Entry]
+        ensures { result.now ≡ self.now.entries }
+    {
+        &self.entries
+    }
+
+    fn note_entry(&mut self, new: &Entry) -> Result<(), MemoryFault> {
+        self.note_marked(new.name(), new.mark(), new.state())
     }
 }

@@ -20,9 +20,11 @@ use Rattle.report_verifier.specs.Policy.{PolicyFields}
 use Rattle.report_verifier.specs.PolicyGrammar.{policy_of}
 use Rattle.report_verifier.specs.Validity.{are_valid_for}
 use Rattle.report_verifier.proofs.PolicyBounds.{policy_of-valid}
-use Rattle.device_cli.specs.Row.{DevicePlay, FileKind, Outcome, Row, Ends, Reads, go_on, read_file, value_of}
-use Rattle.device_cli.specs.Reading.{Files, Reaches}
-use Rattle.device_cli.specs.FileKind.{key_kind, image_kind, script_kind, policy_kind}
+use Rattle.input_files.specs.Row.{FileKind, Ends, Reads, go_on, read_file, value_of}
+use Rattle.device_cli.specs.Row.{DevicePlay, Outcome, Row}
+use Rattle.input_files.specs.Reading.{Files, Reaches}
+use Rattle.input_files.specs.FileKind.{image_kind, policy_kind}
+use Rattle.device_cli.specs.FileKind.{key_kind, script_kind}
 use Rattle.device_cli.specs.Load.{load_key, load_image}
 use Rattle.device_cli.specs.PlayLaws.{IsLawful, IsLawfulRow}
 use Rattle.report_verifier.specs.Judge.{judge_with}

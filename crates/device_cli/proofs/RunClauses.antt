@@ -2,10 +2,10 @@
 use Rattle.std.proofs.Common.{◌≡◌, ◌≤◌, ◌⊎◌, ℕ, List, Option, Some, None, IfSome, refl, arith}
 use Rattle.std.proofs.lemmas.Option.{IfSome_then}
 use Rattle.outside_edge.specs.Count.{Rose}
-use Rattle.device_cli.specs.declared.status.Status.{Status}
-use Rattle.device_cli.specs.declared.status.Status.TheVariants.{Done, Rejected, Memory}
+use Rattle.input_files.specs.declared.status.Status.{Status}
+use Rattle.input_files.specs.declared.status.Status.TheVariants.{Done, Rejected, Memory}
 use Rattle.device_cli.specs.Answer.{Follows, HasLawfulOutcome, HasOutcome, IsAnswer, OnMemory, OnPut, OnWriteFault, PutsAll, PutsPrefix, StopsAtPair, UnlessPut}
-use Rattle.device_cli.specs.Reading.{Files, IsRefusal, counts_of, first_refusal}
+use Rattle.input_files.specs.Reading.{Files, IsRefusal, counts_of, first_refusal}
 use Rattle.device_cli.specs.Row.{Row}
 use Rattle.device_cli.proofs.RowAnswer.{complete}
 

@@ -1,7 +1,8 @@
 -- The command `asm`: the image of a source.
 use Rattle.std.specs.Prelude.{ℕ, List, [], ◌∷◌, Option, Some, None}
 use Rattle.hex_loader.specs.HexText.{hex_text}
-use Rattle.device_cli.specs.Row.{Row, plain, put, read_file}
+use Rattle.input_files.specs.Row.{read_file}
+use Rattle.device_cli.specs.Row.{Row, plain, put}
 use Rattle.device_cli.specs.FileKind.{source_kind}
 
 -- `asm SOURCE`

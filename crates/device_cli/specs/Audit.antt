@@ -2,7 +2,8 @@
 use Rattle.std.specs.Prelude.{ℕ, List, [], ◌∷◌, Option, Some, None, is_none}
 use Rattle.trace_audit.specs.declared.audited.Audited.{Audited}
 use Rattle.trace_audit.specs.AuditText.{audit_text}
-use Rattle.device_cli.specs.Row.{Outcome, Row, plain, put, read_file}
+use Rattle.input_files.specs.Row.{read_file}
+use Rattle.device_cli.specs.Row.{Outcome, Row, plain, put}
 use Rattle.device_cli.specs.FileKind.{trace_kind}
 
 -- what is put of an audit: an offence is not accepted

@@ -1,8 +1,9 @@
 -- The command `list`: the listing of an image.
 use Rattle.std.specs.Prelude.{ℕ, List, [], ◌∷◌, Option, Some, None}
 use Rattle.msp_disasm.specs.Listing.{listing}
-use Rattle.device_cli.specs.Row.{Row, plain, put, read_file}
-use Rattle.device_cli.specs.FileKind.{image_kind}
+use Rattle.input_files.specs.Row.{read_file}
+use Rattle.device_cli.specs.Row.{Row, plain, put}
+use Rattle.input_files.specs.FileKind.{image_kind}
 
 -- `list IMAGE`
 abbrev pub list_row : List ℕ → Row

@@ -12,7 +12,8 @@ use Rattle.part_definitions.specs.Request.{request_token}
 use Rattle.report_verifier.specs.Expectation.{count_bytes}
 use Rattle.device_cli.specs.FileKind.{key_kind}
 use Rattle.device_cli.specs.Limit.{most_count}
-use Rattle.device_cli.specs.Row.{Row, plain, put, read_file}
+use Rattle.input_files.specs.Row.{read_file}
+use Rattle.device_cli.specs.Row.{Row, plain, put}
 
 -- its challenge, its counter and its token
 abbrev pub request_line : List ℕ → ℕ → List ℕ → List ℕ

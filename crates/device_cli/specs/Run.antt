@@ -1,11 +1,11 @@
--- What a run of the arguments of a command other than `desk` does.
+-- What a run of the arguments of a command does.
 use Rattle.std.specs.Prelude.{◌≡◌, ◌≤◌, ◌↔◌, ◌⊎◌, ℕ, List, None, IfSome}
 use Rattle.outside_edge.specs.Count.{Rose}
-use Rattle.device_cli.specs.declared.status.Status.{Status}
-use Rattle.device_cli.specs.declared.status.Status.TheVariants.{Done, Rejected, Words, Memory}
+use Rattle.input_files.specs.declared.status.Status.{Status}
+use Rattle.input_files.specs.declared.status.Status.TheVariants.{Done, Rejected, Words, Memory}
 use Rattle.device_cli.specs.Answer.{HasOutcome, PutsAll, PutsPrefix, StopsAtPair, Follows, OnPut, OnWriteFault, OnMemory, UnlessPut, HasLawfulOutcome}
 use Rattle.device_cli.specs.Command.{row_of}
-use Rattle.device_cli.specs.Reading.{Files, IsRefusal, counts_of, first_refusal}
+use Rattle.input_files.specs.Reading.{Files, IsRefusal, counts_of, first_refusal}
 
 -- over a shelf and a sink before and after
 pub record IsRun {S W : Type 0} (files : S → Files) (faults misses : S → ℕ)

@@ -59,6 +59,16 @@ begun_carried before after same begun =
       empty = begun.empty;
     }
 
+pub memory_carried : (before after : Image) (db : Trees) → RecoversAs page_size before after
+    → HoldsMemory before db → HoldsMemory after db
+memory_carried before after db same held =
+    record {
+      pages = held.pages;
+      found = carried page_size before after same held.pages held.found;
+      sound = held.sound;
+      reads = held.reads;
+    }
+
 module _ {D : Type 0} {g : Ghosts D} (old : Unopened D g)
     (size : (state_of old).page_size ≡ page_size) where
   pub nothing_of : IsUnstarted old → HoldsNothing (image old)

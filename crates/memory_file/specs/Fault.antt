@@ -12,7 +12,7 @@ use Rattle.sqlite_store.specs.declared.error.OpenError.TheVariants as store
 use Rattle.state_table.specs.declared.open_fault.OpenFault.{OpenFault}
 use Rattle.state_table.specs.declared.open_fault.OpenFault.TheVariants as table
 use Rattle.memory_file.specs.declared.memory_file_fault.MemoryFileFault.{MemoryFileFault}
-use Rattle.memory_file.specs.declared.memory_file_fault.MemoryFileFault.TheVariants.{Place, InUse, Foreign, Disk, Full, OutOfMemory}
+use Rattle.memory_file.specs.declared.memory_file_fault.MemoryFileFault.TheVariants.{Place, InUse, HotJournal, Foreign, Disk, Full, OutOfMemory}
 
 abbrev pub fault_of_probe : log.Error → MemoryFileFault
 fault_of_probe (wal.Io e) = Disk
@@ -34,7 +34,7 @@ abbrev pub fault_of_path : path.OpenError → MemoryFileFault
 fault_of_path (opened.Io e) = fault_of_kind (error_kind e)
 fault_of_path opened.OutOfMemory = OutOfMemory
 fault_of_path opened.Busy = InUse
-fault_of_path opened.HotJournal = Foreign
+fault_of_path opened.HotJournal = HotJournal
 
 abbrev pub fault_of_table : OpenFault → MemoryFileFault
 fault_of_table table.Memory = OutOfMemory
@@ -45,7 +45,8 @@ fault_of_table table.Foreign = Foreign
 abbrev pub IsOfPath : MemoryFileFault → Type 0
 IsOfPath Disk = ⊥
 IsOfPath Full = ⊥
+IsOfPath Foreign = ⊥
 IsOfPath Place = ⊤
 IsOfPath InUse = ⊤
-IsOfPath Foreign = ⊤
+IsOfPath HotJournal = ⊤
 IsOfPath OutOfMemory = ⊤

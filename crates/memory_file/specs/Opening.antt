@@ -16,7 +16,7 @@ use Rattle.memory_file.specs.Held.{HoldsMemory, HoldsNothing, HasEntries, MayBeO
 use Rattle.memory_file.specs.declared.left.Left.{Left}
 use Rattle.memory_file.specs.declared.left.Left.TheVariants as left
 use Rattle.memory_file.specs.declared.memory_file_fault.MemoryFileFault.{MemoryFileFault}
-use Rattle.memory_file.specs.declared.memory_file_fault.MemoryFileFault.TheVariants.{Place, InUse, Foreign, Disk, Full, OutOfMemory}
+use Rattle.memory_file.specs.declared.memory_file_fault.MemoryFileFault.TheVariants.{Place, InUse, HotJournal, Foreign, Disk, Full, OutOfMemory}
 
 -- the trees are those of the memory that the files held; where there was none, tree 0 has no row
 pub record Finds (image : Image) (db : Trees) : Type 0 where
@@ -33,6 +33,7 @@ FailsToOpen old new AtLimit ToOpen Full = AtLimit
 FailsToOpen old new AtLimit ToOpen Foreign = ¬ ToOpen
 FailsToOpen old new AtLimit ToOpen Place = ⊥
 FailsToOpen old new AtLimit ToOpen InUse = ⊥
+FailsToOpen old new AtLimit ToOpen HotJournal = ⊥
 
 abbrev pub image_of : {D : Type 0} → Ghosts D → Files D → Image
 image_of g files = seen_image g files.log files.db

@@ -47,7 +47,7 @@ pub fn path_fault(error: sqlite_std_file::OpenError) -> MemoryFileFault
     match error {
         sqlite_std_file::OpenError::OutOfMemory => MemoryFileFault::OutOfMemory,
         sqlite_std_file::OpenError::Busy => MemoryFileFault::InUse,
-        sqlite_std_file::OpenError::HotJournal => MemoryFileFault::Foreign,
+        sqlite_std_file::OpenError::HotJournal => MemoryFileFault::HotJournal,
         sqlite_std_file::OpenError::Io(error) => io_fault(&error),
     }
 }

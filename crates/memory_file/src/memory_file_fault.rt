@@ -9,6 +9,9 @@ pub enum MemoryFileFault {
     /// Another process, or another handle of this one, has it open.
     #[error("the memory is in use")]
     InUse,
+    /// The journal of another database lies beside it, which was not rolled back. Nothing is read.
+    #[error("a journal of another database lies beside it")]
+    HotJournal,
     /// The files hold something else, or a memory that is damaged.
     #[error("this is no memory of a desk, or it is damaged")]
     Foreign,

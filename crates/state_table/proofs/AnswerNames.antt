@@ -1,8 +1,7 @@
 -- Texts of answers differ.
 use Rattle.std.proofs.Common.{◌≡◌, ◌∙◌, ℕ, ◌<◌, ◌^◌, List, Some, true, get_or, refl, sym, ap, arith, rules}
-use Rattle.std.specs.Prelude.{find, nat_lt}
+use Rattle.std.specs.Prelude.{nat_lt}
 use Rattle.std.specs.Fmt.{decimal}
-use Rattle.std.specs.Str.{bytes_eq}
 use Rattle.std.specs.Str.Parse.{digits_value}
 use Rattle.std.proofs.lemmas.Bool.{ltb-true}
 use Rattle.std.proofs.lemmas.Fmt.{decimal_is_IsNumeral}
@@ -11,18 +10,17 @@ use Rattle.report_verifier.specs.declared.decision.Decision.{Decision}
 use Rattle.report_text.specs.VerdictName.{verdict_name}
 use Rattle.desk_memory.specs.declared.answer.Answer.{Answer}
 use Rattle.desk_memory.specs.declared.answer.Answer.TheVariants.{Stale, Bad, Spent, Requested, Judged}
+use Rattle.desk_memory.specs.AnswerRead.{kind_named, verdict_named}
 use Rattle.desk_memory.specs.AnswerText.{answer_text}
 use Rattle.desk_memory.specs.FaultName.{fault_name}
 use Rattle.desk_memory.specs.SizedEntry.{is_short_answer}
-use Rattle.state_table.specs.declared.named_fault.TheConstants.{FAULT_KINDS}
-use Rattle.state_table.specs.declared.named_verdict.TheConstants.{VERDICTS}
 
 kind_found : (kind : FaultKind) (name : List ℕ) → name ≡ fault_name kind
-    → find (λ other. bytes_eq name (fault_name other)) FAULT_KINDS ≡ Some kind
+    → kind_named name ≡ Some kind
 kind_found = search rules
 
 verdict_found : (verdict : Decision) (name : List ℕ) → name ≡ verdict_name verdict
-    → find (λ other. bytes_eq name (verdict_name other)) VERDICTS ≡ Some verdict
+    → verdict_named name ≡ Some verdict
 verdict_found = search rules
 
 fault_name-injective : (a b : FaultKind) → fault_name a ≡ fault_name b → a ≡ b

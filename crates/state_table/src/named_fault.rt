@@ -1,6 +1,6 @@
-ghost use Rattle.std.specs.Prelude.{◌≡◌, Some, find};
-ghost use Rattle.std.specs.Str.{bytes_eq};
+ghost use Rattle.std.specs.Prelude.{◌≡◌, Some};
 ghost use Rattle.text_scan.specs.declared.fault_kind.FaultKind.{FaultKind as Fault};
+ghost use Rattle.desk_memory.specs.AnswerRead.{kind_named};
 ghost use Rattle.desk_memory.specs.FaultName.{fault_name};
 
 use desk_memory::fault_name;
@@ -34,13 +34,14 @@ const FAULT_KINDS: [FaultKind; 23] = [
 
 /// The kind of a fault's name.
 pub fn fault_named(name: &[u8]) -> Option<FaultKind>
-    ensures { (kind : Fault) → name.now ≡ fault_name kind → result ≡ Some kind }
+    ensures named { result ≡ kind_named name.now }
+    ensures read { (kind : Fault) → name.now ≡ fault_name kind → result ≡ Some kind }
 {
     first_named(name)
 }
 
 fn first_named(name: &[u8]) -> Option<FaultKind>
-    ensures { result ≡ find (λ kind. bytes_eq name.now (fault_name kind)) FAULT_KINDS }
+    ensures { result ≡ kind_named name.now }
 {
     FAULT_KINDS
         .iter()

@@ -1,7 +1,7 @@
-ghost use Rattle.std.specs.Prelude.{◌≡◌, Some, find};
-ghost use Rattle.std.specs.Str.{bytes_eq};
+ghost use Rattle.std.specs.Prelude.{◌≡◌, Some};
 ghost use Rattle.report_verifier.specs.declared.decision.Decision.{Decision as Verdict};
 ghost use Rattle.report_text.specs.VerdictName.{verdict_name};
+ghost use Rattle.desk_memory.specs.AnswerRead.{verdict_named};
 
 use report_text::verdict_name;
 use report_verifier::Decision;
@@ -20,13 +20,14 @@ const VERDICTS: [Decision; 9] = [
 
 /// The verdict of a name.
 pub fn verdict_named(name: &[u8]) -> Option<Decision>
-    ensures { (verdict : Verdict) → name.now ≡ verdict_name verdict → result ≡ Some verdict }
+    ensures named { result ≡ verdict_named name.now }
+    ensures read { (verdict : Verdict) → name.now ≡ verdict_name verdict → result ≡ Some verdict }
 {
     first_named(name)
 }
 
 fn first_named(name: &[u8]) -> Option<Decision>
-    ensures { result ≡ find (λ verdict. bytes_eq name.now (verdict_name verdict)) VERDICTS }
+    ensures { result ≡ verdict_named name.now }
 {
     VERDICTS
         .iter()

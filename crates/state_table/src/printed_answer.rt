@@ -1,4 +1,4 @@
-ghost use Rattle.std.specs.Prelude.{◌≡◌};
+ghost use Rattle.std.specs.Prelude.{◌≡◌, ◌≤◌, length};
 ghost use Rattle.desk_memory.specs.AnswerText.{answer_text};
 
 use desk_memory::{Answer, fault_name};
@@ -7,7 +7,8 @@ use report_text::verdict_name;
 
 /// An answer in words.
 pub fn answer_text(answer: Answer) -> LineBuffer
-    ensures { result ≡ answer_text answer }
+    ensures text { result ≡ answer_text answer }
+    ensures short { length result ≤ 28 }
 {
     let mut text = LineBuffer::new();
     match answer {

@@ -8,7 +8,9 @@ use crate::open_fault::OpenFault;
 use crate::store_fault::{failures_after, fault_of};
 use crate::table_reading::read_entries;
 use crate::whole_commit::commit_whole;
-use desk_memory::{DeviceState, Entry, Memory, MemoryFault, mark_of, place_for, set_entry};
+use desk_memory::{
+    DeviceState, Entry, EntryMemory, Memory, MemoryFault, mark_of, place_for, set_entry,
+};
 use sqlite_trees::store::{Shape, Store};
 use std::alloc::Global;
 
@@ -78,15 +80,8 @@ impl<S: Logged + Drop> StoreMemory<S> {
         })
     }
 
-    /// The entries, the oldest first.
-    pub fn entries(&self) -> &[Entry]
-        ensures { result.now ≡ self.now.entries.items }
-    {
-        &self.entries
-    }
-
-    /// Notes an entry for the next commit.
-    pub fn note_entry(&mut self, new: Entry) -> Result<(), MemoryFault>
+    /// Puts an entry, for the next commit.
+    pub fn put_entry(&mut self, new: Entry) -> Result<(), MemoryFault>
         requires { IsTrue (is_sized new) }
         ensures clean { doubt (S.Store.view self.old.store).is_clean
             ≤ doubt (S.Store.view self.new.store).is_clean }
@@ -166,11 +161,22 @@ impl<S: Logged + Drop> Memory for StoreMemory<S> {
 
     fn note(&mut self, name: &[u8], key: &[u8; 64], state: DeviceState) -> Result<(), MemoryFault> {
         let entry = Entry::new(self.alloc, name, &mark_of(key), state)?;
-        self.note_entry(entry)
+        self.put_entry(entry)
     }
 
     fn settle(&mut self) -> Result<(), MemoryFault> {
         self.settle_all()?;
         Ok(())
+    }
+}
+
+impl<S: Logged + Drop> EntryMemory for StoreMemory<S> {
+    fn entries(&self) -> &[Entry] {
+        &self.entries
+    }
+
+    fn note_entry(&mut self, new: &Entry) -> Result<(), MemoryFault> {
+        let entry = Entry::new(self.alloc, new.name(), new.mark(), new.state())?;
+        self.put_entry(entry)
     }
 }

@@ -178,15 +178,17 @@ module _ {M W : Type 0} (m : memory.Ghosts M) (w : sink.Ghosts W) (first : W)
         gives,
         puts earlier told,
       )
-  put_to_end before old new memory_before memory_old memory_new withheld lines Spent one puts so =
-      absurd so
-  put_to_end before old new memory_before memory_old memory_new withheld lines ReadFault one puts so =
-      absurd so
-  put_to_end before old new memory_before memory_old memory_new withheld lines WriteFault one puts so
-      =
-      absurd (⊎_elim (λ is. cc is) (λ is. cc is) one)
-  put_to_end before old new memory_before memory_old memory_new withheld lines (Unkept fault) one puts
+  put_to_end before old new memory_before memory_old memory_new withheld lines Spent one puts
       so =
+      absurd so
+  put_to_end before old new memory_before memory_old memory_new withheld lines ReadFault one puts
+      so =
+      absurd so
+  put_to_end before old new memory_before memory_old memory_new withheld lines WriteFault one puts
+      so =
+      absurd (⊎_elim (λ is. cc is) (λ is. cc is) one)
+  put_to_end before old new memory_before memory_old memory_new withheld lines (Unkept fault) one
+      puts so =
       absurd (⊎_elim (λ is. cc is) (λ is. cc is) one)
 
   pub put_to_fault : (before old new : W) (memory_before memory_old memory_new : M)
@@ -196,8 +198,8 @@ module _ {M W : Type 0} (m : memory.Ghosts M) (w : sink.Ghosts W) (first : W)
       → m.faults memory_before ≤ m.faults memory_old → w.faults before ≤ w.faults old
       → ServesLines m w first before old memory_before memory_old withheld fields lines answered
       → PutsLines m w first before new memory_before memory_new fields lines served
-  put_to_fault before old new memory_before memory_old memory_new withheld lines Done served one other
-      puts grows rises so =
+  put_to_fault before old new memory_before memory_old memory_new withheld lines Done served one
+      other puts grows rises so =
       held_over before old new memory_before memory_old memory_new [] lines served other rises grows
       (puts lines so)
   put_to_fault before old new memory_before memory_old memory_new withheld lines Memory served one
@@ -208,14 +210,14 @@ module _ {M W : Type 0} (m : memory.Ghosts M) (w : sink.Ghosts W) (first : W)
   put_to_fault before old new memory_before memory_old memory_new withheld lines Spent served one
       other puts grows rises so =
       absurd so
-  put_to_fault before old new memory_before memory_old memory_new withheld lines ReadFault served one
-      other puts grows rises so =
-      absurd so
-  put_to_fault before old new memory_before memory_old memory_new withheld lines WriteFault served one
-      other puts grows rises so =
-      absurd (⊎_elim (λ is. cc is) (λ is. cc is) one)
-  put_to_fault before old new memory_before memory_old memory_new withheld lines (Unkept fault) served
+  put_to_fault before old new memory_before memory_old memory_new withheld lines ReadFault served
       one other puts grows rises so =
+      absurd so
+  put_to_fault before old new memory_before memory_old memory_new withheld lines WriteFault served
+      one other puts grows rises so =
+      absurd (⊎_elim (λ is. cc is) (λ is. cc is) one)
+  put_to_fault before old new memory_before memory_old memory_new withheld lines (Unkept fault)
+      served one other puts grows rises so =
       absurd (⊎_elim (λ is. cc is) (λ is. cc is) one)
 
   -- where there is room now, lines go on as they were
@@ -245,10 +247,11 @@ module _ {M W : Type 0} (m : memory.Ghosts M) (w : sink.Ghosts W) (first : W)
     put_of_more m w first new memory_new fields (line ∷ []) lines so.0,
     so.1,
   )
-  fault_before_line old new memory_old memory_new withheld desk line lines (Unkept fault) other so = (
-    put_whole_of_more m w first new memory_new fields (line ∷ []) lines so.0,
-    so.1,
-  )
+  fault_before_line old new memory_old memory_new withheld desk line lines (Unkept fault) other
+      so = (
+        put_whole_of_more m w first new memory_new fields (line ∷ []) lines so.0,
+        so.1,
+      )
   fault_before_line old new memory_old memory_new withheld desk line lines Memory other
       (later, gives_line, earlier, parts, gives, told) = (
         line ∷ later,
@@ -258,7 +261,8 @@ module _ {M W : Type 0} (m : memory.Ghosts M) (w : sink.Ghosts W) (first : W)
         gives,
         told,
       )
-  fault_before_line old new memory_old memory_new withheld desk line lines Spent other so = absurd so
+  fault_before_line old new memory_old memory_new withheld desk line lines Spent other so =
+      absurd so
   fault_before_line old new memory_old memory_new withheld desk line lines ReadFault other so =
       absurd so
 
@@ -309,7 +313,8 @@ module _ {M W : Type 0} (m : memory.Ghosts M) (w : sink.Ghosts W) (first : W)
         done = so.done;
         parts = so.parts;
         put = so.put;
-        answered = λ honest found may. so.answered (only.honest honest) found (only.crash found may);
+        answered = λ honest found may.
+            so.answered (only.honest honest) found (only.crash found may);
       }
 
 -- what is said by a line that is too long, and by one that is not

@@ -8,6 +8,7 @@ use Rattle.desk_memory.specs.Entry.{Entry, owner_in}
 use Rattle.desk_memory.specs.KeyMark.{key_mark}
 use Rattle.verifier_desk.specs.DeviceKey.{DeviceKey}
 use Rattle.verifier_desk.specs.KeyOwner.{IsFreeFor, StandApartBefore, StandsApart}
+use Rattle.verifier_desk.proofs.KeyPlaces.{no_device}
 
 -- these are the marks of the devices before a place, and no others
 pub record AreMarks (digest : List ℕ → List ℕ) (devices : List DeviceKey) (marks : List (List ℕ))
@@ -91,9 +92,6 @@ pub apart_before : (digest : List ℕ → List ℕ) (devices : List DeviceKey) (
     → StandsApart digest devices entries place
     → StandApartBefore digest devices entries (place + 1)
 apart_before digest devices entries place so here = below_more _ _ so here
-
-no_device : DeviceKey
-no_device = record { name = []; key = [] }
 
 -- or it does not
 pub is_taken : (digest : List ℕ → List ℕ) (devices : List DeviceKey) (entries : List Entry)

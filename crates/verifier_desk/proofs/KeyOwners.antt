@@ -13,12 +13,11 @@ use Rattle.desk_memory.proofs.Noted.{owner_is_kept, owner_is_noted}
 use Rattle.verifier_desk.specs.DeskLine.{DeskLine, TooLong, Silent, Foreign, Own, line_of}
 use Rattle.verifier_desk.specs.DeviceKey.{DeviceKey, key_named}
 use Rattle.verifier_desk.specs.DeviceLine.{DeviceLine}
-use Rattle.verifier_desk.specs.KeyList.{place_named}
 use Rattle.verifier_desk.specs.KeyOwner.{HasDevice, IsFreeFor, IsKeyKept, IsServedIn, IsServedThrough, IsUnderOneName, KeysAreKept, KeysStandApart, KeysStandApartIn}
 use Rattle.verifier_desk.specs.Noted.{entries_after, entry_at, noted_of, with_noted}
 use Rattle.verifier_desk.specs.Replies.{DeskFields, lines_said, state_at}
 use Rattle.verifier_desk.specs.Run.{AreStarted, Run, entries_through}
-use Rattle.verifier_desk.proofs.KeyPlaces.{IsPlaceOf, placed, same_name}
+use Rattle.verifier_desk.proofs.KeyPlaces.{IsPlaceOf, place_named, placed, same_name}
 use Rattle.verifier_desk.proofs.Remembered.{IsKnown, entry_elsewhere, line_known}
 use Rattle.verifier_desk.proofs.Standing.{same_device}
 

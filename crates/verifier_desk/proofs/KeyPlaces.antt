@@ -1,24 +1,40 @@
 -- Devices and their places by names.
-use Rattle.std.proofs.Common.{◌≡◌, ◌<◌, ◌+◌, ◌∙◌, ℕ, zero, suc, Bool, true, false, cond, List, [], ◌∷◌, ◌++◌, Option, Some, None, Err, length, refl, arith, ap, sym, ⊎_elim, ◌⊎◌, inl, inr}
+use Rattle.std.proofs.Common.{◌≡◌, ◌<◌, ◌+◌, ◌∙◌, ℕ, zero, suc, Bool, true, false, cond, List, [], ◌∷◌, ◌++◌, Option, Some, None, length, refl, arith, ap, sym, subst, ⊎_elim, ◌⊎◌, inl, inr}
 use Rattle.std.specs.Prelude.{if◌then◌else◌, nat_lt, option_map, slice_index_or, IfSome, IfNone}
 use Rattle.std.proofs.Math.Seq.{get_or-append_seam}
+use Rattle.std.specs.List.{position_from}
 use Rattle.std.specs.Option.{is_some}
 use Rattle.std.specs.Str.{bytes_eq}
 use native.Mathlib.Numerals.{unary_clauses}
-use Rattle.std.specs.Map.{update}
 use Rattle.std.proofs.lemmas.Bool.{cases_Bool, false≢true}
 use Rattle.std.proofs.lemmas.Bool.Decides.{nat_tests}
 use Rattle.std.proofs.lemmas.List.{get_or_append_left, length-append}
 use Rattle.std.proofs.lemmas.Slice.Eq.{bytes_eq-Decides}
-use Rattle.text_scan.specs.declared.fault_kind.FaultKind.TheVariants.{Twice}
-use Rattle.verifier_desk.specs.declared.places.Places.{Places}
-use Rattle.verifier_desk.specs.DeviceKey.{DeviceKey, key_named, with_device}
-use Rattle.verifier_desk.specs.KeyList.{AreOf, place_named}
-use Rattle.verifier_desk.specs.Places.{place_in}
+use Rattle.verifier_desk.specs.DeviceKey.{DeviceKey, key_named}
 use Rattle.verifier_desk.specs.Standing.{AreDistinct}
+
+-- any device, for places that stand for one
+pub no_device : DeviceKey
+no_device = record { name = []; key = [] }
 
 pub same_name : (left right : List ℕ) → bytes_eq left right ≡ true → left ≡ right
 same_name left right same = (bytes_eq-Decides left right).0 same
+
+-- where the device of this name stands
+abbrev pub place_named : List ℕ → List DeviceKey → Option ℕ
+place_named name devices =
+    position_from (λ (device : DeviceKey). bytes_eq device.name name) 0 devices
+
+place_moved : (name : List ℕ) (start : ℕ) (devices : List DeviceKey)
+    → position_from (λ (device : DeviceKey). bytes_eq device.name name) (start + 1) devices
+    ≡ option_map (λ place. place + 1)
+    (position_from (λ (device : DeviceKey). bytes_eq device.name name) start devices)
+place_moved name start [] = refl
+place_moved name start (device ∷ devices) =
+    ⊎_elim
+    (λ same. rw same refl)
+    (λ other. rw other (place_moved name (start + 1) devices))
+    (cases_Bool (bytes_eq device.name name))
 
 -- what the place of a name says of its device
 abbrev pub IsPlaceOf : List ℕ → List DeviceKey → Option ℕ → Type 0
@@ -42,70 +58,29 @@ further name device devices (Some place) other so = (
       place))),
 )
 
+placed_first : (name : List ℕ) (device : DeviceKey) (devices : List DeviceKey) (same : Bool)
+    (place : Option ℕ) → bytes_eq device.name name ≡ same → IsPlaceOf name devices place
+    → IsPlaceOf name (device ∷ devices) (cond same (Some 0) (option_map (λ place. place + 1) place))
+placed_first name device devices true place same so =
+    (omega arith, λ d. same_name device.name name same, λ d. rw same refl)
+placed_first name device devices false place other so =
+    further name device devices place other so
+
 pub placed : (name : List ℕ) (devices : List DeviceKey)
     → IsPlaceOf name devices (place_named name devices)
 placed name [] = refl
 placed name (device ∷ devices) =
-    ⊎_elim
-    (λ same. rw same (omega arith, λ d. same_name device.name name same, λ d. rw same refl))
-    (λ other. rw other (further name device devices (place_named name devices) other
-    (placed name devices)))
-    (cases_Bool (bytes_eq device.name name))
+    subst (λ (later : Option ℕ).
+    IsPlaceOf name (device ∷ devices) (cond (bytes_eq device.name name) (Some 0) later))
+    (sym (place_moved name 0 devices))
+    (placed_first name device devices (bytes_eq device.name name) (place_named name devices) refl
+    (placed name devices))
 
 -- a name that the first device has, or that no device has
 none_first : (same : Bool) (key : List ℕ) (rest : Option (List ℕ))
     → (if same then Some key else rest) ≡ None → (same ≡ false) × (rest ≡ None)
 none_first true key rest none = absurd (cc none)
 none_first false key rest none = (refl, none)
-
-unlike : (first name other : List ℕ) → bytes_eq first name ≡ true → bytes_eq first other ≡ false
-    → bytes_eq other name ≡ false
-unlike first name other same differ =
-    ⊎_elim
-    (λ alike. absurd (false≢true (sym differ ∙ (bytes_eq-Decides first other).1
-    (same_name first name same ∙ sym (same_name other name alike)))))
-    (λ unlike. unlike)
-    (cases_Bool (bytes_eq other name))
-
-next_place : (same : Bool) (count : ℕ) (place : Option ℕ)
-    → option_map (λ place. place + 1) (cond same (Some count) place)
-    ≡ cond same (Some (count + 1)) (option_map (λ place. place + 1) place)
-next_place true count place = refl
-next_place false count place = refl
-
-first_or : (same other : Bool) (later now : Option ℕ) (count next : ℕ) → next ≡ count + 1
-    → (same ≡ true → other ≡ false) → later ≡ cond other (Some count) now
-    → (if same then Some 0 else option_map (λ place. place + 1) later)
-    ≡ cond other (Some next) (if same then Some 0 else option_map (λ place. place + 1) now)
-first_or true other later now count next counts unlike is = rw (unlike refl) refl
-first_or false other later now count next counts unlike is =
-    ap (option_map (λ place. place + 1)) is ∙ next_place other count now
-    ∙ ap (λ (one : ℕ). cond other (Some one) (option_map (λ place. place + 1) now)) (sym counts)
-
--- one more device
-pub place_named-new : (name : List ℕ) (devices : List DeviceKey) (device : DeviceKey)
-    → key_named device.name devices ≡ None
-    → place_named name (devices ++ device ∷ [])
-    ≡ cond (bytes_eq device.name name) (Some (length devices)) (place_named name devices)
-place_named-new name [] device new =
-    ⊎_elim (λ same. rw same refl) (λ other. rw other refl) (cases_Bool (bytes_eq device.name name))
-place_named-new name (first ∷ devices) device new =
-    let not_first : (bytes_eq first.name device.name ≡ false) × (key_named device.name devices ≡
-    None) =
-    none_first (bytes_eq first.name device.name) first.key (key_named device.name devices) new in
-    first_or (bytes_eq first.name name) (bytes_eq device.name name) _ _ (length devices) _
-    (omega arith) (λ same. unlike first.name name device.name same not_first.0)
-    (place_named-new name devices device not_first.1)
-
-pub places_with : (old new : List ℕ → Option ℕ) (devices : List DeviceKey) (device : DeviceKey)
-    → key_named device.name devices ≡ None
-    → new ≡ update bytes_eq old device.name (Some (length devices))
-    → ((name : List ℕ) → old name ≡ place_named name devices)
-    → (name : List ℕ) → new name ≡ place_named name (devices ++ device ∷ [])
-places_with old new devices device fresh put places name =
-    ap (λ (all : List ℕ → Option ℕ). all name) put
-    ∙ ap (cond (bytes_eq device.name name) (Some (length devices))) (places name)
-    ∙ sym (place_named-new name devices device fresh)
 
 -- a name that no device has
 unnamed : (name : List ℕ) (devices : List DeviceKey) (i : ℕ) (d : DeviceKey)
@@ -186,36 +161,12 @@ place_none name devices (Some place) so = tt
 pub none_distinct : AreDistinct []
 none_distinct i j d within_i within_j same = absurd (omega (arith, within_i))
 
--- a name that stands among them
-pub named_twice : (devices : List DeviceKey) (device : DeviceKey) (name : List ℕ) (place : Option ℕ)
-    → name ≡ device.name → is_some place ≡ true
+-- whether a device has a name
+pub is_named : (name : List ℕ) (devices : List DeviceKey) (place : Option ℕ)
     → IfSome place (λ at. (d : DeviceKey)
     → key_named name devices ≡ Some (slice_index_or devices at d).key)
-    → with_device devices device ≡ Err Twice
-named_twice devices device name None same is so = absurd (false≢true is)
-named_twice devices device name (Some at) same is so =
-    rw (ap (λ (one : List ℕ). key_named one devices) (sym same) ∙ so device) refl
-
--- the places of the devices with one more
-pub are_of_with : (old new : Places) (before after : List DeviceKey) (device : DeviceKey)
-    (name : List ℕ) (count : ℕ) → AreOf old before → key_named device.name before ≡ None
-    → place_in new ≡ update bytes_eq (place_in old) name (Some count)
-    → name ≡ device.name → count ≡ length before → after ≡ before ++ device ∷ []
-    → AreOf new after
-are_of_with old new before after device name count so fresh put same counts is =
-    rw is (record {
-      named = places_with (place_in old) (place_in new) before device fresh
-          (put ∙ ap (λ (one : List ℕ). update bytes_eq (place_in old) one (Some count)) same
-          ∙ ap (λ (place : ℕ). update bytes_eq (place_in old) device.name (Some place)) counts)
-          so.named;
-      distinct = distinct_with before device fresh so.distinct;
-    })
-
--- nothing was put
-pub are_of_still : (old new : Places) (before after : List DeviceKey) → AreOf old before
-    → place_in new ≡ place_in old → after ≡ before → AreOf new after
-are_of_still old new before after so kept is =
-    rw is (record {
-      named = λ name. ap (λ (all : List ℕ → Option ℕ). all name) kept ∙ so.named name;
-      distinct = so.distinct;
-    })
+    → IfNone place (key_named name devices ≡ None)
+    → is_some place ≡ is_some (key_named name devices)
+is_named name devices None key none = sym (ap (λ (one : Option (List ℕ)). is_some one) none)
+is_named name devices (Some place) key none =
+    sym (ap (λ (one : Option (List ℕ)). is_some one) (key no_device))

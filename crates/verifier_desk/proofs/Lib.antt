@@ -10,9 +10,7 @@ pub mod GoneOn
 pub mod AllRuns
 pub mod KeyOwners
 pub mod KeyMarks
-pub mod PlaceMap
 pub mod KeyPlaces
-pub mod KeysChecked
 pub mod SilentLine
 pub mod DeskError
 pub mod NotedReply

@@ -98,6 +98,7 @@ module _ {M W : Type 0} (m : memory.Ghosts M) (w : sink.Ghosts W) where
     pub parts : piece ≡ done ++ rest
     pub serves : (fields : DeskFields) (cut : LineCut) (first : W)
         → ServedAt first start fields cut → ServedAt first now fields (with_bytes cut done)
+    pub honest : m.is_honest now.memory → m.is_honest start.memory
     pub memory_rises : m.faults start.memory ≤ m.faults now.memory
     pub sink_rises : w.faults start.sink ≤ w.faults now.sink
 
@@ -172,10 +173,11 @@ module _ {M W : Type 0} (m : memory.Ghosts M) (w : sink.Ghosts W) where
       → ((k : ℕ) → k < length front → slice_index front k ≢ 10)
       → long ≡ with_piece old.held front → line ≡ ended_line long → new.held ≡ Some []
       → AnsweredAt old new line Done
+      → (m.is_honest new.memory → m.is_honest old.memory)
       → m.faults old.memory ≤ m.faults new.memory → w.faults old.sink ≤ w.faults new.sink
       → IsAnsweredTo piece later start new
   answered_more {piece} {rest} front back {later} {start} {old} {new} {long} {line} so is behind
-      plain pushed ended empty answered memory_rises sink_rises =
+      plain pushed ended empty answered honest memory_rises sink_rises =
       record {
         done = so.done ++ (front ++ 10 ∷ []);
         parts = so.parts ∙ ap (λ (one : List ℕ). so.done ++ one)
@@ -185,6 +187,7 @@ module _ {M W : Type 0} (m : memory.Ghosts M) (w : sink.Ghosts W) where
         serves = λ fields cut first before. rw (cut_anywhere cut so.done (front ++ 10 ∷ []))
             (line_served first fields old new long line (with_bytes cut so.done) front
             (so.serves fields cut first before) plain pushed ended empty answered);
+        honest = λ still. so.honest (honest still);
         memory_rises = omega (arith, so.memory_rises, memory_rises);
         sink_rises = omega (arith, so.sink_rises, sink_rises);
       }

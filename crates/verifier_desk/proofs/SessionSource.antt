@@ -77,6 +77,7 @@ module _ {R M W : Type 0} (r : source.Ghosts R) (m : memory.Ghosts M) (w : sink.
         → start.withheld ≡ nothing_withheld
         → ServedAt m w start.sink now fields (cut_of taken)
     pub empty : start.withheld ≡ nothing_withheld → now.withheld ≡ nothing_withheld
+    pub honest : m.is_honest now.memory → m.is_honest start.memory
     pub source_rises : r.faults source ≤ r.faults source_now
     pub memory_rises : m.faults start.memory ≤ m.faults now.memory
     pub sink_rises : w.faults start.sink ≤ w.faults now.sink
@@ -106,6 +107,7 @@ module _ {R M W : Type 0} (r : source.Ghosts R) (m : memory.Ghosts M) (w : sink.
               (answered_none m w start.sink start.memory fields keeps));
         };
         empty = λ none. none;
+        honest = λ still. still;
         source_rises = omega arith;
         memory_rises = omega arith;
         sink_rises = omega arith;
@@ -221,6 +223,7 @@ module _ {R M W : Type 0} (r : source.Ghosts R) (m : memory.Ghosts M) (w : sink.
       → room_new + length bytes ≡ room
       → AreTaken (r.left source_now) (r.left source_new) bytes
       → r.faults source_now ≤ r.faults source_new
+      → (m.is_honest new.memory → m.is_honest now.memory)
       → m.faults now.memory ≤ m.faults new.memory → w.faults now.sink ≤ w.faults new.sink
       → ((fields : DeskFields) (cut : LineCut) (first : W) → ServedAt m w first now fields cut
       → ServedAt m w first (record new { withheld = nothing_withheld }) fields
@@ -228,7 +231,7 @@ module _ {R M W : Type 0} (r : source.Ghosts R) (m : memory.Ghosts M) (w : sink.
       → new.withheld ≡ nothing_withheld
       → IsServedTo start source new source_new room_new
   piece_taken {start} {source} {now} {source_now} {new} {source_new} {room} {room_new} bytes so
-      less next source_rises memory_rises sink_rises serves nothing =
+      less next source_rises honest memory_rises sink_rises serves nothing =
       record {
         taken = so.taken ++ bytes;
         are_taken = taken_both (r.left source) (r.left source_now) (r.left source_new) so.taken
@@ -238,6 +241,7 @@ module _ {R M W : Type 0} (r : source.Ghosts R) (m : memory.Ghosts M) (w : sink.
             rw (nothing, cut_anywhere no_lines so.taken bytes)
             (serves fields (cut_of so.taken) start.sink (so.serves fields stood keeps empty none));
         empty = λ none. nothing;
+        honest = λ still. so.honest (honest still);
         source_rises = omega (arith, so.source_rises, source_rises);
         memory_rises = omega (arith, so.memory_rises, memory_rises);
         sink_rises = omega (arith, so.sink_rises, sink_rises);

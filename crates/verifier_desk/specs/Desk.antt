@@ -1,10 +1,7 @@
 -- A desk's value stands for its devices, its policy and the lines of each device so far.
-use Rattle.std.specs.Prelude.{◌≡◌, ℕ, List, [], Option, Result, Ok, Err}
+use Rattle.std.specs.Prelude.{◌≡◌, ℕ, List, [], Option}
 use Rattle.sha2.specs.Sha256.{sha256}
 use Rattle.mem_map.specs.Image.{byte_in}
-use Rattle.text_scan.specs.declared.fault_at.FaultAt.{FaultAt}
-use Rattle.text_scan.specs.declared.text_fault.TextFault.{TextFault}
-use Rattle.text_scan.specs.declared.text_fault.TextFault.TheVariants.{At, Memory}
 use Rattle.report_verifier.specs.Policy.{PolicyFields}
 use Rattle.desk_memory.specs.Entry.{Entry}
 use Rattle.verifier_desk.specs.declared.desk.Desk.{Desk}
@@ -37,12 +34,3 @@ desk_with devices image policy entries =
       policy = policy;
       entries = entries;
     }
-
--- a desk was opened for the devices that a text has, or its first fault was given
-abbrev pub Opens : Result Desk TextFault → Result (List DeviceKey) FaultAt → (ℕ → Option ℕ)
-    → PolicyFields → List Entry → Type 0
-Opens (Ok desk) read image policy entries =
-    (devices : List DeviceKey) × (read ≡ Ok devices)
-    × DeskStandsFor desk (desk_with devices image policy entries) no_lines_of
-Opens (Err (At fault)) read image policy entries = read ≡ Err fault
-Opens (Err (Memory _)) read image policy entries = Unit {0}

@@ -1,9 +1,8 @@
 -- The file of keys: one line a device, with its name and its key; and the first fault.
-use Rattle.std.specs.Prelude.{ℕ, ◌==◌, ◌||◌, Bool, List, [], ◌∷◌, ◌++◌, length, if◌then◌else◌, nat_lt, Option, Some, None, unwrap_or, Result, Ok, Err, codes}
+use Rattle.std.specs.Prelude.{ℕ, ◌==◌, ◌||◌, Bool, List, [], ◌∷◌, ◌++◌, length, if◌then◌else◌, nat_lt, Option, Some, None, Result, Ok, Err, codes}
 use Rattle.std.specs.Char.{is_ascii_alphanumeric}
-use Rattle.std.specs.List.{list_all}
+use Rattle.std.specs.List.{list_all, list_any}
 use Rattle.std.specs.Option.{is_some}
-use Rattle.std.specs.Result.{result_ok}
 use Rattle.std.specs.Str.{bytes_eq}
 use Rattle.text_scan.specs.declared.fault_at.FaultAt.{FaultAt}
 use Rattle.text_scan.specs.declared.fault_kind.FaultKind.{FaultKind}
@@ -31,7 +30,7 @@ is_name_character character = is_ascii_alphanumeric character || (character == 9
 abbrev pub name_fault : List ℕ → Result Unit FaultKind
 name_fault word =
     if list_all is_name_character word
-    then (if nat_lt 32 (length word) then Err Count else Ok tt)
+    then (if (length word == 0) || nat_lt 32 (length word) then Err Count else Ok tt)
     else Err Digit
 
 -- `device NAME H128`
@@ -44,9 +43,16 @@ device_of words = do
   end ← end_of key.1
   Ok (record { name = name.0; key = key.0 })
 
+-- whether one of these devices has this key
+abbrev pub has_key : List ℕ → List DeviceKey → Bool
+has_key key devices = list_any (λ (device : DeviceKey). bytes_eq device.key key) devices
+
+-- no device has the name or the key of one before it
 abbrev pub with_device : List DeviceKey → DeviceKey → Result (List DeviceKey) FaultKind
 with_device devices device =
-    if is_some (key_named device.name devices) then Err Twice else Ok (devices ++ device ∷ [])
+    if is_some (key_named device.name devices) || has_key device.key devices
+    then Err Twice
+    else Ok (devices ++ device ∷ [])
 
 unfoldable pub with_line : List DeviceKey → List ℕ → Result (List DeviceKey) FaultKind
 with_line devices line = do
@@ -56,7 +62,3 @@ with_line devices line = do
 -- the devices in the order of the file, or the first fault
 abbrev pub devices_of : List ℕ → Result (List DeviceKey) FaultAt
 devices_of text = text_fold with_line [] text
-
--- of a text without fault
-abbrev pub devices_in : List ℕ → List DeviceKey
-devices_in text = unwrap_or (result_ok (devices_of text)) []

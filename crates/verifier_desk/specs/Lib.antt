@@ -5,14 +5,11 @@ pub mod DeviceKey
 pub mod DeviceLine
 pub mod DeviceReply
 pub mod HeldLine
-pub mod KeyCheck
-pub mod KeyList
 pub mod KeyOwner
 pub mod Law
 pub mod LineCut
 pub mod Noted
 pub mod OwnLine
-pub mod Places
 pub mod Replies
 pub mod Reply
 pub mod Run

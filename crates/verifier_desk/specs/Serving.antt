@@ -115,8 +115,8 @@ abbrev pub HasFailed : {M : Type 0} → memory.Ghosts M → M → M → MemoryFa
 HasFailed m old new fault =
     ((fault ≡ refused.Memory) × m.lacks) ⊎ Rose (m.faults old) (m.faults new)
 
--- why it ended so, where it took so many bytes: the source is at its end before the limit, or at the
--- limit; or a fault was counted
+-- why it ended so, where it took so many bytes: the source is at its end before the limit, or at
+-- the limit; or a fault was counted
 abbrev pub HasCause : {R M W : Type 0} → source.Ghosts R → memory.Ghosts M → sink.Ghosts W
     → Outside R M W → Outside R M W → ℕ → Served → Type 0
 HasCause r m w old new count Done =

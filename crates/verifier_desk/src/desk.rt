@@ -24,9 +24,9 @@ use std::alloc::{AllocError, Global};
 
 /// A desk: its devices with their states, in one order, and what it judges their reports by.
 #[derive(Drop)]
-pub struct Desk<'a> {
+pub struct Desk {
     alloc: Global,
-    keys: KeyList<'a>,
+    keys: KeyList,
     states: Vec<DeviceState>,
     image: Image,
     policy: Policy,
@@ -36,7 +36,7 @@ pub struct Desk<'a> {
 // The states of devices, in their order, as these entries have them.
 fn states_in(
     alloc: Global,
-    keys: &KeyList<'_>,
+    keys: &KeyList,
     entries: &[Entry],
 ) -> Result<Vec<DeviceState>, AllocError>
     ensures count { IfOk result (λ states. vec_len states ≡ length keys.now) }
@@ -52,20 +52,20 @@ fn states_in(
     Ok(states)
 }
 
-impl<'a> Desk<'a> {
+impl Desk {
     ghost use Rattle.verifier_desk.specs.Answering.{Answers, OnlyNotes};
     ghost use Rattle.verifier_desk.specs.Desk.{DeskStandsFor, desk_with, no_lines_of};
 
     /// A desk of these devices, in the states that these entries have.
-    pub(crate) fn new(
+    pub fn new(
         alloc: Global,
-        keys: KeyList<'a>,
+        keys: KeyList,
         image: Image,
         policy: Policy,
         entries: &[Entry],
-    ) -> Result<Desk<'a>, AllocError>
+    ) -> Result<Desk, AllocError>
         ensures { IfOk result (λ desk. DeskStandsFor desk
-            (desk_with keys.entry (byte_in image) policy entries.now) no_lines_of) }
+            (desk_with keys (byte_in image) policy entries.now) no_lines_of) }
     {
         let states = states_in(alloc, &keys, entries)?;
         Ok(Desk {

@@ -1,38 +1,40 @@
 ghost use Rattle.std.specs.Prelude.{◌≡◌, ◌≤◌, length};
 ghost use Rattle.std.specs.List.{list_all};
+ghost use Rattle.text_scan.specs.Reader.{ReadsWord};
 ghost use Rattle.text_scan.specs.Word.{words_of};
 ghost use Rattle.verifier_desk.specs.DeviceKey.{device_of, is_name_character, name_fault};
 
+use std::alloc::Global;
 use std::marker::Model;
-use text_scan::{FaultKind, Words};
+use text_scan::{FaultKind, WordFault, Words};
 
 // The most characters of a name.
 const LONGEST_NAME: usize = 32;
 
-/// A device's name, which stands in the file of keys, and its key.
+/// A device's name and its key.
 #[derive(Drop)]
-pub struct DeviceKey<'a> {
-    name: &'a [u8],
+pub struct DeviceKey {
+    name: Vec<u8>,
     key: [u8; 64],
 }
 
-impl<'a> Model for DeviceKey<'a> {
-    ghost use Rattle.std.specs.Prelude.{◌≤◌, length};
+impl Model for DeviceKey {
+    ghost use Rattle.std.specs.Prelude.{◌≤◌, vec_len};
     ghost use Rattle.verifier_desk.specs.DeviceKey.{DeviceKey as DeviceFields};
 
     ghost Value = { DeviceFields };
 
-    ghost view = { λ device. record { name = device.name.now; key = device.key } };
+    ghost view = { λ device. record { name = device.name.items; key = device.key } };
 
-    ghost invariant = { λ device. length device.name.now ≤ 32 };
+    ghost invariant = { λ device. vec_len device.name ≤ 32 };
 }
 
-impl<'a> DeviceKey<'a> {
-    pub fn name(&self) -> &'a [u8]
+impl DeviceKey {
+    pub fn name(&self) -> &[u8]
         ensures bytes { result.now ≡ self.now.name }
         ensures short { length result.now ≤ 32 }
     {
-        self.name
+        &self.name
     }
 
     pub fn key(&self) -> &[u8; 64]
@@ -44,8 +46,8 @@ impl<'a> DeviceKey<'a> {
 
 /// The device of a line `device NAME H128`.
 #[tactic(auto, unfolding(crate::specs::DeviceKey::device_of))]
-pub fn read_device<'a>(line: &'a [u8]) -> Result<DeviceKey<'a>, FaultKind>
-    ensures { result ≡ device_of (words_of line.now) }
+pub fn read_device(alloc: Global, line: &[u8]) -> Result<DeviceKey, WordFault>
+    ensures { ReadsWord result (device_of (words_of line.now)) }
 {
     let mut words = Words::new(line);
     words.keyword(b"device")?;
@@ -53,17 +55,18 @@ pub fn read_device<'a>(line: &'a [u8]) -> Result<DeviceKey<'a>, FaultKind>
     check_name(name)?;
     let key = words.block::<64>()?;
     words.end()?;
+    let name = name.to_vec(alloc).map_err(WordFault::Memory)?;
     Ok(DeviceKey { name, key })
 }
 
-// A name has 1 to 32 letters, digits and `_`.
-fn check_name(name: &[u8]) -> Result<(), FaultKind>
+/// A name has 1 to 32 letters, digits and `_`.
+pub fn check_name(name: &[u8]) -> Result<(), FaultKind>
     ensures { result ≡ name_fault name.now }
 {
     if !is_name(name) {
         return Err(FaultKind::Digit);
     }
-    if name.len() > LONGEST_NAME {
+    if name.is_empty() || name.len() > LONGEST_NAME {
         return Err(FaultKind::Count);
     }
     Ok(())

@@ -1,72 +1,70 @@
 ghost use Rattle.std.specs.Prelude.{◌≡◌, ◌<◌, ◌++◌, ◌∷◌, [], ℕ, Some, None, IfSome, IfNone, OnOk, length, slice_index_or};
+ghost use Rattle.std.specs.List.{position_from};
+ghost use Rattle.std.specs.Option.{is_some};
+ghost use Rattle.std.specs.Str.{bytes_eq};
 ghost use Rattle.text_scan.specs.LineFold.{TakesLine};
 ghost use Rattle.text_scan.specs.Reader.{Reads};
-ghost use Rattle.verifier_desk.specs.DeviceKey.{DeviceKey as DeviceFields, devices_of, key_named, with_device, with_line};
+ghost use Rattle.verifier_desk.specs.DeviceKey.{DeviceKey as DeviceFields, devices_of, has_key, key_named, with_device, with_line};
 
 use crate::device_key::{DeviceKey, read_device};
-use crate::places::Places;
 use std::alloc::{AllocError, Global};
 use std::marker::Model;
 use text_scan::{FaultKind, LineReader, TextFault, WordFault, read_text};
 
-/// The devices of a file of keys in its order, and their places by names.
+/// The devices of a file of keys in its order.
 #[derive(Drop)]
-pub struct KeyList<'a> {
-    devices: Vec<DeviceKey<'a>>,
-    places: Places<'a>,
+pub struct KeyList {
+    devices: Vec<DeviceKey>,
 }
 
 /// Seen as its devices.
-impl<'a> Model for KeyList<'a> {
+impl Model for KeyList {
     ghost use Rattle.std.specs.Prelude.{List};
     ghost use Rattle.verifier_desk.specs.DeviceKey.{DeviceKey as DeviceFields};
-    ghost use Rattle.verifier_desk.specs.KeyList.{AreOf};
+    ghost use Rattle.verifier_desk.specs.Standing.{AreDistinct};
 
     ghost Value = { List DeviceFields };
 
     ghost view = { λ list. list.devices.items };
 
-    ghost invariant = { λ list. AreOf list.places list.devices.items };
+    ghost invariant = { λ list. AreDistinct list.devices.items };
 }
 
-impl<'a> LineReader<'a> for KeyList<'a> {
+impl<'a> LineReader<'a> for KeyList {
     ghost with_line = { with_line };
 
     #[tactic(auto, unfolding(crate::specs::DeviceKey::with_line))]
-    fn take(&mut self, _alloc: Global, line: &'a [u8]) -> Result<(), WordFault> {
-        let device = read_device(line)?;
+    fn take(&mut self, alloc: Global, line: &'a [u8]) -> Result<(), WordFault> {
+        let device = read_device(alloc, line)?;
         self.add(device)
     }
 }
 
-impl<'a> KeyList<'a> {
-    fn new(alloc: Global) -> KeyList<'a>
+impl KeyList {
+    fn new(alloc: Global) -> KeyList
         ensures { result ≡ [] }
     {
         KeyList {
             devices: Vec::new(alloc),
-            places: Places::new(alloc),
         }
     }
 
-    // Puts a device after the others, where its name is new.
-    fn add(&mut self, device: DeviceKey<'a>) -> Result<(), WordFault>
-        ensures { TakesLine result self.new (with_device self.old device.entry) }
+    // Puts a device after the others, where its name and its key are new.
+    fn add(&mut self, device: DeviceKey) -> Result<(), WordFault>
+        ensures { TakesLine result self.new (with_device self.old device) }
     {
-        if self.place_of(device.name()).is_some() {
+        if self.has_name(device.name()) || self.has_key(device.key()) {
             return Err(WordFault::Kind(FaultKind::Twice));
         }
         self.push(device).map_err(WordFault::Memory)
     }
 
     // Puts a device with a new name after the others.
-    fn push(&mut self, device: DeviceKey<'a>) -> Result<(), AllocError>
+    fn push(&mut self, device: DeviceKey) -> Result<(), AllocError>
         requires { key_named device.name self.old ≡ None }
-        ensures { OnOk result (self.new ≡ self.old ++ device.entry ∷ []) }
+        ensures { OnOk result (self.new ≡ self.old ++ device ∷ []) }
     {
-        self.devices.reserve(1)?;
-        self.places.insert(device.name(), self.devices.len())?;
-        self.devices.push_reserved(device);
+        self.devices.push(device)?;
         Ok(())
     }
 
@@ -85,11 +83,32 @@ impl<'a> KeyList<'a> {
             → key_named name.now self.now ≡ Some (slice_index_or self.now place d).key) }
         ensures none { IfNone result (key_named name.now self.now ≡ None) }
     {
-        self.places.get(name)
+        self.first_named(name)
+    }
+
+    // The place of the first device of a name.
+    fn first_named(&self, name: &[u8]) -> Option<usize>
+        ensures { result ≡ position_from (λ device. bytes_eq device.name name.now) 0 self.now }
+    {
+        self.devices.iter().position(|device| device.name() == name)
+    }
+
+    // Whether a device has this name.
+    fn has_name(&self, name: &[u8]) -> bool
+        ensures { result ≡ is_some (key_named name.now self.now) }
+    {
+        self.place_of(name).is_some()
+    }
+
+    // Whether a device has this key.
+    fn has_key(&self, key: &[u8; 64]) -> bool
+        ensures { result ≡ has_key key.now self.now }
+    {
+        self.devices.iter().any(|device| device.key() == key)
     }
 
     /// The device at a place.
-    pub fn device_at(&self, place: usize) -> &DeviceKey<'a>
+    pub fn device_at(&self, place: usize) -> &DeviceKey
         requires { place < length self.now }
         ensures { (d : DeviceFields) → result.now ≡ slice_index_or self.now place d }
     {
@@ -98,7 +117,7 @@ impl<'a> KeyList<'a> {
 }
 
 /// The devices of a text in the order of its lines, or the first fault.
-pub fn read_keys<'a>(alloc: Global, text: &'a [u8]) -> Result<KeyList<'a>, TextFault>
+pub fn read_keys(alloc: Global, text: &[u8]) -> Result<KeyList, TextFault>
     ensures { Reads result (devices_of text.now) }
 {
     read_text(alloc, KeyList::new(alloc), text)

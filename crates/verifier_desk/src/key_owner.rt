@@ -11,7 +11,7 @@ use std::alloc::{AllocError, Global};
 /// of a device before it.
 pub fn first_taken(
     alloc: Global,
-    keys: &KeyList<'_>,
+    keys: &KeyList,
     entries: &[Entry],
 ) -> Result<Option<usize>, AllocError>
     ensures { IfOk result (λ place. IsFirstTaken sha256 keys.now entries.now place) }

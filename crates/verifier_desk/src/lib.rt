@@ -1,11 +1,12 @@
 //! The verifier's desk: it makes requests for many devices, and judges their reports.
 //!
 //! A desk has the keys of its devices by their names, the image that they shall run, and a policy.
-//! A line asks for a request or gives a report, and its reply is found from the lines of the same
-//! device alone: [`Desk::answer`] gives it, and [`serve`] answers each line of a source as soon as
-//! it is whole. The laws say that a device is served as if it were alone, that a counter is
-//! requested and accepted at most once, that the same number gets the same answer again, and that
-//! what is accepted answers the outstanding request.
+//! [`read_keys`] reads the devices of a file of keys, and [`first_taken`] finds one whose key
+//! stands under another name in a memory. A line asks for a request or gives a report, and its
+//! reply is found from the lines of the same device alone: [`Desk::answer`] gives it, and [`serve`]
+//! answers each line of a source as soon as it is whole. The laws say that a device is served as if
+//! it were alone, that a counter is requested and accepted at most once, that the same number gets
+//! the same answer again, and that what is accepted answers the outstanding request.
 //!
 //! What a desk knows of its devices it notes in a memory, and no reply is put before the memory
 //! keeps it. A desk that is started anew with what its memory has goes on as if it had not been
@@ -20,13 +21,10 @@ mod desk_line;
 mod device_answer;
 mod device_key;
 mod held_line;
-mod key_check;
 mod key_list;
 mod key_owner;
 mod law;
 mod noting;
-mod opening;
-mod places;
 mod reply;
 mod served;
 mod session;
@@ -35,14 +33,15 @@ mod withheld;
 
 pub use answer_fault::AnswerFault;
 pub use desk::Desk;
-pub use key_check::keys_fault;
+pub use device_key::check_name;
+pub use key_list::{KeyList, read_keys};
+pub use key_owner::first_taken;
 pub use law::{
     accept_answers_request, answer_is_repeated, bytes_are_cut_anywhere, desk_goes_on,
     device_is_served_alone, key_is_under_one_name, keys_are_kept, line_is_held_whole,
     memory_has_all_runs, memory_has_states, plain_piece_lengthens_line, report_is_accepted_once,
     state_is_kept_at_its_place,
 };
-pub use opening::open_desk;
 pub use reply::Reply;
 pub use served::Served;
 pub use session::{MOST_INPUT, serve};

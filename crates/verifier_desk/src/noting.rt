@@ -8,7 +8,7 @@ use desk_memory::{DeviceState, Memory, MemoryFault};
 /// Notes the state of a device, where it is new.
 pub fn note_new<M: Memory>(
     is_new: bool,
-    device: &DeviceKey<'_>,
+    device: &DeviceKey,
     state: DeviceState,
     memory: &mut M,
 ) -> Result<(), MemoryFault>

@@ -27,7 +27,7 @@ const PIECE: usize = 65_536;
 /// line ends at LF or CRLF, and the last may have no end.
 pub fn serve<R: Source, M: Memory, W: Sink>(
     alloc: Global,
-    desk: &mut Desk<'_>,
+    desk: &mut Desk,
     source: &mut R,
     memory: &mut M,
     sink: &mut W,
@@ -39,6 +39,7 @@ pub fn serve<R: Source, M: Memory, W: Sink>(
         (record { source = source.old; memory = memory.old; sink = sink.old })
         (record { source = source.new; memory = memory.new; sink = sink.new }) result }
     ensures source_faults { R.faults source.old ≤ R.faults source.new }
+    ensures honest { M.is_honest memory.new → M.is_honest memory.old }
     ensures memory_faults { M.faults memory.old ≤ M.faults memory.new }
     ensures sink_faults { W.faults sink.old ≤ W.faults sink.new }
 {
@@ -53,7 +54,7 @@ pub fn serve<R: Source, M: Memory, W: Sink>(
 
 // The same with room for a line and for replies.
 fn serve_with<R: Source, M: Memory, W: Sink>(
-    desk: &mut Desk<'_>,
+    desk: &mut Desk,
     held: &mut HeldLine,
     withheld: &mut Withheld,
     source: &mut R,
@@ -69,6 +70,7 @@ fn serve_with<R: Source, M: Memory, W: Sink>(
         (record { source = source.old; memory = memory.old; sink = sink.old })
         (record { source = source.new; memory = memory.new; sink = sink.new }) result }
     ensures source_faults { R.faults source.old ≤ R.faults source.new }
+    ensures honest { M.is_honest memory.new → M.is_honest memory.old }
     ensures memory_faults { M.faults memory.old ≤ M.faults memory.new }
     ensures sink_faults { W.faults sink.old ≤ W.faults sink.new }
 {
@@ -105,7 +107,7 @@ fn take_piece<R: Source>(source: &mut R, piece: &mut [u8], room: u64) -> Result<
 
 // Answers the lines that end in a piece, holds what follows them, and puts the replies.
 fn answer_piece<M: Memory, W: Sink>(
-    desk: &mut Desk<'_>,
+    desk: &mut Desk,
     held: &mut HeldLine,
     piece: &[u8],
     withheld: &mut Withheld,
@@ -118,6 +120,7 @@ fn answer_piece<M: Memory, W: Sink>(
         → PutsPiece M.Memory W.Sink first sink.old sink.new memory.old memory.new fields desk.new
         held.new (with_bytes cut piece.now) result }
     ensures empty { result ≡ Done → withheld.new ≡ nothing_withheld }
+    ensures honest { M.is_honest memory.new → M.is_honest memory.old }
     ensures memory_faults { M.faults memory.old ≤ M.faults memory.new }
     ensures sink_faults { W.faults sink.old ≤ W.faults sink.new }
 {
@@ -127,7 +130,7 @@ fn answer_piece<M: Memory, W: Sink>(
 
 // Answers the lines that end in a piece, and holds what follows them.
 fn answer_lines<M: Memory, W: Sink>(
-    desk: &mut Desk<'_>,
+    desk: &mut Desk,
     held: &mut HeldLine,
     piece: &[u8],
     withheld: &mut Withheld,
@@ -139,6 +142,7 @@ fn answer_lines<M: Memory, W: Sink>(
         cut
         → ServesPiece M.Memory W.Sink first sink.old sink.new memory.old memory.new withheld.new
         fields desk.new held.new (with_bytes cut piece.now) result }
+    ensures honest { M.is_honest memory.new → M.is_honest memory.old }
     ensures memory_faults { M.faults memory.old ≤ M.faults memory.new }
     ensures sink_faults { W.faults sink.old ≤ W.faults sink.new }
 {
@@ -167,7 +171,7 @@ fn line_end(bytes: &[u8]) -> Option<usize>
 
 // Answers the line that the input ends in, if it ends in one: to no bytes there is no reply.
 fn answer_last<M: Memory, W: Sink>(
-    desk: &mut Desk<'_>,
+    desk: &mut Desk,
     held: &HeldLine,
     withheld: &mut Withheld,
     memory: &mut M,
@@ -178,6 +182,7 @@ fn answer_last<M: Memory, W: Sink>(
         cut
         → PutsLines M.Memory W.Sink first sink.old sink.new memory.old memory.new fields
         (with_last cut.lines cut.rest) result }
+    ensures honest { M.is_honest memory.new → M.is_honest memory.old }
     ensures memory_faults { M.faults memory.old ≤ M.faults memory.new }
     ensures sink_faults { W.faults sink.old ≤ W.faults sink.new }
 {

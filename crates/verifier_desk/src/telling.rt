@@ -40,6 +40,7 @@ fn put_withheld<M: Memory, W: Sink>(withheld: &mut Withheld, memory: &mut M, sin
         → PutsHeld M.Memory W.Sink first sink.old sink.new memory.old memory.new fields lines
         result }
     ensures empty { result ≡ Done → withheld.new ≡ nothing_withheld }
+    ensures honest { M.is_honest memory.new → M.is_honest memory.old }
     ensures memory_faults { M.faults memory.old ≤ M.faults memory.new }
     ensures sink_faults { W.faults sink.old ≤ W.faults sink.new }
 {
@@ -55,15 +56,16 @@ fn put_withheld<M: Memory, W: Sink>(withheld: &mut Withheld, memory: &mut M, sin
     }
 }
 
-/// Puts what was held back, where lines were answered so far, all or those before a report for which
-/// there was no memory.
+/// Puts what was held back, where lines were answered so far, all or those before a report for
+/// which there was no memory.
 pub fn put_after<M: Memory, W: Sink>(
     answered: Served,
     withheld: &mut Withheld,
     memory: &mut M,
     sink: &mut W,
 ) -> Served
-    ensures puts { (fields : DeskFields) (lines : List (List ℕ)) (first before : W) (memory_before : M)
+    ensures puts { (fields : DeskFields) (lines : List (List ℕ)) (first before : W)
+        (memory_before : M)
         → ServesLines M.Memory W.Sink first before sink.old memory_before memory.old withheld.old
         fields lines answered
         → M.faults memory_before ≤ M.faults memory.old
@@ -72,6 +74,7 @@ pub fn put_after<M: Memory, W: Sink>(
         result }
     ensures done { result ≡ Done → answered ≡ Done }
     ensures empty { result ≡ Done → withheld.new ≡ nothing_withheld }
+    ensures honest { M.is_honest memory.new → M.is_honest memory.old }
     ensures memory_faults { M.faults memory.old ≤ M.faults memory.new }
     ensures sink_faults { W.faults sink.old ≤ W.faults sink.new }
 {
@@ -91,6 +94,7 @@ fn make_room<M: Memory, W: Sink>(withheld: &mut Withheld, memory: &mut M, sink: 
         → ServesLines M.Memory W.Sink first sink.old sink.new memory.old memory.new withheld.new
         fields lines result }
     ensures room { result ≡ Done → length withheld.new.replies + 256 ≤ 65536 }
+    ensures honest { M.is_honest memory.new → M.is_honest memory.old }
     ensures memory_faults { M.faults memory.old ≤ M.faults memory.new }
     ensures sink_faults { W.faults sink.old ≤ W.faults sink.new }
 {
@@ -116,7 +120,7 @@ fn hold(withheld: &mut Withheld, reply: &Reply)
 
 /// Answers a line; `None` is one that is too long. Its reply is held back.
 pub fn answer_line<M: Memory, W: Sink>(
-    desk: &mut Desk<'_>,
+    desk: &mut Desk,
     line: Option<&[u8]>,
     withheld: &mut Withheld,
     memory: &mut M,
@@ -128,6 +132,7 @@ pub fn answer_line<M: Memory, W: Sink>(
         → option_map (λ line. line.now) line.entry ≡ short_line bytes
         → AnswersLine M.Memory W.Sink first sink.old sink.new memory.old memory.new withheld.new
         fields desk.new (bytes ∷ earlier) result }
+    ensures honest { M.is_honest memory.new → M.is_honest memory.old }
     ensures memory_faults { M.faults memory.old ≤ M.faults memory.new }
     ensures sink_faults { W.faults sink.old ≤ W.faults sink.new }
 {

@@ -1,11 +1,10 @@
+use crate::command_end::CommandEnd;
 use crate::ending::Ending;
-use crate::file::File;
-use crate::inputs::Inputs;
 use crate::kind::source::Source;
 use crate::put_fault::PutFault;
-use crate::refusal::Refusal;
 use crate::task::Task;
 use hex_loader::write_hex;
+use input_files::{File, Inputs, Refusal};
 use outside_edge::{Shelf, Sink};
 use std::alloc::Global;
 
@@ -38,7 +37,7 @@ impl<'a> Task<'a> for Asm<'a> {
     }
 
     fn read<S: Shelf>(&self, alloc: Global, shelf: &mut S) -> Result<mem_map::Image, Refusal> {
-        self.source.read(alloc, shelf)
+        self.source.read::<CommandEnd, S>(alloc, shelf)
     }
 
     fn put<W: Sink>(

@@ -1,10 +1,9 @@
+use crate::command_end::CommandEnd;
 use crate::ending::Ending;
-use crate::file::File;
-use crate::inputs::Inputs;
 use crate::kind::trace::Trace;
 use crate::put_fault::PutFault;
-use crate::refusal::Refusal;
 use crate::task::Task;
+use input_files::{File, Inputs, Refusal};
 use outside_edge::{Shelf, Sink};
 use std::alloc::Global;
 use trace_audit::{Audited, print_audited};
@@ -35,7 +34,7 @@ impl<'a> Task<'a> for Audit<'a> {
     }
 
     fn read<S: Shelf>(&self, alloc: Global, shelf: &mut S) -> Result<Audited, Refusal> {
-        self.trace.read(alloc, shelf)
+        self.trace.read::<CommandEnd, S>(alloc, shelf)
     }
 
     fn put<W: Sink>(

@@ -1,10 +1,8 @@
+use crate::command_end::CommandEnd;
 use crate::ending::Ending;
-use crate::file::File;
-use crate::inputs::Inputs;
-use crate::kind::image::Image;
 use crate::put_fault::PutFault;
-use crate::refusal::Refusal;
 use crate::task::Task;
+use input_files::{File, Image, Inputs, Refusal};
 use msp_disasm::write_listing;
 use outside_edge::{Shelf, Sink};
 use std::alloc::Global;
@@ -38,7 +36,7 @@ impl<'a> Task<'a> for List<'a> {
     }
 
     fn read<S: Shelf>(&self, alloc: Global, shelf: &mut S) -> Result<mem_map::Image, Refusal> {
-        self.image.read(alloc, shelf)
+        self.image.read::<CommandEnd, S>(alloc, shelf)
     }
 
     fn put<W: Sink>(

@@ -1,13 +1,13 @@
 use crate::command::play_arguments::PlayArguments;
 use crate::command::play_files::PlayValues;
 use crate::command::telling::Telling;
+use crate::command_end::CommandEnd;
 use crate::ending::Ending;
-use crate::inputs::Inputs;
 use crate::put_fault::PutFault;
-use crate::refusal::Refusal;
 use crate::task::Task;
 use device_core::power_on;
 use hmac_core::Sha256Digest;
+use input_files::{Inputs, Refusal};
 use isr_flag::IsrFlag;
 use outside_edge::{Shelf, Sink};
 use std::alloc::Global;
@@ -44,7 +44,7 @@ impl<'a, T: Telling> Task<'a> for PlayCommand<'a, T> {
     }
 
     fn read<S: Shelf>(&self, alloc: Global, shelf: &mut S) -> Result<PlayValues, Refusal> {
-        self.arguments.files.read(alloc, shelf)
+        self.arguments.files.read::<CommandEnd, S>(alloc, shelf)
     }
 
     fn put<W: Sink>(

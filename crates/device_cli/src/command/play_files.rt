@@ -1,9 +1,8 @@
 ghost use Rattle.std.specs.Prelude.{◌≡◌};
 
-use crate::file::File;
-use crate::kind::image::Image;
 use crate::kind::key::Key;
 use crate::kind::script::Script;
+use input_files::{File, Image};
 
 /// The files of a play, in the order in which they are read.
 pub type PlayFiles<'a> = ((File<'a, Key>, File<'a, Image>), File<'a, Script>);

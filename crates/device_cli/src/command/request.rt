@@ -1,11 +1,10 @@
+use crate::command_end::CommandEnd;
 use crate::ending::Ending;
-use crate::file::File;
-use crate::inputs::Inputs;
 use crate::kind::key::Key;
 use crate::put_fault::PutFault;
-use crate::refusal::Refusal;
 use crate::request_line::print_request;
 use crate::task::Task;
+use input_files::{File, Inputs, Refusal};
 use outside_edge::{Shelf, Sink};
 use report_verifier::token;
 use std::alloc::Global;
@@ -51,7 +50,7 @@ impl<'a> Task<'a> for Request<'a> {
     }
 
     fn read<S: Shelf>(&self, alloc: Global, shelf: &mut S) -> Result<[u8; 64], Refusal> {
-        self.key.read(alloc, shelf)
+        self.key.read::<CommandEnd, S>(alloc, shelf)
     }
 
     fn put<W: Sink>(

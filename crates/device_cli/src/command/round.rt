@@ -3,17 +3,15 @@ ghost use Rattle.device_cli.specs.Limit.{most_steps};
 
 use crate::command::play_arguments::MOST_STEPS;
 use crate::command::play_files::{PlayFiles, PlayValues, play_files};
+use crate::command_end::CommandEnd;
 use crate::ending::Ending;
-use crate::file::File;
-use crate::inputs::Inputs;
-use crate::kind::policy::Policy;
 use crate::put_fault::PutFault;
-use crate::refusal::Refusal;
 use crate::round_text::round_on;
 use crate::task::Task;
 use crate::verdict::verifier::Verifier;
 use device_core::power_on;
 use hmac_core::Sha256Digest;
+use input_files::{File, Inputs, Policy, Refusal};
 use isr_flag::IsrFlag;
 use outside_edge::{Shelf, Sink};
 use std::alloc::Global;
@@ -60,7 +58,7 @@ impl<'a> Task<'a> for Round<'a> {
     }
 
     fn read<S: Shelf>(&self, alloc: Global, shelf: &mut S) -> Result<RoundValues, Refusal> {
-        self.files.read(alloc, shelf)
+        self.files.read::<CommandEnd, S>(alloc, shelf)
     }
 
     fn put<W: Sink>(

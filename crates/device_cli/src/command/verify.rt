@@ -1,16 +1,13 @@
+use crate::command_end::CommandEnd;
 use crate::ending::Ending;
-use crate::file::File;
-use crate::inputs::Inputs;
-use crate::kind::image::Image;
 use crate::kind::key::Key;
-use crate::kind::policy::Policy;
 use crate::kind::reports::Reports;
 use crate::put_fault::PutFault;
-use crate::refusal::Refusal;
 use crate::task::Task;
 use crate::verdict::verdict_text::print_verdicts;
 use crate::verdict::verifier::Verifier;
 use hmac_core::Sha256Digest;
+use input_files::{File, Image, Inputs, Policy, Refusal};
 use outside_edge::{Shelf, Sink};
 use report_text::Report;
 use std::alloc::Global;
@@ -59,7 +56,7 @@ impl<'a> Task<'a> for Verify<'a> {
     }
 
     fn read<S: Shelf>(&self, alloc: Global, shelf: &mut S) -> Result<VerifyValues, Refusal> {
-        (self.device, self.evidence).read(alloc, shelf)
+        (self.device, self.evidence).read::<CommandEnd, S>(alloc, shelf)
     }
 
     fn put<W: Sink>(

@@ -4,18 +4,18 @@ ghost use Rattle.device_cli.specs.declared.put_fault.PutFault.TheVariants.{Memor
 ghost use Rattle.device_cli.specs.Load.{load_text};
 ghost use Rattle.device_cli.specs.TextSummary.{counts_in};
 
+use crate::command_end::CommandEnd;
 use crate::ending::Ending;
-use crate::inputs::Inputs;
 use crate::load::line_tally::LineCounts;
 use crate::load::text_summary::TextSummary;
 use crate::load::work_line::print_work_line;
 use crate::load::{LOAD_STEPS, load_of};
 use crate::play_text::play_on;
 use crate::put_fault::PutFault;
-use crate::refusal::Refusal;
 use crate::task::Task;
 use device_core::power_on;
 use hmac_core::Sha256Digest;
+use input_files::{Inputs, Refusal};
 use isr_flag::IsrFlag;
 use outside_edge::{Shelf, Sink};
 use std::alloc::Global;
@@ -52,7 +52,7 @@ impl<'a> Task<'a> for Work {
     }
 
     fn read<S: Shelf>(&self, alloc: Global, shelf: &mut S) -> Result<(), Refusal> {
-        ().read(alloc, shelf)
+        ().read::<CommandEnd, S>(alloc, shelf)
     }
 
     fn put<W: Sink>(&self, alloc: Global, _none: &(), sink: &mut W) -> Result<Ending, PutFault> {

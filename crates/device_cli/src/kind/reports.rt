@@ -1,5 +1,4 @@
-use crate::bad_file::BadFile;
-use crate::kind::{Kind, TEXT_LIMIT};
+use input_files::{BadFile, Kind, TEXT_LIMIT};
 use report_text::{Report, read_reports};
 use std::alloc::Global;
 use text_scan::{FaultAt, TextFault};

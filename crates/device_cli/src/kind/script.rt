@@ -1,5 +1,4 @@
-use crate::bad_file::BadFile;
-use crate::kind::{Kind, TEXT_LIMIT};
+use input_files::{BadFile, Kind, TEXT_LIMIT};
 use play_script::read_script;
 use std::alloc::Global;
 use text_scan::{FaultAt, TextFault};

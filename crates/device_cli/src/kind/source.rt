@@ -1,5 +1,4 @@
-use crate::bad_file::BadFile;
-use crate::kind::{Kind, TEXT_LIMIT};
+use input_files::{BadFile, Kind, TEXT_LIMIT};
 use mem_map::Image;
 use msp_asm::assemble;
 use std::alloc::Global;

@@ -1,5 +1,4 @@
-use crate::bad_file::BadFile;
-use crate::kind::Kind;
+use input_files::{BadFile, Kind};
 use std::alloc::Global;
 use text_scan::{FaultAt, TextFault};
 use trace_audit::{Audited, audit_file};

@@ -1,8 +1,9 @@
 //! Worked plays whose firmware sends the low byte of EXEC or AUX after its region was interrupted.
 
-use crate::status::Status;
-use crate::tests::{VECTOR_AND_END, run_under_key, text_of};
+use crate::tests::run_under_key;
+use input_files::Status;
 use std::test::Fail;
+use test_inputs::{VECTOR_AND_END, text_of};
 
 // Allows interrupts, calls the region, and sends the byte at 026A.
 const SENDS_AUX: &str = ":10C00000314000229243700032D2B01220C0D2429E\n:06C010006A027600FF3F0A\n";

@@ -1,8 +1,8 @@
 //! A second flag that rises and falls within a call.
 
 use crate::play_text::play_on;
+use crate::tests::KEY;
 use crate::tests::attested_row::REQUEST;
-use crate::tests::{KEY, VECTOR_AND_END, text_of};
 use bus_signals::{Bounds, BusRecord, Signals};
 use device_core::power_on;
 use exec_automaton::TraceFlag;
@@ -11,6 +11,7 @@ use hmac_core::Sha256Digest;
 use outside_edge::MemSink;
 use play_script::Script;
 use std::test::Fail;
+use test_inputs::{VECTOR_AND_END, text_of};
 use text_scan::read_key;
 
 // The ROM's first address.

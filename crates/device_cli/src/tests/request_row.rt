@@ -1,16 +1,10 @@
 //! Worked requests: attested, denied, and played again. The tokens and the MAC are from another
 //! program (HMAC of Python's library).
 
-use crate::status::Status;
-use crate::tests::{image_of, run_under_key, text_of};
+use crate::tests::run_under_key;
+use input_files::Status;
 use std::test::Fail;
-
-/// Receives the 80 bytes of the metadata, runs the region that copies the pins, calls the ROM, and
-/// stops.
-pub const REQUESTED_IMAGE: &str = ":10C000003140002232C23540400292B37200FD2717\n\
-:10C01000D54274000000155335909002F623B012FB\n\
-:08C0200040C0B01200A0FF3F78\n\
-:08C04000924220000003304190\n";
+use test_inputs::{REQUESTED_IMAGE, image_of, text_of};
 
 /// A challenge, the bounds, the counter 1, and the request's token.
 pub const REQUEST: &str = "at 0 rx 000102030405060708090a0b0c0d0e0f101112131415161718191a1b1c1d1e1f\

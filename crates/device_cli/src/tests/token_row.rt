@@ -1,7 +1,7 @@
 //! Worked calls of `request`. The tokens are from another program (HMAC of Python's library).
 
-use crate::status::Status;
 use crate::tests::{KEY, run_on};
+use input_files::Status;
 use std::test::Fail;
 
 const CHALLENGE: &str = "000102030405060708090a0b0c0d0e0f101112131415161718191a1b1c1d1e1f";

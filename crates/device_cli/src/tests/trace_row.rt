@@ -1,9 +1,9 @@
 //! Worked trace files, and what an audit says of them.
 
-use crate::bad_file::BadFile;
-use crate::status::Status;
-use crate::tests::{LETTER_A, run_on, run_under_key, text_of};
+use crate::tests::{LETTER_A, run_on, run_under_key};
+use input_files::{BadFile, Status};
 use std::test::Fail;
+use test_inputs::text_of;
 use text_scan::{FaultAt, FaultKind};
 
 const BOOT: &str = "t 0 boot 0000 rfffe - 0 0 0000 c000 0000 0000 0000 0000 0000 0 -\n";

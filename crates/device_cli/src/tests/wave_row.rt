@@ -1,7 +1,7 @@
 //! A worked waveform.
 
-use crate::status::Status;
 use crate::tests::{LETTER_A, run_under_key};
+use input_files::Status;
 use std::test::Fail;
 
 /// The waveform of two steps of the letter A.

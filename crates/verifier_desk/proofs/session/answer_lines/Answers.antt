@@ -13,6 +13,7 @@ returns-in_default-answer_line g c =
           (split_at_end rest end c.in-Some.ensures.within c.in-Some.ensures.end)
           (plain_front rest end c.in-Some.ensures.before) c.push.ensures c.ended.ensures
           c.in_default-answer_line.not-Done c.answer_line.ensures.reply;
+      honest = λ still. c.loop-end.invariant.honest (c.answer_line.ensures.honest still);
       memory_faults = omega (
         arith,
         c.loop-end.invariant.memory_rises,
@@ -33,7 +34,8 @@ loop-end-preserved g c =
     (split_at_end rest end c.in-Some.ensures.within c.in-Some.ensures.end)
     (take_rest rest (end + 1))
     (plain_front rest end c.in-Some.ensures.before) c.push.ensures c.ended.ensures c.clear.ensures
-    c.in-Done.ensures.reply c.in-Done.ensures.memory_faults c.in-Done.ensures.sink_faults
+    c.in-Done.ensures.reply c.in-Done.ensures.honest c.in-Done.ensures.memory_faults
+    c.in-Done.ensures.sink_faults
 
 pub returns-clause-serves : goal.returns-clause-serves
 returns-clause-serves g c =

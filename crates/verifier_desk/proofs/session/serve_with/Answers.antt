@@ -24,8 +24,9 @@ pub loop-room-preserved : goal.loop-room-preserved
 loop-room-preserved g c =
     piece_taken g.R.Source g.M.Memory g.W.Sink _ c.loop-room.invariant
     (less_room c.loop-room.room c.in-Ok.count _ c.in-Ok.ensures.within c.in-Ok.ensures.few)
-    c.in-Ok.ensures.bytes c.in-Ok.ensures.counts.counted c.in-Done.ensures.memory_faults
-    c.in-Done.ensures.sink_faults c.in-Done.ensures.serves (c.in-Done.ensures.empty refl)
+    c.in-Ok.ensures.bytes c.in-Ok.ensures.counts.counted c.in-Done.ensures.honest
+    c.in-Done.ensures.memory_faults c.in-Done.ensures.sink_faults c.in-Done.ensures.serves
+    (c.in-Done.ensures.empty refl)
 
 pub returns-in_default : goal.returns-in_default
 returns-in_default g c =
@@ -41,6 +42,7 @@ returns-in_default g c =
           _ c.loop-room.invariant
           (few_bytes c.loop-room.room c.in-Ok.count _ c.in-Ok.ensures.within c.in-Ok.ensures.few)
           c.in-Ok.ensures.bytes c.in_default.not-Done c.answer_piece.ensures.serves;
+      honest = λ still. c.loop-room.invariant.honest (c.answer_piece.ensures.honest still);
       source_faults = omega (
         arith,
         c.loop-room.invariant.source_rises,

@@ -19,6 +19,7 @@ returns-in_default g c =
           c.args.memory.now c.make_room.new.memory c.make_room.new.withheld c.args.desk.now bytes
           earlier c.make_room.result c.in_default.not-Done
           (c.make_room.ensures.tells fields earlier first told);
+      honest = c.make_room.ensures.honest;
       memory_faults = c.make_room.ensures.memory_faults;
       sink_faults = c.make_room.ensures.sink_faults;
     }

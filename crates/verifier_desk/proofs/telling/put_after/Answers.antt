@@ -21,6 +21,7 @@ returns-in_default-put_withheld g c =
           so;
       done = λ is. absurd (c.in_default-put_withheld.not-Done is);
       empty = c.put_withheld.ensures.empty;
+      honest = c.put_withheld.ensures.honest;
       memory_faults = c.put_withheld.ensures.memory_faults;
       sink_faults = c.put_withheld.ensures.sink_faults;
     }

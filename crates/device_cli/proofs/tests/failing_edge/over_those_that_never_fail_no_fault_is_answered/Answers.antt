@@ -1,5 +1,5 @@
 use Rattle.std.proofs.Common.{Some, arith}
-use Rattle.device_cli.specs.Argument.{texts}
+use Rattle.input_files.specs.Argument.{texts}
 use Rattle.device_cli.specs.Command.{row_of}
 use Rattle.device_cli.proofs.RowAnswer.{no-fault}
 use Rattle.device_cli.proofs.tests.failing_edge.over_those_that_never_fail_no_fault_is_answered.Goals as goal

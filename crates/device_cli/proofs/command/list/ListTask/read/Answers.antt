@@ -1,5 +1,5 @@
 use Rattle.msp_disasm.specs.Listing.{listing}
-use Rattle.device_cli.specs.FileKind.{image_kind}
+use Rattle.input_files.specs.FileKind.{image_kind}
 use Rattle.device_cli.specs.Row.{plain, put}
 use Rattle.device_cli.proofs.LawfulRow.{read-lawful}
 use Rattle.device_cli.proofs.command.list.ListTask.read.Goals as goal

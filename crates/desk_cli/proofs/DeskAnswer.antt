@@ -1,0 +1,147 @@
+-- Answers of a desk: after a refusal of its files, and after it met its memory and its lines.
+use Rattle.std.proofs.Common.{◌≡◌, ◌≤◌, ◌⊎◌, ℕ, List, Option, Some, None, IfSome, Ok, Err, refl, inl, inr, arith}
+use Rattle.outside_edge.specs.Count.{Rose}
+use Rattle.outside_edge.specs.Shelf.{KeepsFiles}
+use Rattle.outside_edge.specs.declared.shelf.Shelf as shelves
+use Rattle.outside_edge.specs.declared.sink.Sink as sink
+use Rattle.outside_edge.specs.declared.source.Source as source
+use Rattle.report_verifier.specs.Policy.{PolicyFields}
+use Rattle.desk_memory.specs.declared.memory.Memory as memory
+use Rattle.desk_memory.specs.Entry.{Entry}
+use Rattle.desk_memory.specs.NoMemory.{forgets}
+use Rattle.verifier_desk.specs.DeviceKey.{DeviceKey}
+use Rattle.verifier_desk.specs.Replies.{DeskFields}
+use Rattle.input_files.specs.declared.refusal.Refusal.{Refusal}
+use Rattle.input_files.specs.declared.status.Status.{Status}
+use Rattle.input_files.specs.declared.status.Status.TheVariants.{Done, Words, Memory}
+use Rattle.input_files.specs.Reading.{Files, IsRefusal, Reaches, Reads, Refuses, ShelfCounts, counts_of, first_refusal}
+use Rattle.input_files.specs.Row.{RowOf, Ends}
+use Rattle.input_files.specs.Status.{status_of_refusal}
+use Rattle.input_files.proofs.Refused.{failed-counted, refused-words}
+use Rattle.desk_cli.specs.Desk.{DeskNames, DeskValues, HasServed, IsDeskAnswer, IsOfMemory, Meets, ServesFrom, desk_row}
+use Rattle.desk_cli.specs.Edge.{Ports}
+use Rattle.desk_cli.specs.MemoryFiles.{ToldMemories}
+use Rattle.desk_cli.proofs.DeskComplete.{serves-complete}
+use Rattle.desk_cli.proofs.NoWords.{served-words, unopened-words}
+
+-- the end of its row, once its files have values
+abbrev pub desk_end : List DeviceKey × ((ℕ → Option ℕ) × PolicyFields) → RowOf DeskValues
+desk_end values =
+    Ends (Ok (record { devices = values.0; image = values.1.0; policy = values.1.1 }))
+
+-- files of which none is refused and none failed were refused only for lack of memory
+refused-memory : {Outcome : Type 0} (files : Files) (counts : ShelfCounts)
+    (row : RowOf Outcome) (answer : Option Status) (status : Status)
+    → Refuses answer status → IsRefusal files counts row status → answer ≡ None
+    → ¬ Rose counts.faults_before counts.faults_after
+    → status ≡ Memory
+refused-memory files counts row (Some answer) status refuses cause none no_read = absurd (cc none)
+refused-memory files counts row None status (inl fails) cause none no_read =
+    absurd (no_read (failed-counted files counts row (rw fails at cause)))
+refused-memory files counts row None status (inr memory) cause none no_read = memory
+
+refused-complete : {Outcome : Type 0} (files : Files) (left : Option (List ℕ))
+    (counts : ShelfCounts) (row : RowOf Outcome) (memory : Option (List ℕ)) (status : Status)
+    (few : List ℕ → Type 0) (source_rose sink_rose : Type 0)
+    → IfSome files (λ contents. Refuses (first_refusal row contents) status)
+    → IsRefusal files counts row status
+    → IfSome files (λ contents. IfSome left (λ lines.
+    first_refusal row contents ≡ None
+    → few lines
+    → ¬ Rose counts.faults_before counts.faults_after
+    → ¬ source_rose
+    → ¬ sink_rose
+    → (status ≡ Done) ⊎ (status ≡ Memory) ⊎ IsOfMemory memory status))
+refused-complete None left counts row memory status few source_rose sink_rose order cause = tt
+refused-complete (Some contents) None counts row memory status few source_rose sink_rose order
+    cause = tt
+refused-complete (Some contents) (Some lines) counts row memory status few source_rose sink_rose
+    order cause = λ none is_few no_read no_source no_sink.
+    inr (inl (refused-memory (Some contents) counts row (first_refusal row contents) status order
+    cause none no_read))
+
+pub refused-answer : {S F R M W V : Type 0} (s : shelves.Ghosts S) (told : ToldMemories F M)
+    (r : source.Ghosts R) (m : memory.Ghosts M) (w : sink.Ghosts W) (shelf shelf_after : S)
+    (memories : F) (ports : Ports R W) (names : DeskNames) (named : Option DeskNames)
+    (rest : V → RowOf DeskValues) (refusal : Refusal)
+    → Some names ≡ named
+    → Reads s.files s.faults s.misses shelf shelf_after (desk_row names) rest (Err refusal)
+    → IsDeskAnswer s told r m w shelf shelf_after memories memories ports ports named
+    (status_of_refusal refusal)
+refused-answer s told r m w shelf shelf_after memories ports names named rest refusal spells
+    reads =
+    let counts = counts_of s.faults s.misses shelf shelf_after in
+    let no_words = λ (is : status_of_refusal refusal ≡ Words).
+    refused-words (s.files shelf) counts (desk_row names) (rw is at reads.refusal) in
+    rw (← spells) (record {
+      words = (λ is. absurd (no_words is), λ none. absurd (cc none));
+      unread = λ is. absurd (no_words is);
+      answers = inl (record {
+        cause = reads.refusal;
+        order = reads.order;
+        unopened = refl;
+        silent = refl;
+      });
+      complete = refused-complete (s.files shelf) (r.left ports.source) counts (desk_row names)
+          names.memory _ _ _ _ reads.order reads.refusal;
+      kept = reads.kept;
+      source_counted = omega arith;
+      sink_counted = omega arith;
+    })
+
+has-served-words : {R M W : Type 0} (r : source.Ghosts R) (m : memory.Ghosts M)
+    (w : sink.Ghosts W) (desk : DeskFields) (opened left : M) (old new : Ports R W)
+    (status : Status)
+    → HasServed r m w desk opened left old new status → status ≡ Words → ⊥
+has-served-words r m w desk opened left old new status served is =
+    served-words served.ended (rw served.answer at is)
+
+meets-words : {R M W : Type 0} (r : source.Ghosts R) (m : memory.Ghosts M) (w : sink.Ghosts W)
+    (values : DeskValues) (entries : List Entry) (opened left : M) (old new : Ports R W)
+    (status : Status)
+    → Meets r m w values entries opened left old new status → status ≡ Words → ⊥
+meets-words r m w values entries opened left old new status (inl (taken, same, silent)) is =
+    cc (taken.answer, is)
+meets-words r m w values entries opened left old new status (inr (inl (memory, same, silent))) is =
+    cc (memory, is)
+meets-words r m w values entries opened left old new status (inr (inr (apart, served))) is =
+    has-served-words r m w _ opened left old new status served is
+
+serves-words : {F R M W : Type 0} (told : ToldMemories F M) (r : source.Ghosts R)
+    (m : memory.Ghosts M) (w : sink.Ghosts W) (values : DeskValues) (memory : Option (List ℕ))
+    (memories memories_after : F) (old new : Ports R W) (status : Status)
+    → ServesFrom told r m w values memory memories memories_after old new status
+    → status ≡ Words → ⊥
+serves-words told r m w values None memories memories_after old new status
+    (same, (opened, left, served)) is =
+    has-served-words r forgets w _ opened left old new status served is
+serves-words told r m w values (Some name) memories memories_after old new status
+    (inl (lacks, same)) is = unopened-words lacks.fault (rw lacks.answer at is)
+serves-words told r m w values (Some name) memories memories_after old new status (inr opens) is =
+    meets-words r m w values opens.entries opens.opened opens.left old new status opens.meets is
+
+pub served-answer : {S F R M W : Type 0} (s : shelves.Ghosts S) (told : ToldMemories F M)
+    (r : source.Ghosts R) (m : memory.Ghosts M) (w : sink.Ghosts W) (shelf shelf_after : S)
+    (memories memories_after : F) (old new : Ports R W) (names : DeskNames)
+    (named : Option DeskNames) (values : DeskValues) (status : Status)
+    → Some names ≡ named
+    → Reaches (s.files shelf) (desk_row names) (Ok values)
+    → KeepsFiles s.files s.faults s.misses shelf shelf_after
+    → ServesFrom told r m w values names.memory memories memories_after old new status
+    → r.faults old.source ≤ r.faults new.source
+    → w.faults old.sink ≤ w.faults new.sink
+    → IsDeskAnswer s told r m w shelf shelf_after memories memories_after old new named status
+served-answer s told r m w shelf shelf_after memories memories_after old new names named values
+    status spells reaches keeps serves source_counts sink_counts =
+    let no_words = serves-words told r m w values names.memory memories memories_after old new
+    status serves in
+    rw (← spells) (record {
+      words = (λ is. absurd (no_words is), λ none. absurd (cc none));
+      unread = λ is. absurd (no_words is);
+      answers = inr (values, reaches, serves);
+      complete = serves-complete told r m w (s.files shelf) (desk_row names) _ values names.memory
+          memories memories_after old new status serves;
+      kept = keeps;
+      source_counted = source_counts;
+      sink_counted = sink_counts;
+    })

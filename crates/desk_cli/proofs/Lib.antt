@@ -1,0 +1,12 @@
+pub mod DeskAnswer
+pub mod DeskComplete
+pub mod FoundEntries
+pub mod NoFault
+pub mod NoWords
+pub mod Noting
+pub mod RememberAnswer
+pub mod StateLines
+pub mod StateWords
+pub mod StatesBehind
+pub mod StatesNoted
+pub mod StatesPut

@@ -1,0 +1,14 @@
+use Rattle.mem_map.specs.Image.{byte_in}
+use Rattle.std.proofs.Common.{[]}
+use Rattle.verifier_desk.specs.Desk.{desk_with}
+use Rattle.desk_cli.proofs.desk.serve_alone.Goals as goal
+
+pub returns-clause-served : goal.returns-clause-served
+returns-clause-served g c =
+    let values = c.args.values in (
+      _,
+      _,
+      c.serve_from.ensures.served (desk_with values.0 (byte_in values.1.0) values.1.1 [])
+          c.new-desk.ensures
+          (record { has = tt; keeps = λ honest found may. absurd may }),
+    )

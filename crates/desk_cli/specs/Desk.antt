@@ -1,0 +1,157 @@
+-- The command `desk`: it serves devices over the lines of a source.
+use Rattle.std.specs.Prelude.{◌≡◌, ◌<◌, ◌≤◌, ◌⊎◌, ◌↔◌, ◌+◌, ℕ, List, [], ◌∷◌, length, Option, Some, None, IfSome, Ok}
+use Rattle.sha2.specs.Sha256.{sha256}
+use Rattle.outside_edge.specs.Count.{Rose}
+use Rattle.outside_edge.specs.Shelf.{KeepsFiles}
+use Rattle.outside_edge.specs.declared.shelf.Shelf as shelves
+use Rattle.outside_edge.specs.declared.sink.Sink as sink
+use Rattle.outside_edge.specs.declared.source.Source as source
+use Rattle.report_verifier.specs.Policy.{PolicyFields}
+use Rattle.desk_memory.specs.declared.memory.Memory as memory
+use Rattle.desk_memory.specs.declared.no_memory.NoMemory.{NoMemory}
+use Rattle.desk_memory.specs.Entry.{Entry}
+use Rattle.desk_memory.specs.NoMemory.{forgets}
+use Rattle.verifier_desk.specs.declared.served.Served.{Served}
+use Rattle.verifier_desk.specs.Desk.{desk_with}
+use Rattle.verifier_desk.specs.DeviceKey.{DeviceKey}
+use Rattle.verifier_desk.specs.KeyOwner.{IsFirstTaken, KeysStandApart}
+use Rattle.verifier_desk.specs.Replies.{DeskFields}
+use Rattle.verifier_desk.specs.Serving.{Serves, most_input}
+use Rattle.input_files.specs.declared.status.Status.{Status}
+use Rattle.input_files.specs.declared.status.Status.TheVariants.{Done, Words, Memory, BadMemory, TakenKey, InUse, Unwritten}
+use Rattle.input_files.specs.FileKind.{image_kind}
+use Rattle.input_files.specs.Reading.{IsRefusal, Reaches, Refuses, counts_of, first_refusal}
+use Rattle.input_files.specs.Row.{RowOf, Ends, read_file}
+use Rattle.desk_cli.specs.Edge.{Ports}
+use Rattle.desk_cli.specs.FileKind.{desk_policy_kind, keys_kind}
+use Rattle.desk_cli.specs.MemoryFiles.{IsOpened, LacksMemory, ToldMemories}
+use Rattle.desk_cli.specs.Status.{status_of_served}
+
+-- the names of its files
+pub record DeskNames : Type 0 where
+  pub keys : List ℕ
+  pub image : List ℕ
+  pub policy : List ℕ
+  pub memory : Option (List ℕ)
+
+-- `desk KEYS IMAGE POLICY`, or `desk KEYS IMAGE POLICY MEMORY`
+abbrev pub desk_names_of : List (List ℕ) → Option DeskNames
+desk_names_of (keys ∷ image ∷ policy ∷ []) =
+    Some (record { keys = keys; image = image; policy = policy; memory = None })
+desk_names_of (keys ∷ image ∷ policy ∷ memory ∷ []) =
+    Some (record { keys = keys; image = image; policy = policy; memory = Some memory })
+desk_names_of arguments = None
+
+-- what its files say: whom it serves, and what it judges reports by
+pub record DeskValues : Type 0 where
+  pub devices : List DeviceKey
+  pub image : ℕ → Option ℕ
+  pub policy : PolicyFields
+
+-- the desk of these, over a memory with these entries
+abbrev pub desk_over : DeskValues → List Entry → DeskFields
+desk_over values entries = desk_with values.devices values.image values.policy entries
+
+-- the row that reads its files in their order; the memory is no file of a row
+abbrev pub desk_row : DeskNames → RowOf DeskValues
+desk_row names =
+    read_file keys_kind names.keys (λ devices.
+    read_file image_kind names.image (λ image.
+    read_file desk_policy_kind names.policy (λ policy.
+    Ends (Ok (record { devices = devices; image = image; policy = policy })))))
+
+-- the files were refused, for a cause: no memory was opened, and nothing was taken or put
+pub record IsRefused {S F R W : Type 0} (s : shelves.Ghosts S) (shelf shelf_after : S)
+    (memories memories_after : F) (old new : Ports R W) (names : DeskNames) (status : Status)
+    : Type 0 where
+  pub cause : IsRefusal (s.files shelf) (counts_of s.faults s.misses shelf shelf_after)
+      (desk_row names) status
+  pub order : IfSome (s.files shelf) (λ contents.
+      Refuses (first_refusal (desk_row names) contents) status)
+  pub unopened : memories_after ≡ memories
+  pub silent : new ≡ old
+
+-- a desk served the source over a memory
+pub record HasServed {R M W : Type 0} (r : source.Ghosts R) (m : memory.Ghosts M)
+    (w : sink.Ghosts W) (desk : DeskFields) (opened left : M) (old new : Ports R W)
+    (status : Status) : Type 0 where
+  pub ended : Served
+  pub answer : status ≡ status_of_served ended
+  pub honest : m.is_honest left → m.is_honest opened
+  pub serves : Serves r m w desk
+      (record { source = old.source; memory = opened; sink = old.sink })
+      (record { source = new.source; memory = left; sink = new.sink }) ended
+
+-- the key of a device stands under another name in the memory
+pub record IsTaken (devices : List DeviceKey) (entries : List Entry) (status : Status)
+    : Type 0 where
+  pub place : ℕ
+  pub answer : status ≡ TakenKey (place + 1)
+  pub first : IsFirstTaken sha256 devices entries (Some place)
+
+-- what came of a memory that has these entries: a key is taken or memory ran out, and it stays as
+-- it is, or the desk served the source
+abbrev pub Meets : {R M W : Type 0} → source.Ghosts R → memory.Ghosts M → sink.Ghosts W
+    → DeskValues → List Entry → M → M → Ports R W → Ports R W → Status → Type 0
+Meets r m w values entries opened left old new status =
+    (IsTaken values.devices entries status × (left ≡ opened) × (new ≡ old))
+    ⊎ ((status ≡ Memory) × (left ≡ opened) × (new ≡ old))
+    ⊎ (KeysStandApart sha256 values.devices entries
+    × HasServed r m w (desk_over values entries) opened left old new status)
+
+-- a memory was opened, and closed as it was left
+pub record HasOpened {F R M W : Type 0} (told : ToldMemories F M) (r : source.Ghosts R)
+    (m : memory.Ghosts M) (w : sink.Ghosts W) (values : DeskValues) (name : List ℕ)
+    (memories memories_after : F) (old new : Ports R W) (status : Status) : Type 0 where
+  pub opened : M
+  pub left : M
+  pub entries : List Entry
+  pub found : IsOpened told m memories name opened entries
+  pub meets : Meets r m w values entries opened left old new status
+  pub closed : told.left memories_after ≡ Some left
+
+-- the desk of these files served the source: with no memory, or over that of a name
+abbrev pub ServesFrom : {F R M W : Type 0} → ToldMemories F M → source.Ghosts R
+    → memory.Ghosts M → sink.Ghosts W → DeskValues → Option (List ℕ) → F → F → Ports R W
+    → Ports R W → Status → Type 0
+ServesFrom told r m w values None memories memories_after old new status =
+    (memories_after ≡ memories)
+    × ((opened : NoMemory) × (left : NoMemory)
+    × HasServed r forgets w (desk_over values []) opened left old new status)
+ServesFrom told r m w values (Some name) memories memories_after old new status =
+    (LacksMemory told memories memories_after name status × (new ≡ old))
+    ⊎ HasOpened told r m w values name memories memories_after old new status
+
+-- an answer that only a memory gives
+abbrev pub IsOfMemory : Option (List ℕ) → Status → Type 0
+IsOfMemory None status = ⊥
+IsOfMemory (Some name) status =
+    (status ≡ BadMemory) ⊎ (status ≡ InUse) ⊎ (status ≡ Unwritten)
+    ⊎ ((number : ℕ) × (status ≡ TakenKey number))
+
+-- an answer to arguments that may name its files
+pub record IsDeskAnswer {S F R M W : Type 0} (s : shelves.Ghosts S) (told : ToldMemories F M)
+    (r : source.Ghosts R) (m : memory.Ghosts M) (w : sink.Ghosts W) (shelf shelf_after : S)
+    (memories memories_after : F) (old new : Ports R W) (names : Option DeskNames)
+    (status : Status) : Type 0 where
+  pub words : (status ≡ Words) ↔ (names ≡ None)
+  pub unread : status ≡ Words
+      → (shelf_after ≡ shelf) × (memories_after ≡ memories) × (new ≡ old)
+  -- the files were refused, or they were read without fault, and their desk served the source
+  pub answers : IfSome names (λ names.
+      IsRefused s shelf shelf_after memories memories_after old new names status
+      ⊎ ((values : DeskValues) × Reaches (s.files shelf) (desk_row names) (Ok values)
+      × ServesFrom told r m w values names.memory memories memories_after old new status))
+  -- where files and lines are told, no file is refused, the lines are not too many, and no fault
+  -- was counted, all lines were answered or memory ran out, or it is an answer of the memory
+  pub complete : IfSome names (λ names. IfSome (s.files shelf) (λ contents.
+      IfSome (r.left old.source) (λ lines.
+      first_refusal (desk_row names) contents ≡ None
+      → length lines < most_input
+      → ¬ Rose (s.faults shelf) (s.faults shelf_after)
+      → ¬ Rose (r.faults old.source) (r.faults new.source)
+      → ¬ Rose (w.faults old.sink) (w.faults new.sink)
+      → (status ≡ Done) ⊎ (status ≡ Memory) ⊎ IsOfMemory names.memory status)))
+  pub kept : KeepsFiles s.files s.faults s.misses shelf shelf_after
+  pub source_counted : r.faults old.source ≤ r.faults new.source
+  pub sink_counted : w.faults old.sink ≤ w.faults new.sink

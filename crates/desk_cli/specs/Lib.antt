@@ -1,0 +1,13 @@
+pub mod Desk
+pub mod Edge
+pub mod FileKind
+pub mod MemFiles
+pub mod MemoryFiles
+pub mod ReadBack
+pub mod Remember
+pub mod Run
+pub mod StateFile
+pub mod States
+pub mod StateText
+pub mod Status
+pub mod StoreFiles

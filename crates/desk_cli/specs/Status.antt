@@ -1,0 +1,33 @@
+-- What a run answers to each end of its parts.
+use Rattle.desk_memory.specs.declared.memory_fault.MemoryFault.{MemoryFault}
+use Rattle.desk_memory.specs.declared.memory_fault.MemoryFault.TheVariants as kept
+use Rattle.memory_file.specs.declared.memory_file_fault.MemoryFileFault.{MemoryFileFault}
+use Rattle.memory_file.specs.declared.memory_file_fault.MemoryFileFault.TheVariants as opened
+use Rattle.verifier_desk.specs.declared.served.Served.{Served}
+use Rattle.verifier_desk.specs.declared.served.Served.TheVariants as served
+use Rattle.input_files.specs.declared.status.Status.{Status}
+use Rattle.input_files.specs.declared.status.Status.TheVariants as status
+
+-- where a memory was not opened
+abbrev pub status_of_unopened : MemoryFileFault → Status
+status_of_unopened opened.Place = status.Unwritten
+status_of_unopened opened.InUse = status.InUse
+status_of_unopened opened.HotJournal = status.BadMemory
+status_of_unopened opened.Foreign = status.BadMemory
+status_of_unopened opened.Disk = status.Unwritten
+status_of_unopened opened.Full = status.Unwritten
+status_of_unopened opened.OutOfMemory = status.Memory
+
+-- where it failed later
+abbrev pub status_of_unkept : MemoryFault → Status
+status_of_unkept kept.Memory = status.Memory
+status_of_unkept kept.Failed = status.Unwritten
+
+-- once a desk was opened
+abbrev pub status_of_served : Served → Status
+status_of_served served.Done = status.Done
+status_of_served served.Spent = status.Spent
+status_of_served served.ReadFault = status.ReadFault
+status_of_served served.WriteFault = status.WriteFault
+status_of_served served.Memory = status.Memory
+status_of_served (served.Unkept fault) = status_of_unkept fault

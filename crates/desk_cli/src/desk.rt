@@ -1,0 +1,187 @@
+ghost use Rattle.std.specs.Prelude.{◌≡◌, ◌≤◌, [], List, option_map, IfOk};
+ghost use Rattle.mem_map.specs.Image.{byte_in};
+ghost use Rattle.desk_memory.specs.Entry.{Entry};
+ghost use Rattle.desk_memory.specs.declared.no_memory.NoMemory.{NoMemory as Forgetful};
+ghost use Rattle.desk_memory.specs.NoMemory.{forgets};
+ghost use Rattle.verifier_desk.specs.Desk.{DeskStandsFor, desk_with, no_lines_of};
+ghost use Rattle.verifier_desk.specs.Replies.{DeskFields};
+ghost use Rattle.verifier_desk.specs.Serving.{Keeps};
+ghost use Rattle.input_files.specs.Argument.{texts};
+ghost use Rattle.desk_cli.specs.Desk.{HasServed, IsDeskAnswer, Meets, ServesFrom, desk_names_of};
+
+use crate::answer_status::{served_status, unopened_status};
+use crate::kind::desk_policy::DeskPolicy;
+use crate::kind::keys::Keys;
+use crate::memory_files::MemoryFiles;
+use desk_memory::{EntryMemory, Memory, NoMemory};
+use input_files::{File, Image, Inputs, RowEnd, Status};
+use outside_edge::{Shelf, Sink, Source};
+use report_verifier::Policy;
+use std::alloc::{AllocError, Global};
+use verifier_desk::{Desk, KeyList, first_taken, serve};
+
+/// The row of a desk ends with what its files say.
+pub struct DeskEnd;
+
+impl RowEnd for DeskEnd {
+    ghost use Rattle.desk_cli.specs.Desk.{DeskValues};
+
+    ghost Outcome = { DeskValues };
+}
+
+// The files of a desk in the order in which they are read, and their values.
+type DeskFiles<'a> = (File<'a, Keys>, (File<'a, Image>, File<'a, DeskPolicy>));
+
+type FileValues = (KeyList, (mem_map::Image, Policy));
+
+// The files and the memory that the arguments after `desk` name.
+fn desk_files(arguments: &[String]) -> Option<(DeskFiles<'_>, Option<&str>)>
+    ensures { option_map (λ found. record {
+      keys = found.0.0.name.now;
+      image = found.0.1.0.name.now;
+      policy = found.0.1.1.name.now;
+      memory = option_map (λ name. name.now) found.1;
+    }) result ≡ desk_names_of (texts arguments.now) }
+{
+    let (keys, image, policy, memory) = match arguments {
+        [keys, image, policy] => (keys, image, policy, None),
+        [keys, image, policy, memory] => (keys, image, policy, Some(memory.as_str())),
+        _ => return None,
+    };
+    let keys = File::new(keys.as_str(), Keys);
+    let image = File::new(image.as_str(), Image);
+    let policy = File::new(policy.as_str(), DeskPolicy);
+    Some(((keys, (image, policy)), memory))
+}
+
+/// Opens the desk of these arguments after `desk`, and serves the source.
+pub fn run_desk<S: Shelf, M: EntryMemory + Drop, F: MemoryFiles<M>, R: Source, W: Sink>(
+    alloc: Global,
+    arguments: &[String],
+    shelf: &mut S,
+    memories: &mut F,
+    source: &mut R,
+    sink: &mut W,
+) -> Status
+    ensures { IsDeskAnswer S.Shelf F.told R.Source M.Memory W.Sink shelf.old shelf.new
+        memories.old memories.new (record { source = source.old; sink = sink.old })
+        (record { source = source.new; sink = sink.new })
+        (desk_names_of (texts arguments.now)) result }
+{
+    let Some((files, memory)) = desk_files(arguments) else {
+        return Status::Words;
+    };
+    match files.read::<DeskEnd, S>(alloc, shelf) {
+        Ok(values) => serve_files(alloc, values, memory, memories, source, sink),
+        Err(refusal) => Status::of_refusal(refusal),
+    }
+}
+
+// Serves the source from the desk of these files: without a memory, or over that of a name.
+fn serve_files<M: EntryMemory + Drop, F: MemoryFiles<M>, R: Source, W: Sink>(
+    alloc: Global,
+    values: FileValues,
+    memory: Option<&str>,
+    memories: &mut F,
+    source: &mut R,
+    sink: &mut W,
+) -> Status
+    ensures served { ServesFrom F.told R.Source M.Memory W.Sink
+        (record {
+          devices = values.0;
+          image = byte_in values.1.0;
+          policy = values.1.1;
+        })
+        (option_map (λ name. name.now) memory.entry) memories.old memories.new
+        (record { source = source.old; sink = sink.old })
+        (record { source = source.new; sink = sink.new }) result }
+    ensures source_faults { R.faults source.old ≤ R.faults source.new }
+    ensures sink_faults { W.faults sink.old ≤ W.faults sink.new }
+{
+    match memory {
+        None => serve_alone(alloc, values, source, sink),
+        Some(name) => match memories.open(name) {
+            Ok(mut memory) => {
+                let status = serve_over(alloc, values, &mut memory, source, sink);
+                memories.close(memory);
+                status
+            }
+            Err(fault) => unopened_status(fault),
+        },
+    }
+}
+
+// Serves the source without a memory.
+fn serve_alone<R: Source, W: Sink>(
+    alloc: Global,
+    values: FileValues,
+    source: &mut R,
+    sink: &mut W,
+) -> Status
+    ensures served { (opened : Forgetful) × (left : Forgetful)
+        × HasServed R.Source forgets W.Sink
+        (desk_with values.0 (byte_in values.1.0) values.1.1 []) opened left
+        (record { source = source.old; sink = sink.old })
+        (record { source = source.new; sink = sink.new }) result }
+    ensures source_faults { R.faults source.old ≤ R.faults source.new }
+    ensures sink_faults { W.faults sink.old ≤ W.faults sink.new }
+{
+    let (keys, (image, policy)) = values;
+    let desk = Desk::new(alloc, keys, image, policy, &[]);
+    serve_from(alloc, desk, &mut NoMemory, source, sink)
+}
+
+// Serves the source over a memory that was opened, where each key stands under its own name there.
+fn serve_over<M: EntryMemory, R: Source, W: Sink>(
+    alloc: Global,
+    values: FileValues,
+    memory: &mut M,
+    source: &mut R,
+    sink: &mut W,
+) -> Status
+    ensures meets { (entries : List Entry) × M.stands memory.old entries
+        × (Keeps M.Memory memory.old entries
+        → Meets R.Source M.Memory W.Sink
+        (record {
+          devices = values.0;
+          image = byte_in values.1.0;
+          policy = values.1.1;
+        })
+        entries memory.old memory.new (record { source = source.old; sink = sink.old })
+        (record { source = source.new; sink = sink.new }) result) }
+    ensures source_faults { R.faults source.old ≤ R.faults source.new }
+    ensures sink_faults { W.faults sink.old ≤ W.faults sink.new }
+{
+    let (keys, (image, policy)) = values;
+    let entries = memory.entries();
+    match first_taken(alloc, &keys, entries) {
+        Ok(None) => {}
+        Ok(Some(place)) => return Status::TakenKey(place as u64 + 1),
+        Err(_) => return Status::Memory,
+    }
+    let desk = Desk::new(alloc, keys, image, policy, entries);
+    serve_from(alloc, desk, memory, source, sink)
+}
+
+// Serves the source from a desk, where there was memory for one.
+fn serve_from<M: Memory, R: Source, W: Sink>(
+    alloc: Global,
+    desk: Result<Desk, AllocError>,
+    memory: &mut M,
+    source: &mut R,
+    sink: &mut W,
+) -> Status
+    ensures served { (fields : DeskFields)
+        → IfOk desk (λ desk. DeskStandsFor desk fields no_lines_of)
+        → Keeps M.Memory memory.old fields.entries
+        → HasServed R.Source M.Memory W.Sink fields memory.old memory.new
+        (record { source = source.old; sink = sink.old })
+        (record { source = source.new; sink = sink.new }) result }
+    ensures source_faults { R.faults source.old ≤ R.faults source.new }
+    ensures sink_faults { W.faults sink.old ≤ W.faults sink.new }
+{
+    match desk {
+        Ok(mut desk) => served_status(serve(alloc, &mut desk, source, memory, sink)),
+        Err(_) => Status::Memory,
+    }
+}

@@ -1,0 +1,3 @@
+pub mod desk_policy;
+pub mod keys;
+pub mod states;

@@ -1,0 +1,57 @@
+ghost use Rattle.std.specs.Prelude.{◌≡◌, IfSome, codes};
+ghost use Rattle.input_files.specs.Argument.{texts};
+ghost use Rattle.input_files.specs.declared.status.Status.TheVariants.{Words};
+ghost use Rattle.desk_cli.specs.Desk.{IsDeskAnswer, desk_names_of};
+ghost use Rattle.desk_cli.specs.ReadBack.{StatesReadBack};
+ghost use Rattle.desk_cli.specs.Remember.{IsRememberAnswer, remember_names_of};
+ghost use Rattle.desk_cli.specs.Run.{HasNoCommand, arguments_behind};
+ghost use Rattle.desk_cli.specs.States.{IsStatesAnswer, states_name_of};
+
+use crate::desk::run_desk;
+use crate::memory_files::MemoryFiles;
+use crate::remember::run_remember;
+use crate::states::run_states;
+use desk_memory::EntryMemory;
+use input_files::Status;
+use outside_edge::{Shelf, Sink, Source};
+use std::alloc::Global;
+
+/// Runs the command that the arguments spell: `desk`, `states` or `remember`.
+///
+/// `arguments` is the command line without the program's name.
+pub fn run<S: Shelf, M: EntryMemory + Drop, F: MemoryFiles<M>, R: Source, W: Sink>(
+    alloc: Global,
+    arguments: &[String],
+    shelf: &mut S,
+    memories: &mut F,
+    source: &mut R,
+    sink: &mut W,
+) -> Status
+    ensures desk { IfSome (arguments_behind (codes "desk") (texts arguments.now)) (λ words.
+        IsDeskAnswer S.Shelf F.told R.Source M.Memory W.Sink shelf.old shelf.new memories.old
+        memories.new (record { source = source.old; sink = sink.old })
+        (record { source = source.new; sink = sink.new }) (desk_names_of words) result) }
+    ensures states { IfSome (arguments_behind (codes "states") (texts arguments.now)) (λ words.
+        IsStatesAnswer S.Shelf F.told M.Memory W.Sink shelf.old shelf.new memories.old
+        memories.new sink.old sink.new (states_name_of words) result
+        × (source.new ≡ source.old)) }
+    ensures remember { IfSome (arguments_behind (codes "remember") (texts arguments.now)) (λ words.
+        IsRememberAnswer S.Shelf F.told M.Memory shelf.old shelf.new memories.old memories.new
+        (remember_names_of words) result × (source.new ≡ source.old) × (sink.new ≡ sink.old)) }
+    ensures other { HasNoCommand (texts arguments.now)
+        → (result ≡ Words) × (shelf.new ≡ shelf.old) × (memories.new ≡ memories.old)
+        × (source.new ≡ source.old) × (sink.new ≡ sink.old) }
+
+    // What `states` prints, `remember` reads back.
+    ensures read_back { StatesReadBack }
+{
+    let [name, words @ ..] = arguments else {
+        return Status::Words;
+    };
+    match name.as_str() {
+        "desk" => run_desk(alloc, words, shelf, memories, source, sink),
+        "states" => run_states(words, shelf, memories, sink),
+        "remember" => run_remember(alloc, words, shelf, memories),
+        _ => Status::Words,
+    }
+}

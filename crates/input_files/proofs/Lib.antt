@@ -1,0 +1,3 @@
+pub mod FileRead
+pub mod ReadInTurn
+pub mod Refused

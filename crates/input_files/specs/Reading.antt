@@ -1,0 +1,111 @@
+-- What the reading of a row's files gives.
+use Rattle.std.specs.Prelude.{◌≡◌, ◌⊎◌, ℕ, List, Option, Some, None, IfSome, Result, Ok, Err, IfOk, IfErr, option_map, unwrap_or}
+use Rattle.outside_edge.specs.Count.{Rose}
+use Rattle.outside_edge.specs.File.{file_of, Finds}
+use Rattle.outside_edge.specs.Shelf.{KeepsFiles}
+use Rattle.outside_edge.specs.declared.file_fault.FileFault.{FileFault}
+use Rattle.outside_edge.specs.declared.file_fault.FileFault.TheVariants as file
+use Rattle.text_scan.specs.declared.fault_at.FaultAt.{FaultAt}
+use Rattle.text_scan.specs.declared.fault_kind.FaultKind.TheVariants.{TooLong}
+use Rattle.input_files.specs.declared.bad_file.BadFile.{BadFile}
+use Rattle.input_files.specs.declared.refusal.Refusal.{Refusal}
+use Rattle.input_files.specs.declared.refusal.Refusal.TheVariants as refusal
+use Rattle.input_files.specs.declared.status.Status.{Status}
+use Rattle.input_files.specs.declared.status.Status.TheVariants.{Absent, ReadFault, Memory, Bad}
+use Rattle.input_files.specs.Row.{FileKind, RowOf, Ends, Reads as Reading}
+use Rattle.input_files.specs.Status.{status_of_refusal}
+
+-- files by their names, where a shelf tells them
+abbrev pub Files : Type 0
+Files = Option (List (List ℕ × List ℕ))
+
+-- a row comes to this end, where its files have the bytes that are found of them
+abbrev pub Reaches :
+    {Outcome : Type 0} → Files → RowOf Outcome → Result Outcome BadFile → Type 0
+Reaches files (Ends reached) end = reached ≡ end
+Reaches files (Reading name onward) end =
+    (bytes : List ℕ) × Finds files name (Some bytes) × Reaches files (onward bytes) end
+
+-- the counts of a shelf before and after
+pub record ShelfCounts : Type 0 where
+  pub faults_before : ℕ
+  pub faults_after : ℕ
+  pub misses_before : ℕ
+  pub misses_after : ℕ
+
+abbrev pub counts_of : {S : Type 0} → (S → ℕ) → (S → ℕ) → S → S → ShelfCounts
+counts_of faults misses old new =
+    record {
+      faults_before = faults old;
+      faults_after = faults new;
+      misses_before = misses old;
+      misses_after = misses new;
+    }
+
+-- the answer is the first fault of the first file that has one
+abbrev pub NamesFirstFault : {Outcome : Type 0} → Files → RowOf Outcome → Status → Type 0
+NamesFirstFault files row status =
+    (fault : BadFile) × (status ≡ Bad fault) × Reaches files row (Err fault)
+
+-- why nothing was put: a miss or a fault of reading was counted, memory ran out, or a file has its
+-- fault
+abbrev pub IsRefusal :
+    {Outcome : Type 0} → Files → ShelfCounts → RowOf Outcome → Status → Type 0
+IsRefusal files counts row status =
+    ((status ≡ Absent) × Rose counts.misses_before counts.misses_after)
+    ⊎ ((status ≡ ReadFault) × Rose counts.faults_before counts.faults_after)
+    ⊎ (status ≡ Memory)
+    ⊎ NamesFirstFault files row status
+
+-- the answer to the first file that is not held or has a fault
+abbrev pub first_refusal :
+    {Outcome : Type 0} → RowOf Outcome → List (List ℕ × List ℕ) → Option Status
+first_refusal (Ends (Ok outcome)) contents = None
+first_refusal (Ends (Err fault)) contents = Some (Bad fault)
+first_refusal (Reading name onward) contents =
+    unwrap_or (option_map (λ bytes. first_refusal (onward bytes) contents) (file_of contents name))
+    (Some Absent)
+
+-- reading failed, or memory ran out
+abbrev pub IsFailure : Status → Type 0
+IsFailure status = (status ≡ ReadFault) ⊎ (status ≡ Memory)
+
+-- files that are told were refused: with their refusal where they have one, else by a failure
+abbrev pub Refuses : Option Status → Status → Type 0
+Refuses (Some refusal) status = (status ≡ refusal) ⊎ IsFailure status
+Refuses None status = IsFailure status
+
+-- the files that come first in a row were read without fault, and these are left of it
+pub record Leaves {Outcome : Type 0} (files : Files) (row rest : RowOf Outcome)
+    : Type 0 where
+  pub reaches : (end : Result Outcome BadFile) → Reaches files rest end → Reaches files row end
+  pub same_refusal : IfSome files (λ contents.
+      first_refusal row contents ≡ first_refusal rest contents)
+
+-- files of a row were read, and what is left of it follows from their values; or there is a cause
+-- why they have none
+pub record Reads {S V Outcome : Type 0} (files : S → Files) (faults misses : S → ℕ)
+    (old new : S) (row : RowOf Outcome) (rest : V → RowOf Outcome) (result : Result V Refusal)
+    : Type 0 where
+  pub values : IfOk result (λ values. Leaves (files old) row (rest values))
+  pub refusal : IfErr result (λ refusal.
+      IsRefusal (files old) (counts_of faults misses old new) row (status_of_refusal refusal))
+  pub order : IfErr result (λ refusal. IfSome (files old) (λ contents.
+      Refuses (first_refusal row contents) (status_of_refusal refusal)))
+  pub kept : KeepsFiles files faults misses old new
+
+-- the refusal where a whole file can't be had; past its limit a file has its fault at line 0
+abbrev pub refusal_of : {M : Type 0} → FileKind M → FileFault → Refusal
+refusal_of kind file.Absent = refusal.Absent
+refusal_of kind file.Failed = refusal.ReadFault
+refusal_of kind file.TooLong =
+    refusal.Bad (kind.refusal (record { line = 0; kind = TooLong }))
+refusal_of kind (file.Memory error) = refusal.Memory
+
+-- the value of bytes, or the refusal that names their first fault; or memory ran out
+abbrev pub ParsesAs : {V M : Type 0} → FileKind M → (V → M) → List ℕ → Result V Refusal → Type 0
+ParsesAs kind meaning bytes (Ok value) = kind.grammar bytes ≡ Ok (meaning value)
+ParsesAs kind meaning bytes (Err refused) =
+    (refused ≡ refusal.Memory)
+    ⊎ ((fault : FaultAt) × (kind.grammar bytes ≡ Err fault)
+    × (refused ≡ refusal.Bad (kind.refusal fault)))

@@ -1,0 +1,26 @@
+//! What the programs have in common: the files that they read, and how they end.
+//!
+//! A [`Kind`] of file says what its bytes are read as and how many there are at most; [`File`] is
+//! one of a kind by its name. [`Inputs`] are files that are read one after the other, up to the
+//! first [`Refusal`]. Of what is read a row is the definition (`Row.antt`): whatever rows of a
+//! program end with, a [`RowEnd`], the files that come first in one are read. A [`Status`] is the
+//! answer of a run.
+#![tactic(auto)]
+
+mod bad_file;
+mod file;
+mod inputs;
+mod kind;
+mod refusal;
+mod row_end;
+mod status;
+
+pub use bad_file::BadFile;
+pub use file::File;
+pub use inputs::Inputs;
+pub use kind::image::Image;
+pub use kind::policy::{POLICY_LIMIT, Policy};
+pub use kind::{Kind, TEXT_LIMIT};
+pub use refusal::Refusal;
+pub use row_end::RowEnd;
+pub use status::Status;
