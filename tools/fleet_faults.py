@@ -1,0 +1,80 @@
+"""Faults that are planted in the parties of a fleet: tools/try-fleet has to find each."""
+import os
+from typing import NamedTuple
+
+from sample_files import read, write
+
+
+class Plant(NamedTuple):
+    """Edits of the files of examples/fleet, and whether devices move before the desks stopped."""
+    edits: tuple = ()  # a file, a text that it has once, and what takes its place
+    is_early: bool = False
+
+    def copy(self, source, target):
+        """Copies a file with the edits."""
+        text = read(source).decode()
+        for name, old, new in self.edits:
+            if name == os.path.basename(source):
+                if text.count(old) != 1:
+                    raise ValueError(f"{source} has {text.count(old)} times: {old}")
+                text = text.replace(old, new)
+        write(target, text.encode())
+        os.chmod(target, 0o755)
+
+
+SERVES = '"$desk" desk now/keys.txt image.hex policy.txt now/memory'
+NONE = Plant()
+PLANTS = {
+    "none": NONE,
+    # A gateway gives a line that it repeats a new number.
+    "new-numbers": Plant((("gateway.py", "                self.repeats += 1\n", """
+                self.repeats += 1
+                verb, name, number, *rest = device.line.split()
+                device.number = int(number) + 1
+                device.line = " ".join((verb, name, str(device.number), *rest))
+                self.journal.add("line", device.image, device.line)
+                self.journal.keep()
+"""),)),
+    # A gateway keeps its lines behind their sending, some time later.
+    "late-journal": Plant((("gateway.py", "            self.journal.keep()\n        for",
+                            "            pass\n        for"),)),
+    # A desk begins anew at each start.
+    "no-memory": Plant((("desk.sh", SERVES, "rm -f now/memory*\n" + SERVES),)),
+    # A desk goes back to the memory of its last start.
+    "older-memory": Plant((("desk.sh", SERVES, """
+[ ! -e now/backup ] || cp now/backup now/memory
+[ ! -e now/memory ] || cp now/memory now/backup
+""" + SERVES),)),
+    # A desk replies, and keeps a moment later what it replied.
+    "late-memory": Plant((("desk.sh", SERVES, """
+rm -rf fast; mkdir fast; [ ! -e now/memory ] || cp now/memory fast
+while sleep 0.5; do
+    cp fast/memory now/copy && mv now/copy now/memory
+done 2>/dev/null &
+""" + SERVES.replace("now/memory", "fast/memory")),)),
+    # A bridge gives each reply once, also where it was lost.
+    "lost-replies": Plant((("desk.sh", "<replies", """< <(
+    while IFS= read -r reply; do
+        grep -qxF -- "$reply" given.txt 2>/dev/null ||
+            printf '%s\\n' "$reply" | tee -a given.txt
+    done <replies)"""),)),
+    # Who may send lines may send replies too.
+    "open-replies": Plant((("acl.txt", "pattern write desk/%u/replies", """
+pattern write desk/%u/replies
+pattern write desk/+/replies"""),)),
+    # The state is copied while the old desk serves.
+    "early-copy": Plant((
+        ("move.sh", "if ! flock -n 8 || ! flock -n 9; then", "if false; then"),
+        ("move.sh", '"$desk" states "$1/now/memory"',
+         '{ cp "$1/now/memory" "$next/copy"; "$desk" states "$next/copy"; }')), True),
+    # Two desks have a device.
+    "two-desks": Plant((
+        ("move.sh", 'mv "$old/now/keys.next" "$old/now/keys.txt"', "true"),
+        ("move.sh", 'refuse_any "$(with "$has" <"$old/now/keys.txt")" "both desks have"', ""))),
+    # A move that was done is done once more, with the state that the old desk had.
+    "second-copy": Plant((
+        ("move.sh", 'coming=$(without "$has" <"$devices")', 'coming=$(cat "$devices")'),
+        ("move.sh", '<<<"$coming")" "$old has not"', '</dev/null)" "$old has not"'))),
+    # A device comes to the new desk without its state.
+    "no-state": Plant((("move.sh", 'with "$coming" <"$next/states.old"', "true"),)),
+}
