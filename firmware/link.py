@@ -12,6 +12,8 @@ import subprocess
 import sys
 from typing import NamedTuple
 
+import memory_map
+
 REGION, OWN, KIT = (".er", ".er.guard", ".er.entry", ".er.exit"), ".er.own", ".runtime.text."
 OUTPUT, FOREIGN, STACK = ".or", ".foreign", ".er_stack"
 BOUNDS = ("er_min", "er_max", "or_min", "or_max")
@@ -19,7 +21,7 @@ ENTRIES = ("attest", "region", "er_min", "er_entry")
 VECTORS = ("__interrupt_vector_9", ".timer_vector", "__interrupt_vector_10", ".serial_vector")
 # Places that a region may name by a number: peripherals, metadata, and the vectors, which a guard
 # compares.
-NUMBERS = (range(0x0200), range(0x0240, 0x0290), range(0xFFE0, 0x10000))
+NUMBERS = (memory_map.PERIPHERALS, memory_map.METADATA, memory_map.VECTORS)
 HINTS = (
     (r"undefined symbol: (__mspabi_|__\w+[sd]f)",
      "floating point is not in the kit: count in integers (firmware/README.md)"),

@@ -10,13 +10,13 @@ import subprocess
 import sys
 from collections import namedtuple
 
+from memory_map import RAM, VECTORS
+
 # What llvm-symbolizer says of an address: a function with its first line, and the line in it.
 Frame = namedtuple("Frame", "name first_file first_line file line column")
 # A function that was inlined, with its first line, and where it was called.
 Inlined = namedtuple("Inlined", "name file line call_file call_line call_column")
 NO_FRAME = Frame("", "", 0, "", 0, 0)
-RAM = range(0x0200, 0x2200)
-VECTORS = range(0xFFE0, 0x10000)
 CALL_IMMEDIATE = b"\xb0\x12"
 
 

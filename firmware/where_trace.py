@@ -5,6 +5,7 @@ import sys
 import time
 from collections import namedtuple
 
+from memory_map import ROM_ENTRY
 from where_elf import Function, Place
 
 # What consecutive lines of a trace did together: an instruction, an entry of an interrupt, a call
@@ -13,7 +14,7 @@ from where_elf import Function, Place
 Unit = namedtuple("Unit", "kind step pc word steps proposed access rest rule")
 CHUNK = 1 << 20
 ENTRY_STEPS = 3  # of an interrupt
-ROM_ENTRY = b"a000"
+ROM_PC = b"%04x" % ROM_ENTRY
 # What an instruction does to the stack.
 CALL, PUSH, RETURN, END_OF_HANDLER, POP, SET = range(1, 7)
 MOV, ADD, SUB = 4, 5, 8
@@ -68,7 +69,7 @@ def units(file):
             elif now in (b"idle", b"irq"):
                 starts = kind != now
             else:
-                starts = now != b"rom" or here == ROM_ENTRY or kind != now
+                starts = now != b"rom" or here == ROM_PC or kind != now
             if starts:
                 if steps:
                     yield Unit(kind, first, pc, word, steps, proposed, last, tail, rule)
@@ -135,7 +136,7 @@ class Walk:
 
     def __init__(self, firmware):
         self.firmware = firmware
-        self.rom = Place(0xA000, b"", "", Function("(attestation ROM)"))
+        self.rom = Place(ROM_ENTRY, b"", "", Function("(attestation ROM)"))
         self.boot = Place(0, b"", "", Function("(boot)"))
         self.places = dict(firmware.places)
         for place in self.places.values():

@@ -7,6 +7,7 @@ and kind; `listing` and `hex_text` give the printed texts of an image.
 import re
 
 from file_readers import Fault, is_place, within_limit, lines_of
+from reference import PROGRAM, VECTORS
 
 REGISTERS = {"pc": 0, "sp": 1, "sr": 2, **{f"r{number}": number for number in range(16)}}
 TWO = "mov add addc subc sub cmp dadd bit bic bis xor and".split()
@@ -333,7 +334,7 @@ class Scope:
 
 def placement_of(statements):
     """The first pass: the names, and the statements that give bytes with their lines and places."""
-    names, occupancy, bodies, place = {}, set(), [], 0xC000
+    names, occupancy, bodies, place = {}, set(), [], PROGRAM.first
     for number, (label, statement) in statements:
         scope = Scope(number, dict(names), place)
         kind, parts = statement or (None, None)
@@ -461,7 +462,7 @@ def listing(image):
         else:
             text = f".word 0x{image[place] | image[place + 1] << 8:04x}"
             try:
-                if place < 0xFFE0:
+                if place < VECTORS.first:
                     text, next_place = item.instruction(), item.place
             except Unreadable:
                 pass

@@ -3,7 +3,8 @@ program's own code.
 """
 import hmac
 
-from file_readers import METADATA, is_valid
+from file_readers import Report, is_valid
+from reference import MAC, METADATA
 
 
 def hmac_of(key, message):
@@ -44,12 +45,22 @@ def request_line(key, challenge, count):
             f"token {token(key, challenge, count).hex()}\n").encode()
 
 
+def report_line(report):
+    """What `play` prints of a report, which may be of version 1."""
+    name, of_request = "report", ""
+    if report.version == 2:
+        name, of_request = "report2", f" aux {report.aux} count {report.count}"
+    output = "-" if report.output is None else report.output.hex()
+    return (f"{name} {report.step} exec {report.exec}{of_request} chal {report.challenge.hex()} "
+            f"{bounds_words(report.bounds)} data {output} mac {report.mac.hex()}\n").encode()
+
+
 class Call:
     """A call of the ROM that is over, from the memory after it."""
 
     def __init__(self, key, memory):
         self.key, self.memory = key, memory
-        self.metadata = bytes_of(memory, *METADATA[2])
+        self.metadata = bytes_of(memory, *METADATA)
         self.challenge, self.token = self.metadata[:32], self.metadata[48:]
         words = [int.from_bytes(self.metadata[at:at + 2], "little") for at in range(32, 44, 2)]
         self.bounds, (self.exec, self.aux) = words[:4], words[4:]
@@ -74,7 +85,7 @@ class Call:
 
     def is_released(self, decision):
         first = self.released(decision)
-        return bytes_of(self.memory, 0x0200, 0x0200 + len(first) - 1) == first
+        return bytes_of(self.memory, *MAC).startswith(first)
 
     def steps(self, decision):
         return 78 if decision != 1 else 126 + len(self.code + self.output) // 2
@@ -83,6 +94,5 @@ class Call:
         """What `play` prints of the call, which ended in this step."""
         if decision != 1:
             return f"denied {step} {decision}\n".encode()
-        return (f"report2 {step} exec {self.exec} aux {self.aux} count {self.count} "
-                f"chal {self.challenge.hex()} {bounds_words(self.bounds)} "
-                f"data {self.output.hex() or '-'} mac {self.released(1).hex()}\n").encode()
+        return report_line(Report(2, step, self.exec, self.aux, self.count, self.challenge,
+                                  self.bounds, self.output or None, self.released(1)))

@@ -1,10 +1,9 @@
 """What a desk replies to lines, apart from the program's own code."""
 import re
-from typing import NamedTuple, Optional
 
 import attestation_model
 import verifier_model
-from file_readers import MOST, Fault, Words, read_report
+from file_readers import MOST, Entry, Fault, State, Words, lines_in, read_report
 
 LONGEST_LINE = 65536
 
@@ -14,36 +13,21 @@ def challenge(key, count):
     return attestation_model.hmac_of(key, b"\x02" + count.to_bytes(4, "little"))
 
 
-class State(NamedTuple):
-    """What a desk knows of a device."""
-    count: int = 0
-    outstanding: Optional[int] = None
-    number: int = 0
-    said: bytes = b""  # the kept answer: its verb, and its counter, fault or verdict
-
-
 def key_mark(key):
     """What a memory has of a key."""
     return attestation_model.hmac_of(key, b"\x03")[:16]
 
 
-class Entry(NamedTuple):
-    """What a memory has of a device under one of its keys."""
-    name: bytes
-    mark: bytes
-    state: State
-
-    def line(self):
-        """Its line among those that `states` prints."""
-        state = self.state
-        last = b"%d %s" % (state.number, state.said) if state.number else b"none"
-        outstanding = b"none" if state.outstanding is None else b"%d" % state.outstanding
-        return b"state %s key %s count %d outstanding %s last %s\n" % (
-            self.name, self.mark.hex().encode(), state.count, outstanding, last)
+def state_line(name, mark, state):
+    """The line of an entry among those that `states` prints."""
+    last = b"%d %s" % (state.number, state.said) if state.said else b"none"
+    outstanding = b"none" if state.outstanding is None else b"%d" % state.outstanding
+    return b"state %s key %s count %d outstanding %s last %s\n" % (
+        name, mark.hex().encode(), state.count, outstanding, last)
 
 
 def states_text(entries):
-    return b"".join(entry.line() for entry in entries)
+    return b"".join(state_line(*entry) for entry in entries)
 
 
 class Desk:
@@ -126,11 +110,4 @@ class Desk:
         return b"refused\n"
 
     def replies(self, text):
-        return b"".join(map(self.reply, lines_of(text)))
-
-
-def lines_of(text):
-    """The lines of an input, the last of which may have no end."""
-    *lines, last = text.split(b"\n")
-    lines = [line[:-1] if line.endswith(b"\r") else line for line in lines]
-    return [*lines, last] if last else lines
+        return b"".join(map(self.reply, lines_in(text)))

@@ -3,8 +3,6 @@ import contextlib
 import os
 import random
 import resource
-import select
-import signal
 import socket
 import subprocess
 import tempfile
@@ -12,23 +10,12 @@ import time
 from concurrent.futures import ThreadPoolExecutor
 
 import desk_model
-from memory_trial import try_memory
+from memory_trial import DeskRun, try_memory
 from readers import READERS
-from reference import STATUSES
+from reference import DAMAGED, TAKEN, ending
 from sample_files import EXAMPLES, Example, database, read, remove_memory
-from trial import ABSENT, UNREADABLE, WORDS
+from trial import limiting
 
-# The first fault of files of keys in SampleFiles, each by the end of its name.
-KEYS_FAULTS = {"twice": "2: Twice", "twice-last": "5: Twice", "twice-key": "3: Twice",
-               "name": "1: Digit", "name-long": "1: Count", "short": "1: Count",
-               "digit": "2: Digit", "word": "1: Word", "extra": "1: Extra",
-               "missing": "1: Missing", "utf8": "1: Utf8"}
-STATES_FAULTS = {"twice": "2: Twice", "taken": "2: Twice", "word": "1: Word", "name": "1: Digit",
-                 "mark": "1: Count", "digit": "1: Digit", "range": "1: Range", "answer": "1: Word",
-                 "extra": "1: Extra", "missing": "1: Missing", "utf8": "1: Utf8"}
-NO_MEMORY = "bad memory: no memory of a desk, or damaged"
-TAKEN = "bad memory: the key of device {} stands under another name"
-IN_USE, UNWRITTEN = (STATUSES[status].line for status in (17, 18))
 LONG = b"x" * desk_model.LONGEST_LINE
 
 
@@ -67,43 +54,29 @@ def desk(trial, files):
 
 def desk_files(trial, files):
     """The answers to the words and files of a desk, before a byte of the input is taken."""
-    def refused(status, line, **others):
-        trial.expect(status, line, *files.words_of_round("desk", **others), input=b"ask a 1\n")
+    def words_with(**others):
+        return files.words_of_round("desk", **others)
 
-    words = files.words_of_round("desk")
+    words = words_with()
     for wrong in (words[:1], words[:-1], (*words, words[-1], words[-1])):
-        trial.expect(2, WORDS, *wrong, input=b"ask a 1\n")
-    for name, fault in KEYS_FAULTS.items():
-        refused(14, f"bad keys: line {fault}", keys=files[f"keys-{name}"], image=files["none"])
-    refused(10, "bad policy: line 0: Word", policy=files.policy_with(version=1, requests=[]))
-    refused(10, "bad policy: line 3: Missing", policy=files["policy-short"])
-    refused(8, "bad image: line 0: NoEnd", image=files["empty"], policy=files["none"])
-    refused(3, ABSENT, keys=files["none"], image=files["empty"])
-    refused(4, UNREADABLE, keys=files.folder)
+        trial.refuses(2, *wrong, input=b"ask a 1\n")
+    for kind, fault, others in (
+            ("keys", "2: Twice", {"keys": files["keys-twice"], "image": files["none"]}),
+            ("policy", "0: Word", {"policy": files.policy_with(version=1, requests=[])}),
+            ("image", "0: NoEnd", {"image": files["empty"], "policy": files["none"]})):
+        trial.finds(kind, fault, *words_with(**others), input=b"ask a 1\n")
+    trial.refuses(3, *words_with(keys=files["none"], image=files["empty"]), input=b"ask a 1\n")
+    trial.refuses(4, *words_with(keys=files.folder), input=b"ask a 1\n")
     trial.prints(b"refused\n", *files.words_of_round("desk", keys=files["empty"]),
                  input=b"ask a 1\n")
     with open("/dev/full", "wb") as full:
-        trial.expect(5, "writing failed", *words, input=b"ask a 1\n", stdout=full)
+        trial.refuses(5, *words, input=b"ask a 1\n", stdout=full)
         trial.expect(0, "", *words, input=b" \n", stdout=full)
     folder = os.open(files.folder, os.O_RDONLY)
-    trial.expect(4, UNREADABLE, *words, stdin=folder)
+    trial.refuses(4, *words, stdin=folder)
     # (a file that is opened takes the number of a closed input)
-    trial.expect(4, UNREADABLE, *words, preexec_fn=lambda: os.close(0))
+    trial.refuses(4, *words, preexec_fn=lambda: os.close(0))
     os.close(folder)
-
-
-def replies_at_once(trial, process, data, count):
-    """Whether so many replies come once the desk was given this."""
-    process.stdin.write(data)
-    replies, until = b"", time.monotonic() + trial.seconds
-    while replies.count(b"\n") < count:
-        left = until - time.monotonic()
-        if left <= 0 or not select.select([process.stdout], [], [], left)[0]:
-            break
-        replies += os.read(process.stdout.fileno(), 65536)
-    if replies.count(b"\n") != count:
-        trial.fault(f"desk: {data[-40:]} is answered by {replies!r}")
-    trial.tries += 1
 
 
 def desk_pipes(trial, files):
@@ -111,19 +84,17 @@ def desk_pipes(trial, files):
     output ends a desk.
     """
     words = [trial.desk, *files.words_of_round("desk")]
-    with subprocess.Popen(words, stdin=subprocess.PIPE, stdout=subprocess.PIPE, bufsize=0) as desk:
-        for data, count in ((b"ask a 1\nask", 1), (b" a 2\r", 0), (b"\n", 1), (b"x\ny\nz\n", 3)):
-            if count:
-                replies_at_once(trial, desk, data, count)
-            else:
-                desk.stdin.write(data)
-                time.sleep(0.05)
-        desk.stdin.close()
-        if desk.wait() != 0 or desk.stdout.read():
-            trial.fault("desk: its end")
+    run = DeskRun(words, trial.seconds)
+    for data, count in ((b"ask a 1\nask", 1), (b" a 2\r", 0), (b"\n", 1), (b"x\ny\nz\n", 3)):
+        if not run.give(data, count):
+            trial.fault(f"desk: {data} has not {count} replies")
+        time.sleep(0.05)
+    status, printed = run.end()
+    if (status, printed.count(b"\n")) != (0, 5):
+        trial.fault(f"desk: it ended with {status} after {printed}")
     reader, writer = os.pipe()
     os.close(reader)
-    trial.expect(5, "writing failed", *words[1:], input=b"ask a 1\n", stdout=writer)
+    trial.refuses(5, *words[1:], input=b"ask a 1\n", stdout=writer)
     os.close(writer)
 
 
@@ -163,11 +134,7 @@ class MemoryTrial:
 
     def open_desk(self):
         """One that serves."""
-        process = subprocess.Popen([self.trial.desk, *self.words()], stdin=subprocess.PIPE,
-                                   stdout=subprocess.PIPE, bufsize=0)
-        process.stdin.write(b"x\n")
-        process.stdout.readline()
-        return process
+        return self.trial.serving(*self.words())
 
 
 def desk_memory(trial, files):
@@ -216,7 +183,7 @@ def desk_memory_states(trial, files):
     runs = MemoryTrial(trial, files)
     runs.serve(b"ask a 1\ngive A_9 1\ngive a 2 " + files.desk_report(1) + b"ask a 3\n")
     states = files.add("states-told", desk_model.states_text(runs.model.entries))
-    runs.refuses(16, NO_MEMORY, "remember", states, runs.memory)
+    runs.refuses(16, DAMAGED, "remember", states, runs.memory)
     runs.memory = files["memory-new"]
     trial.prints(b"", "remember", states, runs.memory)
     runs.tells()
@@ -228,17 +195,15 @@ def desk_memory_states(trial, files):
     trial.prints(read(raised), "states", runs.memory)
     trial.prints(b"", "remember", files["empty"], files["memory-empty"])
     trial.prints(b"", "states", files["memory-empty"])
-    for name, fault in STATES_FAULTS.items():
-        trial.expect(19, f"bad states: line {fault}", "remember", files[f"states-{name}"],
-                     files["none"])
+    trial.finds("states", "2: Twice", "remember", files["states-twice"], files["none"])
     for words in (("states",), ("states", runs.memory, runs.memory), ("remember", states),
                   ("remember", states, runs.memory, runs.memory), (*runs.words(), runs.memory)):
-        trial.expect(2, WORDS, *words)
-    trial.expect(3, ABSENT, "states", files["none"])
-    trial.expect(3, ABSENT, "remember", files["none"], files["none"])
-    trial.expect(4, UNREADABLE, "states", files.folder)
+        trial.refuses(2, *words)
+    trial.refuses(3, "states", files["none"])
+    trial.refuses(3, "remember", files["none"], files["none"])
+    trial.refuses(4, "states", files.folder)
     with open("/dev/full", "wb") as full:
-        trial.expect(5, "writing failed", "states", runs.memory, stdout=full)
+        trial.refuses(5, "states", runs.memory, stdout=full)
     if os.path.exists(files["none"]):
         trial.fault("remember: a memory of faulty states")
 
@@ -265,7 +230,7 @@ def desk_memory_files(trial, files):
                      database(files["device"], device)))):
         copy = runs.memory = files.add("memory-wrong", read(name))
         for words in (runs.words(), ("states", copy), ("remember", files["states"], copy)):
-            runs.refuses(16, NO_MEMORY, *words)
+            runs.refuses(16, DAMAGED, *words)
     runs.memory = files["empty"]
     runs.model.start()
     runs.serve(b"ask a 1\n")
@@ -280,21 +245,18 @@ def desk_memory_ends(trial, files):
     with runs.open_desk():
         for words in (runs.words(), (*runs.words()[:-1], link), ("states", link),
                       ("remember", files["states"], runs.memory)):
-            runs.refuses(17, IN_USE, *words)
+            runs.refuses(*ending(17), *words)
     with open("/dev/full", "wb") as full:
-        trial.expect(5, "writing failed", *runs.words(), input=b"ask a 1\n", stdout=full)
+        trial.refuses(5, *runs.words(), input=b"ask a 1\n", stdout=full)
     runs.model.replies(b"ask a 1\n")
     runs.tells()
     os.link(runs.memory, files["second"])
-    runs.refuses(18, UNWRITTEN)
+    runs.refuses(*ending(18))
     os.remove(files["second"])
     for name in (files.folder, f"{files['none']}/memory", "/dev/null", ""):
-        trial.expect(18, UNWRITTEN, *runs.words()[:-1], name, input=b"ask a 1\n")
-
-    def limit_files():
-        signal.signal(signal.SIGXFSZ, signal.SIG_IGN)
-        resource.setrlimit(resource.RLIMIT_FSIZE, (0, 0))
-    trial.expect(18, UNWRITTEN, *runs.words(), input=b"ask a 2\n", preexec_fn=limit_files)
+        trial.refuses(18, *runs.words()[:-1], name, input=b"ask a 1\n")
+    trial.refuses(18, *runs.words(), input=b"ask a 2\n",
+                  preexec_fn=limiting(resource.RLIMIT_FSIZE, 0))
     runs.tells()
 
 

@@ -10,27 +10,29 @@ import string
 from typing import NamedTuple, Optional
 
 import reference
+from reference import IMAGE_PLACES, MAC, METADATA, METADATA_ONE, PROGRAM, RAM
 
 HEX = set(string.hexdigits.encode())
 RULES = [name.encode() for name in reference.RULES]
 VERDICTS = [name.encode() for name in reference.VERDICTS]
 FAULT_KINDS = sorted({kind.encode() for faults in reference.FAULTS.values() for kind in faults})
 COUNTS = {1: 0, 2: 2, 3: 4, 4: 2, 5: 4}
-# The first and the last place of the MAC, and of the metadata by versions.
-MAC = (0x0200, 0x021F)
-METADATA = {1: (0x0240, 0x0269), 2: (0x0240, 0x028F)}
-FLAGS = (b"exec", b"aux", b"plain")
-MOST = 4294967295  # of a step, the number of a report, and a counter
+MOST = reference.VALUES["counter"].most  # of a step and the number of a report too
+
+
+class State(NamedTuple):
+    """What a desk knows of a device."""
+    count: int = 0
+    outstanding: Optional[int] = None
+    number: int = 0
+    said: bytes = b""  # the kept answer: its verb, and its counter, fault or verdict
 
 
 class Entry(NamedTuple):
-    """What a desk's memory has of a device and a key."""
+    """What a desk's memory has of a device under one of its keys."""
     name: bytes
     mark: bytes
-    count: int
-    outstanding: Optional[int]
-    last: Optional[int]
-    answer: Optional[tuple]
+    state: State
 
 
 class Fault(Exception):
@@ -40,12 +42,16 @@ class Fault(Exception):
         self.wanted, self.cause = wanted, cause
 
 
-def lines_of(text):
-    """The lines with their numbers, without LF or CRLF."""
-    lines = text.split(b"\n")
-    last = lines.pop()
+def lines_in(text):
+    """The lines without LF or CRLF; the last may have no end."""
+    *lines, last = text.split(b"\n")
     lines = [line[:-1] if line.endswith(b"\r") else line for line in lines]
-    return list(enumerate(lines + [last] if last else lines, 1))
+    return [*lines, last] if last else lines
+
+
+def lines_of(text):
+    """The lines with their numbers."""
+    return list(enumerate(lines_in(text), 1))
 
 
 def within_limit(text, kind):
@@ -90,8 +96,8 @@ def read_answer(words):
     """What was said to the last line of a device, as it is printed."""
     verb = words.keyword(b"stale", b"spent", b"bad", b"verdict", b"request")
     if verb in (b"bad", b"verdict"):
-        return verb, words.keyword(*(FAULT_KINDS if verb == b"bad" else VERDICTS))
-    return verb, words.decimal(MOST) if verb == b"request" else None
+        return verb + b" " + words.keyword(*(FAULT_KINDS if verb == b"bad" else VERDICTS))
+    return b"request %d" % words.decimal(MOST) if verb == b"request" else verb
 
 
 def read_states(text):
@@ -108,17 +114,17 @@ def read_states(text):
         outstanding = words.decimal_or_none(count)
         words.keyword(b"last")
         last = words.decimal_or_none(MOST)
-        answer = None if last is None else read_answer(words)
+        state = State(count, outstanding, last or 0, b"" if last is None else read_answer(words))
         words.end()
         if marks.get(name) == mark or names.setdefault(mark, name) != name:
             words.fault("Twice")
         marks[name] = mark
-        entries.append(Entry(name, mark, count, outstanding, last, answer))
+        entries.append(Entry(name, mark, state))
     return entries
 
 
 def is_place(place):
-    return 0x0200 <= place <= 0x21FF or 0xC000 <= place <= 0xFFFF
+    return place in IMAGE_PLACES
 
 
 def read_record(number, line):
@@ -264,7 +270,7 @@ def read_script(text):
     last = 0
     for words in texts_of(text, "script")[0]:
         words.keyword(b"at")
-        step = words.decimal(9999999)
+        step = words.decimal(reference.VALUES["steps"].most - 1)
         kind = words.keyword(b"rx", b"p1", b"dma", b"reset")
         if kind == b"rx":
             words.digits(lambda length: length >= 2 and length % 2 == 0)
@@ -286,12 +292,13 @@ def wrong_region(first, last, version):
     if first > last:
         return f"it ends at {last:04x}, before it begins at {first:04x}"
     last += 1
-    if not (0x0200 <= first and last <= 0x21FF or 0xC000 <= first and last <= 0xFFDF):
+    if not any(region.has(first) and region.has(last) for region in (RAM, PROGRAM)):
         return f"{first:04x} to {last:04x} is not wholly in RAM or in the program"
-    for name, places in (("MAC", MAC), ("metadata", METADATA[version])):
-        if first <= places[1] and last >= places[0]:
-            other = f"the {name}, {places[0]:04x} to {places[1]:04x}"
-            return f"{first:04x} to {last:04x} lies on {other}"
+    metadata = METADATA if version == 2 else METADATA_ONE
+    for name, region in (("MAC", MAC), ("metadata", metadata)):
+        if first <= region.last and last >= region.first:
+            return (f"{first:04x} to {last:04x} lies on the {name}, {region.first:04x} to "
+                    f"{region.last:04x}")
     return None
 
 
@@ -328,7 +335,7 @@ def policy_value(words, kind):
     if kind == b"version":
         return words.decimal(2, 2)
     if kind == b"flag":
-        return words.keyword(*FLAGS).decode()
+        return words.keyword(*(flag.encode() for flag in reference.FLAGS)).decode()
     if kind == b"ask":
         return words.bytes(32), words.decimal(MOST, 1)
     return (words.bytes(32), 0) if kind == b"chal" else [words.word(), words.word()]

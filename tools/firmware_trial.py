@@ -1,10 +1,12 @@
 """Trials of the kit in firmware/, where clang is."""
+import contextlib
 import os
 import re
 import shutil
 import tempfile
 
 from readers import READERS, first_fault
+from reference import TIMER_VECTOR, VECTORS
 from sample_files import EXAMPLES, read, write
 from trial import ROOT
 
@@ -26,6 +28,7 @@ OUTPUT static uint8_t three[3];
 REGION void region(void) { three[2] = 7; }
 int main(void) { attest((const uint8_t *)0x0300); for (;;) { } }
 """
+MAKE = ["make", "-s", "-f", f"{ROOT}/firmware/Makefile", "-C"]
 TOOLS = ("make", "clang", "ld.lld", "llvm-dwarfdump", "llvm-nm", "llvm-objcopy", "llvm-objdump",
          "llvm-readelf", "llvm-symbolizer")
 PLACE = "LDFLAGS=--defsym=er_place=0xD000"
@@ -41,8 +44,7 @@ def is_compiler_there(trial):
 
 def made_image(trial, folder, *options):
     """The image that the Makefile makes in this folder, or None."""
-    trial.expect(0, "", "-s", "-C", folder, "-f", f"{ROOT}/firmware/Makefile", *options,
-                 command=["make"])
+    trial.expect(0, "", folder, *options, command=MAKE)
     return image_in(folder)
 
 
@@ -51,11 +53,18 @@ def image_in(folder):
     return read(name) if os.path.exists(name) else None
 
 
-def image_of(trial, sources, *options):
-    """The image that the Makefile makes of these sources, or None."""
+@contextlib.contextmanager
+def folder_of(sources):
+    """A folder with these sources."""
     with tempfile.TemporaryDirectory() as folder:
         for name, text in sources.items():
             write(f"{folder}/{name}", text)
+        yield folder
+
+
+def image_of(trial, sources, *options):
+    """The image that the Makefile makes of these sources, or None."""
+    with folder_of(sources) as folder:
         return made_image(trial, folder, *options)
 
 
@@ -105,9 +114,7 @@ def stale_images(trial):
         images.append(made_image(trial, folder, PLACE))
         if images != [read(f"{EXAMPLES}/pump/{name}/image.hex") for name in ("guarded", "forged")]:
             trial.fault("firmware: an image of other sources or flags than the last")
-    with tempfile.TemporaryDirectory() as folder:
-        write(f"{folder}/main.c", LETTER)
-        write(f"{folder}/runtime.c", b"")  # (a name that the kit has too)
+    with folder_of({"main.c": LETTER, "runtime.c": b""}) as folder:  # (the kit has the latter too)
         images = []
         for letter in (b"A", b"B"):
             write(f"{folder}/letter.h", b"#define LETTER '%s'\n" % letter)
@@ -119,10 +126,8 @@ def stale_images(trial):
 def regions(trial):
     """There are no regions of firmware without a region, or without an output."""
     for text in (b"int main(void) { for (;;) { } }\n", NO_OUTPUT):
-        with tempfile.TemporaryDirectory() as folder:
-            write(f"{folder}/main.c", text)
-            answer = trial.call("-s", "-C", folder, "-f", f"{ROOT}/firmware/Makefile",
-                                "regions.txt", command=["make"])
+        with folder_of({"main.c": text}) as folder:
+            answer = trial.call(folder, "regions.txt", command=MAKE)
             if (answer.status != 2 or not answer.line.startswith("no regions.txt: ")
                     or os.path.exists(f"{folder}/regions.txt")):
                 trial.fault(f"firmware: regions.txt of {text}: {answer}")
@@ -131,26 +136,22 @@ def regions(trial):
 def full_program(trial):
     """A program up to the vectors is linked, and a longer one is not."""
     def end_of(image):
-        return max(place for place in READERS["image"](image) if place < 0xFFF2) + 1
+        return max(place for place in READERS["image"](image) if place < TIMER_VECTOR) + 1
     image = image_of(trial, {"filled.s": FILLED % 0})
-    space = 0xFFE0 - end_of(image) if image else 0
+    space = VECTORS.first - end_of(image) if image else 0
     image = image_of(trial, {"filled.s": FILLED % space})
-    if not space or image is None or end_of(image) != 0xFFE0:
+    if not space or image is None or end_of(image) != VECTORS.first:
         return trial.fault("firmware: a program up to the vectors is not linked")
-    with tempfile.TemporaryDirectory() as folder:
-        write(f"{folder}/filled.s", FILLED % (space + 2))
-        answer = trial.call("-s", "-C", folder, "-f", f"{ROOT}/firmware/Makefile",
-                            command=["make"])
+    with folder_of({"filled.s": FILLED % (space + 2)}) as folder:
+        answer = trial.call(folder, command=MAKE)
         if answer.status != 2 or os.path.exists(f"{folder}/image.hex"):
             trial.fault(f"firmware: a program into the vectors: {answer}")
 
 
 def odd_output(trial):
     """The region of an output of three bytes has four, whose words a policy takes."""
-    with tempfile.TemporaryDirectory() as folder:
-        write(f"{folder}/main.c", THREE_BYTES)
-        trial.expect(0, "", "-s", "-C", folder, "-f", f"{ROOT}/firmware/Makefile", "regions.txt",
-                     command=["make"])
+    with folder_of({"main.c": THREE_BYTES}) as folder:
+        trial.expect(0, "", folder, "regions.txt", command=MAKE)
         policy = b"version 2\n" + read(f"{folder}/regions.txt") + b"flag exec\n"
     bounds = [] if first_fault("policy", policy) else READERS["policy"](policy).bounds
     if not bounds or bounds[3] != bounds[2] + 2:

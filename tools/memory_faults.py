@@ -8,13 +8,14 @@ import urllib.parse
 from desk_model import key_mark
 from file_readers import Fault
 from readers import READERS
+from reference import STATUSES, TAKEN, WITH_MEMORY
 
 try:
     import sqlite3
 except ImportError:  # (a Python that was made without it)
     sqlite3 = None
 
-STATUSES = (16, 17, 18)
+OWN_STATUSES = [code for code, status in STATUSES.items() if status.commands == WITH_MEMORY]
 ROOM = 1 << 16  # what a commit takes at most, and the log beside it
 DATABASE = b"SQLite format 3\0"
 PAGE = "docs/desk.md, 'When the memory is lost'"
@@ -133,7 +134,7 @@ def taken_key(names):
 
 
 def is_taken_key(line):
-    return line.endswith("stands under another name")
+    return line.endswith(TAKEN.split("{}")[1])
 
 
 def explanation(status, line, names):

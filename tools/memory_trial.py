@@ -11,6 +11,7 @@ import signal
 import subprocess
 import time
 
+import attestation_model
 import desk_model
 import verifier_model
 from file_readers import Policy, Report
@@ -36,7 +37,7 @@ def report_on(key, image, bounds, count):
     size = bounds[3] + 2 - bounds[2]
     output = (count.to_bytes(4, "little") * size)[:size]
     report = Report(2, 100, 1, 0, count, desk_model.challenge(key, count), bounds, output, b"")
-    return verifier_model.report_line(verifier_model.with_right_mac(image, key, report))
+    return attestation_model.report_line(verifier_model.with_right_mac(image, key, report))
 
 
 class Ledger:
@@ -178,7 +179,7 @@ class Memory:
         answer, text = self.states(), None
         if answer.status == 3 and self.contents()[""] is None and not answered:
             answer = answer._replace(status=0, output=b"", line="")  # (it was not made yet)
-        if (answer.status, answer.line) != (0, ""):
+        if answer.ending != (0, ""):
             self.fault(f"{what}: {answer}")
             return False
         for count in range(len(self.lines), answered - 1, -1):
@@ -197,7 +198,7 @@ class Memory:
 class DeskRun:
     """A desk between its start and its end."""
 
-    def __init__(self, words, moment, most):
+    def __init__(self, words, moment=None, most=None):
         self.process = subprocess.Popen(words, stdin=subprocess.PIPE, stdout=subprocess.PIPE,
                                         stderr=subprocess.PIPE, bufsize=0, start_new_session=True)
         self.until = time.monotonic() + (PATIENCE if moment is None else moment)

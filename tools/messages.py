@@ -184,7 +184,7 @@ def explanation(status, line, words):
         return [unread_file(words) or ("standard input cannot be read" if is_desk else None)]
     if status == 15:
         return [STATUSES[status].remedy.replace("`", "")]
-    if status in memory_faults.STATUSES:
+    if status in memory_faults.OWN_STATUSES:
         return memory_faults.explanation(status, line, names_of(words))
     return file_fault(line, words)
 

@@ -1,6 +1,8 @@
 """The pictures of README.md, as SVG."""
 from html import escape
 
+from reference import KEY, MAC, METADATA, PERIPHERALS, PROGRAM, RAM, ROM, STACK, VECTORS
+
 INK, PAPER, TINT, ACCENT = "#1f2a37", "#ffffff", "#eef2f7", "#b45309"
 
 
@@ -62,16 +64,18 @@ def device():
     picture.add("rect", x=20, y=190, width=780, height=24, fill=INK)
     picture.text(410, 207, "bus: in a step one access of processor or ROM, then one of the DMA",
                  fill=PAPER)
-    for x, width, *lines in ((20, 140, "0000", "timer, serial port,", "pins, DMA registers"),
-                             (170, 130, "0200 RAM", "0200 decision, MAC", "0240 metadata",
-                              "globals, stack"),
-                             (310, 116, "4000", "exclusive stack", "4060 kept counter"),
-                             (436, 64, "6A00", "device", "key"),
-                             (510, 100, "A000", "attestation", "ROM"),
-                             (620, 100, "C000", "program"),
-                             (730, 70, "FFE0", "vectors")):
+    for x, width, region, *lines in (
+            (20, 140, PERIPHERALS, "timer, serial port,", "pins, DMA registers"),
+            (170, 130, RAM, f"{MAC.first:04X} decision, MAC", f"{METADATA.first:04X} metadata",
+             "globals, stack"),
+            (310, 116, STACK, "exclusive stack", f"{STACK.first + 0x60:04X} kept counter"),
+            (436, 64, KEY, "device", "key"),
+            (510, 100, ROM, "attestation", "ROM"),
+            (620, 100, PROGRAM, "program"),
+            (730, 70, VECTORS, "vectors")):
+        name = " RAM" if region == RAM else ""
         picture.arrow(x + width / 2, 214, x + width / 2, 248, both=True)
-        picture.box(x, 250, width, 82, *lines)
+        picture.box(x, 250, width, 82, f"{region.first:04X}{name}", *lines)
     picture.box(20, 20, 130, 136, "outside", "the script:", "bytes, pins,", "DMA starts,", "resets",
                 fill=PAPER)
     picture.add("path", d="M20 88H8V291H18", fill="none", stroke=INK, stroke_width=1.5,

@@ -3,7 +3,8 @@ import re
 
 from assembler_model import hex_text
 from readers import READERS
-from sample_files import EXAMPLES, read
+from reference import SERIAL_VECTOR
+from sample_files import EXAMPLES, read, sent_bytes
 
 # Values of TCMP, up to one that a dose is shorter than. Where interrupts are allowed before the
 # region it is entered only at those from LEAST on: a shorter period leaves no step between two.
@@ -71,7 +72,7 @@ class Region:
         image = READERS["image"](read(f"{folder}/image.hex"))
         first, last = self.bounds[:2]
         self.code = {place: image[place] for place in range(first, last + 2)}
-        self.handler = image[0xFFF4] + 256 * image[0xFFF5]
+        self.handler = image[SERIAL_VECTOR] + 256 * image[SERIAL_VECTOR + 1]
 
     def leave(self):
         """The way out behind the first call, that of `region`."""
@@ -93,7 +94,7 @@ def attempts(trial, files, region, handlers, allow="eint", waits=False):
     events += [b"at %d rx 00\n" % (1000 * number) for number in range(1, PAST)] * waits
     text = trial.expect(0, "", "play", image, files.add("pump.txt", b"".join(events)), files.key,
                         "10000000")
-    sent = bytes.fromhex(b"".join(re.findall(rb"^tx \d+ (..)", text, re.M)).decode())
+    sent = sent_bytes(text)
     if not sent.endswith(b"E"):
         trial.fault("pump: the attempts have no end")
         return []

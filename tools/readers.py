@@ -17,9 +17,9 @@ READERS = {
 
 
 def first_fault(kind, text):
-    """What the program says of a file's first fault; None where it has none."""
+    """The line and the kind of a file's first fault, as `1: Missing`; None where it has none."""
     try:
         READERS[kind](text)
     except file_readers.Fault as fault:
-        return f"bad {kind.split()[-1]}: {fault}"
+        return f"{fault.line}: {fault.kind}"
     return None

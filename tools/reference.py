@@ -1,4 +1,4 @@
-"""The one table of commands, files, faults, rules and exit codes.
+"""The one table of commands, files, faults, rules, exit codes and places.
 
 The program's --help, the messages of ./foldgneiss, the tables of README.md, docs/foldgneiss.1 and
 docs/foldgneiss.bash are written from it by tools/write-reference; tools/check-program compares them
@@ -45,6 +45,9 @@ class Decimal(NamedTuple):
     @property
     def about(self):
         return f"a decimal, {self.least} to {self.most}"
+
+    def __str__(self):
+        return f"{self.least:,}..{self.most:,}"
 
     def takes(self, word):
         return bool(re.fullmatch("[0-9]{1,10}", word)) and self.least <= int(word) <= self.most
@@ -182,6 +185,47 @@ VALUES = {
 }
 
 
+class Region(NamedTuple):
+    """Its first and its last place."""
+    first: int
+    last: int
+
+    @property
+    def places(self):
+        return range(self.first, self.last + 1)
+
+    @property
+    def edges(self):
+        """The first and the last place, and those beside them."""
+        return self.first - 1 & 0xFFFF, self.first, self.last, self.last + 1 & 0xFFFF
+
+    def has(self, place):
+        return self.first <= place <= self.last
+
+    def __str__(self):
+        return f"{self.first:04X}..{self.last:04X}"
+
+
+# By the names of docs/memory-map.md.
+REGIONS = {
+    "peripherals": Region(0x0000, 0x01FF),
+    "RAM": Region(0x0200, 0x21FF),
+    "MR": Region(0x0200, 0x021F),
+    "META": Region(0x0240, 0x028F),
+    "XS": Region(0x4000, 0x43FF),
+    "KR": Region(0x6A00, 0x6A3F),
+    "CR": Region(0xA000, 0xBFFF),
+    "program": Region(0xC000, 0xFFDF),
+    "vectors": Region(0xFFE0, 0xFFFF),
+}
+PERIPHERALS, RAM, MAC, METADATA, STACK, KEY, ROM, PROGRAM, VECTORS = REGIONS.values()
+METADATA_ONE = Region(METADATA.first, 0x0269)  # those of version 1
+TIMER_VECTOR, SERIAL_VECTOR, RESET_VECTOR = 0xFFF2, 0xFFF4, 0xFFFE
+UPPER = Region(PROGRAM.first, VECTORS.last)
+IMAGE_PLACES = frozenset((*RAM.places, *UPPER.places))
+EDGES = sorted({place for region in REGIONS.values() for place in region.edges})
+
+
 class Part(NamedTuple):
     """A part of a text that is said of this command, or of one that has this argument, alone."""
     word: str
@@ -216,10 +260,10 @@ STATUSES = {
               "is", ("verify", "round", "audit")),
     2: Status("words are no command",
               ("the arguments are no command",
-               Part("steps", ", STEPS is no decimal in 1..10,000,000"),
-               Part("seed", ", SEED none in 0..4,294,967,295"),
-               Part("counter", ", COUNTER none in 1..4,294,967,295"),
-               Part("chal", ", CHAL is not 64 hexadecimal digits"),
+               Part("steps", f", STEPS is no decimal in {VALUES['steps']}"),
+               Part("seed", f", SEED none in {VALUES['seed']}"),
+               Part("counter", f", COUNTER none in {VALUES['counter']}"),
+               Part("chal", f", CHAL is not {VALUES['chal'].about}"),
                ", or an argument is not UTF-8"), "compare with `--help`"),
     3: Status("file is absent", "one of the files is not there", "look for them in this order"),
     4: Status("reading failed",
@@ -260,6 +304,24 @@ STATUSES = {
                "`--help` says what K means"),
 }
 
+
+
+def ending(status):
+    """An exit status, and its line."""
+    return status, STATUSES[status].line
+
+
+def fault_ending(kind, fault):
+    """The exit status and the line where this is the first fault of a file of this kind, as
+    `1: Missing`.
+    """
+    status, line = ending(FILES[kind].status)
+    return status, line.replace("L: K", fault)
+
+
+# What M says of a memory.
+DAMAGED = "bad memory: no memory of a desk, or damaged"
+TAKEN = "bad memory: the key of device {} stands under another name"
 # What a fault's kind means, of each file.
 TOO_LONG = {"TooLong": "the file is longer than its limit (line 0)"}
 IN_WORDS = {
@@ -296,7 +358,7 @@ FAULTS = {
         "Count": "the record has not as many digits as its count or its type says",
         "Check": "the bytes of the record do not sum to 0",
         "RecordType": "the type is past 05",
-        "Place": "a byte's address is not in 0200..21FF or C000..FFFF",
+        "Place": f"a byte's address is not in {RAM} or {UPPER}",
         "AfterEnd": "a record after the end record",
         "NoEnd": "there is no end record",
     },
@@ -322,7 +384,7 @@ FAULTS = {
         "Twice": "the name was given before",
         "Undefined": "a name has no value here",
         "Range": "a value is out of range, or a jump is odd or goes too far",
-        "Place": "a byte outside 0200..21FF and C000..FFFF, or a word at an odd address",
+        "Place": f"a byte outside {RAM} and {UPPER}, or a word at an odd address",
         "Overlap": "there is a byte at this address already",
     },
     "trace": {
@@ -362,6 +424,7 @@ RULES = {
     "I1": "an illegal instruction word was fetched",
 }
 VERSION = "0.1.0"
+FLAGS = ("exec", "aux", "plain")  # that a policy may ask for
 # In the order in which they are tried, but for the first.
 VERDICTS = ("accept", "no-challenge", "version-differs", "chal-differs", "count-differs",
             "bounds-differ", "exec-zero", "aux-zero", "mac-differs")

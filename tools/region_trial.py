@@ -5,10 +5,10 @@ import tempfile
 import attestation_model
 from assembler_model import hex_text
 from file_readers import read_image, read_reports
-from firmware_trial import PLACE, is_compiler_there, made_image
+from firmware_trial import MAKE, PLACE, folder_of, is_compiler_there, made_image
+from reference import VECTORS
 from runtime_trial import LEVELS
 from sample_files import read, write
-from trial import ROOT
 
 HEADER = b'#include "foldgneiss.h"\n'
 # A region with a switch, a table, a text, products, quotients and a copied struct.
@@ -218,9 +218,7 @@ def attestable(trial, sources, *options):
     """The image that the kit makes of these sources, and the lines of its regions, both empty where
     it makes none.
     """
-    with tempfile.TemporaryDirectory() as folder:
-        for name, text in sources.items():
-            write(f"{folder}/{name}", text)
+    with folder_of(sources) as folder:
         image = made_image(trial, folder, "image.hex", "regions.txt", *options)
         return (image, read(f"{folder}/regions.txt")) if image else (b":00000001FF\n", b"")
 
@@ -334,22 +332,21 @@ def attested(trial, files):
     foreign = CLOSED.replace(b"static const uint16_t curve", b"FOREIGN static uint16_t curve")
     device = Device(trial, files, foreign)
     er_max = device.bounds[1]
-    if not device.lies(place for place in device.unattested() if er_max < place < 0xFFE0):
+    if not device.lies(place for place in device.unattested() if er_max < place < VECTORS.first):
         trial.fault("firmware: no change of a FOREIGN table was accepted")
 
 
 def built(trial, folder, changes, *options):
     """What the Makefile answers on the firmware with these changes."""
     write(f"{folder}/main.c", FIRMWARE.format(**{**WHOLE, **changes}).encode())
-    return trial.call("-s", "-C", folder, "-f", f"{ROOT}/firmware/Makefile", *options,
-                      command=["make"])
+    return trial.call(folder, *options, command=MAKE)
 
 
 def refusals(trial):
     with tempfile.TemporaryDirectory() as folder:
         for changes in RIGHT:
             answer = built(trial, folder, changes)
-            if (answer.status, answer.line) != (0, ""):
+            if answer.ending != (0, ""):
                 trial.fault(f"firmware: {changes}: {answer}")
         for name, (changes, text) in WRONG.items():
             answer = built(trial, folder, changes)
@@ -379,7 +376,7 @@ def stacks(trial, files):
             ({"before": inner, "value": " + nests(7)"}, grew)):
         answer = checked(trial, files, changes)
         is_told = answer.status == 2 and answer.line.startswith(words) if words else (
-            (answer.status, answer.line) == (0, ""))
+            answer.ending == (0, ""))
         if not is_told or not changes and answer.output[-len(guards):] != guards:
             trial.fault(f"firmware: check of {changes}: {answer}")
 

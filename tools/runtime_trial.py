@@ -1,8 +1,8 @@
 """Trials of the functions that the kit in firmware/ has for C, where clang is."""
 import random
-import re
 
 from firmware_trial import image_of, is_compiler_there
+from sample_files import sent_bytes
 
 LEVELS = ("-O0", "-O1", "-O2", "-O3", "-Os", "-Oz", "-Os -flto")
 RANDOM_PAIRS, STEPS_OF_A_PAIR = 100, 50_000
@@ -116,7 +116,7 @@ def runtime(trial, files):
         image = image_of(trial, {"runtime.c": FIRMWARE}, f"CFLAGS={level} -Wall -Wextra")
         text = trial.expect(0, "", "play", files.add("image", image or b""), script, files.key,
                             str(len(pairs) * STEPS_OF_A_PAIR))
-        sent = bytes.fromhex(b"".join(re.findall(rb"^tx \d+ (..)", text, re.M)).decode())
+        sent = sent_bytes(text)
         for pair in pairs:
             expected = results(*pair)
             if sent[:len(expected)] != expected:

@@ -12,16 +12,35 @@ import verifier_model
 from assembler_model import hex_record, hex_text
 from desk_model import Desk
 from file_readers import Policy, read_reports
+from memory_faults import sqlite3
 from readers import READERS, first_fault
-from reference import COMMANDS, FILES
+from reference import COMMANDS, FILES, IMAGE_PLACES, PROGRAM, RESET_VECTOR
 from trial import ROOT
 
-try:
-    import sqlite3
-except ImportError:  # (a Python that was made without it)
-    sqlite3 = None
-
 EXAMPLES = f"{ROOT}/examples"
+# The first fault of files in SampleFiles, each by its kind and the end of its name.
+FIRST_FAULTS = {
+    "key": {"empty": "1: Missing", "short": "1: Missing", "digit": "1: Digit", "extra": "1: Extra",
+            "256": "1: Extra", "257": "0: TooLong"},
+    "keys": {"twice": "2: Twice", "twice-last": "5: Twice", "twice-key": "3: Twice",
+             "name": "1: Digit", "name-long": "1: Count", "short": "1: Count", "digit": "2: Digit",
+             "word": "1: Word", "extra": "1: Extra", "missing": "1: Missing", "utf8": "1: Utf8"},
+    "image": {"empty": "0: NoEnd", "no-end": "2: NoEnd", "check": "1: Check",
+              "no-colon": "1: NoColon", "after-end": "4: AfterEnd", "place": "1: Place",
+              "type": "1: RecordType"},
+    "script": {"order": "2: Order", "count": "1: Count", "range": "1: Range", "utf8": "1: Utf8"},
+    "policy": {"short": "3: Missing", "short-one": "1: Missing", "version": "1: Range",
+               "ask": "3: Word", "chal": "6: Order", "flag": "4: Word", "counter": "5: Range",
+               "twice": "7: Twice", "utf8": "1: Utf8", "bounds": "3: Bounds",
+               "bounds-one": "2: Bounds"},
+    "reports": {"cut": "1: Count", "decision": "2: Range", "word": "1: Word"},
+    "source": {"mvo": "1: Mnemonic"},
+    "trace": {"last": "1: Order", "cut": "1: Missing", "blank": "2: Missing", "comment": "1: Word",
+              "place": "2: Range"},
+    "states": {"twice": "2: Twice", "taken": "2: Twice", "word": "1: Word", "name": "1: Digit",
+               "mark": "1: Count", "digit": "1: Digit", "range": "1: Range", "answer": "1: Word",
+               "extra": "1: Extra", "missing": "1: Missing", "utf8": "1: Utf8"},
+}
 MOST_DEVICES = 1886  # of a file of keys, with names of one character and of two
 
 
@@ -66,6 +85,11 @@ class DeskCall(NamedTuple):
 def steps_of(text):
     """The steps of the play that printed this text, as its end line has them."""
     return re.search(rb"^end (\d+) ", text, re.M)[1].decode()
+
+
+def sent_bytes(text):
+    """The bytes that were sent in the play that printed this text."""
+    return bytes.fromhex(b"".join(re.findall(rb"^tx \d+ (..)", text, re.M)).decode())
 
 
 class Example:
@@ -198,15 +222,15 @@ class SampleFiles:
     @staticmethod
     def letter_memory():
         """The memory after the letter A as Intel HEX: that of its image, and 0 elsewhere."""
-        memory = dict.fromkeys([*range(0x0200, 0x2200), *range(0xC000, 0x10000)], 0)
-        memory.update(enumerate(bytes.fromhex("B24041007600FF3F"), 0xC000))
-        memory[0xFFFF] = 0xC0
+        memory = dict.fromkeys(IMAGE_PLACES, 0)
+        memory.update(enumerate(bytes.fromhex("B24041007600FF3F"), PROGRAM.first))
+        memory[RESET_VECTOR + 1] = 0xC0
         return hex_text(memory)
 
     def add_sources(self):
         self.add("letter.asm", b".org 0xC000\nstart: mov #0x41,&0x76\nstop: jmp stop\n"
                                b".org 0xFFFE\n.word start\n")
-        self.add("mvo.asm", b"mvo r4,r5\n")
+        self.add("source-mvo", b"mvo r4,r5\n")
 
     def add_traces(self):
         """The trace of the letter's first steps, with an offence or a fault in its last line, and
@@ -240,7 +264,7 @@ class SampleFiles:
         if "mac" not in changes:
             report = verifier_model.with_right_mac(
                 self.round.value("image"), self.round.value("key"), report)
-        return verifier_model.report_line(report)
+        return attestation_model.report_line(report)
 
     def add_verifier_files(self):
         """The report of the example `round`, the policy that it meets, and files with a fault."""
@@ -274,7 +298,8 @@ class SampleFiles:
         """Files with one fault each, and keys that are in order."""
         key, image = read(self.key), read(self.image)
         lines = image.splitlines(keepends=True)
-        self.add("empty", b"")
+        for name in ("empty", "key-empty", "image-empty"):
+            self.add(name, b"")
         self.add("key-short", key[:127])
         self.add("key-bare", key[:128])
         self.add("key-crlf", key[:128] + b"\r\n")
@@ -408,6 +433,6 @@ class SampleFiles:
 
     def add_scattered_image(self):
         """A byte at each odd place, so that each stands alone."""
-        places = [*range(0x0201, 0x2200, 2), *range(0xC001, 0x10000, 2)]
+        places = [place for place in IMAGE_PLACES if place % 2]
         self.add("image-odd", hex_text(dict.fromkeys(places, 90)))
         return len(places)

@@ -3,14 +3,9 @@ docs/formats.md and docs/monitors.md and apart from the program's own.
 """
 from assembler_model import is_illegal
 from file_readers import is_valid, read_reports
+from reference import KEY, MAC, METADATA, ROM, STACK, VECTORS, Region
 
-KEY, STACK, MAC, META, ROM, VECTORS = ((0x6A00, 0x6A3F), (0x4000, 0x43FF), (0x0200, 0x021F),
-                                       (0x0240, 0x028F), (0xA000, 0xBFFF), (0xFFE0, 0xFFFF))
-ENTRY, EXIT = 0xA000, 0xBFFE
-
-
-def has(region, place):
-    return region[0] <= place <= region[1]
+ENTRY, EXIT = ROM.first, ROM.last - 1
 
 
 def places(access):
@@ -20,7 +15,7 @@ def places(access):
 
 
 def touches(access, *regions):
-    return any(has(region, place) for place in places(access) for region in regions)
+    return any(region.has(place) for place in places(access) for region in regions)
 
 
 def is_write(access):
@@ -37,7 +32,7 @@ def writes(line):
 
 def was_inside(last):
     """The step before was in the ROM, and not at its exit."""
-    return last is not None and has(ROM, last) and last != EXIT
+    return last is not None and ROM.has(last) and last != EXIT
 
 
 def fetches_opcode(line):
@@ -47,7 +42,7 @@ def fetches_opcode(line):
 
 def conditions(last, line):
     """Each rule with whether it holds, in the order in which they are tried."""
-    inside, cpu, dma = has(ROM, line.pc), line.cpu, line.dma
+    inside, cpu, dma = ROM.has(line.pc), line.cpu, line.dma
     write = is_write(cpu)
     yield "X0", line.asked
     yield "A3", line.irq and inside
@@ -56,7 +51,7 @@ def conditions(last, line):
     yield "A4", line.pc == EXIT and is_read(cpu) and touches(cpu, KEY, STACK)
     yield "K1", touches(cpu, KEY) and not write and not inside
     yield "K2", touches(cpu, STACK) and not inside
-    yield "K3", inside and write and not all(has(STACK, place) or has(MAC, place)
+    yield "K3", inside and write and not all(STACK.has(place) or MAC.has(place)
                                              for place in places(cpu))
     yield "K4", touches(dma, KEY)
     yield "K5", touches(dma, STACK)
@@ -73,15 +68,15 @@ def starts_run(line):
 
 
 def code_of(line):
-    return line.bounds[0], (line.bounds[1] + 1) % 65536
+    return Region(line.bounds[0], (line.bounds[1] + 1) % 65536)
 
 
 def is_inside(line):
-    return has(code_of(line), line.pc)
+    return code_of(line).has(line.pc)
 
 
 def was_in_code(last, line):
-    return last is not None and has(code_of(line), last)
+    return last is not None and code_of(line).has(last)
 
 
 def enters_code(last, line):
@@ -91,7 +86,7 @@ def enters_code(last, line):
 def clears_both(last, line):
     """Whether one of E1, E2 and E5 to E9 describes the step, which clear both flags."""
     er_max, or_min, or_max = line.bounds[1:]
-    er, output, here = code_of(line), (or_min, (or_max + 1) % 65536), is_inside(line)
+    er, output, here = code_of(line), Region(or_min, (or_max + 1) % 65536), is_inside(line)
     fetch = line.cpu is not None and line.cpu.letter == b"f"
     return any((
         any(touches(access, er) for access in writes(line)),
@@ -99,8 +94,8 @@ def clears_both(last, line):
         not here and is_write(line.cpu) and touches(line.cpu, output),
         touches(line.dma, er, output),
         here and line.dma is not None,
-        here and fetch and not all(has(er, place) for place in places(line.cpu)),
-        line.rule != b"-" or any(touches(access, META) for access in writes(line)),
+        here and fetch and not all(map(er.has, places(line.cpu))),
+        line.rule != b"-" or any(touches(access, METADATA) for access in writes(line)),
     ))
 
 
@@ -115,7 +110,7 @@ def clears_aux(last, line):
     """These, F3, F4 or F10."""
     first = fetches_opcode(line) and line.pc == line.bounds[0]
     elsewhere = (line.kind == b"irq" and is_read(line.cpu)
-                 and not has(code_of(line), line.value & 0xFFFE))
+                 and not code_of(line).has(line.value & 0xFFFE))
     return (clears_both(last, line)
             or enters_code(last, line) and not first
             or is_inside(line) and elsewhere

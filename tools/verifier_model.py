@@ -2,7 +2,8 @@
 import re
 
 from attestation_model import bounds_words, bytes_of, in_words, mac, request
-from file_readers import Report, read_reports
+from file_readers import read_reports
+from reference import ending
 
 
 def metadata_of(key, report):
@@ -20,15 +21,6 @@ def right_mac(image, key, report):
 
 def with_right_mac(image, key, report):
     return report._replace(mac=right_mac(image, key, report))
-
-
-def report_line(report):
-    name, of_request = "report", ""
-    if report.version == 2:
-        name, of_request = "report2", f" aux {report.aux} count {report.count}"
-    output = "-" if report.output is None else report.output.hex()
-    return (f"{name} {report.step} exec {report.exec}{of_request} chal {report.challenge.hex()} "
-            f"{bounds_words(report.bounds)} data {output} mac {report.mac.hex()}\n").encode()
 
 
 def policy_text(policy):
@@ -76,6 +68,5 @@ def round_text(play, image, policy, key):
 
 
 def ending_of(text):
-    """The exit status and the line on standard error after a text with verdicts."""
-    others = re.search(rb"^verdict \d+ (?!accept$)", text, re.M)
-    return (1, "rejected") if others else (0, "")
+    """The exit status and the line on standard error after a text with verdicts, or of an audit."""
+    return ending(1 if re.search(rb"^verdict \d+ (?!accept$)|^offence ", text, re.M) else 0)

@@ -5,7 +5,6 @@ import attestation_model
 import verifier_model
 from readers import READERS
 from sample_files import read
-from trial import ABSENT, UNREADABLE, WORDS
 
 NO_EXEC, NO_AUX, NEITHER = {"exec": 0}, {"aux": 0}, {"exec": 0, "aux": 0}
 OTHER_MAC, OTHER_CHALLENGE = {"mac": bytes(32)}, {"challenge": bytes(32)}
@@ -50,13 +49,6 @@ VERDICTS_ONE = (
     ({"requests": []}, {}, "no-challenge"),
 )
 
-# The first fault of files in SampleFiles, each by the end of its name.
-POLICY_FAULTS = {"short": "3: Missing", "short-one": "1: Missing", "version": "1: Range",
-                 "ask": "3: Word", "chal": "6: Order", "flag": "4: Word", "counter": "5: Range",
-                 "twice": "7: Twice",
-                 "utf8": "1: Utf8", "bounds": "3: Bounds", "bounds-one": "2: Bounds"}
-REPORT_FAULTS = {"cut": "1: Count", "decision": "2: Range", "word": "1: Word"}
-
 
 def prints_verdicts(trial, text, *words):
     """A call that prints this text with verdicts, and ends as they say."""
@@ -74,18 +66,15 @@ def request_lines(trial, files):
             trial.prints(line, *files.words_of_round("request", chal=chal, counter=counter))
     for chal in ("", digits[1:], digits[2:], f"{digits}0", f"{digits}00", f"{digits[1:]}g",
                  f" {digits[1:]}", f"0x{digits[2:]}"):
-        trial.expect(2, WORDS, *files.words_of_round("request", chal=chal))
+        trial.refuses(2, *files.words_of_round("request", chal=chal))
     for counter in ("", "0", "-1", "+1", "4294967296", "00000000001", "0x1"):
         # (the words are judged before the key is looked for)
-        trial.expect(2, WORDS,
-                     *files.words_of_round("request", key=files["none"], counter=counter))
+        trial.refuses(2, *files.words_of_round("request", key=files["none"], counter=counter))
     words = files.words_of_round("request")
-    trial.expect(2, WORDS, *words[:-1])
-    trial.expect(2, WORDS, *words, "1")
-    trial.expect(3, ABSENT, *files.words_of_round("request", key=files["none"]))
-    trial.expect(4, UNREADABLE, *files.words_of_round("request", key=files.folder))
-    trial.expect(7, "bad key: line 1: Digit",
-                 *files.words_of_round("request", key=files["key-digit"]))
+    trial.refuses(2, *words[:-1])
+    trial.refuses(2, *words, "1")
+    trial.refuses(3, *files.words_of_round("request", key=files["none"]))
+    trial.refuses(4, *files.words_of_round("request", key=files.folder))
 
 
 def verify(trial, files):
@@ -104,13 +93,10 @@ def verify(trial, files):
 
 
 def report_files(trial, files):
-    """Files of several reports and of none, and policies and reports that are refused."""
+    """Files of several reports and of none, and the order in which files are refused."""
     def verdicts(names, **others):
         prints_verdicts(trial, b"".join(verifier_model.verdict_lines(names)),
                         *files.words_of_round("verify", **others))
-
-    def refused(status, line, **others):
-        trial.expect(status, line, *files.words_of_round("verify", **others))
 
     verdicts(["accept"], reports=files["reports-among"])
     verdicts([], reports=files["empty"])
@@ -121,22 +107,17 @@ def report_files(trial, files):
     verdicts(["accept", "version-differs", "accept", "count-differs", "no-challenge"],
              policy=files.policy_with(requests=requests),
              reports=files.add("reports-with", b"".join(answers + answers[2:] * 2)))
-    for name, fault in REPORT_FAULTS.items():
-        refused(11, f"bad reports: line {fault}", reports=files[f"reports-{name}"])
-    for name, fault in POLICY_FAULTS.items():
-        refused(10, f"bad policy: line {fault}", policy=files[f"policy-{name}"])
-    refused(3, ABSENT, policy=files["none"])
-    refused(3, ABSENT, reports=files["none"])
-    refused(4, UNREADABLE, reports=files.folder)
-    refused(7, "bad key: line 1: Missing", key=files["empty"])
-    refused(10, "bad policy: line 3: Missing",
-            policy=files["policy-short"], reports=files["reports-cut"])
-    trial.expect(2, WORDS, *files.words_of_round("verify")[:-1])
+    for kind in ("policy", "reports"):
+        trial.refuses(3, *files.words_of_round("verify", **{kind: files["none"]}))
+    trial.refuses(4, *files.words_of_round("verify", reports=files.folder))
+    trial.finds("policy", "3: Missing", *files.words_of_round(
+        "verify", policy=files["policy-short"], reports=files["reports-cut"]))
+    trial.refuses(2, *files.words_of_round("verify")[:-1])
 
 
 def rounds(trial, files):
-    """What the example's round prints, by its own policy, by those of the table, and by one that is
-    refused; what it prints is a file of reports.
+    """What the example's round prints, by its own policy and by those of the table; what it prints
+    is a file of reports.
     """
     example = files.round
     prints_verdicts(trial, example.text, *example.words("round"))
@@ -148,8 +129,5 @@ def rounds(trial, files):
         prints_verdicts(trial, text, *example.words("round", policy=name))
     prints_verdicts(trial, b"verdict 1 accept\n",
                     *files.words_of_round("verify", reports=files.add("printed", example.text)))
-    trial.expect(2, WORDS, *example.words("round")[:-1])
-    trial.expect(3, ABSENT, *example.words("round", policy=files["none"]))
-    for name, fault in POLICY_FAULTS.items():
-        trial.expect(10, f"bad policy: line {fault}",
-                     *example.words("round", policy=files[f"policy-{name}"]))
+    trial.refuses(2, *example.words("round")[:-1])
+    trial.refuses(3, *example.words("round", policy=files["none"]))

@@ -55,31 +55,25 @@ def samples(text):
     return sampled
 
 
-def access(name, word, value):
+def access(name, told, value):
     """The wires of an access of a trace line, and of the value that it read."""
-    place, _, written = word[1:].partition("=")
-    told = word != "-"
-    return {f"{name}_op": ord(word[0]) if told else None,
-            f"{name}_address": int(place, 16) if told else None,
-            f"{name}_data": int(written or value, 16) if told else None}
+    written = told and told.number
+    return {f"{name}_op": told and told.letter[0], f"{name}_address": told and told.place,
+            f"{name}_data": told and (value if written is None else written)}
 
 
 def wires_of(line, exec_before):
     """What a trace line says of the wires."""
-    (_, _, kind, pc, cpu, dma, irq, asked, word, value, dma_value,
-     er_min, er_max, or_min, or_max, _, rule) = line.split()
-    characters = {"kind": kind, "rule": "" if rule == "-" else rule}
-    numbers = {"pc": pc, "irq": irq, "asked": asked, "fetch_word": word, "er_min": er_min,
-               "er_max": er_max, "or_min": or_min, "or_max": or_max, "exec": exec_before}
-    return {**{name: int.from_bytes(text.encode(), "big") for name, text in characters.items()},
-            **{name: int(text, 16) for name, text in numbers.items()},
-            **access("cpu", cpu, value), **access("dma", dma, dma_value)}
+    rule = b"" if line.rule == b"-" else line.rule
+    bounds = zip(("er_min", "er_max", "or_min", "or_max"), line.bounds)
+    return {"kind": int.from_bytes(line.kind, "big"), "rule": int.from_bytes(rule, "big"),
+            "pc": line.pc, "irq": line.irq, "asked": line.asked, "fetch_word": line.word,
+            "exec": exec_before, **dict(bounds), **access("cpu", line.cpu, line.value),
+            **access("dma", line.dma, line.dma_value)}
 
 
 def samples_of_trace(trace):
-    """The samples that the waveform of a trace file has."""
-    sampled, exec_flag = [], "0"
-    for line in trace.decode().splitlines():
-        sampled.append(wires_of(line, exec_flag))
-        exec_flag = line.split()[15]
-    return [*sampled, {**sampled[-1], "exec": int(exec_flag)}]
+    """The samples that the waveform of a trace has."""
+    before = [0, *(line.exec for line in trace)]
+    sampled = [*map(wires_of, trace, before)]
+    return [*sampled, {**sampled[-1], "exec": before[-1]}]

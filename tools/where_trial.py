@@ -17,9 +17,9 @@ import subprocess
 import sys
 import tempfile
 
-from firmware_trial import PLACE, PUMPS
+from firmware_trial import MAKE, PLACE, PUMPS
 from sample_files import EXAMPLES, read, write
-from trial import ROOT, Trial
+from trial import ROOT, Trial, limiting
 
 sys.path.append(f"{ROOT}/firmware")
 from where_elf import Firmware  # noqa: E402
@@ -140,9 +140,8 @@ class Run:
 
     def make(self, *targets):
         """What targets of the kit print."""
-        return self.trial.expect(0, "", "-s", "-C", self.folder, "-f",
-                                 f"{ROOT}/firmware/Makefile", *self.options, *targets,
-                                 command=["make"]).decode()
+        return self.trial.expect(0, "", self.folder, *self.options, *targets,
+                                 command=MAKE).decode()
 
     def play(self):
         return self.trial.expect(0, "", "play", *self.files, self.steps).decode()
@@ -384,8 +383,7 @@ def streams(trial, run):
     """A trace of 300,000 steps takes no more memory than a short one, and a terminal shows how far
     it is.
     """
-    def limit_memory():
-        resource.setrlimit(resource.RLIMIT_DATA, (24_000_000, 24_000_000))
+    limit_memory = limiting(resource.RLIMIT_DATA, 24_000_000)
     lines = write(f"{run.folder}/long.txt", read(run.trace) * 3)
     run.where("profile", lines, preexec_fn=limit_memory)
     shown, (reader, terminal) = b"", pty.openpty()

@@ -11,7 +11,7 @@ use Rattle.msp_decode.specs.declared.cond.Cond.{Cond}
 use Rattle.msp_decode.specs.declared.instr.Instr.{Instr}
 use Rattle.msp_decode.specs.declared.instr.Instr.TheVariants as instr
 use Rattle.msp_decode.specs.declared.encode_fault.EncodeFault.TheVariants.{NoByteForm, NotWritable, NoSuchForm, OffsetRange}
-use Rattle.msp_decode.specs.Spelling.{has_size, has_form, has_range, takes_write, writes_operand}
+use Rattle.msp_decode.specs.Spelling.{has_size, has_form, has_range, takes_result, writes_operand}
 use Rattle.msp_decode.specs.Completion.{head_part, source_form, source_words as words_of_source, dest_words as words_of_dest, words_of}
 use Rattle.msp_decode.specs.EncodeFault.{first_fault}
 use Rattle.msp_decode.specs.Law.{AreReadAs, WordsAreRead}
@@ -77,7 +77,7 @@ one_has_words op size it count true takes is =
     record {
       size = omega (arith, is.words);
       faultless = one_faultless (has_size op size) (writes_operand op)
-          (takes_write (source_form it)) (has_form (source_form it)) takes is.form;
+          (takes_result (source_form it)) (has_form (source_form it)) takes is.form;
     }
 one_has_words op size it count false takes is = tt
 

@@ -10,7 +10,7 @@ use Rattle.msp_decode.specs.declared.cond.Cond.{Cond}
 use Rattle.msp_decode.specs.declared.reg.Reg.TheVariants.{R1}
 use Rattle.msp_decode.specs.declared.instr.Instr.{Instr}
 use Rattle.msp_decode.specs.declared.instr.Instr.TheVariants as instr
-use Rattle.msp_decode.specs.Spelling.{has_size, has_range, takes_write, writes_operand}
+use Rattle.msp_decode.specs.Spelling.{has_size, has_range, takes_result, writes_operand}
 use Rattle.msp_decode.specs.Completion.{source_form}
 use Rattle.part_definitions.specs.AddressSum.{plus}
 use Rattle.text_scan.specs.declared.fault_kind.FaultKind.{FaultKind}
@@ -59,7 +59,7 @@ dest_at (Register r) at operands value = Ok (dest.Reg r)
 -- no immediate and no constant
 abbrev pub takes_source : OneOp → Size → Source → Bool
 takes_source op size operand =
-    has_size op size && (takes_write (source_form operand) || not (writes_operand op))
+    has_size op size && (takes_result (source_form operand) || not (writes_operand op))
 
 abbrev pub one_of : OneOp → Size → Source → Result Instr FaultKind
 one_of op size operand =

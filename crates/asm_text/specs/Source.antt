@@ -3,7 +3,7 @@ use Rattle.std.specs.Prelude.{ℕ, ◌+◌, ◌==◌, ◌&&◌, length, nat_lt, 
 use Rattle.std.specs.List.{zip}
 use Rattle.text_scan.specs.declared.fault_at.FaultAt.{FaultAt}
 use Rattle.text_scan.specs.declared.fault_kind.FaultKind.{FaultKind}
-use Rattle.text_scan.specs.Line.{lines_of}
+use Rattle.text_scan.specs.Line.{text_lines}
 use Rattle.text_scan.specs.Reader.{◌>>=◌, in_line}
 use Rattle.text_scan.specs.Utf8.{utf8_of}
 use Rattle.asm_text.specs.declared.body.Body.{Body}
@@ -37,7 +37,7 @@ abbrev pub PlacedLine : Type 0
 PlacedLine = ℕ × (ℕ × List ℕ)
 
 abbrev pub placed_lines : List ℕ → List PlacedLine
-placed_lines text = zip (line_starts 0 text) (lines_of text)
+placed_lines text = zip (line_starts 0 text) (text_lines text)
 
 abbrev pub statement_in_line : ℕ → (Option Span × Body) → Statement
 statement_in_line line content = record { line = line; label = content.0; body = content.1 }

@@ -1,9 +1,16 @@
 -- The bounds of the executable region ER and the output region OR, and which are valid. (APEX.)
-use Rattle.std.specs.Prelude.{◌+◌, ◌==◌, ◌&&◌, ◌||◌, ◌%◌, ◌^◌, Bool, nat_le, nat_lt}
+use Rattle.std.specs.Prelude.{◌<◌, ◌+◌, ◌==◌, ◌&&◌, ◌||◌, ◌%◌, ◌^◌, Bool, nat_le, nat_lt}
 use Rattle.bus_signals.specs.declared.region.Region.{Region}
 use Rattle.bus_signals.specs.declared.bounds.Bounds.{Bounds}
 use Rattle.bus_signals.specs.Map.{ram_region, program_region, mac_region, metadata_region, version_one_metadata}
 use Rattle.bus_signals.specs.Address.{Address}
+
+-- the places are words
+pub record AreWords (bounds : Bounds) : Type 0 where
+  pub er_min : bounds.er_min < 2 ^ 16
+  pub er_max : bounds.er_max < 2 ^ 16
+  pub or_min : bounds.or_min < 2 ^ 16
+  pub or_max : bounds.or_max < 2 ^ 16
 
 -- from one word to another, the second byte of the last among them; an end past FFFF wraps
 abbrev pub words_region : Address → Address → Region

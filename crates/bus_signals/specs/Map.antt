@@ -108,6 +108,13 @@ ROM_EXIT = rom_region.last - 1
 abbrev pub RESET_VECTOR : ℕ
 RESET_VECTOR = vector_region.last - 1
 
+-- where an interrupt finds the first address of its handler
+abbrev pub SERIAL_VECTOR : ℕ
+SERIAL_VECTOR = 0xFFF4
+
+abbrev pub TIMER_VECTOR : ℕ
+TIMER_VECTOR = 0xFFF2
+
 -- an address lies in a region from its first to its last address
 abbrev pub lies_in : Region → ℕ → Bool
 lies_in region place = nat_le region.first place && nat_le place region.last

@@ -6,6 +6,7 @@
 #![tactic(auto)]
 
 mod access;
+mod address;
 mod bounds;
 mod bus_master;
 mod bus_record;
@@ -17,9 +18,11 @@ mod region;
 mod report_view;
 mod rule;
 mod signals;
+mod trace_flag;
 mod version;
 
 pub use access::{Access, some_reads, some_writes};
+pub use address::even;
 pub use bounds::{Bounds, valid, valid_one};
 pub use bus_master::BusMaster;
 pub use bus_record::BusRecord;
@@ -29,10 +32,11 @@ pub use law::constants_are_of_the_map;
 pub use map::{
     AUX_WORD, COUNTER, CR, DERIVED_KEY, DMA, ER_MAX, ER_MIN, EXEC_WORD, INNER_DIGEST, KEPT_COUNTER,
     KR, META, META_ONE, MR, OR_MAX, OR_MIN, PERIPHERALS, PINS, PROGRAM, RAM, RESET_VECTOR,
-    ROM_BODY, ROM_ENTRY, ROM_EXIT, SERIAL, TIMER, VECTORS, XS,
+    ROM_BODY, ROM_ENTRY, ROM_EXIT, SERIAL, SERIAL_VECTOR, TIMER, TIMER_VECTOR, VECTORS, XS,
 };
 pub use region::{Region, some_touches, touches};
 pub use report_view::ReportView;
 pub use rule::Rule;
 pub use signals::Signals;
+pub use trace_flag::{NoFlag, TraceFlag};
 pub use version::Version;

@@ -128,3 +128,9 @@ pub const VECTORS: Region = Region {
 
 /// Where a boot finds the first address of the program.
 pub const RESET_VECTOR: u16 = VECTORS.last - 1;
+
+/// Where the serial port's interrupt finds the first address of its handler.
+pub const SERIAL_VECTOR: u16 = 0xFFF4;
+
+/// Where the timer's interrupt finds the first address of its handler.
+pub const TIMER_VECTOR: u16 = 0xFFF2;

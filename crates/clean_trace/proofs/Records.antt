@@ -1,8 +1,8 @@
 -- The flag and the monitors see the same in the lines of a play as in its records.
 use Rattle.std.proofs.Common.{arith, ◌≡◌, ℕ, List, [], ◌∷◌, Option, map, refl, ap}
-use Rattle.bus_signals.specs.declared.event.Event.{Event}
 use Rattle.bus_signals.specs.SeenRecord.{SeenRecord}
-use Rattle.part_definitions.specs.Flag.{clears, starts_run, last_pc, exec}
+use Rattle.bus_signals.specs.ExecFlag.{clears, starts_run, last_pc, exec}
+use Rattle.device_trace.specs.Play.{Play}
 use Rattle.device_trace.specs.Blank.{blank_record}
 use Rattle.device_trace.specs.Logs.{with_events, with_record}
 use Rattle.device_trace.specs.Start.{Start}
@@ -29,7 +29,7 @@ pub exec-shown : (records : List SeenRecord) → exec (map shown records) ≡ ex
 exec-shown records = exec-same shown clears-shown starts_run-shown last_pc-shown records
 
 -- the lines of a play are of its records
-pub lines_seen : (start : Start) (play : List (List Event))
+pub lines_seen : (start : Start) (play : Play)
     → map seen_in (trace_lines start play) ≡ map shown (logs_after start play).records
 unfolding trace_lines logs_after with_record with_events
 lines_seen start [] = refl

@@ -8,7 +8,8 @@ use Rattle.bus_signals.specs.declared.rule.Rule.{Rule}
 use Rattle.bus_signals.specs.declared.signals.Signals.{Signals}
 use Rattle.bus_signals.specs.Kind.{is_cpu}
 use Rattle.part_definitions.specs.FirstRule.{first_rule}
-use Rattle.part_definitions.specs.Flag.{exec, fetches_at, last_pc}
+use Rattle.bus_signals.specs.ExecFlag.{exec, fetches_at, last_pc}
+use Rattle.device_trace.specs.Play.{Play}
 use Rattle.device_trace.specs.Blank.{blank_record}
 use Rattle.device_trace.specs.Logs.{Logs, exec_of, logged_bounds, with_events}
 use Rattle.device_trace.specs.Progress.{last_registers}
@@ -47,12 +48,12 @@ sight now regs rule value dma_value bounds is_set opcode =
           word_told now.cpu now.pc now.word both.1 unbroken.k1 unbroken.k2;
     }
 
-last_pc-lines : (start : Start) (play : List (List Event))
+last_pc-lines : (start : Start) (play : Play)
     → last_pc (map seen_in (trace_lines start play)) ≡ last_pc (logs_after start play).records
 last_pc-lines start play =
     ap last_pc (lines_seen start play) ∙ last_pc-shown (logs_after start play).records
 
-rule_right : (start : Start) (events : List Event) (play : List (List Event))
+rule_right : (start : Start) (events : List Event) (play : Play)
     → (next_line start (logs_after start play) events).rule
     ≡ right_rule (trace_lines start play) (next_line start (logs_after start play) events)
 unfolding next_record record_of with_events
@@ -69,7 +70,7 @@ rule_right start events play =
     (opcode_in start logs (asks_reset events) (logs_after-proper start play)))
     ∙ ap (λ (last : Option ℕ). first_rule last now) (last_pc-lines start play))
 
-exec_right : (start : Start) (events : List Event) (play : List (List Event))
+exec_right : (start : Start) (events : List Event) (play : Play)
     → (next_line start (logs_after start play) events).exec
     ≡ right_exec (next_line start (logs_after start play) events ∷ trace_lines start play)
 unfolding trace_lines logs_after
@@ -77,7 +78,7 @@ exec_right start events play =
     sym (ap exec (lines_seen start (events ∷ play))
     ∙ exec-shown (logs_after start (events ∷ play)).records)
 
-pub lines_clean : (start : Start) (play : List (List Event)) → IsClean (trace_lines start play)
+pub lines_clean : (start : Start) (play : Play) → IsClean (trace_lines start play)
 unfolding trace_lines
 lines_clean start [] = tt
 lines_clean start (events ∷ play) = (

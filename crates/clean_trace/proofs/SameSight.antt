@@ -10,8 +10,9 @@ use Rattle.bus_signals.specs.declared.rule.Rule.TheVariants.{X0, I1}
 use Rattle.bus_signals.specs.declared.signals.Signals.{Signals}
 use Rattle.bus_signals.specs.Access.{some_writes, without_number}
 use Rattle.bus_signals.specs.Map.{touches, some_touches, key_region, stack_region}
-use Rattle.part_definitions.specs.FirstRule.{breaks_x0, breaks_i1, rule_where, or_else, first_rule}
-use Rattle.part_definitions.specs.Flag.{fetches_at}
+use Rattle.std.specs.Option.{option_or}
+use Rattle.part_definitions.specs.FirstRule.{breaks_x0, breaks_i1, rule_where, first_rule}
+use Rattle.bus_signals.specs.ExecFlag.{fetches_at}
 use Rattle.part_definitions.specs.MonitorRule.{in_rom, key_rule, atomicity_rule}
 use Rattle.device_trace.specs.Blank.{touches_secrets, blank_access, blank_value}
 use Rattle.device_trace.specs.Step.{access_recorded}
@@ -46,14 +47,14 @@ first_rule-dma : (last : Option ℕ) (now : Signals) (dma : Option Access)
 unfolding first_rule
 first_rule-dma last now dma =
     ap
-    (λ (rule : Option Rule). or_else (rule_where (breaks_x0 now) X0)
-    (or_else rule (or_else (key_rule (with_dma now (without_number dma)))
+    (λ (rule : Option Rule). option_or (rule_where (breaks_x0 now) X0)
+    (option_or rule (option_or (key_rule (with_dma now (without_number dma)))
     (rule_where (breaks_i1 now) I1))))
     (atomicity_rule-dma last now (without_number dma) dma)
     ∙ ap
-    (λ (rule : Option Rule). or_else (rule_where (breaks_x0 now) X0)
-    (or_else (atomicity_rule last (with_dma now dma))
-    (or_else rule (rule_where (breaks_i1 now) I1))))
+    (λ (rule : Option Rule). option_or (rule_where (breaks_x0 now) X0)
+    (option_or (atomicity_rule last (with_dma now dma))
+    (option_or rule (rule_where (breaks_i1 now) I1))))
     (key_rule-dma now dma)
 
 pub first_rule-sight : (last : Option ℕ) (line real : Signals)

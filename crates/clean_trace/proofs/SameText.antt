@@ -1,20 +1,21 @@
--- Two keys whose released words agree give the same trace file.
+-- A trace file without the key, and with two keys whose released words agree.
 use Rattle.std.proofs.Common.{◌≡◌, ℕ, Bool, List, [], ◌∷◌, ◌++◌, Option, Some, None, refl, ap, sym, ◌∙◌}
 use Rattle.bus_signals.specs.declared.access.Access.{Access}
 use Rattle.bus_signals.specs.declared.access.Access.TheVariants.{Fetch, Read, Write}
 use Rattle.bus_signals.specs.declared.bus_record.BusRecord.{BusRecord}
 use Rattle.bus_signals.specs.declared.event.Event.{Event}
 use Rattle.bus_signals.specs.Access.{without_number}
+use Rattle.device_trace.specs.Play.{Play}
 use Rattle.device_trace.specs.Blank.{blank_record, blank_value, touches_secrets}
 use Rattle.device_trace.specs.Logs.{Logs, exec_of, logged_bounds, with_events}
 use Rattle.device_trace.specs.Signals.{word_fetched, signals_at, signals_of}
 use Rattle.device_trace.specs.Start.{Start}
 use Rattle.device_trace.specs.Step.{asks_reset, next_record, next_signals}
 use Rattle.device_trace.specs.Trace.{next_logs, logs_after, released_words}
-use Rattle.part_definitions.specs.Flag.{last_pc}
+use Rattle.bus_signals.specs.ExecFlag.{last_pc}
 use Rattle.trace_facts.proofs.Sound.{IsSound}
 use Rattle.trace_facts.proofs.SoundPlay.{logs_after-sound}
-use Rattle.key_isolation.specs.Agreement.{Agree}
+use Rattle.key_isolation.specs.Agreement.{ReleaseAlike, SameButKey}
 use Rattle.key_isolation.proofs.Bytes.{same_if}
 use Rattle.key_isolation.proofs.FlagBlank.{exec-blank, blank_access-twice, blank_value-twice}
 use Rattle.key_isolation.proofs.Hiding.{open_start, hide, logged_bounds-hide}
@@ -22,10 +23,10 @@ use Rattle.key_isolation.proofs.Induction.{play_hides, releases_before}
 use Rattle.key_isolation.proofs.LogsBlank.{step_hides}
 use Rattle.key_isolation.proofs.Reading.{value_read-hide}
 use Rattle.key_isolation.proofs.SignalShape.{signals_of-hide}
-use Rattle.key_isolation.proofs.TwoKeys.{SameButKey, same_seen}
+use Rattle.key_isolation.proofs.TwoKeys.{one_keyless}
 use Rattle.trace_line.specs.declared.trace_line.TraceLine.{TraceLine}
-use Rattle.trace_line.specs.LineText.{file_text}
-use Rattle.clean_trace.specs.TraceText.{word_shown, line_with, next_line, trace_lines, trace_text}
+use Rattle.clean_trace.specs.KeylessLines.{HasKeylessLines}
+use Rattle.clean_trace.specs.TraceText.{line_with, next_line, trace_lines, word_shown}
 
 -- the word that a line shows of a proposed access
 abbrev word_at : Start → Logs → Option Access → ℕ
@@ -106,7 +107,7 @@ next_line-hide start free more logs events sound split =
       rule = entry.reset;
     })
 
-trace_lines-hide : (start : Start) (free : List ℕ) (play : List (List Event)) (more : List ℕ)
+trace_lines-hide : (start : Start) (free : List ℕ) (play : Play) (more : List ℕ)
     → free ≡ (logs_after start play).released_words ++ more
     → trace_lines start play ≡ trace_lines (open_start free start) play
 unfolding trace_lines logs_after
@@ -122,15 +123,14 @@ trace_lines-hide start free (events ∷ play) more split =
     (sym (next_line-hide start free more logs events (logs_after-sound start play) split)
     ∙ ap (λ (ls : Logs). next_line opened ls events) before.logs)
 
-pub same_trace_lines : (left right : Start) (play : List (List Event)) → SameButKey left right
-    → Agree (released_words left play) (released_words right play)
-    → trace_lines left play ≡ trace_lines right play
-same_trace_lines left right play same agree =
-    same_seen (λ start. trace_lines start play) (λ start. trace_lines start play) left right play
-    (λ start free more split. trace_lines-hide start free play more split) same agree
+pub lines_keyless : (start : Start) (play : Play) → HasKeylessLines start play
+lines_keyless start play more =
+    trace_lines-hide start (released_words start play ++ more) play more refl
 
-pub same_trace_text : (left right : Start) (play : List (List Event)) → SameButKey left right
-    → Agree (released_words left play) (released_words right play)
-    → trace_text left play ≡ trace_text right play
-same_trace_text left right play same agree =
-    ap file_text (same_trace_lines left right play same agree)
+pub same_trace_lines : (left right : Start) (play : Play) → SameButKey left right
+    → ReleaseAlike left right play → trace_lines left play ≡ trace_lines right play
+same_trace_lines left right play same agree =
+    let one = one_keyless left right play same agree in
+    lines_keyless left play one.after_left
+    ∙ ap (λ (start : Start). trace_lines start play) one.same
+    ∙ sym (lines_keyless right play one.after_right)

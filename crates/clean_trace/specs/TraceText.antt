@@ -4,6 +4,7 @@ use Rattle.bus_signals.specs.declared.bounds.Bounds.{Bounds}
 use Rattle.bus_signals.specs.declared.bus_record.BusRecord.{BusRecord}
 use Rattle.bus_signals.specs.declared.event.Event.{Event}
 use Rattle.bus_signals.specs.declared.signals.Signals.{Signals}
+use Rattle.device_trace.specs.Play.{Play}
 use Rattle.device_trace.specs.Blank.{blank_record, blank_value}
 use Rattle.device_trace.specs.Logs.{Logs, exec_of, logged_bounds}
 use Rattle.device_trace.specs.Start.{Start}
@@ -41,16 +42,16 @@ next_line start logs events =
     (logged_bounds start logs) (exec_of (next_logs start logs events))
 
 -- the lines of a play, the newest first
-unfoldable pub trace_lines : Start → List (List Event) → List TraceLine
+unfoldable pub trace_lines : Start → Play → List TraceLine
 trace_lines start [] = []
 trace_lines start (events ∷ play) =
     next_line start (logs_after start play) events ∷ trace_lines start play
 
 -- the line of the last step of a play
-abbrev pub last_line : Start → List (List Event) → Option TraceLine
+abbrev pub last_line : Start → Play → Option TraceLine
 last_line start [] = None
 last_line start (events ∷ play) = Some (next_line start (logs_after start play) events)
 
 -- their text in the order of the steps, which are numbered from 0
-abbrev pub trace_text : Start → List (List Event) → List ℕ
+abbrev pub trace_text : Start → Play → List ℕ
 trace_text start play = file_text (trace_lines start play)

@@ -1,22 +1,28 @@
-ghost use Rattle.std.specs.Prelude.{◌≡◌, ℕ, Bool, List};
-ghost use Rattle.bus_signals.specs.declared.event.Event.{Event};
-ghost use Rattle.bus_signals.specs.SeenRecord.{SeenRecord};
-ghost use Rattle.device_trace.specs.Start.{Start, with_key};
-ghost use Rattle.key_isolation.specs.Agreement.{ReleaseAlike};
+ghost use Rattle.std.specs.Prelude.{◌≡◌};
+ghost use Rattle.device_trace.specs.Play.{Play};
+ghost use Rattle.device_trace.specs.Start.{Start};
+ghost use Rattle.key_isolation.specs.Agreement.{ReleaseAlike, SameButKey};
 ghost use Rattle.trace_audit.specs.Clean.{IsClean};
-ghost use Rattle.clean_trace.specs.TraceText.{trace_lines, trace_text};
+ghost use Rattle.clean_trace.specs.KeylessLines.{HasKeylessLines};
+ghost use Rattle.clean_trace.specs.TraceText.{trace_lines};
 
 /// The lines of every play are clean: each names the first rule that its step breaks, as far as the
 /// line itself and the one before it tell, and the EXEC flag over the lines up to it.
 pub fn trace_is_clean()
-    ensures { (start : Start) (play : List (List Event)) → IsClean (trace_lines start play) }
+    ensures { (start : Start) (play : Play) → IsClean (trace_lines start play) }
 {}
 
-/// A second key whose released words agree with those of the first gives the same trace file.
-pub fn second_key_gives_same_trace_file()
-    ensures { (flag : List SeenRecord → Bool) (digest : List ℕ → List ℕ) (key other : List ℕ)
-        (image : ℕ → ℕ) (play : List (List Event))
-        → ReleaseAlike (with_key flag digest key image) (with_key flag digest other image) play
-        → trace_text (with_key flag digest key image) play
-        ≡ trace_text (with_key flag digest other image) play }
+/// The lines of every play are those that it has without its key, where the calls release the same
+/// words.
+pub fn lines_are_keyless()
+    ensures { (start : Start) (play : Play) → HasKeylessLines start play }
+{}
+
+/// So a second key whose released words agree with those of the first gives the same lines, and
+/// with them the same trace file and the same waveform.
+pub fn second_key_gives_same_lines()
+    ensures { (start other : Start) (play : Play)
+        → SameButKey start other
+        → ReleaseAlike start other play
+        → trace_lines start play ≡ trace_lines other play }
 {}

@@ -22,6 +22,7 @@ use Rattle.desk_cli.specs.Desk.{DeskNames, DeskValues, HasServed, IsDeskAnswer, 
 use Rattle.desk_cli.specs.Edge.{Ports}
 use Rattle.desk_cli.specs.MemoryFiles.{ToldMemories}
 use Rattle.desk_cli.proofs.DeskComplete.{serves-complete}
+use Rattle.desk_cli.proofs.DeskInput.{refused-limit, serves-limit}
 use Rattle.desk_cli.proofs.NoWords.{served-words, unopened-words}
 
 -- the end of its row, once its files have values
@@ -84,6 +85,7 @@ refused-answer s told r m w shelf shelf_after memories ports names named rest re
       });
       complete = refused-complete (s.files shelf) (r.left ports.source) counts (desk_row names)
           names.memory _ _ _ _ reads.order reads.refusal;
+      limit = refused-limit r ports.source refusal;
       kept = reads.kept;
       source_counted = omega arith;
       sink_counted = omega arith;
@@ -141,6 +143,8 @@ served-answer s told r m w shelf shelf_after memories memories_after old new nam
       answers = inr (values, reaches, serves);
       complete = serves-complete told r m w (s.files shelf) (desk_row names) _ values names.memory
           memories memories_after old new status serves;
+      limit = serves-limit r told m w values names.memory memories memories_after old new status
+          serves;
       kept = keeps;
       source_counted = source_counts;
       sink_counted = sink_counts;

@@ -14,7 +14,7 @@ use Rattle.memory_file.specs.declared.memory_file_fault.MemoryFileFault.TheVaria
 use Rattle.verifier_desk.specs.declared.served.Served.{Served}
 use Rattle.verifier_desk.specs.declared.served.Served.TheVariants as served
 use Rattle.verifier_desk.specs.Replies.{DeskFields}
-use Rattle.verifier_desk.specs.Serving.{AreTaken, HasCause, HasFailed, Outside, most_input}
+use Rattle.verifier_desk.specs.Serving.{AreFirst, HasCause, HasFailed, Outside, most_input}
 use Rattle.input_files.specs.declared.status.Status.{Status}
 use Rattle.input_files.specs.declared.status.Status.TheVariants.{Done, Memory}
 use Rattle.input_files.specs.Reading.{Files, first_refusal}
@@ -35,13 +35,13 @@ FailsLater m opened left status =
 
 -- no more were taken than were left
 few-taken : (lines : List ℕ) (rest : Option (List ℕ)) (taken : List ℕ)
-    → AreTaken (Some lines) rest taken → length taken ≤ length lines
+    → AreFirst (Some lines) rest taken → length taken ≤ length lines
 few-taken lines None taken are_taken = absurd are_taken
 few-taken lines (Some rest) taken are_taken = rw (are_taken, length-append) (omega arith)
 
 ended-whole : {R M W : Type 0} (r : source.Ghosts R) (m : memory.Ghosts M) (w : sink.Ghosts W)
     (old new : Outside R M W) (lines taken : List ℕ) (ended : Served)
-    → AreTaken (Some lines) (r.left new.source) taken
+    → AreFirst (Some lines) (r.left new.source) taken
     → HasCause r m w old new (length taken) ended
     → length lines < most_input
     → ¬ Rose (r.faults old.source) (r.faults new.source)
@@ -73,7 +73,7 @@ served-whole r m w desk opened left old new status lines served is few no_source
     rw served.answer (ended-whole r m w
     (record { source = old.source; memory = opened; sink = old.sink })
     (record { source = new.source; memory = left; sink = new.sink }) lines served.serves.taken
-    served.ended (rw is at served.serves.are_taken) served.serves.cause few no_source no_sink)
+    served.ended (rw is at served.serves.are_taken.first) served.serves.cause few no_source no_sink)
 
 pub never-rises : Rose 0 0 → ⊥
 never-rises (inl more) = omega (arith, more)

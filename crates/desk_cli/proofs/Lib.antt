@@ -1,5 +1,6 @@
 pub mod DeskAnswer
 pub mod DeskComplete
+pub mod DeskInput
 pub mod FoundEntries
 pub mod NoFault
 pub mod NoWords

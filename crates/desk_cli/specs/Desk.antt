@@ -18,7 +18,7 @@ use Rattle.verifier_desk.specs.KeyOwner.{IsFirstTaken, KeysStandApart}
 use Rattle.verifier_desk.specs.Replies.{DeskFields}
 use Rattle.verifier_desk.specs.Serving.{Serves, most_input}
 use Rattle.input_files.specs.declared.status.Status.{Status}
-use Rattle.input_files.specs.declared.status.Status.TheVariants.{Done, Words, Memory, BadMemory, TakenKey, InUse, Unwritten}
+use Rattle.input_files.specs.declared.status.Status.TheVariants.{Done, Words, Memory, Spent, BadMemory, TakenKey, InUse, Unwritten}
 use Rattle.input_files.specs.FileKind.{image_kind}
 use Rattle.input_files.specs.Reading.{IsRefusal, Reaches, Refuses, counts_of, first_refusal}
 use Rattle.input_files.specs.Row.{RowOf, Ends, read_file}
@@ -129,6 +129,12 @@ IsOfMemory (Some name) status =
     (status ≡ BadMemory) ⊎ (status ≡ InUse) ⊎ (status ≡ Unwritten)
     ⊎ ((number : ℕ) × (status ≡ TakenKey number))
 
+-- a source gave no more than the limit, told or not, and that much where this is the answer
+pub record KeepsLimit {R : Type 0} (r : source.Ghosts R) (old new : R) (status : Status)
+    : Type 0 where
+  pub few : r.given new ≤ r.given old + most_input
+  pub spent : status ≡ Spent → r.given new ≡ r.given old + most_input
+
 -- an answer to arguments that may name its files
 pub record IsDeskAnswer {S F R M W : Type 0} (s : shelves.Ghosts S) (told : ToldMemories F M)
     (r : source.Ghosts R) (m : memory.Ghosts M) (w : sink.Ghosts W) (shelf shelf_after : S)
@@ -152,6 +158,7 @@ pub record IsDeskAnswer {S F R M W : Type 0} (s : shelves.Ghosts S) (told : Told
       → ¬ Rose (r.faults old.source) (r.faults new.source)
       → ¬ Rose (w.faults old.sink) (w.faults new.sink)
       → (status ≡ Done) ⊎ (status ≡ Memory) ⊎ IsOfMemory names.memory status)))
+  pub limit : KeepsLimit r old.source new.source status
   pub kept : KeepsFiles s.files s.faults s.misses shelf shelf_after
   pub source_counted : r.faults old.source ≤ r.faults new.source
   pub sink_counted : w.faults old.sink ≤ w.faults new.sink

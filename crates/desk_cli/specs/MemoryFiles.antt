@@ -10,10 +10,10 @@ use Rattle.input_files.specs.declared.status.Status.{Status}
 use Rattle.desk_cli.specs.Status.{status_of_unopened}
 
 -- What is told of memories by their names: that none was opened yet; whether there is one, or
--- nothing yet; the entries that an open finds, now or after a crash; that what was there at first, a
--- memory or anything else, is unharmed, now and after a crash; that what was read of them is what was
--- written; how often they failed; that a limit of the format was met; and the memory that was closed,
--- as it was left.
+-- nothing yet; the entries that an open finds, now or after a crash; that what was there at first,
+-- a memory or anything else, is unharmed, now and after a crash; that what was read of them is what
+-- was written; how often they failed; that a limit of the format was met; and the memory that was
+-- closed, as it was left.
 pub record ToldMemories (F M : Type 0) : Type 1 where
   pub is_unopened : F → Type 0
   pub is_memory : F → List ℕ → Type 0

@@ -10,8 +10,8 @@ use state_table::StoreMemory;
 /// A memory of the file system.
 pub type FileMemory<S> = StoreMemory<FileStore<FileFrom<S>>>;
 
-/// The memories of the file system, of which one is opened, as an `M`. `S` stands for what its files
-/// hold, each of which is a `D`.
+/// The memories of the file system, of which one is opened, as an `M`. `S` stands for what its
+/// files hold, each of which is a `D`.
 #[derive(Drop)]
 pub struct StoreFiles<'a, S: Start, D: Disk, M: Drop> {
     runtime: &'a HostRuntime,

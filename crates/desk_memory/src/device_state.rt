@@ -1,5 +1,5 @@
 ghost use Rattle.std.specs.Prelude.{◌≡◌};
-ghost use Rattle.desk_memory.specs.DeviceState.{new_device, earlier_answer, is_new, with_answer};
+ghost use Rattle.desk_memory.specs.DeviceState.{new_device, earlier_answer, with_answer};
 
 use crate::answer::Answer;
 use report_verifier::Decision;
@@ -35,13 +35,6 @@ impl DeviceState {
             Some((last, answer)) if number == last => Some(answer),
             _ => None,
         }
-    }
-
-    /// Whether a line of this number is new.
-    pub fn is_new(&self, number: u32) -> bool
-        ensures { result ≡ is_new number self.now.last }
-    {
-        self.earlier_answer(number).is_none()
     }
 
     /// Keeps the answer to a new number.

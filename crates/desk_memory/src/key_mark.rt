@@ -13,8 +13,7 @@ fn hmac_of_three<D: Digest32>(key: &[u8; 64]) -> [u8; 32]
 {
     let mut mac = Hmac::<D>::new(key);
     mac.update(&[3]);
-    let (inner, outer) = mac.inner();
-    outer.finish(&inner)
+    mac.finish()
 }
 
 /// The mark of a key.

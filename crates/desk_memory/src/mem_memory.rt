@@ -61,13 +61,6 @@ impl MemMemory {
         })
     }
 
-    /// The entries that a crash leaves.
-    pub fn settled(&self) -> &[Entry]
-        ensures { result.now ≡ self.now.settled }
-    {
-        &self.settled
-    }
-
     // Notes the state of the device of a name, served under a key of this mark.
     fn note_marked(
         &mut self,

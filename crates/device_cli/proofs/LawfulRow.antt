@@ -1,9 +1,9 @@
 -- What a row puts is put of a lawful play.
-use Rattle.std.proofs.Common.{◌≡◌, ◌<◌, ℕ, Bool, true, false, List, Option, Some, None, IfSome, Result, Ok, Err, refl, length, unwrap_or, arith}
+use Rattle.std.proofs.Common.{◌≡◌, ◌<◌, ℕ, Bool, true, false, List, Option, Some, Result, Ok, Err, refl, length, subst, unwrap_or, arith}
 use Rattle.std.specs.Prelude.{if◌then◌else◌, nat_lt}
-use Rattle.bus_signals.specs.declared.event.Event.{Event}
 use Rattle.std.proofs.lemmas.List.Elements.{All-from_get_or}
 use Rattle.std.proofs.lemmas.List.FromFn.{get_or-range_with_len}
+use Rattle.bus_signals.specs.Address.{Bytes}
 use Rattle.part_definitions.specs.TrustedFlag.{aux}
 use Rattle.text_scan.specs.Key.{key_of}
 use Rattle.text_scan.specs.declared.fault_at.FaultAt.{FaultAt}
@@ -13,26 +13,24 @@ use Rattle.hex_loader.proofs.ImageBytes.{image_of-bytes}
 use Rattle.hmac_core.proofs.Sha256Bytes.{sha256-bytes}
 use Rattle.sha2.proofs.Facts256.{length-sha256}
 use Rattle.sha2.specs.Sha256.{sha256}
-use Rattle.device_trace.specs.Start.{Start}
 use Rattle.mac_coverage.specs.Coverage.{Gives32Bytes, IsDeviceKey, IsOfBytes}
-use Rattle.play_script.specs.Script.{TimedEvent}
 use Rattle.report_verifier.specs.Policy.{PolicyFields}
 use Rattle.report_verifier.specs.PolicyGrammar.{policy_of}
 use Rattle.report_verifier.specs.Validity.{are_valid_for}
 use Rattle.report_verifier.proofs.PolicyBounds.{policy_of-valid}
-use Rattle.input_files.specs.Row.{FileKind, Ends, Reads, go_on, read_file, value_of}
-use Rattle.device_cli.specs.Row.{DevicePlay, Outcome, Row}
+use Rattle.input_files.specs.Row.{FileKind, RowOf, Ends, Reads, go_on, read_file, value_of}
+use Rattle.device_cli.specs.Row.{Always, DevicePlay, start_in}
 use Rattle.input_files.specs.Reading.{Files, Reaches}
 use Rattle.input_files.specs.FileKind.{image_kind, policy_kind}
 use Rattle.device_cli.specs.FileKind.{key_kind, script_kind}
 use Rattle.device_cli.specs.Load.{load_key, load_image}
-use Rattle.device_cli.specs.PlayLaws.{IsLawful, IsLawfulRow}
+use Rattle.device_cli.specs.LawfulPlay.{IsLawful, IsLawfulRow, IsPutLawfully}
 use Rattle.report_verifier.specs.Judge.{judge_with}
-use Rattle.device_cli.specs.Play.{PlayOutcome, play_with, start_of, steps_of, steps_row}
-use Rattle.device_cli.specs.Round.{round_row}
+use Rattle.device_cli.specs.Play.{PlayOutcome, play_with, steps_of, steps_row}
+use Rattle.device_cli.specs.Round.{AcceptsHaveGrounds, RoundsHaveGrounds, round_row}
 use Rattle.device_cli.specs.Work.{load_play, work_row}
 use Rattle.device_cli.proofs.Grounds.{each_accept-has_grounds}
-use Rattle.device_cli.proofs.LawfulPlay.{obeys_laws}
+use Rattle.device_play.proofs.PlayLaws.{keeps_key_hidden, obeys_laws}
 
 -- the value of a kind of file is that of its grammar
 value-grammar : {M : Type 0} (long : Bool) (past : FaultAt) (read : Result M FaultAt) (value : M)
@@ -45,29 +43,31 @@ is-value : {M : Type 0} (kind : FileKind M) (bytes : List ℕ) (value : M)
 is-value kind bytes value is =
     value-grammar (nat_lt kind.limit (length bytes)) _ (kind.grammar bytes) value is
 
-go_on-lawful : {M : Type 0} (kind : FileKind M) (onward : M → Row) (read : Result M FaultAt)
-    → ((value : M) → read ≡ Ok value → IsLawfulRow (onward value))
-    → IsLawfulRow (go_on kind onward read)
-go_on-lawful kind onward (Ok value) lawful = lawful value refl
-go_on-lawful kind onward (Err fault) lawful = tt
+go_on-always : {M End : Type 0} (is_so : End → Type 0) (kind : FileKind M) (onward : M → RowOf End)
+    (read : Result M FaultAt)
+    → ((value : M) → read ≡ Ok value → Always is_so (onward value))
+    → Always is_so (go_on kind onward read)
+go_on-always is_so kind onward (Ok value) always = always value refl
+go_on-always is_so kind onward (Err fault) always = tt
 
--- a row that goes on lawfully with every value of a file
-pub read-lawful : {M : Type 0} (kind : FileKind M) (name : List ℕ) (onward : M → Row)
-    → ((value : M) (bytes : List ℕ) → kind.grammar bytes ≡ Ok value → IsLawfulRow (onward value))
-    → IsLawfulRow (read_file kind name onward)
-read-lawful kind name onward lawful = λ bytes.
-    go_on-lawful kind onward (value_of kind bytes)
-    (λ value is. lawful value bytes (is-value kind bytes value is))
+-- it is always so of a row that goes on to what is so with every value of a file
+pub read-always : {M End : Type 0} (is_so : End → Type 0) (kind : FileKind M) (name : List ℕ)
+    (onward : M → RowOf End)
+    → ((value : M) (bytes : List ℕ) → kind.grammar bytes ≡ Ok value → Always is_so (onward value))
+    → Always is_so (read_file kind name onward)
+read-always is_so kind name onward always = λ bytes.
+    go_on-always is_so kind onward (value_of kind bytes)
+    (λ value is. always value bytes (is-value kind bytes value is))
 
--- the outcome that a row comes to
-pub reached-lawful : (files : Files) (row : Row) (outcome : Outcome)
-    → IsLawfulRow row → Reaches files row (Ok outcome) → IfSome outcome.device_play IsLawful
-reached-lawful files (Ends (Ok put)) outcome lawful is =
-    let same : put ≡ outcome = cc is in
-    rw same at lawful
-reached-lawful files (Ends (Err fault)) outcome lawful is = absurd (cc is)
-reached-lawful files (Reads name onward) outcome lawful (bytes, finds, reaches) =
-    reached-lawful files (onward bytes) outcome (lawful bytes) reaches
+-- and so of the end that it comes to
+pub reached-always : {End : Type 0} (is_so : End → Type 0) (files : Files) (row : RowOf End)
+    (end : End) → Always is_so row → Reaches files row (Ok end) → is_so end
+reached-always is_so files (Ends (Ok reached)) end always is =
+    let same : reached ≡ end = cc is in
+    subst is_so same always
+reached-always is_so files (Ends (Err fault)) end always is = absurd (cc is)
+reached-always is_so files (Reads name onward) end always (bytes, finds, reaches) =
+    reached-always is_so files (onward bytes) end (always bytes) reaches
 
 device_key : (bytes key : List ℕ) → key_of bytes ≡ Ok key → IsDeviceKey key
 device_key bytes key is =
@@ -80,66 +80,57 @@ device_key bytes key is =
 sha256_gives : Gives32Bytes sha256
 sha256_gives = record { size = length-sha256; bytes = sha256-bytes }
 
--- without a judge
-no_judge : (device_play : DevicePlay) → IsDeviceKey device_play.key → IsOfBytes device_play.image
-    → device_play.judge ≡ None → IsLawful device_play
-no_judge device_play device_key bytes none =
+is-lawful : (device_play : DevicePlay) → IsDeviceKey device_play.key → IsOfBytes device_play.image
+    → IsLawful device_play
+is-lawful device_play device_key bytes =
     record {
       gives = sha256_gives;
+      hides_key = keeps_key_hidden (start_in device_play) device_play.play;
       laws = obeys_laws aux sha256 device_play.key device_play.image device_play.play
           device_key bytes;
-      accepts = rw none tt;
     }
 
 image_bytes : (bytes : List ℕ) (image : ℕ → Option ℕ) → image_of bytes ≡ Ok image
     → IsOfBytes (λ place. unwrap_or (image place) 0)
 image_bytes bytes image is = λ place. rw is at (image_of-bytes bytes place)
 
--- what is put of a play that nobody judges
+-- what is put of a play
 pub steps_row_lawful : (outcome : PlayOutcome) (image script key : List ℕ) (steps : ℕ)
-    → ((device_play : DevicePlay) (start : Start) (play : List (List Event))
-    → (outcome device_play start play).device_play ≡ Some device_play)
+    → ((device_play : DevicePlay) → (outcome device_play).device_play ≡ Some device_play)
     → IsLawfulRow (steps_row outcome image script key steps)
 steps_row_lawful outcome image script key steps plays =
-    read-lawful key_kind key _ (λ key_read key_bytes key_is.
-    read-lawful image_kind image _ (λ image_read bytes image_is.
-    read-lawful script_kind script _ (λ script_read script_bytes script_is.
-    rw (plays (play_with steps key_read image_read script_read) (start_of key_read image_read)
-    (steps_of steps script_read))
-    (no_judge (play_with steps key_read image_read script_read)
-    (device_key key_bytes key_read key_is) (image_bytes bytes image_read image_is) refl))))
+    read-always IsPutLawfully key_kind key _ (λ key_read key_bytes key_is.
+    read-always IsPutLawfully image_kind image _ (λ image_read bytes image_is.
+    read-always IsPutLawfully script_kind script _ (λ script_read script_bytes script_is.
+    rw (plays (play_with steps key_read image_read script_read))
+    (is-lawful (play_with steps key_read image_read script_read)
+    (device_key key_bytes key_read key_is) (image_bytes bytes image_read image_is)))))
 
 valid_bounds : (bytes : List ℕ) (policy : PolicyFields) → policy_of bytes ≡ Ok policy
     → are_valid_for policy.version policy.bounds ≡ true
 valid_bounds bytes policy is = rw is at (policy_of-valid bytes)
 
 -- with a judge
-judged : (steps : ℕ) (key : List ℕ) (image : ℕ → Option ℕ) (script : List TimedEvent)
-    (policy : PolicyFields)
-    → IsDeviceKey key → IsOfBytes (λ place. unwrap_or (image place) 0)
-    → are_valid_for policy.version policy.bounds ≡ true
-    → IsLawful (record (play_with steps key image script) {
-      judge = Some (judge_with key image policy);
-    })
-judged steps key image script policy device_key bytes valid =
-    record {
-      gives = sha256_gives;
-      laws = obeys_laws aux sha256 key (λ place. unwrap_or (image place) 0)
-          (steps_of steps script) device_key bytes;
-      accepts = each_accept-has_grounds aux (judge_with key image policy)
-          (λ place. unwrap_or (image place) 0) (steps_of steps script) device_key bytes
-          sha256_gives valid;
-    }
-
 pub round_row_lawful : (image script key policy : List ℕ) (steps : ℕ)
     → IsLawfulRow (round_row image script key policy steps)
 round_row_lawful image script key policy steps =
-    read-lawful key_kind key _ (λ key_read key_bytes key_is.
-    read-lawful image_kind image _ (λ image_read bytes image_is.
-    read-lawful script_kind script _ (λ script_read script_bytes script_is.
-    read-lawful policy_kind policy _ (λ policy_read policy_bytes policy_is.
-    judged steps key_read image_read script_read policy_read
+    read-always IsPutLawfully key_kind key _ (λ key_read key_bytes key_is.
+    read-always IsPutLawfully image_kind image _ (λ image_read bytes image_is.
+    read-always IsPutLawfully script_kind script _ (λ script_read script_bytes script_is.
+    read-always IsPutLawfully policy_kind policy _ (λ policy_read policy_bytes policy_is.
+    is-lawful (play_with steps key_read image_read script_read)
+    (device_key key_bytes key_read key_is) (image_bytes bytes image_read image_is)))))
+
+pub rounds_have_grounds : RoundsHaveGrounds
+rounds_have_grounds image script key policy steps =
+    read-always AcceptsHaveGrounds key_kind key _ (λ key_read key_bytes key_is.
+    read-always AcceptsHaveGrounds image_kind image _ (λ image_read bytes image_is.
+    read-always AcceptsHaveGrounds script_kind script _ (λ script_read script_bytes script_is.
+    read-always AcceptsHaveGrounds policy_kind policy _ (λ policy_read policy_bytes policy_is.
+    each_accept-has_grounds aux (judge_with key_read image_read policy_read)
+    (λ place. unwrap_or (image_read place) 0) (steps_of steps script_read)
     (device_key key_bytes key_read key_is) (image_bytes bytes image_read image_is)
+    (image_bytes bytes image_read image_is) sha256_gives
     (valid_bounds policy_bytes policy_read policy_is)))))
 
 pub load_device_key : IsDeviceKey load_key
@@ -151,4 +142,4 @@ load_device_key =
 
 pub work_row_lawful : (seed : ℕ) → IsLawfulRow (work_row seed)
 unfolding load_play
-work_row_lawful seed = no_judge (load_play seed) load_device_key (image_of-bytes load_image) refl
+work_row_lawful seed = is-lawful (load_play seed) load_device_key (image_of-bytes load_image)

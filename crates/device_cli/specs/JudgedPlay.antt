@@ -1,34 +1,25 @@
--- A play whose reports are judged, step by step.
-use Rattle.std.specs.Prelude.{◌≡◌, ◌++◌, ℕ, List, [], ◌∷◌, length}
-use Rattle.bus_signals.specs.declared.event.Event.{Event}
+-- What a round says of a play.
+use Rattle.std.specs.Prelude.{◌≡◌, length}
+use Rattle.device_trace.specs.Play.{Play}
 use Rattle.device_trace.specs.Start.{Start}
-use Rattle.device_trace.specs.Text.{last_report}
-use Rattle.device_trace.specs.Trace.{byte_after}
-use Rattle.device_cli.specs.declared.verdict.judgement.Tally.{Tally}
 use Rattle.report_verifier.specs.Judge.{Judge}
-use Rattle.device_cli.specs.Cuts.{behind}
-use Rattle.device_cli.specs.Judgement.{judgement_lines, judgement_cuts}
-use Rattle.device_cli.specs.LastStepLines.{last_step_lines}
-use Rattle.device_cli.specs.RoundText.{reports_in, all_are_accepted}
+use Rattle.device_play.specs.Account.{Account}
+use Rattle.device_play.specs.Accounts.{end_line_of}
+use Rattle.device_cli.specs.declared.verdict.judgement.Tally.{Tally}
+use Rattle.device_cli.specs.RoundText.{all_are_accepted, judged_lines, reports_in, round_cuts, round_lines}
 
--- the verdicts on the reports of a play
-pub record TallyStandsFor (judge : Judge) (start : Start) (play : List (List Event))
-    (tally : Tally) : Type 0 where
+-- the tally of the verdicts on the reports of a play
+pub record CountsVerdicts (judge : Judge) (start : Start) (play : Play) (tally : Tally)
+    : Type 0 where
   pub verdicts : tally.verdicts ≡ length (reports_in start play)
   pub accepted : tally.all_accept ≡ all_are_accepted judge start play
 
--- the lines of the last step of a play, which has this number, and what is said of its report
-abbrev pub judged_lines : Judge → Start → List (List Event) → ℕ → List ℕ
-judged_lines judge start [] step = []
-judged_lines judge start (events ∷ play) step =
-    last_step_lines start (events ∷ play) step
-    ++ judgement_lines judge (length (reports_in start play)) (byte_after start (events ∷ play))
-    (last_report start (events ∷ play))
-
--- the texts at which memory may run out in that step
-abbrev pub judged_cuts : Judge → Start → List (List Event) → ℕ → List (List ℕ)
-judged_cuts judge start [] step = []
-judged_cuts judge start (events ∷ play) step =
-    behind (last_step_lines start (events ∷ play) step)
-    (judgement_cuts judge (length (reports_in start play)) (byte_after start (events ∷ play))
-    (last_report start (events ∷ play)))
+abbrev pub judge_account : Judge → Account Tally
+judge_account judge =
+    record {
+      tallies = CountsVerdicts judge;
+      text = round_lines judge;
+      step_text = judged_lines judge;
+      end_text = end_line_of;
+      cuts = round_cuts judge;
+    }

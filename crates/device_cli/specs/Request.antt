@@ -1,25 +1,18 @@
 -- The command `request`: a request for an attestation, with its token.
-use Rattle.std.specs.Prelude.{◌++◌, ℕ, List, [], ◌∷◌, Option, Some, None, Result, Ok, codes}
-use Rattle.std.specs.Fmt.{decimal}
+use Rattle.std.specs.Prelude.{ℕ, List, [], ◌∷◌, Option, Some, None, Result, Ok}
 use Rattle.std.specs.Result.{result_ok}
-use Rattle.hex.specs.Hex.{encode_lower}
 use Rattle.sha2.specs.Sha256.{sha256}
 use Rattle.text_scan.specs.declared.fault_kind.FaultKind.{FaultKind}
 use Rattle.text_scan.specs.Decimal.{decimal_of}
 use Rattle.text_scan.specs.Hexadecimal.{hex_bytes_of}
 use Rattle.text_scan.specs.Reader.{◌>>=◌}
 use Rattle.part_definitions.specs.Request.{request_token}
+use Rattle.report_text.specs.RequestLine.{request_line}
 use Rattle.report_verifier.specs.Expectation.{count_bytes}
 use Rattle.device_cli.specs.FileKind.{key_kind}
 use Rattle.device_cli.specs.Limit.{most_count}
 use Rattle.input_files.specs.Row.{read_file}
 use Rattle.device_cli.specs.Row.{Row, plain, put}
-
--- its challenge, its counter and its token
-abbrev pub request_line : List ℕ → ℕ → List ℕ → List ℕ
-request_line chal count token =
-    codes "request " ++ encode_lower chal ++ codes " " ++ decimal count
-    ++ codes " token " ++ encode_lower token ++ codes "\n"
 
 -- the token is that of the device's key
 abbrev pub request_text : List ℕ → ℕ → List ℕ → List ℕ

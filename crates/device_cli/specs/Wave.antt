@@ -1,14 +1,15 @@
 -- The command `wave`: the waveform of a play.
 use Rattle.std.specs.Prelude.{ℕ, List, Option}
-use Rattle.bus_signals.specs.declared.event.Event.{Event}
+use Rattle.bus_signals.specs.Address.{Bytes}
 use Rattle.wave_dump.specs.WaveText.{wave_file}
+use Rattle.device_trace.specs.Play.{Play}
 use Rattle.device_trace.specs.Start.{Start}
 use Rattle.clean_trace.specs.TraceText.{trace_lines}
 use Rattle.device_cli.specs.Row.{Row}
 use Rattle.device_cli.specs.Play.{text_outcome, steps_row_of}
 
 -- the waveform of the lines of a play, in which the secrets are blanked
-abbrev pub wave_text : Start → List (List Event) → List ℕ
+abbrev pub wave_text : Start → Play → Bytes
 wave_text start play = wave_file (trace_lines start play)
 
 -- the row that the arguments after `wave` spell: they are those of a play

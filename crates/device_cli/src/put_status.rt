@@ -2,7 +2,7 @@ ghost use Rattle.std.specs.Prelude.{◌≡◌};
 ghost use Rattle.device_cli.specs.Status.{status_of_put};
 
 use crate::ending::Ending;
-use crate::put_fault::PutFault;
+use device_play::PutFault;
 use input_files::Status;
 
 /// The answer once a text was begun.

@@ -1,3 +1,3 @@
 pub mod judgement;
+pub mod judging;
 pub mod verdict_text;
-pub mod verifier;

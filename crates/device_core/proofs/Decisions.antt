@@ -9,9 +9,12 @@ use Rattle.bus_signals.specs.declared.rule.Rule.{Rule}
 use Rattle.bus_signals.specs.Kind.{is_rom}
 use Rattle.bus_signals.specs.Map.{ROM_EXIT}
 use Rattle.part_definitions.specs.Attestation.{CallItem, call_item, decision_read, is_return, item_pc}
-use Rattle.part_definitions.specs.Flag.{last_pc}
+use Rattle.bus_signals.specs.ExecFlag.{last_pc}
 use Rattle.part_definitions.specs.FirstRule.{first_rule}
-use Rattle.device_trace.specs.Logs.{Logs, decision_in, finishes_call, step_progress, vector_of, with_events, with_record}
+use Rattle.part_definitions.specs.CpuRegister.{Registers}
+use Rattle.word_arith.specs.Word16.{Word16}
+use Rattle.device_trace.specs.Play.{Play}
+use Rattle.device_trace.specs.Logs.{Logs, call_decision, finishes_call, step_progress, vector_of, with_events, with_record}
 use Rattle.device_trace.specs.Progress.{Progress, InCall, last_registers, next_pc_of}
 use Rattle.device_trace.specs.Signals.{signals_at, signals_of, step_kind, value_read}
 use Rattle.device_trace.specs.Start.{Start}
@@ -25,9 +28,9 @@ use Rattle.device_core.proofs.Turns.{within-rom, words_of}
 
 -- a step of the ROM is one of a call
 decision-where :
-    (kind : Kind) (within : Progress) (regs words : List ℕ) (ends kept : Bool)
+    (kind : Kind) (within : Progress) (regs : Registers) (words : List Word16) (ends kept : Bool)
     → (kind ≡ Rom → within ≡ InCall regs words)
-    → is_some (if is_rom kind && ends && kept then decision_in within else None)
+    → is_some (if is_rom kind && ends && kept then call_decision within else None)
     ≡ (is_rom kind && ends && kept)
 decision-where Rom within regs words true true is = rw (is refl) refl
 decision-where Rom within regs words true false is = refl
@@ -48,7 +51,7 @@ decision-finished start logs reset =
     (λ rom. within-rom logs.progress (vector_of logs) (step_kind logs) refl rom)
 
 after-events :
-    (start : Start) (play : List (List Event)) (events : List Event)
+    (start : Start) (play : Play) (events : List Event)
     → logs_after start (events ∷ play)
     ≡ logs_after_step start (with_events (logs_after start play) events) (asks_reset events)
 unfolding logs_after next_record
@@ -56,7 +59,7 @@ after-events start play events = refl
 
 -- there is a decision where the last record finishes a call
 pub last_decision-Some :
-    (start : Start) (play : List (List Event)) (entry : BusRecord)
+    (start : Start) (play : Play) (entry : BusRecord)
     → last_record (trace start play) ≡ Some entry
     → is_some (last_decision start play) ≡ finishes_call entry
 unfolding trace next_record
@@ -68,7 +71,7 @@ last_decision-Some start (events ∷ play) entry last =
     ∙ (decision-finished start logs (asks_reset events) ∙ ap finishes_call same)
 
 pub last_decision-None :
-    (start : Start) (play : List (List Event))
+    (start : Start) (play : Play)
     → last_record (trace start play) ≡ None → last_decision start play ≡ None
 unfolding trace logs_after
 last_decision-None start [] last = refl
@@ -104,14 +107,14 @@ refused-decision start logs reset none =
     refused-none (first_rule (last_pc logs.records) (signals_of start logs reset))
     (value_read start logs (signals_of start logs reset).cpu)
     (is_rom (record_of start logs reset).kind) ((record_of start logs reset).pc == ROM_EXIT)
-    (decision_in (step_progress logs (record_of start logs reset).kind)) none
+    (call_decision (step_progress logs (record_of start logs reset).kind)) none
 
 -- the record of a step of a call finishes it
 abbrev pub ends_call : Start → Logs → Bool → Bool
 ends_call start logs reset = finishes_call (record_of start logs reset)
 
 pub call-decision :
-    (start : Start) (logs : Logs) (reset : Bool) (regs words : List ℕ)
+    (start : Start) (logs : Logs) (reset : Bool) (regs : Registers) (words : List Word16)
     → step_progress logs (step_kind logs) ≡ InCall regs words
     → (logs_after_step start logs reset).decision
     ≡ (if ends_call start logs reset then Some (decision_read words) else None)
@@ -129,7 +132,7 @@ not-exit item false exit goes = refl
 
 -- it does so at the return read alone
 pub call-goes_on :
-    (start : Start) (logs : Logs) (reset : Bool) (regs words : List ℕ)
+    (start : Start) (logs : Logs) (reset : Bool) (regs : Registers) (words : List Word16)
     → step_progress logs (step_kind logs) ≡ InCall regs words
     → is_return (call_item words) ≡ false
     → ends_call start logs reset ≡ false

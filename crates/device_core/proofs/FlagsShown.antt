@@ -1,14 +1,14 @@
 -- What memory shows of the flags after a step.
-use Rattle.std.proofs.Common.{◌≡◌, ◌∙◌, Bool, true, false, List, ◌∷◌, map, if◌then◌else◌, refl, sym, ap}
-use Rattle.exec_automaton.specs.Flag.{Flag}
-use Rattle.bus_signals.specs.SeenRecord.{SeenRecord}
+use Rattle.std.proofs.Common.{◌≡◌, ◌∙◌, Bool, true, false, ◌∷◌, map, if◌then◌else◌, refl, sym, ap}
+use Rattle.bus_signals.specs.TraceFlag.{Flag}
+use Rattle.bus_signals.specs.SeenRecord.{SeenRecord, SeenHistory}
 use Rattle.device_trace.specs.Blank.{blank_seen}
 use Rattle.device_trace.specs.Logs.{aux_shown, flags_shown, goes_on_in_call, records_until_call}
 use Rattle.device_trace.specs.Start.{Start}
 use Rattle.device_core.specs.FlagsKept.{LeavesFlags}
 
 until-more :
-    (now : SeenRecord) (before : List SeenRecord) (stays : Bool)
+    (now : SeenRecord) (before : SeenHistory) (stays : Bool)
     → goes_on_in_call now.entry ≡ stays
     → records_until_call (now ∷ before)
     ≡ (if stays then records_until_call before else now ∷ before)
@@ -16,7 +16,7 @@ until-more now before stays is = rw is refl
 
 -- the second flag is shown anew after each step but those of a call after its first
 pub aux-more :
-    (start : Start) (now : SeenRecord) (before : List SeenRecord) (stays is_set : Bool)
+    (start : Start) (now : SeenRecord) (before : SeenHistory) (stays is_set : Bool)
     → stays ≡ goes_on_in_call now.entry
     → is_set ≡ start.second_flag (map blank_seen (now ∷ before))
     → (if stays then aux_shown start before else is_set) ≡ aux_shown start (now ∷ before)
@@ -36,7 +36,7 @@ either-same false shown was is same kept = kept ∙ sym same
 
 -- steps that leave both flags as they are leave what is shown
 pub flags-kept :
-    {G : Type 0} (flag : Flag G) (start : Start) (now : SeenRecord) (before : List SeenRecord)
+    {G : Type 0} (flag : Flag G) (start : Start) (now : SeenRecord) (before : SeenHistory)
     → start.second_flag ≡ flag.value
     → aux_shown start before ≡ flag.value (map blank_seen before)
     → LeavesFlags flag now before

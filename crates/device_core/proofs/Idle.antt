@@ -1,17 +1,17 @@
 -- Steps without events, and those that have no line.
-use Rattle.std.proofs.Common.{◌≡◌, ◌∙◌, ◌-◌, ◌&&◌, ◌||◌, ℕ, Bool, true, false, not, List, [], ◌∷◌, Option, None, Some, is_none, is_some, option_map, refl, sym, arith, add-one, subst, length, ◌+◌, zero, suc}
-use Rattle.bus_signals.specs.declared.event.Event.{Event}
+use Rattle.std.proofs.Common.{◌≡◌, ◌∙◌, ◌-◌, ◌&&◌, ◌||◌, ℕ, Bool, true, false, not, [], ◌∷◌, Option, None, Some, is_none, is_some, option_map, refl, sym, arith, add-one, subst, length, ◌+◌, zero, suc}
 use Rattle.bus_signals.specs.declared.rule.Rule.{Rule}
-use Rattle.bus_signals.specs.SeenRecord.{SeenRecord}
+use Rattle.bus_signals.specs.SeenRecord.{SeenHistory}
 use Rattle.hmac_core.specs.Hash.{Hash}
+use Rattle.device_trace.specs.Play.{Play}
 use Rattle.device_trace.specs.Logs.{finishes_call, with_events}
 use Rattle.device_trace.specs.Start.{Start}
 use Rattle.device_trace.specs.Step.{next_record, next_signals}
 use Rattle.device_trace.specs.Text.{byte_sent_in, last_byte_sent, last_decision, last_denial, last_report}
 use Rattle.device_trace.specs.Trace.{trace, last_record, last_signals, logs_after}
-use Rattle.exec_automaton.specs.Flag.{Flag}
+use Rattle.bus_signals.specs.TraceFlag.{Flag}
 use Rattle.device_trace.specs.Signals.{signals_of}
-use Rattle.device_core.specs.Machine.{PlaysAt, StandsAfter, StandsAt}
+use Rattle.device_core.specs.Machine.{MachineStandsFor, PlaysAt, StandsAfter, stage_of}
 use Rattle.device_core.specs.declared.last_step.LastStep.{LastStep}
 use Rattle.device_core.specs.declared.machine.Machine.{Machine}
 use Rattle.device_core.specs.declared.stage.Stage.{Stage}
@@ -20,7 +20,7 @@ use Rattle.device_core.specs.Silence.{is_silent, last_rule, with_idle, AreSilent
 use Rattle.device_core.proofs.Histories.{last_report-where, last_seen-last_record, silent-Some, silent-None}
 
 pub idle-logs :
-    (start : Start) (play : List (List Event))
+    (start : Start) (play : Play)
     → logs_after start ([] ∷ play) ≡ logs_after_step start (logs_after start play) false
 unfolding logs_after next_record with_events
 idle-logs start play = refl
@@ -35,7 +35,7 @@ quiet None (Some rule) finishes line = absurd cc
 quiet (Some byte) rule finishes line = absurd cc
 
 silent-records :
-    (start : Start) (play : List (List Event)) (records : List SeenRecord)
+    (start : Start) (play : Play) (records : SeenHistory)
     → option_map (λ now. now.entry) (last_seen records) ≡ last_record (trace start play)
     → LastStandsFor None records → is_silent start play ≡ true
 silent-records start play [] same last = silent-None start play (sym same)
@@ -45,7 +45,7 @@ silent-records start play (now ∷ before) same last =
 
 -- a step whose record was not kept
 pub silent-unkept :
-    (start : Start) (play : List (List Event)) (last : Option LastStep)
+    (start : Start) (play : Play) (last : Option LastStep)
     → LastStandsFor last (logs_after start play).records → is_some last ≡ false
     → is_silent start play ≡ true
 silent-unkept start play None stands none =
@@ -54,7 +54,7 @@ silent-unkept start play None stands none =
 silent-unkept start play (Some step) stands none = absurd cc
 
 pub fewer-silent :
-    (start : Start) (steps : ℕ) (play : List (List Event))
+    (start : Start) (steps : ℕ) (play : Play)
     → AreSilent start steps play → AreSilent start (steps - 1) play
 fewer-silent start zero play all = all
 fewer-silent start (suc steps) play all =
@@ -62,7 +62,7 @@ fewer-silent start (suc steps) play all =
 
 -- one such step more
 idle-more :
-    (steps : ℕ) (play : List (List Event))
+    (steps : ℕ) (play : Play)
     → with_idle (steps + 1) play ≡ [] ∷ with_idle steps play
 idle-more steps play = rw add-one refl
 
@@ -74,49 +74,52 @@ first-signals start None stands = tt
 first-signals start (Some step) stands = absurd cc
 
 idle-signals :
-    (start : Start) (play : List (List Event))
+    (start : Start) (play : Play)
     → next_signals start (logs_after start play) []
     ≡ signals_of start (logs_after start play) false
 unfolding with_events
 idle-signals start play = refl
 
 kept-idle :
-    (start : Start) (play : List (List Event)) (last : Option LastStep)
+    (start : Start) (play : Play) (last : Option LastStep)
     → KeepsSignals last (Some (signals_of start (logs_after start play) false))
     → KeepsSignals last (last_signals start ([] ∷ play))
 kept-idle start play last keeps =
     subst (λ now. KeepsSignals last (Some now)) (sym (idle-signals start play)) keeps
 
 pub goes-idle :
-    {D G : Type 0} (hash : Hash D) (flag : Flag G) (stage : Stage) (machine : Machine D G)
-    (start : Start) (steps : ℕ) (play : List (List Event))
+    {D G : Type 0} {hash : Hash D} {flag : Flag G} {stage : Stage} {machine : Machine D G}
+    {start : Start} (steps : ℕ) (play : Play)
     → StandsAfter hash flag stage machine start
     (logs_after start (with_idle steps play)) false
     → PlaysAt hash flag stage machine start (with_idle (steps + 1) play)
-goes-idle hash flag stage machine start steps play stands =
+goes-idle {hash = hash} {flag = flag} {stage = stage} {machine = machine} {start = start}
+    steps play stands =
     let before = with_idle steps play in
     subst (λ here. PlaysAt hash flag stage machine start here)
     (sym (idle-more steps play))
     (record {
-      same = subst (λ logs. StandsAt hash flag stage machine start logs)
+      same = subst (λ logs. MachineStandsFor hash flag machine start logs)
           (sym (idle-logs start before)) stands.same;
+      same_stage = subst (λ logs. stage ≡ stage_of logs.progress)
+          (sym (idle-logs start before)) stands.same_stage;
       same_signals = kept-idle start before machine.bus.last stands.same_signals;
     })
 
 pub silent-more :
-    (start : Start) (steps : ℕ) (play : List (List Event))
+    (start : Start) (steps : ℕ) (play : Play)
     → is_silent start (with_idle (steps + 1) play) ≡ true → AreSilent start steps play
     → AreSilent start (steps + 1) play
 silent-more start steps play last all = rw add-one (rw add-one at last, all)
 
 pub silent-less :
-    (start : Start) (steps : ℕ) (play : List (List Event))
+    (start : Start) (steps : ℕ) (play : Play)
     → AreSilent start steps play → AreSilent start (steps + 1 - 1) play
 silent-less start steps play all =
     let same : steps + 1 - 1 ≡ steps = omega arith in rw same all
 
 pub length-idle :
-    (steps : ℕ) (play : List (List Event)) → length (with_idle steps play) ≡ length play + steps
+    (steps : ℕ) (play : Play) → length (with_idle steps play) ≡ length play + steps
 length-idle zero play = omega arith
 length-idle (suc steps) play =
     let before = length-idle steps play in omega arith
@@ -132,7 +135,7 @@ none-of None (Some rule) decision none = absurd cc
 none-of (Some byte) rule decision none = absurd cc
 
 pub silent-parts :
-    (start : Start) (play : List (List Event))
+    (start : Start) (play : Play)
     → is_silent start play ≡ true
     → (last_byte_sent (trace start play) ≡ None) × (last_rule (trace start play) ≡ None)
     × (last_decision start play ≡ None)
@@ -140,11 +143,11 @@ silent-parts start play silent = none-of _ _ _ silent
 
 -- without a decision there is no report and no denial
 pub undecided-report :
-    (start : Start) (play : List (List Event))
+    (start : Start) (play : Play)
     → last_decision start play ≡ None → last_report start play ≡ None
 undecided-report start play none = last_report-where start play ∙ rw none refl
 
 pub undecided-denial :
-    (start : Start) (play : List (List Event))
+    (start : Start) (play : Play)
     → last_decision start play ≡ None → last_denial start play ≡ None
 undecided-denial start play none = rw none refl

@@ -1,5 +1,6 @@
 -- A step has at most one line.
-use Rattle.std.proofs.Common.{◌≡◌, ◌∙◌, ◌-◌, ◌&&◌, ◌||◌, ◌==◌, ◌⊎◌, inl, inr, if◌then◌else◌, length, ℕ, Bool, true, false, List, [], ◌∷◌, Option, Some, None, is_some, refl, sym}
+use Rattle.std.proofs.Common.{◌≡◌, ◌∙◌, ◌-◌, ◌&&◌, ◌==◌, if◌then◌else◌, length, ℕ, Bool, true, false, [], ◌∷◌, Option, Some, None, is_some, refl, sym, ap}
+use Rattle.std.proofs.lemmas.Bool.{eqb-true, false≢true}
 use Rattle.std.proofs.lemmas.Bool.Decides.{nat_tests}
 use Rattle.std.proofs.Common.{arith}
 use Rattle.word_arith.specs.declared.size.Size.{Size}
@@ -7,12 +8,13 @@ use Rattle.word_arith.specs.declared.size.Size.TheVariants.{Byte, Word}
 use Rattle.bus_signals.specs.declared.access.Access.{Access}
 use Rattle.bus_signals.specs.declared.access.Access.TheVariants.{Fetch, Read, Write}
 use Rattle.bus_signals.specs.declared.bus_record.BusRecord.{BusRecord}
-use Rattle.bus_signals.specs.declared.event.Event.{Event}
+use Rattle.bus_signals.specs.Report.{fields_of}
+use Rattle.bus_signals.specs.declared.report_view.ReportView.{ReportView}
 use Rattle.bus_signals.specs.declared.rule.Rule.{Rule}
 use Rattle.bus_signals.specs.Access.{some_writes}
 use Rattle.bus_signals.specs.Kind.{is_rom}
 use Rattle.bus_signals.specs.Map.{ROM_EXIT}
-use Rattle.part_definitions.specs.Flag.{last_pc}
+use Rattle.bus_signals.specs.ExecFlag.{last_pc}
 use Rattle.part_definitions.specs.MonitorRule.{in_rom, is_written_by_rom, leaves_stack_and_mac}
 use Rattle.part_definitions.specs.PeripheralRegister.{covers}
 use Rattle.part_definitions.specs.Request.{ATTESTS}
@@ -20,13 +22,19 @@ use Rattle.part_definitions.specs.Serial.{SERIAL_SEND}
 use Rattle.part_definitions.specs.FirstRule.{first_rule}
 use Rattle.device_trace.specs.Logs.{Logs, finishes_call, with_events}
 use Rattle.device_trace.specs.Signals.{signals_of}
+use Rattle.device_trace.specs.Play.{Play}
 use Rattle.device_trace.specs.Start.{Start}
 use Rattle.device_trace.specs.Step.{asks_reset, next_record, record_of}
-use Rattle.device_trace.specs.Text.{byte_sent_by, byte_sent_in, denial_where, last_decision, last_denial, last_report, report_of, report_where}
+use Rattle.device_trace.specs.Text.{byte_sent_by, byte_sent_in, denial_where, last_byte_sent, last_decision, report_of}
 use Rattle.device_trace.specs.Trace.{trace, last_record, logs_after}
+use Rattle.device_core.specs.Silence.{is_silent, last_rule}
+use Rattle.device_core.specs.StepLine.{IsLastLine, byte_in_line, denied_in_line, report_in_line, rule_in_line}
+use Rattle.device_core.specs.declared.step_line.StepLine.{StepLine}
+use Rattle.device_core.specs.declared.step_line.StepLine.TheVariants.{Denied, Report}
 use Rattle.trace_facts.proofs.BreaksNoRule.{first_rule-none}
 use Rattle.device_core.proofs.Decisions.{last_decision-Some, no_decision}
-use Rattle.device_core.proofs.Histories.{last_report-where}
+use Rattle.device_core.proofs.Histories.{last_byte_sent-Some, last_report-where, last_rule-Some, other-report}
+use Rattle.device_core.proofs.Idle.{silent-parts, undecided-denial, undecided-report}
 
 -- the register that sends lies where no call writes
 sends-elsewhere :
@@ -83,82 +91,104 @@ sent-unfinished start logs reset byte None same sent =
 sent-unfinished start logs reset byte (Some rule) same sent =
     let none : None ≡ Some byte = rw same at sent in absurd cc
 
-last-unfinished :
-    (start : Start) (play : List (List Event)) (entry : BusRecord) (byte : ℕ)
-    → last_record (trace start play) ≡ Some entry → byte_sent_in entry ≡ Some byte
-    → finishes_call entry ≡ false
-unfolding trace next_record
-last-unfinished start [] entry byte last sent = absurd cc
-last-unfinished start (events ∷ play) entry byte last sent =
-    let logs = with_events (logs_after start play) events in
-    let same : record_of start logs (asks_reset events) ≡ entry = cc in
-    rw (sym same)
-    (sent-unfinished start logs (asks_reset events) byte _ refl (rw (sym same) at sent))
-
 -- nor does a refused one
 refused-unfinished :
     (entry : BusRecord) (rule : Rule) → entry.reset ≡ Some rule → finishes_call entry ≡ false
 refused-unfinished entry rule refused =
     rw refused (last-false (is_rom entry.kind) (entry.pc == ROM_EXIT))
 
-unfinished :
-    (start : Start) (play : List (List Event)) (entry : BusRecord) (rule : Option Rule)
-    (sent : Option ℕ)
+none-where : {A : Type 0} (one : Option A) (finishes : Bool)
+    → ((item : A) → one ≡ Some item → finishes ≡ false) → finishes ≡ true → one ≡ None
+none-where None finishes excludes is = refl
+none-where (Some item) finishes excludes is = absurd (false≢true (sym (excludes item refl) ∙ is))
+
+-- so a step with a decision sent nothing and was not refused
+decided-alone :
+    (start : Start) (play : Play)
+    → is_some (last_decision start play) ≡ true
+    → (last_byte_sent (trace start play) ≡ None) × (last_rule (trace start play) ≡ None)
+unfolding trace next_record
+decided-alone start [] some = (refl, refl)
+decided-alone start (events ∷ play) some =
+    let logs = with_events (logs_after start play) events in
+    let entry = record_of start logs (asks_reset events) in
+    let finishes : finishes_call entry ≡ true =
+    sym (last_decision-Some start (events ∷ play) entry refl) ∙ some in (
+      none-where (byte_sent_in entry) (finishes_call entry)
+          (λ byte sent. sent-unfinished start logs (asks_reset events) byte _ refl sent) finishes,
+      none-where entry.reset (finishes_call entry)
+          (λ rule refused. refused-unfinished entry rule refused) finishes,
+    )
+
+-- the line of a call that attests
+pub report-line :
+    (start : Start) (play : Play) (view : ReportView)
+    → last_decision start play ≡ Some ATTESTS
+    → fields_of view ≡ report_of start (logs_after start play) (length play - 1)
+    → IsLastLine (Some (Report view)) start play
+report-line start play view decided told =
+    let (sent, refused) = decided-alone start play (rw decided refl) in
+    record {
+      sent = sym sent;
+      refused = sym refused;
+      report = ap Some told ∙ sym (last_report-where start play ∙ rw decided refl);
+      denied = rw decided refl;
+    }
+
+other-denial : (decision : ℕ) (attests : Bool)
+    → (decision == ATTESTS) ≡ attests → (decision ≡ ATTESTS → ⊥)
+    → Some decision ≡ (if attests then None else Some decision)
+other-denial decision true same other = absurd (other (eqb-true decision ATTESTS same))
+other-denial decision false same other = refl
+
+-- of a call that does not
+pub denial-line :
+    (start : Start) (play : Play) (decision : ℕ)
+    → last_decision start play ≡ Some decision
+    → (decision ≡ ATTESTS → ⊥)
+    → IsLastLine (Some (Denied decision)) start play
+denial-line start play decision decided other =
+    let (sent, refused) = decided-alone start play (rw decided refl) in
+    record {
+      sent = sym sent;
+      refused = sym refused;
+      report = sym (other-report start play decision decided other);
+      denied = rw decided (other-denial decision (decision == ATTESTS) refl other);
+    }
+
+pub denial-decided : (word : ℕ) (decision : Option ℕ)
+    → Some word ≡ denial_where decision → is_some decision ≡ true
+denial-decided word None denied = absurd cc
+denial-decided word (Some decision) denied = refl
+
+-- of a step that finished no call
+pub plain-line :
+    (start : Start) (play : Play) (entry : BusRecord) (line : Option StepLine)
     → last_record (trace start play) ≡ Some entry
-    → entry.reset ≡ rule → byte_sent_in entry ≡ sent
-    → (is_some rule || is_some sent) ≡ true → finishes_call entry ≡ false
-unfinished start play entry (Some rule) sent last refused same has =
-    refused-unfinished entry rule refused
-unfinished start play entry None (Some byte) last unrefused same has =
-    last-unfinished start play entry byte last same
-unfinished start play entry None None last unrefused same has = absurd cc
+    → finishes_call entry ≡ false
+    → byte_in_line line ≡ byte_sent_in entry
+    → rule_in_line line ≡ entry.reset
+    → report_in_line line ≡ None
+    → denied_in_line line ≡ None
+    → IsLastLine line start play
+plain-line start play entry line last unfinished sent refused report denied =
+    let none = no_decision (last_decision start play)
+    (last_decision-Some start play entry last ∙ unfinished) in
+    record {
+      sent = sent ∙ sym (last_byte_sent-Some (trace start play) entry last);
+      refused = refused ∙ sym (last_rule-Some (trace start play) entry last);
+      report = report ∙ sym (undecided-report start play none);
+      denied = denied ∙ sym (undecided-denial start play none);
+    }
 
--- so a step that sends or is refused has no decision
-pub one-line :
-    (start : Start) (play : List (List Event)) (entry : BusRecord)
-    → last_record (trace start play) ≡ Some entry
-    → (is_some entry.reset || is_some (byte_sent_in entry)) ≡ true
-    → last_decision start play ≡ None
-one-line start play entry last has =
-    no_decision (last_decision start play)
-    (last_decision-Some start play entry last
-    ∙ unfinished start play entry entry.reset (byte_sent_in entry) last refl refl has)
-
--- and one whose call attests is not denied
-report-or-denial :
-    (start : Start) (logs : Logs) (step : ℕ) (decision : Option ℕ)
-    → is_some (report_where start logs step decision) ≡ true → denial_where decision ≡ None
-report-or-denial start logs step None some = refl
-report-or-denial start logs step (Some decision) some =
-    by-attesting (decision == ATTESTS) some
-  where
-    by-attesting : (attests : Bool)
-        → is_some (if attests then Some (report_of start logs step) else None) ≡ true
-        → (if attests then None else Some decision) ≡ None
-    by-attesting true some = refl
-    by-attesting false some = absurd cc
-
-first-of : (first second third : Bool) → (first || second || third) ≡ true
-    → ((first || second) ≡ true) ⊎ (third ≡ true)
-first-of true second third has = inl refl
-first-of false true third has = inl refl
-first-of false false third has = inr has
-
-pub one-denial :
-    (start : Start) (play : List (List Event)) (entry : BusRecord)
-    → last_record (trace start play) ≡ Some entry
-    → (is_some entry.reset || is_some (byte_sent_in entry) || is_some (last_report start play))
-    ≡ true
-    → last_denial start play ≡ None
-one-denial start play entry last has =
-    by-line
-    (first-of (is_some entry.reset) (is_some (byte_sent_in entry))
-    (is_some (last_report start play)) has)
-  where
-    by-line : ((is_some entry.reset || is_some (byte_sent_in entry)) ≡ true)
-        ⊎ (is_some (last_report start play) ≡ true)
-        → last_denial start play ≡ None
-    by-line (inl one) = rw (one-line start play entry last one) refl
-    by-line (inr reports) =
-        report-or-denial start (logs_after start play) (length play - 1)
-        (last_decision start play) (rw (last_report-where start play) at reports)
+-- and of one that is not kept
+pub no-line :
+    (start : Start) (play : Play) → is_silent start play ≡ true → IsLastLine None start play
+no-line start play silent =
+    let parts = silent-parts start play silent in
+    record {
+      sent = sym parts.0;
+      refused = sym parts.1;
+      report = sym (undecided-report start play parts.2);
+      denied = sym (undecided-denial start play parts.2);
+    }

@@ -1,13 +1,14 @@
 -- What the bus stands for, between two steps and within one.
-use Rattle.std.specs.Prelude.{Bool, false, ◌≡◌, ◌&&◌, ℕ, List, [], ◌∷◌, Option, Some, None, is_some, IfSome}
+use Rattle.std.specs.Prelude.{Bool, false, ◌≡◌, ◌&&◌, ℕ, [], ◌∷◌, Option, Some, None, is_some, IfSome}
 use Rattle.bus_signals.specs.declared.access.Access.{Access}
 use Rattle.bus_signals.specs.declared.bus_record.BusRecord.{BusRecord}
 use Rattle.bus_signals.specs.declared.rule.Rule.{Rule}
 use Rattle.bus_signals.specs.declared.signals.Signals.{Signals}
-use Rattle.exec_automaton.specs.Flag.{Flag}
-use Rattle.bus_signals.specs.SeenRecord.{SeenRecord}
+use Rattle.bus_signals.specs.TraceFlag.{Flag}
+use Rattle.bus_signals.specs.SeenRecord.{SeenHistory, SeenRecord}
 use Rattle.part_definitions.specs.Dma.{dma_access}
 use Rattle.mem_map.specs.Memory.{MemoryStandsFor}
+use Rattle.part_definitions.specs.CpuRegister.{Registers}
 use Rattle.device_trace.specs.Logs.{Logs, flags_of, vector_of, step_progress, vector_taken, with_record}
 use Rattle.device_trace.specs.Progress.{next_pc_of, last_registers, tells_irq, fetches_opcode}
 use Rattle.device_trace.specs.Signals.{signals_of, step_kind, proposed_access, value_read}
@@ -22,7 +23,7 @@ use Rattle.device_core.specs.Silence.{has_line}
 use Rattle.device_core.specs.declared.turn.Turn.{Turn}
 
 -- the newest record, with the bounds before it
-abbrev pub last_seen : List SeenRecord → Option SeenRecord
+abbrev pub last_seen : SeenHistory → Option SeenRecord
 last_seen [] = None
 last_seen (now ∷ before) = Some now
 
@@ -31,7 +32,7 @@ abbrev pub seen_in : LastStep → SeenRecord
 seen_in step = record { entry = step.entry; bounds = step.bounds }
 
 -- the last step, where it was kept; one that was not has no line
-abbrev pub LastStandsFor : Option LastStep → List SeenRecord → Type 0
+abbrev pub LastStandsFor : Option LastStep → SeenHistory → Type 0
 LastStandsFor (Some step) records = last_seen records ≡ Some (seen_in step)
 LastStandsFor None [] = Unit {0}
 LastStandsFor None (now ∷ before) = has_line now.entry ≡ false
@@ -49,7 +50,8 @@ abbrev pub KeepsSignals : Option LastStep → Option Signals → Type 0
 KeepsSignals last now = IfSome last (λ step. step.refused ≡ where_refused step.entry.reset now)
 
 -- it is the turn of the step that comes next, from these registers
-pub record TurnStandsFor (regs : List ℕ) (turn : Turn) (start : Start) (logs : Logs) : Type 0 where
+pub record TurnStandsFor (regs : Registers) (turn : Turn) (start : Start) (logs : Logs)
+    : Type 0 where
   pub same_regs : regs ≡ last_registers logs.progress
   pub same_kind : turn.kind ≡ step_kind logs
   pub same_pc : turn.pc ≡ next_pc_of (step_progress logs (step_kind logs))
@@ -73,7 +75,7 @@ logs_after_step start logs reset = with_record start logs (record_of start logs 
 
 -- what the bus answers to this turn, in which the DMA asks for this access
 abbrev pub AnswersTurn :
-    {G : Type 0} → Flag G → Bus G → List ℕ → Turn → Option Access → Bool → Option ℕ → Type 0
+    {G : Type 0} → Flag G → Bus G → Registers → Turn → Option Access → Bool → Option ℕ → Type 0
 AnswersTurn flag bus regs turn dma script_reset answer =
     (start : Start) (logs : Logs)
     → BusStandsFor flag bus start logs
@@ -89,7 +91,7 @@ pub record BusStandsAfter {G : Type 0} (flag : Flag G) (bus : Bus G) (start : St
 
 -- the bus makes the step of this turn, or refuses it
 abbrev pub MakesTurn :
-    {G : Type 0} → Flag G → Bus G → List ℕ → Turn → Option Access → Bool → Bus G → Type 0
+    {G : Type 0} → Flag G → Bus G → Registers → Turn → Option Access → Bool → Bus G → Type 0
 MakesTurn flag old regs turn dma script_reset new =
     (start : Start) (logs : Logs)
     → BusStandsFor flag old start logs
@@ -98,18 +100,18 @@ MakesTurn flag old regs turn dma script_reset new =
     → BusStandsAfter flag new start logs script_reset
 
 -- the record of a step with these signals that breaks no rule, and the logs after it
-abbrev pub record_performed : Start → Logs → List ℕ → Signals → BusRecord
+abbrev pub record_performed : Start → Logs → Registers → Signals → BusRecord
 record_performed start logs regs now =
     record_from regs now None (value_read start logs now.cpu) (dma_value_read start logs now)
 
-abbrev pub logs_performed : Start → Logs → List ℕ → Signals → Logs
+abbrev pub logs_performed : Start → Logs → Registers → Signals → Logs
 logs_performed start logs regs now =
     with_record start logs (record_performed start logs regs now)
 
 -- the bus makes such a step, in which the processor's access read this value
 abbrev pub PerformsFrom :
     {G : Type 0}
-    → Start → Logs → Flag G → Bus G → List ℕ → Option ℕ → Signals → ℕ → Bus G → Type 0
+    → Start → Logs → Flag G → Bus G → Registers → Option ℕ → Signals → ℕ → Bus G → Type 0
 PerformsFrom start logs flag old regs acceptance now value new =
     BusStandsFor flag old start logs
     → value ≡ value_read start logs now.cpu
@@ -118,7 +120,7 @@ PerformsFrom start logs flag old regs acceptance now value new =
     → BusStandsFor flag new start (logs_performed start logs regs now)
 
 abbrev pub Performs :
-    {G : Type 0} → Flag G → Bus G → List ℕ → Option ℕ → Signals → ℕ → Bus G → Type 0
+    {G : Type 0} → Flag G → Bus G → Registers → Option ℕ → Signals → ℕ → Bus G → Type 0
 Performs flag old regs acceptance now value new =
     (start : Start) (logs : Logs)
     → PerformsFrom start logs flag old regs acceptance now value new

@@ -2,9 +2,9 @@
 use Rattle.std.specs.Prelude.{◌≡◌, ◌∷◌, map}
 use Rattle.bus_signals.specs.declared.bus_record.BusRecord.{BusRecord}
 use Rattle.bus_signals.specs.declared.signals.Signals.{Signals}
-use Rattle.exec_automaton.specs.Flag.{Flag, IsRecordOf}
+use Rattle.bus_signals.specs.TraceFlag.{Flag, IsRecordOf}
 use Rattle.bus_signals.specs.SeenRecord.{SeenHistory, SeenRecord}
-use Rattle.part_definitions.specs.Flag.{exec}
+use Rattle.bus_signals.specs.ExecFlag.{exec}
 use Rattle.device_trace.specs.Blank.{blank_seen}
 use Rattle.device_trace.specs.Logs.{Logs, aux_of, logged_bounds}
 use Rattle.device_trace.specs.Start.{Start}

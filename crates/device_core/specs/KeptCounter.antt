@@ -1,12 +1,12 @@
 -- What a device keeps of the requests that it attests.
-use Rattle.std.specs.Prelude.{◌≡◌, ◌≤◌, ◌++◌, ◌∷◌, ℕ, List, IsFalse}
+use Rattle.std.specs.Prelude.{◌≡◌, ◌<◌, ◌≤◌, ◌++◌, ◌∷◌, ℕ, List, IsFalse}
 use Rattle.bus_signals.specs.declared.event.Event.{Event}
 use Rattle.bus_signals.specs.Address.{Bytes}
 use Rattle.part_definitions.specs.Hmac.{Digest}
 use Rattle.device_trace.specs.Start.{Start}
 use Rattle.device_trace.specs.Trace.{trace}
 use Rattle.device_trace.specs.Play.{Play}
-use Rattle.request_freshness.specs.Freshness.{Attests, IsRightlyRequested, WasUnderWay, ends_between_words, kept_counter}
+use Rattle.request_freshness.specs.Freshness.{Attests, BeganAfter, IsRightlyRequested, ends_between_words, kept_counter}
 
 -- after a play, of a device with this key
 pub record KeepsCounter (digest : Digest) (key : Bytes) (start : Start) (play : Play) : Type 0 where
@@ -20,9 +20,11 @@ pub record KeepsCounter (digest : Digest) (key : Bytes) (start : Start) (play : 
       → play ≡ events ∷ before
       → (kept_counter start play ≡ kept_counter start before → ⊥)
       → IsRightlyRequested digest key start play
-  -- where a call has decided to attest a request, none has decided so of its counter before
-  pub attests_once : (later earlier : Play) (counter : ℕ)
+  -- where a call has decided to attest a request, its counter is greater than that of each request
+  -- that a call before it has decided to attest
+  pub attests_new : (later earlier : Play) (older counter : ℕ)
       → play ≡ later ++ earlier
-      → Attests start earlier counter
+      → BeganAfter start later earlier
+      → Attests start earlier older
       → Attests start play counter
-      → WasUnderWay start later earlier
+      → older < counter

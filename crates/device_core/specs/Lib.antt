@@ -5,6 +5,7 @@ pub mod StepLine
 pub mod Silence
 pub mod Refusal
 pub mod KeptCounter
+pub mod ForEachKey
 pub mod Outside
 -- What the parts within stand for, and how they make a step.
 pub mod Bus

@@ -1,7 +1,12 @@
 -- What the line of a step tells.
-use Rattle.std.specs.Prelude.{ℕ, Option, Some, None}
+use Rattle.std.specs.Prelude.{◌≡◌, ℕ, Option, Some, None}
 use Rattle.bus_signals.specs.declared.rule.Rule.{Rule}
 use Rattle.bus_signals.specs.Report.{ReportFields, fields_of}
+use Rattle.device_trace.specs.Play.{Play}
+use Rattle.device_trace.specs.Start.{Start}
+use Rattle.device_trace.specs.Text.{last_byte_sent, last_denial, last_report}
+use Rattle.device_trace.specs.Trace.{trace}
+use Rattle.device_core.specs.Silence.{last_rule}
 use Rattle.device_core.specs.declared.step_line.StepLine.{StepLine}
 use Rattle.device_core.specs.declared.step_line.StepLine.TheVariants.{Sent, Reset, Report, Denied}
 
@@ -24,3 +29,10 @@ report_in_line line = None
 abbrev pub denied_in_line : Option StepLine → Option ℕ
 denied_in_line (Some (Denied decision)) = Some decision
 denied_in_line line = None
+
+-- it tells what the last step of a play did
+pub record IsLastLine (line : Option StepLine) (start : Start) (play : Play) : Type 0 where
+  pub sent : byte_in_line line ≡ last_byte_sent (trace start play)
+  pub refused : rule_in_line line ≡ last_rule (trace start play)
+  pub report : report_in_line line ≡ last_report start play
+  pub denied : denied_in_line line ≡ last_denial start play

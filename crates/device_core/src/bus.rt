@@ -1,14 +1,15 @@
 ghost use Rattle.std.specs.Prelude.{◌≡◌, ◌∷◌, [], ℕ, true, false, List, Option, IfOk, IsSome, None, Some, is_none, if◌then◌else◌};
 ghost use Rattle.bus_signals.specs.declared.event.Event.{Event};
-ghost use Rattle.exec_automaton.specs.Flag.{IsRecordOf};
-ghost use Rattle.bus_signals.specs.SeenRecord.{SeenRecord};
+ghost use Rattle.bus_signals.specs.TraceFlag.{IsRecordOf};
+ghost use Rattle.bus_signals.specs.SeenRecord.{SeenHistory};
 ghost use Rattle.part_definitions.specs.Dma.{dma_access};
 ghost use Rattle.part_definitions.specs.FirstRule.{first_rule};
-ghost use Rattle.part_definitions.specs.Flag.{exec, last_pc};
+ghost use Rattle.bus_signals.specs.ExecFlag.{exec, last_pc};
 ghost use Rattle.part_definitions.specs.Memory.{PowerOn, ShownFlags, MemoryWrite};
 ghost use Rattle.part_definitions.specs.Part.{Takes};
 ghost use Rattle.mem_map.specs.Memory.{MemoryStandsFor};
 ghost use Rattle.mem_map.specs.Image.{power_on_of};
+ghost use Rattle.part_definitions.specs.CpuRegister.{Registers};
 ghost use Rattle.device_trace.specs.Start.{Start};
 ghost use Rattle.device_trace.specs.Logs.{Logs, power_on_logs, goes_on_in_call, logged_bounds, memory_after, with_events, with_record};
 ghost use Rattle.device_trace.specs.Signals.{signals_of, word_fetched, value_read};
@@ -22,10 +23,8 @@ use crate::monitors::Monitors;
 use crate::peripherals::Peripherals;
 use crate::record::{goes_on_in_call, is_kept, record_of_refusal, record_of_step};
 use crate::turn::Turn;
-use bus_arbiter::exchange;
-use bus_signals::{Access, BusMaster, BusRecord, CR, Event, Signals};
-use exec_automaton::TraceFlag;
-use mem_map::{Image, Memory};
+use bus_signals::{Access, BusMaster, BusRecord, CR, Event, Signals, TraceFlag};
+use mem_map::{Image, Memory, exchange};
 use std::alloc::{AllocError, Global};
 
 /// The bus, with what is reached over it and what watches it.
@@ -83,7 +82,7 @@ fn show_aux(memory: &mut Memory, stays: bool, is_set: bool)
 #[tactic(auto, unfolding(device_trace::specs::Signals::signals_at))]
 fn signals(turn: &Turn, value: u16, dma: Option<Access>, script_reset: bool) -> Signals
     ensures access { result.cpu ≡ turn.now.access }
-    ensures signals { (start : Start) (logs : Logs) (regs : List ℕ)
+    ensures signals { (start : Start) (logs : Logs) (regs : Registers)
         → TurnStandsFor regs turn.now start logs
         → value ≡ value_read start logs turn.now.access
         → dma ≡ dma_access logs.peripherals.dma
@@ -108,7 +107,7 @@ impl<G: TraceFlag> Bus<G> {
     ghost use Rattle.device_core.specs.Monitors.{MonitorsStandFor};
 
     /// The bus at power-on. The flag has seen no record.
-    #[tactic(auto, unfolding(part_definitions::specs::Flag::exec))]
+    #[tactic(auto, unfolding(bus_signals::specs::ExecFlag::exec))]
     pub fn new(alloc: Global, key: &[u8; 64], image: &Image, flag: G) -> Result<Bus<G>, AllocError>
         requires { G.flag.has_seen flag [] }
         ensures stands { (start : Start)
@@ -154,7 +153,7 @@ impl<G: TraceFlag> Bus<G> {
     fn watch(&mut self, step: LastStep)
         ensures last { self.new.last ≡ Some step }
         ensures peripherals { self.new.peripherals ≡ self.old.peripherals }
-        ensures memory { (start : Start) (writes : List MemoryWrite) (records : List SeenRecord)
+        ensures memory { (start : Start) (writes : List MemoryWrite) (records : SeenHistory)
             → start.second_flag ≡ G.flag.value
             → MemoryStandsFor self.old.memory start.power (flags_shown start records) writes
             → MonitorsStandFor G.flag self.old.monitors records

@@ -8,9 +8,9 @@ pub mod Step
 pub mod Trace
 pub mod AccessesAreFormed
 pub mod Blank
-pub mod WholeRun
-pub mod TrustedRun
+pub mod RegionRun
 pub mod Text
+pub mod Moment
 pub mod Report
 pub mod Example
 pub mod WorkedPlay

@@ -14,12 +14,12 @@ use Rattle.bus_signals.specs.SeenRecord.{SeenRecord}
 use Rattle.part_definitions.specs.Attestation.{decision_read}
 use Rattle.part_definitions.specs.CpuRegister.{allows_interrupts}
 use Rattle.part_definitions.specs.CpuState.{Boundary}
-use Rattle.part_definitions.specs.Flag.{exec}
+use Rattle.bus_signals.specs.ExecFlag.{exec}
 use Rattle.part_definitions.specs.Interrupt.{first_vector}
 use Rattle.part_definitions.specs.Memory.{MemoryWrite, ShownFlags, with_access, byte_at}
 use Rattle.part_definitions.specs.Metadata.{bounds_in}
 use Rattle.device_trace.specs.Blank.{blank_seen}
-use Rattle.device_trace.specs.Peripherals.{Peripherals, power_on_peripherals, with_all_events, requests, timer_after, serial_after, dma_after}
+use Rattle.device_trace.specs.Peripherals.{Peripherals, power_on_peripherals, with_all_events, requests, with_step}
 use Rattle.device_trace.specs.Progress.{Progress, Held, Runs, InCall, last_registers, progress_within, next_progress}
 use Rattle.device_trace.specs.Start.{Start}
 
@@ -123,22 +123,17 @@ abbrev pub finishes_call : BusRecord → Bool
 finishes_call entry = is_rom entry.kind && (entry.pc == ROM_EXIT) && is_none entry.reset
 
 -- the decision of the call that is under way
-abbrev pub decision_in : Progress → Option ℕ
-decision_in (InCall regs words) = Some (decision_read words)
-decision_in progress = None
+abbrev pub call_decision : Progress → Option ℕ
+call_decision (InCall regs words) = Some (decision_read words)
+call_decision progress = None
 
 abbrev pub decision_after : Progress → BusRecord → Option ℕ
-decision_after progress entry = if finishes_call entry then decision_in progress else None
+decision_after progress entry = if finishes_call entry then call_decision progress else None
 
 abbrev pub peripherals_after : Logs → BusRecord → Peripherals
 peripherals_after logs entry =
-    let acceptance : Option ℕ = vector_taken logs.progress entry.kind (vector_of logs) in
-    record {
-      timer = timer_after entry.reset acceptance entry.cpu logs.peripherals.timer;
-      serial = serial_after entry.reset entry.cpu logs.peripherals.serial;
-      dma = dma_after entry.reset entry.cpu entry.dma entry.dma_value logs.peripherals.dma;
-      pins = logs.peripherals.pins;
-    }
+    with_step entry.reset (vector_taken logs.progress entry.kind (vector_of logs)) entry.cpu
+    entry.dma entry.dma_value logs.peripherals
 
 -- the events of a step come
 unfoldable pub with_events : Logs → List Event → Logs

@@ -8,11 +8,10 @@ use Rattle.bus_signals.specs.declared.access.Access.TheVariants.{Fetch, Read, Wr
 use Rattle.bus_signals.specs.declared.event.Event.{Event}
 use Rattle.bus_signals.specs.declared.event.Event.TheVariants.{Rx, Pins, Dma, Reset}
 use Rattle.bus_signals.specs.declared.rule.Rule.{Rule}
-use Rattle.bus_signals.specs.Map.{lies_in, pins_region, serial_region, timer_region, dma_region}
+use Rattle.bus_signals.specs.Map.{lies_in, pins_region, serial_region, timer_region, dma_region, SERIAL_VECTOR, TIMER_VECTOR}
 use Rattle.bus_signals.specs.Address.{Address}
 use Rattle.part_definitions.specs.Dma.{DmaEvent, TransferStart, DmaAccess, dma_read}
 use Rattle.part_definitions.specs.Dma as DmaEngine
-use Rattle.part_definitions.specs.Interrupt.{SERIAL_VECTOR, TIMER_VECTOR}
 use Rattle.part_definitions.specs.Pins.{pins_read}
 use Rattle.part_definitions.specs.Serial.{SerialEvent, Arrival, Load, serial_read, serial_requests}
 use Rattle.part_definitions.specs.Serial as SerialPort
@@ -107,3 +106,15 @@ abbrev pub dma_after :
     Option Rule → Option Access → Option Access → Word16 → List DmaEvent → List DmaEvent
 dma_after None cpu dma value events = with_dma_value dma value (with_dma_access cpu events)
 dma_after (Some rule) cpu dma value events = DmaEngine.DeviceReset ∷ events
+
+-- a step ends: whether it is refused, the interrupt whose entry begins in it, the accesses of the
+-- processor and of the DMA engine, and the value that the engine takes
+abbrev pub with_step :
+    Option Rule → Option ℕ → Option Access → Option Access → Word16 → Peripherals → Peripherals
+with_step reset acceptance cpu dma value parts =
+    record {
+      timer = timer_after reset acceptance cpu parts.timer;
+      serial = serial_after reset cpu parts.serial;
+      dma = dma_after reset cpu dma value parts.dma;
+      pins = parts.pins;
+    }

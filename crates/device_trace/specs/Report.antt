@@ -1,18 +1,18 @@
 -- The reports of a play.
-use Rattle.std.specs.Prelude.{◌≡◌, ◌++◌, Some, IsTrue}
+use Rattle.std.specs.Prelude.{◌≡◌, Some, IsTrue}
 use Rattle.bus_signals.specs.Report.{ReportFields}
+use Rattle.device_trace.specs.Moment.{EachMoment}
 use Rattle.device_trace.specs.Start.{Start}
 use Rattle.device_trace.specs.Text.{last_report}
 use Rattle.device_trace.specs.Trace.{trace}
-use Rattle.device_trace.specs.TrustedRun.{TrustedRun}
-use Rattle.device_trace.specs.WholeRun.{WholeRun}
+use Rattle.device_trace.specs.RegionRun.{TrustedRun, WholeRun}
 use Rattle.device_trace.specs.Play.{Play}
 
 -- this holds of every report that a play makes, and of the play up to it
 abbrev pub EachReport : Start → Play → (ReportFields → Play → Type 0) → Type 0
 EachReport start play holds =
-    (later earlier : Play) (report : ReportFields)
-    → play ≡ later ++ earlier → last_report start earlier ≡ Some report → holds report earlier
+    EachMoment play (λ earlier.
+    (report : ReportFields) → last_report start earlier ≡ Some report → holds report earlier)
 
 -- a report whose EXEC is 1 comes after a whole run of the region that it names
 abbrev pub ExecMeansWholeRun : Start → ReportFields → Play → Type 0

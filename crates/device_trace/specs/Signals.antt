@@ -24,17 +24,14 @@ number_read start logs place size =
 
 -- what an access of the processor reads, 0 for a write and for none
 abbrev pub value_read : Start → Logs → Option Access → ℕ
-value_read start logs None = 0
 value_read start logs (Some (Fetch place)) = number_read start logs place Word
 value_read start logs (Some (Read place size)) = number_read start logs place size
-value_read start logs (Some (Write place size number)) = 0
+value_read start logs access = 0
 
 -- what a fetch would read
 abbrev pub word_fetched : Start → Logs → Option Access → Word16
-word_fetched start logs None = 0
 word_fetched start logs (Some (Fetch place)) = number_read start logs place Word
-word_fetched start logs (Some (Read place size)) = 0
-word_fetched start logs (Some (Write place size number)) = 0
+word_fetched start logs access = 0
 
 -- whose step comes next
 abbrev pub step_kind : Logs → Kind

@@ -16,13 +16,17 @@ pub record Start : Type 0 where
   -- passed in the call
   pub call_word : ℕ → CallItem → List Word16 → Word16
 
+-- what the calls write by this digest, with the key that is read in them
+abbrev pub word_by : Digest → ℕ → CallItem → List Word16 → Word16
+word_by digest releases item words = written_word digest words item
+
 -- with the device key, the calls write what the digest gives
 abbrev pub with_key : (SeenHistory → Bool) → Digest → Bytes → Contents → Start
 with_key flag digest key image =
     record {
       power = record { key = λ i. slice_index key i; image = image };
       second_flag = flag;
-      call_word = λ releases item words. written_word digest words item;
+      call_word = word_by digest;
     }
 
 -- the next of these words at each write of the decision or the MAC, 0 past their end; 0 is written

@@ -1,19 +1,16 @@
 -- The record of a step.
 use Rattle.std.specs.Prelude.{ℕ, Bool, true, false, List, Option, Some, None}
 use Rattle.std.specs.List.{list_any}
-use Rattle.word_arith.specs.declared.size.Size.TheVariants.{Word}
 use Rattle.bus_signals.specs.declared.access.Access.{Access}
-use Rattle.bus_signals.specs.declared.access.Access.TheVariants.{Fetch, Read, Write}
 use Rattle.bus_signals.specs.declared.bus_record.BusRecord.{BusRecord}
 use Rattle.bus_signals.specs.declared.event.Event.{Event}
 use Rattle.bus_signals.specs.declared.event.Event.TheVariants.{Reset}
 use Rattle.bus_signals.specs.declared.rule.Rule.{Rule}
 use Rattle.bus_signals.specs.declared.signals.Signals.{Signals}
 use Rattle.bus_signals.specs.Access.{without_number}
-use Rattle.bus_signals.specs.Address.{Contents}
 use Rattle.part_definitions.specs.FirstRule.{first_rule}
-use Rattle.part_definitions.specs.Flag.{last_pc}
-use Rattle.part_definitions.specs.Memory.{byte_at, number_at, with_access}
+use Rattle.bus_signals.specs.ExecFlag.{last_pc}
+use Rattle.part_definitions.specs.Memory.{byte_at, memory_read, with_access}
 use Rattle.part_definitions.specs.CpuRegister.{Registers}
 use Rattle.device_trace.specs.Logs.{Logs, flags_of, with_events}
 use Rattle.device_trace.specs.Progress.{last_registers}
@@ -37,14 +34,7 @@ abbrev pub value_recorded : Option Rule → ℕ → ℕ
 value_recorded None value = value
 value_recorded (Some rule) value = 0
 
--- what the DMA reads of these bytes, 0 for a write and for none; it does not see the peripherals
-abbrev pub memory_read : Contents → Option Access → ℕ
-memory_read bytes None = 0
-memory_read bytes (Some (Fetch place)) = number_at bytes place Word
-memory_read bytes (Some (Read place size)) = number_at bytes place size
-memory_read bytes (Some (Write place size number)) = 0
-
--- it sees the processor's write of the same step
+-- what the DMA reads: it sees the processor's write of the same step, and no peripherals
 abbrev pub dma_value_read : Start → Logs → Signals → ℕ
 dma_value_read start logs now =
     memory_read

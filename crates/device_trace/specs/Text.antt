@@ -4,6 +4,7 @@ use Rattle.std.specs.Prelude.{◌==◌, ◌++◌, ℕ, List, [], ◌∷◌, Opti
 use Rattle.bus_signals.specs.declared.access.Access.{Access}
 use Rattle.bus_signals.specs.declared.access.Access.TheVariants.{Write}
 use Rattle.bus_signals.specs.declared.bus_record.BusRecord.{BusRecord}
+use Rattle.bus_signals.specs.declared.event.Event.{Event}
 use Rattle.bus_signals.specs.declared.rule.Rule.{Rule}
 use Rattle.bus_signals.specs.declared.bounds.Bounds.{Bounds}
 use Rattle.bus_signals.specs.declared.version.Version.TheVariants.{Two}
@@ -84,40 +85,32 @@ last_decision start play = (logs_after start play).decision
 abbrev pub last_denial : Start → Play → Option ℕ
 last_denial start play = denial_in (logs_after start play)
 
--- the lines of one step
-abbrev pub sent_lines : ℕ → Option ℕ → Bytes
-sent_lines step None = []
-sent_lines step (Some byte) = sent_line step byte
+-- the line of what there is
+abbrev pub some_line : {A : Type 0} → (A → Bytes) → Option A → Bytes
+some_line line None = []
+some_line line (Some one) = line one
 
-abbrev pub reset_lines : ℕ → Option Rule → Bytes
-reset_lines step None = []
-reset_lines step (Some rule) = reset_line step rule
-
-abbrev pub report_lines : Option ReportFields → Bytes
-report_lines None = []
-report_lines (Some report) = report_line report
-
-abbrev pub denied_lines : ℕ → Option ℕ → Bytes
-denied_lines step None = []
-denied_lines step (Some decision) = denied_line step decision
-
--- of a step's number, its record and the logs after it
+-- the lines of one step, of its number, its record and the logs after it
 abbrev pub step_lines : Start → ℕ → BusRecord → Logs → Bytes
 step_lines start step entry logs =
-    sent_lines step (byte_sent_in entry) ++ reset_lines step entry.reset
-    ++ report_lines (report_in start logs step) ++ denied_lines step (denial_in logs)
+    some_line (sent_line step) (byte_sent_in entry) ++ some_line (reset_line step) entry.reset
+    ++ some_line report_line (report_in start logs step)
+    ++ some_line (denied_line step) (denial_in logs)
+
+-- of a step with these events, after a play
+abbrev pub lines_of_step : Start → List Event → Play → Bytes
+lines_of_step start events play =
+    step_lines start (length play) (next_record start (logs_after start play) events)
+    (logs_after start (events ∷ play))
 
 -- the lines of a play in the order of its steps, which are numbered from 0
 unfoldable pub lines_of : Start → Play → Bytes
 lines_of start [] = []
-lines_of start (events ∷ play) =
-    lines_of start play
-    ++ step_lines start (length play) (next_record start (logs_after start play) events)
-    (logs_after start (events ∷ play))
+lines_of start (events ∷ play) = lines_of start play ++ lines_of_step start events play
 
-abbrev pub end_of : ℕ → Logs → Bytes
-end_of steps logs = end_line steps (next_pc_of logs.progress) (exec_of logs)
+abbrev pub end_line_after : ℕ → Logs → Bytes
+end_line_after steps logs = end_line steps (next_pc_of logs.progress) (exec_of logs)
 
 -- the whole text of a play
 unfoldable pub play_text : Start → Play → Bytes
-play_text start play = lines_of start play ++ end_of (length play) (logs_after start play)
+play_text start play = lines_of start play ++ end_line_after (length play) (logs_after start play)

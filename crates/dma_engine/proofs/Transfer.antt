@@ -8,7 +8,7 @@ use Rattle.word_arith.specs.declared.size.Size.{Size}
 use Rattle.word_arith.specs.declared.size.Size.TheVariants.{Word}
 use Rattle.bus_signals.specs.declared.access.Access.{Access}
 use Rattle.bus_signals.specs.declared.access.Access.TheVariants.{Read, Write}
-use Rattle.part_definitions.specs.Dma.{DmaEvent, TransferStart, Store, DmaAccess, DeviceReset, Transfer, transfer_of, transfer_access, access_at, dma_access, dma_word, DMA_CONTROL, is_active, after_start, starts, dma_writes, DMA_SOURCE, DMA_DESTINATION, DMA_LENGTH, with_value, new_transfer, place_of_word, latch}
+use Rattle.part_definitions.specs.Dma.{DmaEvent, TransferStart, Store, DmaAccess, DeviceReset, Transfer, transfer_of, transfer_access, access_at, dma_access, dma_word, DMA_CONTROL, is_active, after_start, starts, dma_writes, DMA_SOURCE, DMA_DESTINATION, DMA_LENGTH, after_access, new_transfer, place_of_word, latch}
 use Rattle.dma_engine.specs.Distance.{Start, start_of, is_reset, values_of, IsUnderWay, GoesByDistance}
 
 -- a transfer of this start, of which these values were taken
@@ -131,7 +131,7 @@ transfer_of-since start event before (Store place size number ∷ since) asks id
     ap is_active now ∙ begun-active start (values_of since) within in
     transfer_of-written place size number (since ++ event ∷ before) active ∙ now
 transfer_of-since start event before (DmaAccess value ∷ since) asks idle lasts within =
-    ap (λ transfer. with_value transfer value)
+    ap (λ transfer. after_access transfer value)
     (transfer_of-since start event before since asks idle lasts (omega arith))
 transfer_of-since start event before (DeviceReset ∷ since) asks idle lasts within =
     absurd (true≢false lasts)
@@ -215,7 +215,7 @@ newly_begun event events start asks idle active =
       now,
     )
 
-active_before : (transfer : Transfer) (value : ℕ) → is_active (with_value transfer value) ≡ true
+active_before : (transfer : Transfer) (value : ℕ) → is_active (after_access transfer value) ≡ true
     → is_active transfer ≡ true
 active_before transfer value active = grind (arith, nat_tests)
 
@@ -254,7 +254,7 @@ begins_where_active (DmaAccess value ∷ events) active =
     begins_where_active events (active_before (transfer_of events) value active) in
     let way : IsUnderWay before.0 before.1 events = before.2 in
     let now : transfer_of (DmaAccess value ∷ events) ≡ stage (before.0) (value ∷ before.1) =
-    ap (λ transfer. with_value transfer value) before.3 in (
+    ap (λ transfer. after_access transfer value) before.3 in (
       before.0,
       value ∷ before.1,
       record {

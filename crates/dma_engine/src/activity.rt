@@ -1,9 +1,9 @@
 ghost use Rattle.std.specs.Prelude.{◌≡◌, ◌%◌, ◌<◌, IfSome};
 ghost use Rattle.bus_signals.specs.Access.{IsFormed};
-ghost use Rattle.part_definitions.specs.Dma.{new_transfer, transfer_access, is_active, after_start, with_value};
+ghost use Rattle.part_definitions.specs.Dma.{new_transfer, transfer_access, is_active, after_start, after_access};
 ghost use Rattle.part_definitions.specs.Part.{Answers, Becomes};
 
-use bus_signals::Access;
+use bus_signals::{Access, even};
 use word_arith::Size;
 
 /// What is left of a transfer: the places of its next word, and the number of its words.
@@ -37,8 +37,8 @@ impl Activity {
             Activity::Idle
         } else {
             Activity::Reads(Job {
-                source: source / 2 * 2,
-                destination: destination / 2 * 2,
+                source: even(source),
+                destination: even(destination),
                 words,
             })
         }
@@ -77,7 +77,7 @@ impl Activity {
     #[inline(always)]
     pub fn advance(&mut self, value: u16)
         ensures { Becomes ActivityStandsFor self.old
-            (λ transfer. with_value transfer value) self.new }
+            (λ transfer. after_access transfer value) self.new }
     {
         match *self {
             Activity::Idle => {}

@@ -4,8 +4,8 @@ use Rattle.std.proofs.Math.Bool.{and-true, and-false, or_comm}
 use Rattle.std.specs.List.{list_any}
 use Rattle.bus_signals.specs.SeenRecord.{SeenRecord}
 use Rattle.bus_signals.specs.Bounds.{are_valid}
-use Rattle.part_definitions.specs.Flag.{starts_run, is_opcode_fetch, last_pc, records_since}
-use Rattle.exec_automaton.specs.RunFlag.{is_set}
+use Rattle.bus_signals.specs.ExecFlag.{starts_run, is_opcode_fetch, last_pc, records_since}
+use Rattle.bus_signals.specs.ExecFlag.{is_set}
 
 -- it is set where it was set before or the record starts a run, and the record does not clear it
 pub uncleared_run-cons : (clears : Option ℕ → SeenRecord → Bool) (now : SeenRecord)

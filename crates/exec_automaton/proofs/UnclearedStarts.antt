@@ -2,8 +2,8 @@
 use Rattle.std.proofs.Common.{◌≡◌, ◌≤◌, ◌+◌, ◌||◌, ◌++◌, ℕ, Bool, true, false, not, List, [], ◌∷◌, Option, length, IsTrue, ◌↔◌, sym, ◌∙◌, ap, inl, inr, refl, arith}
 use Rattle.std.proofs.lemmas.Bool.{and_parts, or_cases, and_from, or_left, or_right, not-true, not_from_false, false_from_ne_true, both_ways}
 use Rattle.bus_signals.specs.SeenRecord.{SeenRecord}
-use Rattle.part_definitions.specs.Flag.{starts_run, last_pc}
-use Rattle.exec_automaton.specs.RunFlag.{is_set}
+use Rattle.bus_signals.specs.ExecFlag.{starts_run, last_pc}
+use Rattle.bus_signals.specs.ExecFlag.{is_set}
 use Rattle.exec_automaton.specs.UnclearedStart.{Moment, UnclearedStart}
 use Rattle.exec_automaton.proofs.UnclearedRun.{uncleared_run-cons}
 

@@ -1,8 +1,7 @@
 -- The EXEC flag is a flag of a run.
 use Rattle.std.specs.Prelude.{◌≡◌, refl}
 use Rattle.bus_signals.specs.SeenRecord.{SeenHistory}
-use Rattle.part_definitions.specs.Flag.{exec, clears}
-use Rattle.exec_automaton.specs.RunFlag.{is_set}
+use Rattle.bus_signals.specs.ExecFlag.{exec, clears, is_set}
 
 pub exec-of_run : (records : SeenHistory) → exec records ≡ is_set clears records
 unfolding exec

@@ -1,4 +1,3 @@
-pub mod Flag
 pub mod ExecFlag
 pub mod RunFlag
 pub mod UnclearedStart

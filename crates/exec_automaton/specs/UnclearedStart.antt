@@ -2,7 +2,7 @@
 use Rattle.std.specs.Prelude.{◌≡◌, ◌≤◌, ◌++◌, Bool, List, ◌∷◌, Option, length, IsTrue}
 use Rattle.bus_signals.specs.SeenRecord.{SeenHistory, SeenRecord}
 use Rattle.bus_signals.specs.Address.{Address}
-use Rattle.part_definitions.specs.Flag.{starts_run, last_pc}
+use Rattle.bus_signals.specs.ExecFlag.{starts_run, last_pc}
 
 -- one of these records, the newest first: those after it, itself, and those before it
 pub record Moment (records : SeenHistory) : Type 0 where

@@ -6,8 +6,8 @@ pub trait Conditions: Copy {
     ghost use Rattle.bus_signals.specs.declared.bus_record.BusRecord.{BusRecord};
     ghost use Rattle.bus_signals.specs.Address.{Address};
     ghost use Rattle.bus_signals.specs.SeenRecord.{SeenHistory, SeenRecord};
-    ghost use Rattle.exec_automaton.specs.Flag.{IsRecordOf, is_quiet};
-    ghost use Rattle.exec_automaton.specs.RunFlag.{is_set};
+    ghost use Rattle.bus_signals.specs.TraceFlag.{IsRecordOf, is_quiet};
+    ghost use Rattle.bus_signals.specs.ExecFlag.{is_set};
 
     /// The flag, after the records seen.
     ghost flag: { SeenHistory → Bool };

@@ -1,4 +1,4 @@
-ghost use Rattle.part_definitions.specs.Flag.{exec, clears};
+ghost use Rattle.bus_signals.specs.ExecFlag.{exec, clears};
 
 use crate::clearing::clears;
 use crate::conditions::Conditions;

@@ -1,9 +1,9 @@
 //! The EXEC flag: a proof that the executable region ran from its first instruction on, whole and
 //! undisturbed, and that its output is what it left (APEX, USENIX Security 2020).
 //!
-//! A flag (`TraceFlag`) sees each record with the bounds as they stood before it. A flag of a run
-//! (`RunFlag`) is, after every list of records, set exactly where one of them starts a run and
-//! neither it nor a later one clears the flag. What clears it is the flag's own (`Conditions`).
+//! A flag of a run (`RunFlag`) is, after every list of records, each seen with the bounds as they
+//! stood before it, set exactly where one of them starts a run and neither it nor a later one
+//! clears the flag. What clears it is the flag's own (`Conditions`).
 #![tactic(auto)]
 
 mod clearing;
@@ -13,7 +13,6 @@ mod law;
 mod quiet;
 mod run_flag;
 mod start;
-mod trace_flag;
 
 pub use clearing::{clears_both, enters_region, has_write_to, runs_inside, writes_to};
 pub use conditions::Conditions;
@@ -22,4 +21,3 @@ pub use law::flag_is_set_by_an_uncleared_start;
 pub use quiet::is_quiet;
 pub use run_flag::RunFlag;
 pub use start::{fetches_first, starts_run};
-pub use trace_flag::{NoFlag, TraceFlag};

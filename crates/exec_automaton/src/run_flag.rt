@@ -3,8 +3,7 @@ ghost use Rattle.exec_automaton.specs.RunFlag.{RunFlagStandsFor, flag_of_run};
 
 use crate::conditions::Conditions;
 use crate::start::starts_run;
-use crate::trace_flag::TraceFlag;
-use bus_signals::{Bounds, BusRecord, Signals};
+use bus_signals::{Bounds, BusRecord, Signals, TraceFlag};
 use std::marker::PhantomData;
 
 /// A flag after the records seen, which a run sets and these conditions clear.

@@ -12,7 +12,7 @@ use Rattle.hex.proofs.HexLemmas.{decode_sized-ok, decode_sized-twice, decode_of-
 use Rattle.text_scan.specs.declared.fault_kind.FaultKind.{FaultKind}
 use Rattle.text_scan.specs.declared.fault_kind.FaultKind.TheVariants.{Digit, Count}
 use Rattle.text_scan.specs.Hexadecimal.{or_count, hex_bytes_of}
-use Rattle.hex_loader.specs.HexRecord.{record_of, record_or_fault}
+use Rattle.hex_loader.specs.HexRecord.{record_of_bytes, record_or_fault}
 
 -- bytes that are more than any record has
 too_many : (result : Result (List ℕ) FromHexError)
@@ -81,6 +81,6 @@ pub ok_read : (outcome : Result (List ℕ) FaultKind) (old new : List ℕ)
     (answer : Result Unit FaultKind) → answer ≡ Ok tt
     → MatchResult outcome (λ bytes. (answer ≡ Ok tt) × (new ≡ bytes))
     (λ fault. (answer ≡ Err fault) × (new ≡ old))
-    → record_or_fault outcome ≡ record_of new
+    → record_or_fault outcome ≡ record_of_bytes new
 ok_read (Ok bytes) old new answer is holds = rw holds.1 refl
 ok_read (Err fault) old new answer is holds = absurd cc

@@ -10,8 +10,8 @@ use Rattle.text_scan.specs.Hexadecimal.{hex_bytes_of}
 use Rattle.text_scan.proofs.HexBytes.{hex_bytes_of-ok}
 use Rattle.mem_map.specs.ByteAmong.{byte_among}
 use Rattle.text_scan.specs.Reader.{value_or_fault}
-use Rattle.hex_loader.specs.HexImage.{byte_placed, byte_after, base_after, hex_byte, hex_fault, image_of}
-use Rattle.hex_loader.specs.HexRecord.{Meaning, Places, Ends, SetsBase, Starts, with_count, record_of_type, record_of, record_or_fault, record_in, big_endian}
+use Rattle.hex_loader.specs.HexImage.{byte_placed, last_byte_placed, base_after, hex_byte, hex_fault, image_of}
+use Rattle.hex_loader.specs.HexRecord.{Meaning, Places, EndOfFile, SetsBase, Starts, with_count, record_of_type, record_of_bytes, record_or_fault, record_in, big_endian}
 
 no_bytes : IsBytes []
 no_bytes i = omega arith
@@ -45,8 +45,8 @@ of_type : (kind address : ℕ) (bytes : List ℕ) → IsBytes bytes
     → PlacesBytes (record_of_type kind address bytes)
 of_type kind address bytes are =
     either (kind == 0) (Ok (Places address bytes)) _ are
-    (either (kind == 1) (with_count 0 bytes Ends) _
-    (either (length bytes == 0) (Ok Ends) _ no_bytes no_bytes)
+    (either (kind == 1) (with_count 0 bytes EndOfFile) _
+    (either (length bytes == 0) (Ok EndOfFile) _ no_bytes no_bytes)
     (either (kind == 2) (with_count 2 bytes (SetsBase (big_endian bytes * 16))) _
     (either (length bytes == 2) (Ok (SetsBase (big_endian bytes * 16))) _ no_bytes no_bytes)
     (either ((kind == 3) || (kind == 5)) (with_count 4 bytes Starts) _
@@ -55,7 +55,7 @@ of_type kind address bytes are =
     (either (length bytes == 2) (Ok (SetsBase (big_endian bytes * 65536))) _ no_bytes no_bytes)
     no_bytes))))
 
-of_bytes : (bytes : List ℕ) → IsBytes bytes → PlacesBytes (record_of bytes)
+of_bytes : (bytes : List ℕ) → IsBytes bytes → PlacesBytes (record_of_bytes bytes)
 of_bytes bytes are =
     either (length bytes == slice_index bytes 0 + 5) _ _
     (either (sum bytes % 256 == 0) _ _
@@ -102,17 +102,18 @@ byte_placed-byte : (base : ℕ) (answer : Result Meaning FaultKind) (place : ℕ
     → IsByte (byte_placed base answer place)
 byte_placed-byte base (Ok (Places address bytes)) place are =
     byte_among-byte (base + address) bytes place are
-byte_placed-byte base (Ok Ends) place are = tt
+byte_placed-byte base (Ok EndOfFile) place are = tt
 byte_placed-byte base (Ok (SetsBase number)) place are = tt
 byte_placed-byte base (Ok Starts) place are = tt
 byte_placed-byte base (Err fault) place are = tt
 
-byte_after-byte : (lines : List (List ℕ)) (place : ℕ) → IsByte (byte_after lines place)
-byte_after-byte [] place = tt
-byte_after-byte (line ∷ earlier) place =
-    IsByte-or (byte_placed (base_after earlier) (record_in line) place) (byte_after earlier place)
+last_byte_placed-byte : (lines : List (List ℕ)) (place : ℕ) → IsByte (last_byte_placed lines place)
+last_byte_placed-byte [] place = tt
+last_byte_placed-byte (line ∷ earlier) place =
+    IsByte-or (byte_placed (base_after earlier) (record_in line) place)
+    (last_byte_placed earlier place)
     (byte_placed-byte (base_after earlier) (record_in line) place (of_line line))
-    (byte_after-byte earlier place)
+    (last_byte_placed-byte earlier place)
 
 unwrap_or-byte : (one : Option ℕ) → IsByte one → unwrap_or one 0 < 256
 unwrap_or-byte (Some byte) is_byte = is_byte
@@ -129,4 +130,4 @@ pub image_of-bytes : (text : List ℕ) (place : ℕ)
     → unwrap_or (result_unwrap_or (image_of text) (λ at. None) place) 0 < 256
 image_of-bytes text place =
     read_or_empty (hex_fault text) (hex_byte text) place
-    (byte_after-byte (reverse (lines text)))
+    (last_byte_placed-byte (reverse (lines text)))

@@ -8,14 +8,14 @@ use Rattle.std.proofs.lemmas.List.{append-nil}
 use mathlib.Core.List.{reverse_aux}
 use Rattle.hex.specs.Hex.{decode_pairs, encode_upper, IsBytes}
 use Rattle.part_definitions.specs.Memory.{is_image_place}
-use Rattle.hex_loader.specs.HexRecord.{Places, Ends, record_in}
+use Rattle.hex_loader.specs.HexRecord.{Places, EndOfFile, record_in}
 use Rattle.mem_map.specs.ByteAmong.{byte_among}
-use Rattle.hex_loader.specs.HexImage.{base_after, has_ended, byte_after, are_image_places, first_fault}
-use Rattle.hex_loader.specs.HexText.{is_record_start, record_bytes, line_of, line_at, lines_below, end_line, hex_text}
+use Rattle.hex_loader.specs.HexImage.{base_after, has_ended, last_byte_placed, are_image_places, first_fault}
+use Rattle.hex_loader.specs.HexText.{is_record_start, record_bytes, data_line, line_at, lines_below, end_line, hex_text}
 use Rattle.mem_map.specs.ImagePlace.{IsImage}
 use Rattle.hex_loader.specs.ReadBack.{IsReadBack}
 use Rattle.hex_loader.proofs.UpperDigits.{behind-encoded, behind-line, lines-behind}
-use Rattle.hex_loader.proofs.RecordRead.{record_line, written_bytes, record_in-line, record_of-written, IsBytes-written}
+use Rattle.hex_loader.proofs.RecordRead.{record_line, written_bytes, record_in-line, record_of_bytes-written, IsBytes-written}
 use Rattle.hex_loader.proofs.Runs.{run-sound, run-short, run-bytes, run-places, byte_among-some, is_covered}
 
 -- the line of the record that begins at a place, without its end
@@ -41,19 +41,20 @@ line_says : (image : ℕ → Option ℕ) → IsImage image → (place : ℕ) →
 line_says image is place below =
     record_in-line (written_bytes place (record_bytes image place))
     (fits_bytes image is place below)
-    ∙ record_of-written place (record_bytes image place)
+    ∙ record_of_bytes-written place (record_bytes image place)
 
 -- the lines of the text
 lines-line_at : (image : ℕ → Option ℕ) → IsImage image → (place : ℕ) → place < 65536
     → (begins : Bool) (rest : List ℕ) (before : List (List ℕ))
-    → reverse_aux before (lines (cond begins (line_of place (record_bytes image place)) [] ++ rest))
+    → reverse_aux before
+    (lines (cond begins (data_line place (record_bytes image place)) [] ++ rest))
     ≡ reverse_aux (cond begins (line_text image place ∷ before) before) (lines rest)
 lines-line_at image is place below false rest before = refl
 lines-line_at image is place below true rest before =
     let digits : List ℕ = encode_upper (written_bytes place (record_bytes image place)) in
     let behind = behind-line digits (behind-encoded (written_bytes place
     (record_bytes image place)) (fits_bytes image is place below)) in
-    let groups : line_of place (record_bytes image place) ++ rest
+    let groups : data_line place (record_bytes image place) ++ rest
     ≡ line_text image place ++ (10 ∷ rest) =
     append_assoc (line_text image place) (10 ∷ []) rest in
     ap (λ (text : List ℕ). reverse_aux before (lines text)) groups
@@ -80,7 +81,7 @@ record IsPlain (image : ℕ → Option ℕ) (lines : List (List ℕ)) : Type 0 w
   base : base_after lines ≡ 0
   unended : has_ended lines ≡ false
   sound : first_fault lines ≡ None
-  bytes : (place byte : ℕ) → byte_after lines place ≡ Some byte → image place ≡ Some byte
+  bytes : (place byte : ℕ) → last_byte_placed lines place ≡ Some byte → image place ≡ Some byte
 
 either_some : (one two : Option ℕ) (byte : ℕ) → option_or one two ≡ Some byte
     → (one ≡ Some byte) ⊎ (two ≡ Some byte)
@@ -97,7 +98,7 @@ plain-cons image first rest place bytes before says places has plain = record {
   unended = rw (says, plain.unended) refl;
   sound = rw (plain.sound, plain.unended, says, plain.base, zero-add, places) refl;
   bytes = λ other byte finds.
-      elim (either_some (byte_among place bytes other) (byte_after before other) byte
+      elim (either_some (byte_among place bytes other) (last_byte_placed before other) byte
       (rw (says, plain.base, zero-add) at finds)) [
         | inl here ↦ has other byte here
         | inr there ↦ plain.bytes other byte there
@@ -140,17 +141,17 @@ some_second (Some byte) two h = refl
 covers-line : (image : ℕ → Option ℕ) → IsImage image → (place : ℕ) → place < 65536
     → (before : List (List ℕ)) → IsPlain image before
     → (other : ℕ) → place ≤ other → other < place + length (record_bytes image place)
-    → IsSome (byte_after (line_text image place ∷ before) other)
+    → IsSome (last_byte_placed (line_text image place ∷ before) other)
 covers-line image is place below before plain other from to =
     let bytes : List ℕ = record_bytes image place in
     rw (line_says image is place below, plain.base, zero-add)
-    (some_first (byte_among place bytes other) (byte_after before other)
+    (some_first (byte_among place bytes other) (last_byte_placed before other)
     (byte_among-some place bytes other from to))
 
 covers : (image : ℕ → Option ℕ) → IsImage image → (count : ℕ) → count ≤ 65536 → (first other : ℕ)
     → first < count → is_record_start image first ≡ true
     → first ≤ other → other < first + length (record_bytes image first)
-    → IsSome (byte_after (record_lines image count) other)
+    → IsSome (last_byte_placed (record_lines image count) other)
 unfolding record_lines
 covers image is zero within first other below begins from to = absurd (omega (arith, below))
 covers image is (suc count) within first other below begins from to =
@@ -160,8 +161,8 @@ covers image is (suc count) within first other below begins from to =
           let has = covers image is count (omega (arith, within)) first other earlier begins from
           to in
           elim (is_record_start image count) as (λ b. IsSome
-          (byte_after (cond b (line_text image count ∷ before) before) other)) [
-            | true ↦ some_second _ (byte_after before other) has
+          (last_byte_placed (cond b (line_text image count ∷ before) before) other)) [
+            | true ↦ some_second _ (last_byte_placed before other) has
             | false ↦ has
           ]
       | inr last ↦
@@ -172,7 +173,7 @@ covers image is (suc count) within first other below begins from to =
           (omega (arith, same, from)) (rw (← same) to))
     ]
 
-end_says : record_in (codes ":00000001FF") ≡ Ok Ends
+end_says : record_in (codes ":00000001FF") ≡ Ok EndOfFile
 unfolding decode_pairs
 end_says = refl
 
@@ -213,7 +214,8 @@ read_back image is =
     let all = end-text image is in (
       rw (all, plain.sound, plain.unended, end_says) refl,
       λ place. rw (all, end_says)
-          (same_byte (image place) (byte_after (record_lines image 65536) place) (plain.bytes place)
+          (same_byte (image place) (last_byte_placed (record_lines image 65536) place)
+          (plain.bytes place)
           (λ byte has.
           let cover = is_covered image place byte has in
           let small = place_small place (is place byte has).0 in

@@ -8,7 +8,7 @@ use Rattle.hex.proofs.HexLemmas.{decode_sized-twice, decode_of-encode_upper, len
 use Rattle.text_scan.specs.declared.fault_kind.FaultKind.{FaultKind}
 use Rattle.text_scan.specs.declared.fault_kind.FaultKind.TheVariants.{Count, Check}
 use Rattle.text_scan.specs.Hexadecimal.{hex_bytes_of}
-use Rattle.hex_loader.specs.HexRecord.{Meaning, Places, record_in, record_of, record_of_type, record_or_fault, big_endian}
+use Rattle.hex_loader.specs.HexRecord.{Meaning, Places, record_in, record_of_bytes, record_of_type, record_or_fault, big_endian}
 use Rattle.hex_loader.specs.HexText.{check_of, data_record}
 use Rattle.hex_loader.proofs.UpperDigits.{hexdigits-encoded}
 
@@ -17,7 +17,7 @@ abbrev pub record_line : List ℕ → List ℕ
 record_line bytes = 58 ∷ encode_upper bytes
 
 pub record_in-line : (bytes : List ℕ) → IsBytes bytes
-    → record_in (record_line bytes) ≡ record_of bytes
+    → record_in (record_line bytes) ≡ record_of_bytes bytes
 record_in-line bytes fits =
     let digits : List ℕ = encode_upper bytes in
     let twice : length digits ≡ 2 * length bytes = length-encode_with upper_digits bytes in
@@ -38,9 +38,9 @@ passes : (counts sums : Bool) (answer : Result Meaning FaultKind) → counts ≡
     → cond counts (cond sums answer (Err Check)) (Err Count) ≡ answer
 passes counts sums answer x y = rw (x, y) refl
 
-pub record_of-written : (address : ℕ) (bytes : List ℕ)
-    → record_of (written_bytes address bytes) ≡ Ok (Places address bytes)
-record_of-written address bytes =
+pub record_of_bytes-written : (address : ℕ) (bytes : List ℕ)
+    → record_of_bytes (written_bytes address bytes) ≡ Ok (Places address bytes)
+record_of_bytes-written address bytes =
     let check : ℕ = check_of (data_record address bytes) in
     let all : List ℕ = written_bytes address bytes in
     let counts = eq-eqb (length all) (length bytes + 5)

@@ -8,7 +8,7 @@ use Rattle.text_scan.specs.declared.fault_kind.FaultKind.TheVariants.{AfterEnd, 
 use Rattle.text_scan.specs.Reader.{value_or_fault}
 use Rattle.part_definitions.specs.Memory.{is_image_place}
 use Rattle.mem_map.specs.ByteAmong.{byte_among}
-use Rattle.hex_loader.specs.HexRecord.{Meaning, Places, Ends, SetsBase, record_in}
+use Rattle.hex_loader.specs.HexRecord.{Meaning, Places, EndOfFile, SetsBase, record_in}
 
 -- the base that a record sets
 abbrev pub base_of : Result Meaning FaultKind → Option ℕ
@@ -17,7 +17,7 @@ base_of _ = None
 
 -- it is the end record
 abbrev pub is_end : Result Meaning FaultKind → Bool
-is_end (Ok Ends) = true
+is_end (Ok EndOfFile) = true
 is_end _ = false
 
 -- the base is what the last record that sets one says, and 0 at first
@@ -41,10 +41,11 @@ byte_placed base (Ok (Places address bytes)) place = byte_among (base + address)
 byte_placed base _ place = None
 
 -- the byte at a place is the one that was last placed there
-abbrev pub byte_after : List (List ℕ) → ℕ → Option ℕ
-byte_after [] place = None
-byte_after (line ∷ earlier) place =
-    option_or (byte_placed (base_after earlier) (record_in line) place) (byte_after earlier place)
+abbrev pub last_byte_placed : List (List ℕ) → ℕ → Option ℕ
+last_byte_placed [] place = None
+last_byte_placed (line ∷ earlier) place =
+    option_or (byte_placed (base_after earlier) (record_in line) place)
+    (last_byte_placed earlier place)
 
 -- the fault of a record, over this base
 abbrev pub record_fault : ℕ → Result Meaning FaultKind → Option FaultKind
@@ -61,15 +62,15 @@ line_fault earlier (first ∷ rest) =
     else record_fault (base_after earlier) (record_in (first ∷ rest))
 
 -- a fault with its line
-abbrev pub in_line : ℕ → Option FaultKind → Option FaultAt
-in_line line (Some kind) = Some (record { line = line; kind = kind })
-in_line line None = None
+abbrev pub fault_with_line : ℕ → Option FaultKind → Option FaultAt
+fault_with_line line (Some kind) = Some (record { line = line; kind = kind })
+fault_with_line line None = None
 
 -- the fault of the first line that has one
 abbrev pub first_fault : List (List ℕ) → Option FaultAt
 first_fault [] = None
 first_fault (line ∷ earlier) =
-    option_or (first_fault earlier) (in_line (length earlier + 1) (line_fault earlier line))
+    option_or (first_fault earlier) (fault_with_line (length earlier + 1) (line_fault earlier line))
 
 -- where no line has a fault there has to be an end record
 abbrev pub end_fault : List (List ℕ) → Option FaultAt
@@ -82,7 +83,7 @@ hex_fault text = option_or (first_fault (reverse (lines text))) (end_fault (reve
 
 -- the byte of its image at a place
 abbrev pub hex_byte : List ℕ → ℕ → Option ℕ
-hex_byte text = byte_after (reverse (lines text))
+hex_byte text = last_byte_placed (reverse (lines text))
 
 -- its bytes by their places, or its first fault
 abbrev pub image_of : List ℕ → Result (ℕ → Option ℕ) FaultAt

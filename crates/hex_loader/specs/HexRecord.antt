@@ -10,7 +10,7 @@ use Rattle.hex_loader.specs.declared.hex_record.HexRecord.TheVariants as variant
 -- passed over
 pub data Meaning : Type 0 where
   Places : ℕ → List ℕ → Meaning
-  Ends : Meaning
+  EndOfFile : Meaning
   SetsBase : ℕ → Meaning
   Starts : Meaning
 
@@ -26,15 +26,15 @@ with_count count bytes meaning = if length bytes == count then Ok meaning else E
 abbrev pub record_of_type : ℕ → ℕ → List ℕ → Result Meaning FaultKind
 record_of_type kind address bytes =
     if kind == 0 then Ok (Places address bytes)
-    else if kind == 1 then with_count 0 bytes Ends
+    else if kind == 1 then with_count 0 bytes EndOfFile
     else if kind == 2 then with_count 2 bytes (SetsBase (big_endian bytes * 16))
     else if (kind == 3) || (kind == 5) then with_count 4 bytes Starts
     else if kind == 4 then with_count 2 bytes (SetsBase (big_endian bytes * 65536))
     else Err RecordType
 
 -- the record of these bytes: count, address, type, as many data bytes as the count says, and check
-abbrev pub record_of : List ℕ → Result Meaning FaultKind
-record_of bytes =
+abbrev pub record_of_bytes : List ℕ → Result Meaning FaultKind
+record_of_bytes bytes =
     if length bytes == slice_index bytes 0 + 5
     then (if sum bytes % 256 == 0
     then record_of_type (slice_index bytes 3) (big_endian (drop 1 bytes))
@@ -44,7 +44,7 @@ record_of bytes =
 
 -- what the bytes are, or why there are none
 abbrev pub record_or_fault : Result (List ℕ) FaultKind → Result Meaning FaultKind
-record_or_fault (Ok bytes) = record_of bytes
+record_or_fault (Ok bytes) = record_of_bytes bytes
 record_or_fault (Err kind) = Err kind
 
 -- the record of a line: a colon (58), and the digits of its bytes
@@ -56,7 +56,7 @@ record_in (first ∷ digits) =
 -- a record of the program, seen as what it says
 abbrev pub meaning : HexRecord → Meaning
 meaning (variants.Data address bytes) = Places address bytes.now
-meaning variants.End = Ends
+meaning variants.End = EndOfFile
 meaning (variants.Base base) = SetsBase base
 meaning variants.Start = Starts
 

@@ -11,8 +11,8 @@ abbrev pub data_record : ℕ → List ℕ → List ℕ
 data_record address bytes = length bytes ∷ address / 256 ∷ address % 256 ∷ 0 ∷ bytes
 
 -- the line of a record, ended by LF
-abbrev pub line_of : ℕ → List ℕ → List ℕ
-line_of address bytes =
+abbrev pub data_line : ℕ → List ℕ → List ℕ
+data_line address bytes =
     let bytes_before = data_record address bytes in
     codes ":" ++ encode_upper (bytes_before ++ check_of bytes_before ∷ []) ++ 10 ∷ []
 
@@ -37,7 +37,7 @@ record_bytes image place = run image place (16 - place % 16)
 -- the line of the record that begins at a place, where one does
 abbrev pub line_at : (ℕ → Option ℕ) → ℕ → List ℕ
 line_at image place =
-    if is_record_start image place then line_of place (record_bytes image place) else []
+    if is_record_start image place then data_line place (record_bytes image place) else []
 
 -- the lines of the records that begin below a place, in ascending order
 unfoldable pub lines_below : (ℕ → Option ℕ) → ℕ → List ℕ

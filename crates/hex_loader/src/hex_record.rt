@@ -1,6 +1,6 @@
 ghost use Rattle.std.specs.Prelude.{◌≡◌, ◌*◌, ◌/◌, ◌%◌, length, sum};
 ghost use Rattle.text_scan.specs.Hexadecimal.{hex_bytes_of};
-ghost use Rattle.hex_loader.specs.HexRecord.{record_of_type, record_of, record_or_fault, record_in, GivesRecord};
+ghost use Rattle.hex_loader.specs.HexRecord.{record_of_type, record_of_bytes, record_or_fault, record_in, GivesRecord};
 
 use text_scan::{FaultKind, hex_bytes};
 
@@ -21,8 +21,8 @@ pub enum HexRecord<'a> {
 }
 
 /// The record that these bytes are: count, address, type, data and check.
-pub fn record_of(bytes: &[u8]) -> Result<HexRecord<'_>, FaultKind>
-    ensures { GivesRecord result (record_of bytes.now) }
+pub fn record_of_bytes(bytes: &[u8]) -> Result<HexRecord<'_>, FaultKind>
+    ensures { GivesRecord result (record_of_bytes bytes.now) }
 {
     let [count, high, low, kind, data @ .., _] = bytes else {
         return Err(FaultKind::Count);
@@ -74,7 +74,7 @@ pub fn record_of_digits<'a>(
 {
     let bytes = &mut room[..(digits.len() / 2).min(MOST_BYTES)];
     hex_bytes(digits, bytes)?;
-    record_of(bytes)
+    record_of_bytes(bytes)
 }
 
 /// The record of a line.

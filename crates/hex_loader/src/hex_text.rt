@@ -9,7 +9,7 @@ ghost use Rattle.hex_loader.specs.MemoryImage.{image_of};
 
 use crate::law::reads_back;
 use crate::places::{Places, is_record_start, record_bytes};
-use crate::record_line::line_of;
+use crate::record_line::data_line;
 use mem_map::{Image, Memory};
 use outside_edge::{Failed, Sink, put_all};
 
@@ -58,5 +58,5 @@ fn write_line_at<P: Places, W: Sink>(bytes: &P, place: u16, sink: &mut W) -> Res
     if !is_record_start(bytes, place) {
         return Ok(());
     }
-    put_all(sink, &line_of(place, &record_bytes(bytes, place)))
+    put_all(sink, &data_line(place, &record_bytes(bytes, place)))
 }

@@ -1,6 +1,6 @@
 ghost use Rattle.std.specs.Prelude.{◌≡◌, ◌<◌, ◌≤◌, ◌++◌, ◌∷◌, [], length, slice_index, codes};
 ghost use Rattle.hex.specs.Hex.{upper_digits, encode_upper};
-ghost use Rattle.hex_loader.specs.HexText.{data_record, line_of};
+ghost use Rattle.hex_loader.specs.HexText.{data_record, data_line};
 
 use crate::hex_record::sum_of;
 use arrayvec::ArrayVec;
@@ -15,9 +15,9 @@ const MOST_BYTES: usize = 21;
 pub const MOST_CHARACTERS: usize = 44;
 
 /// The line of a record of type 00.
-pub fn line_of(address: u16, bytes: &[u8]) -> ArrayVec<u8, MOST_CHARACTERS>
+pub fn data_line(address: u16, bytes: &[u8]) -> ArrayVec<u8, MOST_CHARACTERS>
     requires { length bytes.now ≤ 16 }
-    ensures { result.items ≡ line_of address bytes.now }
+    ensures { result.items ≡ data_line address bytes.now }
 {
     let mut record = data_record(address, bytes);
     let check = 0u8.wrapping_sub(sum_of(&record));

@@ -14,6 +14,5 @@ pub fn request_token<D: Digest32>(key: &[u8], challenge: &[u8], counter: &[u8]) 
     hash.update(&[1]);
     hash.update(challenge);
     hash.update(counter);
-    let (inner, outer) = hash.inner();
-    outer.finish(&inner)
+    hash.finish()
 }

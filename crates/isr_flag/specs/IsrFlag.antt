@@ -2,7 +2,7 @@
 use Rattle.std.specs.Prelude.{◌≡◌, refl}
 use Rattle.bus_signals.specs.SeenRecord.{SeenHistory}
 use Rattle.part_definitions.specs.TrustedFlag.{aux, clears_aux}
-use Rattle.exec_automaton.specs.RunFlag.{is_set}
+use Rattle.bus_signals.specs.ExecFlag.{is_set}
 
 pub aux-of_run : (records : SeenHistory) → aux records ≡ is_set clears_aux records
 unfolding aux

@@ -1,9 +1,9 @@
 ghost use Rattle.std.specs.Prelude.{◌≡◌, true, false, is_none};
 ghost use Rattle.bus_signals.specs.declared.bounds.Bounds.{Bounds as SeenBounds};
-ghost use Rattle.exec_automaton.specs.Flag.{IsRecordOf};
+ghost use Rattle.bus_signals.specs.TraceFlag.{IsRecordOf};
 ghost use Rattle.part_definitions.specs.TrustedFlag.{reads_vector, handler_read, enters_elsewhere, clears_f3, clears_f4, clears_f10, clears_aux};
 
-use bus_signals::{Access, Bounds, BusRecord, Kind, Region, Signals, VECTORS};
+use bus_signals::{Access, Bounds, BusRecord, Kind, Region, Signals, VECTORS, even};
 use exec_automaton::{
     clears_both, enters_region, fetches_first, has_write_to, runs_inside, writes_to,
 };
@@ -84,5 +84,5 @@ fn reads_vector(entry: &BusRecord) -> bool
 fn handler_read(entry: &BusRecord) -> u16
     ensures { result ≡ handler_read entry.now }
 {
-    entry.value / 2 * 2
+    even(entry.value)
 }

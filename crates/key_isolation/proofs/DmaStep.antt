@@ -6,11 +6,10 @@ use Rattle.bus_signals.specs.Access.{IsFormed}
 use Rattle.bus_signals.specs.declared.access.Access.{Access}
 use Rattle.bus_signals.specs.declared.access.Access.TheVariants.{Fetch, Read, Write}
 use Rattle.bus_signals.specs.Map.{touches, some_touches, key_region, stack_region}
-use Rattle.part_definitions.specs.Memory.{MemoryWrite, ShownFlags, byte_at, with_access}
+use Rattle.part_definitions.specs.Memory.{MemoryWrite, ShownFlags, byte_at, with_access, memory_read}
 use Rattle.device_trace.specs.Blank.{touches_secrets, SameOutside, blank_access, blank_value}
 use Rattle.device_trace.specs.Logs.{Logs, flags_of}
 use Rattle.device_trace.specs.Start.{Start}
-use Rattle.device_trace.specs.Step.{memory_read}
 use Rattle.key_isolation.proofs.Bytes.{hide_write, keyless, byte_at-hide, zero_either}
 use Rattle.key_isolation.proofs.Hiding.{open_start, hide, flags_of-hide}
 use Rattle.key_isolation.proofs.Numbers.{number_at-outside}

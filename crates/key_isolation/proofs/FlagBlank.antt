@@ -3,9 +3,10 @@ use Rattle.std.proofs.Common.{arith, ◌≡◌, ℕ, Bool, true, false, List, []
 use Rattle.std.specs.Prelude.{if◌then◌else◌}
 use Rattle.std.proofs.lemmas.Bool.Decides.{nat_tests}
 use Rattle.bus_signals.specs.declared.access.Access.{Access}
+use Rattle.bus_signals.specs.declared.bus_record.BusRecord.{BusRecord}
 use Rattle.bus_signals.specs.SeenRecord.{SeenRecord}
-use Rattle.part_definitions.specs.Flag.{clears, starts_run, exec}
-use Rattle.device_trace.specs.Blank.{blank_access, blank_value, blank_seen}
+use Rattle.bus_signals.specs.ExecFlag.{clears, starts_run, exec}
+use Rattle.device_trace.specs.Blank.{blank_access, blank_record, blank_seen, blank_value}
 use Rattle.device_trace.specs.Logs.{goes_on_in_call, records_until_call}
 use Rattle.key_isolation.proofs.SameFlag.{exec-same}
 use Rattle.trace_facts.proofs.BlankRecords.{last_pc-blank}
@@ -44,23 +45,24 @@ pub blank_value-twice : (access : Option Access) (value : ℕ)
     → blank_value (blank_access access) (blank_value access value) ≡ blank_value access value
 blank_value-twice access value = grind (arith, nat_tests)
 
+pub blank_record-twice : (entry : BusRecord)
+    → blank_record (blank_record entry) ≡ blank_record entry
+blank_record-twice entry =
+    λ i. record {
+      kind = entry.kind;
+      pc = entry.pc;
+      regs = entry.regs;
+      cpu = blank_access-twice entry.cpu i;
+      value = blank_value-twice entry.cpu entry.value i;
+      dma = blank_access-twice entry.dma i;
+      dma_value = blank_value-twice entry.dma entry.dma_value i;
+      irq = entry.irq;
+      reset = entry.reset;
+    }
+
 blank_seen-twice : (now : SeenRecord) → blank_seen (blank_seen now) ≡ blank_seen now
 blank_seen-twice now =
-    λ i. record {
-      entry =
-          record {
-            kind = now.entry.kind;
-            pc = now.entry.pc;
-            regs = now.entry.regs;
-            cpu = blank_access-twice now.entry.cpu i;
-            value = blank_value-twice now.entry.cpu now.entry.value i;
-            dma = blank_access-twice now.entry.dma i;
-            dma_value = blank_value-twice now.entry.dma now.entry.dma_value i;
-            irq = now.entry.irq;
-            reset = now.entry.reset;
-          };
-      bounds = now.bounds;
-    }
+    λ i. record { entry = blank_record-twice now.entry i; bounds = now.bounds }
 
 blanked-twice : (records : List SeenRecord)
     → map blank_seen (map blank_seen records) ≡ map blank_seen records

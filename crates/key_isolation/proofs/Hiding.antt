@@ -8,7 +8,7 @@ use Rattle.part_definitions.specs.CpuRegister.{allows_interrupts}
 use Rattle.part_definitions.specs.Interrupt.{first_vector}
 use Rattle.part_definitions.specs.Memory.{ShownFlags, byte_at}
 use Rattle.device_trace.specs.Blank.{is_secret, blank_record, blank_seen}
-use Rattle.device_trace.specs.Logs.{Logs, flags_of, logged_byte, logged_bounds, vector_of, step_progress, vector_taken, finishes_call, decision_in, decision_after}
+use Rattle.device_trace.specs.Logs.{Logs, flags_of, logged_byte, logged_bounds, vector_of, step_progress, vector_taken, finishes_call, call_decision, decision_after}
 use Rattle.device_trace.specs.Peripherals.{requests}
 use Rattle.device_trace.specs.Progress.{Progress, Held, Runs, InCall, last_registers, next_pc_of, kind_of, progress_from_boundary, progress_within, tells_irq, fetches_opcode}
 use Rattle.device_trace.specs.Signals.{step_kind}
@@ -75,11 +75,11 @@ progress_within-hide : (progress : Progress) (kind : Kind) (vector : Option ℕ)
 progress_within-hide progress kind vector = grind (arith, from_boundary-hide)
 
 -- the decision of a call is no secret
-decision_in-hide : (progress : Progress)
-    → decision_in (hide_progress progress) ≡ decision_in progress
-decision_in-hide Held = refl
-decision_in-hide (Runs cpu) = refl
-decision_in-hide (InCall regs words) = ap (λ (n : ℕ). Some n) (decision_read-hide words)
+call_decision-hide : (progress : Progress)
+    → call_decision (hide_progress progress) ≡ call_decision progress
+call_decision-hide Held = refl
+call_decision-hide (Runs cpu) = refl
+call_decision-hide (InCall regs words) = ap (λ (n : ℕ). Some n) (decision_read-hide words)
 
 -- readers of the logs
 pub vector_of-hide : (logs : Logs) → vector_of (hide logs) ≡ vector_of logs
@@ -131,5 +131,5 @@ pub decision_after-hide : (logs : Logs) (entry : BusRecord)
     ≡ decision_after (step_progress logs entry.kind) entry
 decision_after-hide logs entry =
     ap (λ (decision : Option ℕ). if finishes_call entry then decision else None)
-    (ap decision_in (step_progress-hide logs entry.kind)
-    ∙ decision_in-hide (step_progress logs entry.kind))
+    (ap call_decision (step_progress-hide logs entry.kind)
+    ∙ call_decision-hide (step_progress logs entry.kind))

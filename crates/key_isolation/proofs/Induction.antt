@@ -2,6 +2,7 @@
 use Rattle.std.proofs.Common.{◌≡◌, ℕ, List, [], ◌∷◌, ◌++◌, refl, ap, sym, ◌∙◌, append_assoc}
 use Rattle.bus_signals.specs.declared.bus_record.BusRecord.{BusRecord}
 use Rattle.bus_signals.specs.declared.event.Event.{Event}
+use Rattle.device_trace.specs.Play.{Play}
 use Rattle.device_trace.specs.Blank.{blank}
 use Rattle.device_trace.specs.Logs.{Logs, with_events, with_record}
 use Rattle.device_trace.specs.Start.{Start}
@@ -12,7 +13,7 @@ use Rattle.key_isolation.proofs.Hiding.{open_start, hide}
 use Rattle.key_isolation.proofs.LogsBlank.{step_hides}
 use Rattle.key_isolation.proofs.Projections.{released_words_after-more}
 
-pub record PlayHides (start : Start) (free : List ℕ) (play : List (List Event)) : Type 0 where
+pub record PlayHides (start : Start) (free : List ℕ) (play : Play) : Type 0 where
   pub history : blank (trace start play) ≡ trace (open_start free start) play
   pub logs : hide (logs_after start play) ≡ logs_after (open_start free start) play
 
@@ -36,7 +37,7 @@ releases_before start free more logs events split =
           ∙ append_assoc logs.released_words adds.0 more),
     )
 
-pub play_hides : (start : Start) (free : List ℕ) (play : List (List Event)) (more : List ℕ)
+pub play_hides : (start : Start) (free : List ℕ) (play : Play) (more : List ℕ)
     → free ≡ (logs_after start play).released_words ++ more → PlayHides start free play
 unfolding trace logs_after
 play_hides start free [] more split = record { history = refl; logs = refl }

@@ -18,3 +18,5 @@ pub mod Induction
 pub mod TextBlank
 pub mod TwoKeys
 pub mod OpenRecords
+pub mod Sha256Computed
+pub mod CallDigests

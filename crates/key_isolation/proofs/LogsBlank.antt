@@ -5,11 +5,11 @@ use Rattle.bus_signals.specs.declared.bus_record.BusRecord.{BusRecord}
 use Rattle.bus_signals.specs.declared.event.Event.{Event}
 use Rattle.bus_signals.specs.declared.rule.Rule.{Rule}
 use Rattle.part_definitions.specs.FirstRule.{first_rule}
-use Rattle.part_definitions.specs.Flag.{last_pc}
+use Rattle.bus_signals.specs.ExecFlag.{last_pc}
 use Rattle.device_trace.specs.Blank.{blank_access, blank_value, blank_record, blank_seen}
 use Rattle.device_trace.specs.AccessesAreFormed.{AccessesAreFormed}
-use Rattle.device_trace.specs.Logs.{Logs, vector_of, step_progress, vector_taken, progress_after, released_words_after, with_events, with_record}
-use Rattle.device_trace.specs.Peripherals.{timer_after}
+use Rattle.device_trace.specs.Logs.{Logs, vector_of, step_progress, vector_taken, peripherals_after, progress_after, released_words_after, with_events, with_record}
+use Rattle.device_trace.specs.Peripherals.{Peripherals, with_step}
 use Rattle.device_trace.specs.Progress.{Progress, last_registers, next_progress}
 use Rattle.device_trace.specs.Signals.{value_read, step_kind, proposed_access, signals_at, signals_of}
 use Rattle.device_trace.specs.Start.{Start}
@@ -20,7 +20,7 @@ use Rattle.trace_facts.proofs.Sound.{IsSound}
 use Rattle.trace_facts.proofs.SoundPlay.{with_events-sound}
 use Rattle.key_isolation.proofs.Hiding.{open_start, hide_progress, hide, vector_of-hide, step_progress-hide, vector_taken-hide, logged_bounds-hide, decision_after-hide}
 use Rattle.key_isolation.proofs.WrittenBytes.{memory_after-hide}
-use Rattle.key_isolation.proofs.Projections.{timer_after-blank, serial_after-blank, dma_after-blank, released_words_after-blank}
+use Rattle.key_isolation.proofs.Projections.{with_step-blank, released_words_after-blank}
 use Rattle.key_isolation.proofs.RecordBlank.{SameWithoutRule, unrefused_same, record_of-hide}
 
 -- what the logs need of a record
@@ -34,23 +34,20 @@ pub record FollowsBlank (logs : Logs) (entry : BusRecord) : Type 0 where
       (progress_after entry.reset entry.kind
       (step_progress logs entry.kind) entry.cpu entry.value)
 
-timer-hide : (logs : Logs) (entry : BusRecord)
-    → timer_after entry.reset
-    (vector_taken (hide_progress logs.progress) entry.kind (vector_of (hide logs)))
-    (blank_access entry.cpu) logs.peripherals.timer
-    ≡ timer_after entry.reset
-    (vector_taken logs.progress entry.kind (vector_of logs)) entry.cpu logs.peripherals.timer
-timer-hide logs entry =
-    ap
-    (λ (vector : Option ℕ). timer_after entry.reset
-    (vector_taken (hide_progress logs.progress) entry.kind vector)
-    (blank_access entry.cpu) logs.peripherals.timer)
+peripherals-hide : (logs : Logs) (entry : BusRecord)
+    → (entry.reset ≡ None → blank_value entry.dma entry.dma_value ≡ entry.dma_value)
+    → peripherals_after (hide logs) (blank_record entry) ≡ peripherals_after logs entry
+peripherals-hide logs entry dma_kept =
+    let blanked : Option ℕ → Peripherals =
+    λ acceptance. with_step entry.reset acceptance (blank_access entry.cpu)
+    (blank_access entry.dma) (blank_value entry.dma entry.dma_value) logs.peripherals in
+    ap (λ (vector : Option ℕ). blanked
+    (vector_taken (hide_progress logs.progress) entry.kind vector))
     (vector_of-hide logs)
-    ∙ (ap (λ (acceptance : Option ℕ). timer_after entry.reset acceptance
-    (blank_access entry.cpu) logs.peripherals.timer)
-    (vector_taken-hide logs.progress entry.kind (vector_of logs))
-    ∙ timer_after-blank entry.reset
-    (vector_taken logs.progress entry.kind (vector_of logs)) entry.cpu logs.peripherals.timer)
+    ∙ (ap blanked (vector_taken-hide logs.progress entry.kind (vector_of logs))
+    ∙ with_step-blank entry.reset (vector_taken logs.progress entry.kind (vector_of logs))
+    entry.cpu entry.dma entry.dma_value (blank_value entry.dma entry.dma_value) logs.peripherals
+    dma_kept)
 
 with_record-blank : (start : Start) (free : List ℕ) (logs : Logs) (entry : BusRecord)
     → AccessesAreFormed entry → FollowsBlank logs entry
@@ -62,16 +59,7 @@ with_record-blank start free logs entry forms follows =
       progress = follows.progress i;
       memory =
           memory_after-hide entry.reset entry.cpu entry.dma logs.memory forms.cpu forms.dma i;
-      peripherals =
-          record {
-            timer = timer-hide logs entry i;
-            serial = serial_after-blank entry.reset entry.cpu logs.peripherals.serial i;
-            dma =
-                dma_after-blank entry.reset entry.cpu entry.dma entry.dma_value
-                (blank_value entry.dma entry.dma_value)
-                logs.peripherals.dma follows.dma_kept i;
-            pins = logs.peripherals.pins;
-          };
+      peripherals = peripherals-hide logs entry follows.dma_kept i;
       records =
           record { entry = blank_record entry; bounds = logged_bounds-hide start free logs i }
           ∷ map blank_seen logs.records;

@@ -11,44 +11,20 @@ use Rattle.bus_signals.specs.declared.kind.Kind.{Kind}
 use Rattle.bus_signals.specs.declared.kind.Kind.TheVariants.{Boot, Cpu, Idle, Irq, Rom}
 use Rattle.bus_signals.specs.declared.rule.Rule.{Rule}
 use Rattle.bus_signals.specs.Map.{lies_in, touches, stack_region, mac_region}
-use Rattle.part_definitions.specs.Dma.{DmaEvent}
-use Rattle.part_definitions.specs.Serial.{SerialEvent, byte_sent}
-use Rattle.part_definitions.specs.Timer.{TimerEvent}
+use Rattle.part_definitions.specs.Serial.{byte_sent}
 use Rattle.device_trace.specs.Blank.{blank_access}
 use Rattle.device_trace.specs.Logs.{with_released_word, released_words_after}
-use Rattle.device_trace.specs.Peripherals.{with_timer_access, timer_after, serial_after, with_dma_access, with_dma_value, dma_after}
+use Rattle.device_trace.specs.Peripherals.{Peripherals, with_step}
 use Rattle.device_trace.specs.Text.{byte_sent_by}
 
-with_timer_access-blank : (access : Option Access) (events : List TimerEvent)
-    → with_timer_access (blank_access access) events ≡ with_timer_access access events
-with_timer_access-blank access events = grind (arith, nat_tests)
-
-pub timer_after-blank : (rule : Option Rule) (acceptance : Option ℕ) (access : Option Access)
-    (events : List TimerEvent)
-    → timer_after rule acceptance (blank_access access) events
-    ≡ timer_after rule acceptance access events
-timer_after-blank rule acceptance access events = grind (arith, with_timer_access-blank)
-
-pub serial_after-blank : (rule : Option Rule) (access : Option Access) (events : List SerialEvent)
-    → serial_after rule (blank_access access) events ≡ serial_after rule access events
-serial_after-blank rule access events = grind (arith, nat_tests)
-
-with_dma_access-blank : (access : Option Access) (events : List DmaEvent)
-    → with_dma_access (blank_access access) events ≡ with_dma_access access events
-with_dma_access-blank access events = grind (arith, nat_tests)
-
-with_dma_value-blank : (access : Option Access) (value : ℕ) (events : List DmaEvent)
-    → with_dma_value (blank_access access) value events ≡ with_dma_value access value events
-with_dma_value-blank access value events = grind arith
-
--- where the value that the engine takes is no secret
-pub dma_after-blank : (rule : Option Rule) (cpu dma : Option Access) (value value' : ℕ)
-    (events : List DmaEvent)
+-- what a peripheral takes of a step lies outside the secrets, where the value that the DMA engine
+-- takes does
+pub with_step-blank : (rule : Option Rule) (acceptance : Option ℕ) (cpu dma : Option Access)
+    (value value' : ℕ) (parts : Peripherals)
     → (rule ≡ None → value' ≡ value)
-    → dma_after rule (blank_access cpu) (blank_access dma) value' events
-    ≡ dma_after rule cpu dma value events
-dma_after-blank rule cpu dma value value' events same =
-    grind (arith, with_dma_value-blank, with_dma_access-blank)
+    → with_step rule acceptance (blank_access cpu) (blank_access dma) value' parts
+    ≡ with_step rule acceptance cpu dma value parts
+with_step-blank rule acceptance cpu dma value value' parts same = grind (arith, nat_tests)
 
 with_released_word-blank : (access : Option Access) (words : List ℕ)
     → with_released_word (blank_access access) words ≡ with_released_word access words

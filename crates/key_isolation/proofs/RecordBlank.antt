@@ -9,7 +9,7 @@ use Rattle.bus_signals.specs.Access.{without_number}
 use Rattle.bus_signals.specs.Map.{touches, stack_region}
 use Rattle.part_definitions.specs.Dma.{dma_access}
 use Rattle.part_definitions.specs.FirstRule.{first_rule}
-use Rattle.part_definitions.specs.Flag.{last_pc}
+use Rattle.bus_signals.specs.ExecFlag.{last_pc}
 use Rattle.device_trace.specs.Blank.{touches_secrets, blank_access, blank_value, blank_record}
 use Rattle.device_trace.specs.Logs.{Logs, step_progress, vector_of, released_words_after}
 use Rattle.device_trace.specs.Progress.{Progress, last_registers, next_pc_of, access_of, next_progress}

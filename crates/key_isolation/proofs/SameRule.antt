@@ -7,7 +7,8 @@ use Rattle.bus_signals.specs.declared.rule.Rule.{Rule}
 use Rattle.bus_signals.specs.declared.rule.Rule.TheVariants.{X0, I1}
 use Rattle.bus_signals.specs.declared.signals.Signals.{Signals}
 use Rattle.bus_signals.specs.Access.{without_number}
-use Rattle.part_definitions.specs.FirstRule.{breaks_x0, breaks_i1, rule_where, or_else, first_rule}
+use Rattle.std.specs.Option.{option_or}
+use Rattle.part_definitions.specs.FirstRule.{breaks_x0, breaks_i1, rule_where, first_rule}
 use Rattle.part_definitions.specs.NextAccess.{is_illegal}
 use Rattle.part_definitions.specs.MonitorRule.{key_rule, atomicity_rule}
 
@@ -77,8 +78,8 @@ atomicity_rule-same last view real same =
 -- an illegal word counts where no key rule is broken
 illegal-same : (rule : Option Rule) (opcode : Bool) (word word' : ℕ)
     → (rule ≡ None → opcode ≡ true → word' ≡ word)
-    → or_else rule (rule_where (opcode && is_illegal word') I1)
-    ≡ or_else rule (rule_where (opcode && is_illegal word) I1)
+    → option_or rule (rule_where (opcode && is_illegal word') I1)
+    ≡ option_or rule (rule_where (opcode && is_illegal word) I1)
 illegal-same None true word word' same =
     ap (λ (w : ℕ). rule_where (is_illegal w) I1) (same refl refl)
 illegal-same None false word word' same = refl
@@ -89,17 +90,18 @@ pub first_rule-same : (last : Option ℕ) (view real : Signals)
 unfolding first_rule
 first_rule-same last view real same =
     ap
-    (λ (breaks : Bool). or_else (rule_where breaks X0)
-    (or_else (atomicity_rule last view) (or_else (key_rule view) (rule_where (breaks_i1 view) I1))))
+    (λ (breaks : Bool). option_or (rule_where breaks X0)
+    (option_or (atomicity_rule last view)
+    (option_or (key_rule view) (rule_where (breaks_i1 view) I1))))
     same.script_reset
     ∙ (ap
-    (λ (rule : Option Rule). or_else (rule_where (breaks_x0 real) X0)
-    (or_else rule (or_else (key_rule view) (rule_where (breaks_i1 view) I1))))
+    (λ (rule : Option Rule). option_or (rule_where (breaks_x0 real) X0)
+    (option_or rule (option_or (key_rule view) (rule_where (breaks_i1 view) I1))))
     (atomicity_rule-same last view real same)
-    ∙ ap (λ (rule : Option Rule). or_else (rule_where (breaks_x0 real) X0)
-    (or_else (atomicity_rule last real) rule))
-    (ap (λ (rule : Option Rule). or_else rule (rule_where (breaks_i1 view) I1))
+    ∙ ap (λ (rule : Option Rule). option_or (rule_where (breaks_x0 real) X0)
+    (option_or (atomicity_rule last real) rule))
+    (ap (λ (rule : Option Rule). option_or rule (rule_where (breaks_i1 view) I1))
     (key_rule-same view real same)
-    ∙ (ap (λ (opcode : Bool). or_else (key_rule real)
+    ∙ (ap (λ (opcode : Bool). option_or (key_rule real)
     (rule_where (opcode && is_illegal view.word) I1)) same.opcode
     ∙ illegal-same (key_rule real) real.opcode real.word view.word same.word)))

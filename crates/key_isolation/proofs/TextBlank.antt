@@ -4,7 +4,6 @@ use Rattle.std.specs.Prelude.{◌==◌, if◌then◌else◌}
 use Rattle.std.proofs.lemmas.Bool.Decides.{nat_tests}
 use Rattle.bus_signals.specs.declared.bounds.Bounds.{Bounds}
 use Rattle.bus_signals.specs.declared.bus_record.BusRecord.{BusRecord}
-use Rattle.bus_signals.specs.declared.event.Event.{Event}
 use Rattle.bus_signals.specs.Bounds.{are_valid}
 use Rattle.bus_signals.specs.declared.version.Version.TheVariants.{Two}
 use Rattle.bus_signals.specs.Map.{metadata_region}
@@ -14,13 +13,14 @@ use Rattle.part_definitions.specs.Memory.{bytes_from}
 use Rattle.part_definitions.specs.Metadata.{little_endian}
 use Rattle.part_definitions.specs.Region.{output_bytes}
 use Rattle.part_definitions.specs.Request.{ATTESTS}
-use Rattle.printed_lines.specs.Line.{end_line}
+use Rattle.printed_lines.specs.Line.{end_line, sent_line, reset_line, report_line, denied_line}
+use Rattle.device_trace.specs.Play.{Play}
 use Rattle.device_trace.specs.Blank.{is_secret, SameOutside, blank_record}
 use Rattle.device_trace.specs.Logs.{Logs, exec_of, logged_byte, logged_bounds}
 use Rattle.device_trace.specs.Progress.{next_pc_of}
 use Rattle.device_trace.specs.Start.{Start}
 use Rattle.device_trace.specs.Step.{next_record}
-use Rattle.device_trace.specs.Text.{byte_sent_in, reported_output, report_of, report_where, report_in, denial_in, sent_lines, reset_lines, report_lines, denied_lines, step_lines, lines_of, end_of, play_text}
+use Rattle.device_trace.specs.Text.{byte_sent_in, reported_output, report_of, report_where, report_in, denial_in, some_line, step_lines, lines_of, end_line_after, play_text}
 use Rattle.device_trace.specs.Trace.{next_logs, logs_after}
 use Rattle.trace_facts.proofs.SoundPlay.{logs_after-sound}
 use Rattle.key_isolation.proofs.Bytes.{same_if}
@@ -48,7 +48,7 @@ ram_open place low high = grind (arith, nat_tests)
 program_open : (place : ℕ) → 0xC000 ≤ place → place ≤ 0xFFDF → is_secret place ≡ false
 program_open place low high = grind (arith, nat_tests)
 
-ram_bytes : (left right : ℕ → ℕ) → SameOutside left right → (place count : ℕ)
+pub ram_bytes : (left right : ℕ → ℕ) → SameOutside left right → (place count : ℕ)
     → 0x200 ≤ place → place + count ≤ 0x2200
     → bytes_from left place count ≡ bytes_from right place count
 ram_bytes left right same place count low high =
@@ -62,7 +62,7 @@ program_bytes left right same place count low high =
     bytes_from-outside left right same place count
     (λ p above below. program_open p (omega (arith, low, above)) (omega (arith, high, below)))
 
-valid_bytes : (left right : ℕ → ℕ) → SameOutside left right → (first last : ℕ)
+pub valid_bytes : (left right : ℕ → ℕ) → SameOutside left right → (first last : ℕ)
     → IsValidRange metadata_region first last
     → bytes_from left first (last + 2 - first) ≡ bytes_from right first (last + 2 - first)
 valid_bytes left right same first last range =
@@ -110,7 +110,7 @@ report_of-hide start free logs step =
       mac = ram_bytes left right same 0x200 32 (lit≤ tt) (lit≤ tt) i;
     }
 
-report_where-hide : (start : Start) (free : List ℕ) (logs : Logs) (step : ℕ)
+pub report_where-hide : (start : Start) (free : List ℕ) (logs : Logs) (step : ℕ)
     (decision : Option ℕ)
     → report_where (open_start free start) (hide logs) step decision
     ≡ report_where start logs step decision
@@ -125,21 +125,23 @@ step_lines-hide : (start : Start) (free : List ℕ) (step : ℕ) (entry : BusRec
     ≡ step_lines start step entry logs
 step_lines-hide start free step entry logs =
     ap
-    (λ (byte : Option ℕ). sent_lines step byte ++ reset_lines step entry.reset
-    ++ report_lines (report_in (open_start free start) (hide logs) step)
-    ++ denied_lines step (denial_in logs))
+    (λ (byte : Option ℕ). some_line (sent_line step) byte ++ some_line (reset_line step) entry.reset
+    ++ some_line report_line (report_in (open_start free start) (hide logs) step)
+    ++ some_line (denied_line step) (denial_in logs))
     (byte_sent_by-blank entry.reset entry.cpu)
     ∙ ap
-    (λ (report : Option ReportFields). sent_lines step (byte_sent_in entry)
-    ++ reset_lines step entry.reset ++ report_lines report ++ denied_lines step (denial_in logs))
+    (λ (report : Option ReportFields). some_line (sent_line step) (byte_sent_in entry)
+    ++ some_line (reset_line step) entry.reset ++ some_line report_line report
+    ++ some_line (denied_line step) (denial_in logs))
     (report_where-hide start free logs step logs.decision)
 
-end_of-hide : (steps : ℕ) (logs : Logs) → end_of steps (hide logs) ≡ end_of steps logs
-end_of-hide steps logs =
+pub end_line_after-hide :
+    (steps : ℕ) (logs : Logs) → end_line_after steps (hide logs) ≡ end_line_after steps logs
+end_line_after-hide steps logs =
     ap (λ (pc : ℕ). end_line steps pc (exec_of (hide logs))) (next_pc_of-hide logs.progress)
     ∙ ap (λ (exec : Bool). end_line steps (next_pc_of logs.progress) exec) (exec-blank logs.records)
 
-lines_of-hide : (start : Start) (free : List ℕ) (play : List (List Event)) (more : List ℕ)
+pub lines_of-hide : (start : Start) (free : List ℕ) (play : Play) (more : List ℕ)
     → free ≡ (logs_after start play).released_words ++ more
     → lines_of start play ≡ lines_of (open_start free start) play
 unfolding lines_of logs_after
@@ -172,13 +174,14 @@ lines_of-hide start free (events ∷ play) more split =
     (next_logs blank_start ls events))
     before.logs)
 
-pub play_text-hide : (start : Start) (free : List ℕ) (play : List (List Event)) (more : List ℕ)
+pub play_text-hide : (start : Start) (free : List ℕ) (play : Play) (more : List ℕ)
     → free ≡ (logs_after start play).released_words ++ more
     → play_text start play ≡ play_text (open_start free start) play
 unfolding play_text
 play_text-hide start free play more split =
     let hides = play_hides start free play more split in
-    ap (λ (text : List ℕ). text ++ end_of (length play) (logs_after start play))
+    ap (λ (text : List ℕ). text ++ end_line_after (length play) (logs_after start play))
     (lines_of-hide start free play more split)
     ∙ ap (λ (text : List ℕ). lines_of (open_start free start) play ++ text)
-    (sym (end_of-hide (length play) (logs_after start play)) ∙ ap (end_of (length play)) hides.logs)
+    (sym (end_line_after-hide (length play) (logs_after start play))
+    ∙ ap (end_line_after (length play)) hides.logs)

@@ -1,12 +1,14 @@
--- Two keys whose released words agree.
-use Rattle.std.proofs.Common.{◌≡◌, ℕ, suc, List, [], ◌∷◌, ◌++◌, refl, ap, sym, ◌∙◌, arith, append-nil}
-use Rattle.bus_signals.specs.declared.event.Event.{Event}
-use Rattle.device_trace.specs.Blank.{blank, SameOutside}
+-- A play without its key, and two keys whose released words agree.
+use Rattle.std.proofs.Common.{◌≡◌, ℕ, suc, List, [], ◌∷◌, ◌++◌, refl, ap, sym, ◌∙◌, arith, append-nil, subst}
+use Rattle.bus_signals.specs.declared.bus_record.BusRecord.{BusRecord}
+use Rattle.device_trace.specs.Play.{Play}
+use Rattle.device_trace.specs.Blank.{SameOutside, blank, blank_record}
 use Rattle.device_trace.specs.Logs.{Logs, logged_byte}
 use Rattle.device_trace.specs.Start.{Start, without_key}
-use Rattle.device_trace.specs.Text.{play_text}
-use Rattle.device_trace.specs.Trace.{logs_after, trace, released_words, byte_after}
-use Rattle.key_isolation.specs.Agreement.{Agree}
+use Rattle.device_trace.specs.Trace.{byte_after, logs_after, released_words, trace}
+use Rattle.key_isolation.specs.Agreement.{Agree, ReleaseAlike, SameButKey}
+use Rattle.key_isolation.specs.Keyless.{LooksAlike, LooksKeyless, keyless}
+use Rattle.key_isolation.proofs.FlagBlank.{blank_record-twice}
 use Rattle.key_isolation.proofs.Hiding.{open_start, logged_byte-hide}
 use Rattle.key_isolation.proofs.Induction.{play_hides}
 use Rattle.key_isolation.proofs.TextBlank.{play_text-hide}
@@ -51,31 +53,35 @@ agree_begin (word ∷ left) (word' ∷ right) agree =
           ∙ ap (λ (words : List ℕ). word' ∷ words) rest.is_right;
     }
 
--- of two starts with one image and one second flag
-abbrev pub SameButKey : Start → Start → Type 0
-SameButKey left right =
-    (left.power.image ≡ right.power.image) × (left.second_flag ≡ right.second_flag)
+-- two starts without their keys are one start, where the released words agree
+pub record AreOneKeyless (left right : Start) (play : Play) : Type 0 where
+  pub after_left : List ℕ
+  pub after_right : List ℕ
+  pub same : keyless left play after_left ≡ keyless right play after_right
 
-opened-same : (words : List ℕ) (left right : Start) → SameButKey left right
-    → open_start words left ≡ open_start words right
-opened-same words left right same = λ i. without_key (same.1 i) words (same.0 i)
-
--- a device shows what one without a key does that is given the words which it releases, and so two
--- devices whose released words agree show the same
-pub same_seen : {X : Type 0} (seen without : Start → X) (left right : Start)
-    (play : List (List Event))
-    → ((start : Start) (free more : List ℕ) → free ≡ released_words start play ++ more
-    → seen start ≡ without (open_start free start))
-    → SameButKey left right
-    → Agree (released_words left play) (released_words right play)
-    → seen left ≡ seen right
-same_seen seen without left right play hides same agree =
+pub one_keyless : (left right : Start) (play : Play) → SameButKey left right
+    → ReleaseAlike left right play → AreOneKeyless left right play
+one_keyless left right play same agree =
     let both = agree_begin (released_words left play) (released_words right play) agree in
-    hides left both.whole both.after_left both.is_left
-    ∙ (ap without (opened-same both.whole left right same)
-    ∙ sym (hides right both.whole both.after_right both.is_right))
+    record {
+      after_left = both.after_left;
+      after_right = both.after_right;
+      same = λ i. without_key (same.1 i) ((sym both.is_left ∙ both.is_right) i) (same.0 i);
+    }
 
-byte-hide : (start : Start) (free : List ℕ) (play : List (List Event)) (more : List ℕ)
+pub keyless-same : (start other : Start) (play : Play) (more : List ℕ) → SameButKey start other
+    → released_words start play ≡ released_words other play
+    → keyless start play more ≡ keyless other play more
+keyless-same start other play more same words =
+    λ i. without_key (same.1 i) (words i ++ more) (same.0 i)
+
+blank-twice : (history : List BusRecord) → blank (blank history) ≡ blank history
+blank-twice [] = refl
+blank-twice (entry ∷ history) =
+    ap (λ (first : BusRecord). first ∷ blank (blank history)) (blank_record-twice entry)
+    ∙ ap (λ (rest : List BusRecord). blank_record entry ∷ rest) (blank-twice history)
+
+pub byte-hide : (start : Start) (free : List ℕ) (play : Play) (more : List ℕ)
     → free ≡ released_words start play ++ more
     → SameOutside (byte_after start play) (byte_after (open_start free start) play)
 byte-hide start free play more split place off =
@@ -83,24 +89,32 @@ byte-hide start free play more split place off =
     ∙ ap (λ (logs : Logs). logged_byte (open_start free start) logs place)
     (play_hides start free play more split).logs
 
-pub same_history : (left right : Start) (play : List (List Event)) → SameButKey left right
-    → Agree (released_words left play) (released_words right play)
-    → blank (trace left play) ≡ blank (trace right play)
-same_history left right play same agree =
-    same_seen (λ start. blank (trace start play)) (λ start. trace start play) left right play
-    (λ start free more split. (play_hides start free play more split).history) same agree
+pub looks_keyless : (start : Start) (play : Play) → LooksKeyless start play
+looks_keyless start play more =
+    record {
+      same_text = play_text-hide start (released_words start play ++ more) play more refl;
+      same_history =
+          sym (blank-twice (trace start play))
+          ∙ ap blank (play_hides start (released_words start play ++ more) play more refl).history;
+      same_memory = byte-hide start (released_words start play ++ more) play more refl;
+    }
 
-pub same_text : (left right : Start) (play : List (List Event)) → SameButKey left right
-    → Agree (released_words left play) (released_words right play)
-    → play_text left play ≡ play_text right play
-same_text left right play same agree =
-    same_seen (λ start. play_text start play) (λ start. play_text start play) left right play
-    (λ start free more split. play_text-hide start free play more split) same agree
+-- two starts look alike where both look like a third
+both_alike : (left right third : Start) (play : Play) → LooksAlike left third play
+    → LooksAlike right third play → LooksAlike left right play
+both_alike left right third play of_left of_right =
+    record {
+      same_text = of_left.same_text ∙ sym of_right.same_text;
+      same_history = of_left.same_history ∙ sym of_right.same_history;
+      same_memory = λ place off.
+          of_left.same_memory place off ∙ sym (of_right.same_memory place off);
+    }
 
-pub same_memory : (left right : Start) (play : List (List Event)) → SameButKey left right
-    → Agree (released_words left play) (released_words right play)
-    → SameOutside (byte_after left play) (byte_after right play)
-same_memory left right play same agree place off =
-    same_seen (λ start. byte_after start play place) (λ start. byte_after start play place)
-    left right play
-    (λ start free more split. byte-hide start free play more split place off) same agree
+pub looks_alike : (left right : Start) (play : Play) → SameButKey left right
+    → ReleaseAlike left right play → LooksAlike left right play
+looks_alike left right play same agree =
+    let one = one_keyless left right play same agree in
+    both_alike left right (keyless right play one.after_right) play
+    (subst (λ (start : Start). LooksAlike left start play) one.same
+    (looks_keyless left play one.after_left))
+    (looks_keyless right play one.after_right)

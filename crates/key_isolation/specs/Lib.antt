@@ -1,3 +1,5 @@
 pub mod Agreement
+pub mod AttestedPlay
 pub mod Example
+pub mod Keyless
 pub mod Openness

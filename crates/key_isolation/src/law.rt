@@ -1,10 +1,10 @@
 ghost use Rattle.std.specs.Prelude.{◌≡◌, ◌++◌, Bool, List};
 ghost use Rattle.bus_signals.specs.SeenRecord.{SeenHistory};
-ghost use Rattle.device_trace.specs.Blank.{blank, SameOutside};
-ghost use Rattle.device_trace.specs.Start.{with_key};
-ghost use Rattle.device_trace.specs.Text.{play_text};
-ghost use Rattle.device_trace.specs.Trace.{byte_after, open_trace, released_words, trace};
-ghost use Rattle.key_isolation.specs.Agreement.{ReleaseAlike};
+ghost use Rattle.device_trace.specs.Blank.{blank};
+ghost use Rattle.device_trace.specs.Start.{Start, with_key};
+ghost use Rattle.device_trace.specs.Trace.{open_trace, released_words, trace};
+ghost use Rattle.key_isolation.specs.Agreement.{ReleaseAlike, SameButKey};
+ghost use Rattle.key_isolation.specs.Keyless.{LooksAlike, LooksKeyless, keyless};
 ghost use Rattle.bus_signals.specs.Address.{Contents, Bytes};
 ghost use Rattle.word_arith.specs.Word16.{Word16};
 ghost use Rattle.part_definitions.specs.Hmac.{Digest};
@@ -21,23 +21,24 @@ pub fn key_acts_through_released_words()
         (released_words (with_key flag digest key image) play ++ more) image play }
 {}
 
-/// A second key whose released words agree with those of the first gives the same text, the same
-/// trace but for what is blanked, and after each step the same memory outside the key and the
-/// exclusive stack.
+/// So the text of every play is the text of that trace, and the memory outside the key and the
+/// exclusive stack is its memory.
+pub fn plays_look_keyless()
+    ensures { (start : Start) (play : Play) → LooksKeyless start play }
+{}
+
+/// That trace is made of image, second flag, released words and play alone: it is the same of any
+/// two starts that have these in common.
+pub fn keyless_starts_have_no_key()
+    ensures { (start other : Start) (play : Play) (more : List Word16)
+        → SameButKey start other
+        → released_words start play ≡ released_words other play
+        → keyless start play more ≡ keyless other play more }
+{}
+
+/// So a second key whose released words agree with those of the first gives the same text, the same
+/// trace but for what is blanked, and the same memory outside the key and the exclusive stack.
 pub fn second_key_changes_nothing()
-    ensures text { (flag : SeenHistory → Bool) (digest : Digest) (key other : Bytes)
-        (image : Contents) (play : Play)
-        → ReleaseAlike (with_key flag digest key image) (with_key flag digest other image) play
-        → play_text (with_key flag digest key image) play
-        ≡ play_text (with_key flag digest other image) play }
-    ensures history { (flag : SeenHistory → Bool) (digest : Digest)
-        (key other : Bytes) (image : Contents) (play : Play)
-        → ReleaseAlike (with_key flag digest key image) (with_key flag digest other image) play
-        → blank (trace (with_key flag digest key image) play)
-        ≡ blank (trace (with_key flag digest other image) play) }
-    ensures memory { (flag : SeenHistory → Bool) (digest : Digest) (key other : Bytes)
-        (image : Contents) (play : Play)
-        → ReleaseAlike (with_key flag digest key image) (with_key flag digest other image) play
-        → SameOutside (byte_after (with_key flag digest key image) play)
-        (byte_after (with_key flag digest other image) play) }
+    ensures { (start other : Start) (play : Play)
+        → SameButKey start other → ReleaseAlike start other play → LooksAlike start other play }
 {}

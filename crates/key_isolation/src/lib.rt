@@ -9,6 +9,9 @@ mod example;
 mod law;
 mod secret;
 
-pub use example::{blank_hides_key_word, two_keys_release_alike};
-pub use law::{key_acts_through_released_words, second_key_changes_nothing};
+pub use example::{attested_play_looks_keyless, blank_hides_key_word, two_keys_release_alike};
+pub use law::{
+    key_acts_through_released_words, keyless_starts_have_no_key, plays_look_keyless,
+    second_key_changes_nothing,
+};
 pub use secret::only_key_and_stack_are_hidden;

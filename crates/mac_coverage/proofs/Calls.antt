@@ -14,6 +14,7 @@ use Rattle.part_definitions.specs.CpuRegister.{sp_of}
 use Rattle.part_definitions.specs.Memory.{MemoryWrite, byte_at, is_flag_word, with_access}
 use Rattle.part_definitions.specs.Metadata.{kept_bytes}
 use Rattle.part_definitions.specs.Request.{ATTESTS}
+use Rattle.device_trace.specs.Play.{Play}
 use Rattle.device_trace.specs.Logs.{Logs, flags_of, logged_byte, released_words_after, with_released_word}
 use Rattle.device_trace.specs.Progress.{call_access}
 use Rattle.device_trace.specs.Signals.{value_read}
@@ -31,7 +32,7 @@ use Rattle.mac_coverage.proofs.WordPlan.{ArePlanned, IsAttested, IsCounter, atte
 use Rattle.mac_coverage.proofs.Steps.{IsCallStep}
 use Rattle.mac_coverage.proofs.Words.{AreBytes}
 
-pub record CallSoFar (device : Device) (play : List (List Event)) (call : List BusRecord)
+pub record CallSoFar (device : Device) (play : Play) (call : List BusRecord)
     (words : List ℕ) (contents : AttestedBytes) (kept : List ℕ) : Type 0 where
   pub throughout : (steps : ℕ) → steps < length call
       → contents_before (start_of device) play steps ≡ contents
@@ -55,7 +56,7 @@ pub record CallSoFar (device : Device) (play : List (List Event)) (call : List B
       (mac_count contents (length words))
 
 -- before its first step
-pub call-begins : (device : Device) (play : List (List Event)) (contents : AttestedBytes)
+pub call-begins : (device : Device) (play : Play) (contents : AttestedBytes)
     → IsCounter (kept_before (start_of device) play 0)
     → without_flag_words (contents_before (start_of device) play 0) ≡ without_flag_words contents
     → CallSoFar device play [] [] contents (kept_before (start_of device) play 0)
@@ -82,7 +83,7 @@ call-begins device play contents is alike =
     moments (suc steps) within = absurd (omega (arith, within))
 
 -- after one step more
-call-more : (device : Device) (play : List (List Event)) (events : List Event)
+call-more : (device : Device) (play : Play) (events : List Event)
     (entry : BusRecord) (call : List BusRecord) (words more : List ℕ) (contents : AttestedBytes)
     (kept : List ℕ)
     → CallSoFar device play call words contents kept
@@ -140,7 +141,7 @@ released-rom rule kind access words none rom =
 
 -- a step of a call that was not refused, from memory to memory
 pub record CallGoes
-    (device : Device) (play : List (List Event)) (events : List Event) (logs : Logs)
+    (device : Device) (play : Play) (events : List Event) (logs : Logs)
     (regs words : List ℕ) (entry : BusRecord) (contents : AttestedBytes) : Type 0 where
   pub step : IsCallStep (start_of device) logs regs words entry
   -- what is attested is of bytes; it stands before the step, if it is not the first, and after it
@@ -177,7 +178,7 @@ item-at device contents kept words by_plan =
     (length words))
 
 -- the kept counter now, in a call that has made as many steps as words passed
-kept-now : (device : Device) (play : List (List Event)) (call : List BusRecord) (words : List ℕ)
+kept-now : (device : Device) (play : Play) (call : List BusRecord) (words : List ℕ)
     (contents : AttestedBytes) (kept : List ℕ)
     → CallSoFar device play call words contents kept → length call ≡ length words
     → kept_bytes (byte_after (start_of device) play)
@@ -187,7 +188,7 @@ kept-now device play call words contents kept so_far made =
     ∙ ap (kept_at device.digest device.key contents kept)
     (let same : length call - 0 ≡ length words = omega (arith, made) in same)
 
-step-passes : (device : Device) (play : List (List Event)) (events : List Event) (logs : Logs)
+step-passes : (device : Device) (play : Play) (events : List Event) (logs : Logs)
     (regs words : List ℕ) (entry : BusRecord) (call : List BusRecord) (contents : AttestedBytes)
     (kept : List ℕ)
     → CallGoes device play events logs regs words entry contents
@@ -223,7 +224,7 @@ step-passes device play events logs regs words entry call contents kept goes so_
     })
 
 -- one that does not return
-pub call-goes_on : (device : Device) (play : List (List Event)) (events : List Event)
+pub call-goes_on : (device : Device) (play : Play) (events : List Event)
     (logs : Logs) (regs words : List ℕ) (entry : BusRecord) (call : List BusRecord)
     (contents : AttestedBytes) (kept : List ℕ)
     → CallGoes device play events logs regs words entry contents
@@ -313,7 +314,7 @@ return-leaves sp bounds (InnerDigestWrite i) number returns = absurd (cc)
 return-leaves sp bounds (MacWrite i) number returns = absurd (cc)
 return-leaves sp bounds ReturnRead number returns = (λ words. refl, λ writes. refl)
 
-pub call-returns : (device : Device) (play : List (List Event)) (events : List Event)
+pub call-returns : (device : Device) (play : Play) (events : List Event)
     (logs : Logs) (regs words : List ℕ) (entry : BusRecord) (call : List BusRecord)
     (contents : AttestedBytes) (kept : List ℕ)
     → CallGoes device play events logs regs words entry contents
@@ -356,7 +357,7 @@ call-returns device play events logs regs words entry call contents kept goes so
     (omega (arith, fits)) same_bytes (so_far.stored small))
 
 -- at the return the decision is written, and all words of the MAC where the call attests
-pub return-is_last : (device : Device) (play : List (List Event)) (words : List ℕ)
+pub return-is_last : (device : Device) (play : Play) (words : List ℕ)
     (call : List BusRecord) (contents : AttestedBytes) (kept : List ℕ)
     → CallSoFar device play call words contents kept
     → is_return (call_item words) ≡ true

@@ -9,7 +9,8 @@ use Rattle.bus_signals.specs.declared.event.Event.{Event}
 use Rattle.bus_signals.specs.declared.rule.Rule.{Rule}
 use Rattle.part_definitions.specs.Attestation.{word_of_bytes}
 use Rattle.part_definitions.specs.Request.{ATTESTS}
-use Rattle.device_trace.specs.Logs.{decision_after, decision_in, finishes_call, released_words_after}
+use Rattle.device_trace.specs.Play.{Play}
+use Rattle.device_trace.specs.Logs.{decision_after, call_decision, finishes_call, released_words_after}
 use Rattle.device_trace.specs.Progress.{Progress}
 use Rattle.device_trace.specs.Text.{last_decision}
 use Rattle.device_trace.specs.Trace.{byte_after, trace}
@@ -133,7 +134,7 @@ call-prefix device contents kept index fits goes_on =
         let wrong : (1 == 1) ≡ false = ap (λ (d : ℕ). d == 1) (sym attests) ∙ denied in cc
 
 -- the MAC covers a call so far
-pub covers_so_far : (device : Device) (play : List (List Event)) (words : List ℕ)
+pub covers_so_far : (device : Device) (play : Play) (words : List ℕ)
     (contents : AttestedBytes) (kept : List ℕ)
     → CallSoFar device play (last_call (trace (start_of device) play)) words contents kept
     → (ends_finished (trace (start_of device) play) ≡ true
@@ -184,15 +185,15 @@ no_finish (Some rule) false refuses finishes = cc
 -- what a step tells of a call that it finishes
 pub decision_after-finishes : (progress : Progress) (entry : BusRecord) (decision : ℕ)
     → decision_after progress entry ≡ Some decision
-    → (finishes_call entry ≡ true) × (decision_in progress ≡ Some decision)
+    → (finishes_call entry ≡ true) × (call_decision progress ≡ Some decision)
 decision_after-finishes progress entry decision is = by_case (finishes_call entry) is
   where
-    by_case : (test : Bool) → (if test then decision_in progress else None) ≡ Some decision
-        → (test ≡ true) × (decision_in progress ≡ Some decision)
+    by_case : (test : Bool) → (if test then call_decision progress else None) ≡ Some decision
+        → (test ≡ true) × (call_decision progress ≡ Some decision)
     by_case true is = (refl, is)
     by_case false is = absurd (cc)
 
-pub covers_refused : (device : Device) (play : List (List Event)) (events : List Event)
+pub covers_refused : (device : Device) (play : Play) (events : List Event)
     (words : List ℕ) (contents : AttestedBytes) (kept : List ℕ)
     → is_some (entry_at device play events).reset ≡ true
     → CallSoFar device play (earlier_records device play events) words contents kept

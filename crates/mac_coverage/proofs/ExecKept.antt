@@ -13,7 +13,7 @@ use Rattle.bus_signals.specs.Bounds.{are_valid, executable_region, output_region
 use Rattle.bus_signals.specs.Kind.{is_cpu}
 use Rattle.bus_signals.specs.Map.{some_touches, touches, metadata_region}
 use Rattle.bus_signals.specs.SeenRecord.{SeenRecord}
-use Rattle.part_definitions.specs.Flag.{accesses_in, writes_to, runs_inside, ran_inside, fetches_at, clears_e1, clears_e2, clears_e3, clears_e4, clears_e5, clears_e6, clears_e7, clears_e8, clears_e9, clears_both, clears, starts_run, last_pc, records_since, exec}
+use Rattle.bus_signals.specs.ExecFlag.{accesses_in, writes_to, runs_inside, ran_inside, fetches_at, clears_e1, clears_e2, clears_e3, clears_e4, clears_e5, clears_e6, clears_e7, clears_e8, clears_e9, clears_both, clears, starts_run, last_pc, records_since, exec}
 use Rattle.part_definitions.specs.MonitorRule.{in_rom, leaves_stack_and_mac}
 use Rattle.bus_signals.proofs.ValidRange.{AreValidRanges, are_valid-ranges}
 use Rattle.trace_facts.proofs.MissedPlace.{writes_nowhere}

@@ -5,10 +5,10 @@ use Rattle.std.proofs.lemmas.Bool.{cond_both}
 use Rattle.word_arith.specs.declared.size.Size.TheVariants.{Byte, Word}
 use Rattle.bus_signals.specs.declared.access.Access.{Access}
 use Rattle.bus_signals.specs.declared.access.Access.TheVariants.{Fetch, Read, Write}
-use Rattle.bus_signals.specs.declared.event.Event.{Event}
 use Rattle.bus_signals.specs.declared.rule.Rule.{Rule}
 use Rattle.bus_signals.specs.Map.{lies_in, key_region, rom_region, AUX_WORD, EXEC_WORD, ROM_EXIT}
 use Rattle.part_definitions.specs.Memory.{MemoryWrite, PowerOn, ShownFlags, first_byte, fixed_byte, is_image_place, last_written, rom_byte, takes_write, with_access}
+use Rattle.device_trace.specs.Play.{Play}
 use Rattle.device_trace.specs.Logs.{flags_of, logged_byte, memory_after, with_events, with_record}
 use Rattle.device_trace.specs.Start.{Start}
 use Rattle.device_trace.specs.Step.{next_record}
@@ -47,7 +47,7 @@ memory_after-bytes None cpu dma writes small =
     with_access-bytes dma (with_access cpu writes) (with_access-bytes cpu writes small)
 memory_after-bytes (Some rule) cpu dma writes small = small
 
-logs_after-bytes : (start : Start) (play : List (List Event))
+logs_after-bytes : (start : Start) (play : Play)
     → WritesBytes (logs_after start play).memory
 unfolding logs_after with_record with_events
 logs_after-bytes start [] place before byte = byte
@@ -77,7 +77,7 @@ first_byte-byte : (power : PowerOn) (place : ℕ) → PowerOnBytes power → fir
 first_byte-byte power place bytes =
     written_byte (is_image_place place) (power.image place) 0 (bytes.image place) (omega arith)
 
-pub byte_after-byte : (start : Start) (play : List (List Event)) (place : ℕ)
+pub byte_after-byte : (start : Start) (play : Play) (place : ℕ)
     → PowerOnBytes start.power → logged_byte start (logs_after start play) place < 256
 byte_after-byte start play place bytes =
     written_byte (takes_write place) _

@@ -11,7 +11,10 @@ use Rattle.bus_signals.specs.Kind.{is_rom}
 use Rattle.bus_signals.specs.Map.{ROM_ENTRY, ROM_EXIT}
 use Rattle.part_definitions.specs.Attestation.{CallItem, KeptWrite, bounds_read, call_item, decision_read, is_return, item_access, item_after, region_words, word_passed}
 use Rattle.part_definitions.specs.CpuRegister.{sp_of}
-use Rattle.device_trace.specs.Logs.{Logs, decision_in, finishes_call, progress_after, step_progress, vector_of, with_events, with_record}
+use Rattle.bus_signals.specs.Address.{Bytes}
+use Rattle.part_definitions.specs.Hmac.{Digest}
+use Rattle.device_trace.specs.Play.{Play}
+use Rattle.device_trace.specs.Logs.{Logs, call_decision, finishes_call, progress_after, step_progress, vector_of, with_events, with_record}
 use Rattle.device_trace.specs.Progress.{Progress, InCall, after_return}
 use Rattle.device_trace.specs.Signals.{step_kind}
 use Rattle.device_trace.specs.Text.{last_decision}
@@ -30,19 +33,19 @@ use Rattle.mac_coverage.proofs.WordPlan.{ArePlanned, attested_words, call_item-p
 use Rattle.mac_coverage.proofs.Steps.{IsCallStep, IsOfCall, OnCall, progress-call_step, rom_step-of_call}
 
 -- the MAC covers the call, and if it goes on, it is one so far
-pub record Outcome (device : Device) (play : List (List Event)) : Type 0 where
+pub record Outcome (device : Device) (play : Play) : Type 0 where
   pub covers : MacCoversCall device.digest device.key (start_of device) play
   pub next : PlayStands device play
   -- the first word that the call writes to the MAC is the decision
   pub timed : 1 ≤ length (mac_written (last_call (trace (start_of device) play)))
       → 77 ≤ length (last_call (trace (start_of device) play))
 
-abbrev word_in : Device → List (List Event) → List Event → ℕ
+abbrev word_in : Device → Play → List Event → ℕ
 word_in device play events =
     word_passed (entry_at device play events).cpu (entry_at device play events).value
 
 -- after a step of a call, and so after one that goes on, one that returns and one that is refused
-step-next : (device : Device) (play : List (List Event)) (events : List Event)
+step-next : (device : Device) (play : Play) (events : List Event)
     (regs words : List ℕ) (next : Progress)
     → IsTurnOfCall device play events regs words
     → IsCallStep (start_of device) (log_at device play events) regs words
@@ -60,7 +63,7 @@ step-next device play events regs words next turn step is stands =
     ∙ is))
     stands
 
-goes_on-next : (device : Device) (play : List (List Event)) (events : List Event)
+goes_on-next : (device : Device) (play : Play) (events : List Event)
     (regs words : List ℕ)
     → IsTurnOfCall device play events regs words
     → IsCallStep (start_of device) (log_at device play events) regs words
@@ -75,7 +78,7 @@ goes_on-next device play events regs words turn step goes_on call =
     goes_on)
     call
 
-returns-next : (device : Device) (play : List (List Event)) (events : List Event)
+returns-next : (device : Device) (play : Play) (events : List Event)
     (regs words : List ℕ)
     → IsTurnOfCall device play events regs words
     → IsCallStep (start_of device) (log_at device play events) regs words
@@ -87,7 +90,7 @@ returns-next device play events regs words turn step returns =
     step-next device play events regs words next turn step
     (cond-true (is_return (call_item words)) next _ returns) tt
 
-refused-next : (device : Device) (play : List (List Event)) (events : List Event)
+refused-next : (device : Device) (play : Play) (events : List Event)
     → is_some (entry_at device play events).reset ≡ true → PlayStands device (events ∷ play)
 unfolding logs_after with_record
 refused-next device play events refuses =
@@ -110,7 +113,7 @@ high_item device contents kept words by_plan count =
     ∙ ap (item_after (attested_words contents) (decision_of device.digest device.key contents kept))
     count
 
-wrote_high : (device : Device) (play : List (List Event)) (events : List Event)
+wrote_high : (device : Device) (play : Play) (events : List Event)
     (regs words : List ℕ) (contents : AttestedBytes) (kept : List ℕ)
     → IsCallStep (start_of device) (log_at device play events) regs words
     (entry_at device play events)
@@ -130,7 +133,7 @@ wrote_high device play events regs words contents kept step by_plan count =
     )
 
 -- before the decision no word is written to the MAC
-written-late : (digest : List ℕ → List ℕ) (key : List ℕ) (contents : AttestedBytes)
+written-late : (digest : Digest) (key : Bytes) (contents : AttestedBytes)
     (kept : List ℕ) (index : ℕ) (words : List ℕ)
     → words ≡ words_written digest key contents kept index → 1 ≤ length words
     → 77 ≤ index
@@ -147,7 +150,7 @@ written-late digest key contents kept index words is some =
       | inr past ↦ past
     ]
 
-refused-late : (device : Device) (play : List (List Event)) (events : List Event)
+refused-late : (device : Device) (play : Play) (events : List Event)
     (words : List ℕ) (contents : AttestedBytes) (kept : List ℕ)
     → is_some (entry_at device play events).reset ≡ true
     → CallSoFar device play (earlier_records device play events) words contents kept
@@ -165,7 +168,7 @@ refused-late device play events words contents kept refuses so_far made some =
     omega (arith, past, made)
 
 -- the decision that a finished call tells
-told-returns : (device : Device) (play : List (List Event)) (events : List Event)
+told-returns : (device : Device) (play : Play) (events : List Event)
     (regs words : List ℕ)
     → IsTurnOfCall device play events regs words
     → finishes_call (entry_at device play events) ≡ true
@@ -174,11 +177,11 @@ unfolding logs_after with_record
 told-returns device play events regs words turn finishes =
     let entry : BusRecord = entry_at device play events in
     let logs : Logs = log_at device play events in
-    cond-true (finishes_call entry) (decision_in (step_progress logs entry.kind)) None finishes
-    ∙ ap decision_in (ap (step_progress logs) (entry-kind device play events) ∙ turn.progress)
+    cond-true (finishes_call entry) (call_decision (step_progress logs entry.kind)) None finishes
+    ∙ ap call_decision (ap (step_progress logs) (entry-kind device play events) ∙ turn.progress)
 
 -- a step that was not refused
-unrefused_outcome : (device : Device) (play : List (List Event)) (events : List Event)
+unrefused_outcome : (device : Device) (play : Play) (events : List Event)
     (regs words : List ℕ) (contents : AttestedBytes) (kept : List ℕ)
     → IsTurnOfCall device play events regs words
     → IsCallStep (start_of device) (log_at device play events) regs words
@@ -266,7 +269,7 @@ unrefused_outcome device play events regs words contents kept turn step so_far m
     ]
 
 -- the first step of a call, and a later one
-first_outcome : (device : Device) (play : List (List Event)) (events : List Event) (regs : List ℕ)
+first_outcome : (device : Device) (play : Play) (events : List Event) (regs : List ℕ)
     → IsTurnOfCall device play events regs []
     → Outcome device (events ∷ play)
 first_outcome device play events regs turn =
@@ -301,7 +304,7 @@ first_outcome device play events regs turn =
           (λ later. absurd (omega (arith, later))) refl
     ]
 
-later_outcome : (device : Device) (play : List (List Event)) (events : List Event)
+later_outcome : (device : Device) (play : Play) (events : List Event)
     (regs words : List ℕ)
     → IsTurnOfCall device play events regs words
     → CallGoesOn device play words
@@ -339,7 +342,7 @@ later_outcome device play events regs words turn call =
     ]
 
 -- a step of the ROM
-pub rom_outcome : (device : Device) (play : List (List Event)) (events : List Event)
+pub rom_outcome : (device : Device) (play : Play) (events : List Event)
     → step_kind (log_at device play events) ≡ Rom → PlayStands device play
     → Outcome device (events ∷ play)
 unfolding with_events

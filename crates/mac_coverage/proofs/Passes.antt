@@ -14,6 +14,8 @@ use Rattle.part_definitions.specs.Memory.{MemoryWrite, PowerOn, ShownFlags, byte
 use Rattle.part_definitions.specs.Metadata.{bounds_in, kept_bytes}
 use Rattle.part_definitions.specs.Region.{bounded_bytes}
 use Rattle.part_definitions.specs.Request.{ATTESTS}
+use Rattle.bus_signals.specs.Address.{Bytes}
+use Rattle.part_definitions.specs.Hmac.{Digest}
 use Rattle.device_trace.specs.Logs.{Logs, logged_byte, with_released_word}
 use Rattle.device_trace.specs.Signals.{value_read}
 use Rattle.mac_coverage.specs.AttestedBytes.{AttestedBytes, attested_bytes_in, counter_left, decision_of, tag_of}
@@ -50,7 +52,7 @@ kept_at digest key contents kept index =
 
 -- an access with the value that it read: its word is the item's, the words of the MAC go on, and
 -- the kept counter too
-pub record Passes (digest : List ℕ → List ℕ) (key : List ℕ) (contents : AttestedBytes)
+pub record Passes (digest : Digest) (key : Bytes) (contents : AttestedBytes)
     (kept : List ℕ) (index : ℕ) (item : CallItem) (access : Access) (value : ℕ) : Type 0 where
   pub word : word_passed (Some access) value ≡ planned_item digest key contents kept item
   pub released : (prefix : List ℕ)
@@ -85,7 +87,7 @@ IsQuiet contents index = (index < 109 + attested_words contents) × (index ≡ 7
 abbrev IsOffKept : ℕ → Type 0
 IsOffKept index = (index ≡ 74 → ⊥) × (index ≡ 75 → ⊥)
 
-no_decision_yet : (digest : List ℕ → List ℕ) (key : List ℕ) (contents : AttestedBytes)
+no_decision_yet : (digest : Digest) (key : Bytes) (contents : AttestedBytes)
     (kept : List ℕ) (index : ℕ) → (index ≡ 76 → ⊥)
     → decision_words digest key contents kept index
     ≡ decision_words digest key contents kept (index + 1)
@@ -110,7 +112,7 @@ no_decision_yet digest key contents kept index other =
           | inr above ↦ above
         ]
 
-no_word_yet : (digest : List ℕ → List ℕ) (key : List ℕ) (contents : AttestedBytes)
+no_word_yet : (digest : Digest) (key : Bytes) (contents : AttestedBytes)
     (kept : List ℕ) (index : ℕ) → IsQuiet contents index
     → words_written digest key contents kept index
     ≡ words_written digest key contents kept (index + 1)
@@ -124,7 +126,7 @@ no_byte_yet : (contents : AttestedBytes) (index i : ℕ) → index < 109 + attes
     → i < 2 * mac_count contents (index + 1) → ⊥
 no_byte_yet contents index i early within = omega (arith, early, within)
 
-kept_stays : (digest : List ℕ → List ℕ) (key : List ℕ) (contents : AttestedBytes)
+kept_stays : (digest : Digest) (key : Bytes) (contents : AttestedBytes)
     (kept : List ℕ) (index : ℕ) → IsOffKept index
     → kept_at digest key contents kept index ≡ kept_at digest key contents kept (index + 1)
 kept_stays digest key contents kept index off =
@@ -150,7 +152,7 @@ kept_stays digest key contents kept index off =
               ]
         ]
 
-missed-kept : (digest : List ℕ → List ℕ) (key : List ℕ) (contents : AttestedBytes)
+missed-kept : (digest : Digest) (key : Bytes) (contents : AttestedBytes)
     (kept : List ℕ) (index : ℕ) (access : Access)
     → IsOffKept index → ((i : ℕ) → i < 4 → MissesPlace (Some access) (0x4060 + i))
     → (power : PowerOn) (flags : ShownFlags) (writes : List MemoryWrite)
@@ -180,7 +182,7 @@ read-passes device logs contents kept index place item quiet off is =
           (λ i within. tt);
     }
 
-stack_write-passes : (digest : List ℕ → List ℕ) (key : List ℕ) (contents : AttestedBytes)
+stack_write-passes : (digest : Digest) (key : Bytes) (contents : AttestedBytes)
     (kept : List ℕ) (index place number value : ℕ) (item : CallItem)
     → IsQuiet contents index
     → lies_in mac_region (place / 2 * 2) ≡ false
@@ -202,7 +204,7 @@ stack_write-passes digest key contents kept index place number value item quiet 
     }
 
 -- the two words of the kept counter
-kept_write-counts : (digest : List ℕ → List ℕ) (key : List ℕ) (contents : AttestedBytes)
+kept_write-counts : (digest : Digest) (key : Bytes) (contents : AttestedBytes)
     (kept : List ℕ) (index number i : ℕ)
     → index + i ≡ 75 → i < 2
     → IsCounter kept → IsCounter (counter_left digest key contents kept)
@@ -231,7 +233,7 @@ kept_write-counts digest key contents kept index number (suc (suc i)) at below c
     power flags writes before = absurd (omega (arith, below))
 
 -- the decision
-decision_write-passes : (digest : List ℕ → List ℕ) (key : List ℕ) (contents : AttestedBytes)
+decision_write-passes : (digest : Digest) (key : Bytes) (contents : AttestedBytes)
     (kept : List ℕ) (index number value : ℕ)
     → index ≡ 76 → number ≡ decision_of digest key contents kept
     → Passes digest key contents kept index DecisionWrite (write_at Word 0x200 number) value
@@ -258,7 +260,7 @@ decision_write-passes digest key contents kept index number value at is =
           (λ wrong. omega (arith, wrong)));
     }
 
-mac_write-passes : (digest : List ℕ → List ℕ) (key : List ℕ) (contents : AttestedBytes)
+mac_write-passes : (digest : Digest) (key : Bytes) (contents : AttestedBytes)
     (kept : List ℕ) (index number value i : ℕ)
     → 109 + attested_words contents + i ≡ index
     → i < 16

@@ -9,8 +9,9 @@ use Rattle.bus_signals.specs.declared.bus_record.BusRecord.{BusRecord}
 use Rattle.bus_signals.specs.declared.event.Event.{Event}
 use Rattle.bus_signals.specs.declared.kind.Kind.TheVariants.{Rom}
 use Rattle.part_definitions.specs.Attestation.{call_item, item_pc}
-use Rattle.part_definitions.specs.Flag.{last_pc}
+use Rattle.bus_signals.specs.ExecFlag.{last_pc}
 use Rattle.part_definitions.specs.Memory.{byte_at, is_flag_word, with_access}
+use Rattle.device_trace.specs.Play.{Play}
 use Rattle.device_trace.specs.Logs.{Logs, flags_of, step_progress, with_events, with_record}
 use Rattle.device_trace.specs.Progress.{InCall, next_pc_of}
 use Rattle.device_trace.specs.Signals.{step_kind}
@@ -43,7 +44,7 @@ abbrev pub LastWroteHighWord : List BusRecord → Type 0
 LastWroteHighWord [] = ⊥
 LastWroteHighWord (entry ∷ history) = (entry.reset ≡ None) × WritesHighWord entry.cpu
 
-pub record CallGoesOn (device : Device) (play : List (List Event)) (words : List ℕ) : Type 0 where
+pub record CallGoesOn (device : Device) (play : Play) (words : List ℕ) : Type 0 where
   pub contents : AttestedBytes
   pub kept : List ℕ
   pub so_far : CallSoFar device play (last_call (trace (start_of device) play)) words contents kept
@@ -53,16 +54,16 @@ pub record CallGoesOn (device : Device) (play : List (List Event)) (words : List
   pub begun : 1 ≤ length words
   pub last : IsInRom (last_pc (logs_after (start_of device) play).records)
 
-abbrev pub PlayStands : Device → List (List Event) → Type 0
+abbrev pub PlayStands : Device → Play → Type 0
 PlayStands device play =
     OnCall (λ regs words. CallGoesOn device play words) (logs_after (start_of device) play).progress
 
 -- the logs after the events of a step
-abbrev pub log_at : Device → List (List Event) → List Event → Logs
+abbrev pub log_at : Device → Play → List Event → Logs
 log_at device play events = with_events (logs_after (start_of device) play) events
 
 -- what is attested in the memory after a play is of bytes
-pub attested-is : (device : Device) (play : List (List Event)) (contents : AttestedBytes)
+pub attested-is : (device : Device) (play : Play) (contents : AttestedBytes)
     → contents_before (start_of device) play 0 ≡ contents → IsAttested contents
 attested-is device play contents stands =
     subst IsAttested stands
@@ -70,25 +71,25 @@ attested-is device play contents stands =
     (λ place. byte_after-byte (start_of device) play place (start_of-bytes device)))
 
 -- the record of the next step
-abbrev pub entry_at : Device → List (List Event) → List Event → BusRecord
+abbrev pub entry_at : Device → Play → List Event → BusRecord
 entry_at device play events =
     next_record (start_of device) (logs_after (start_of device) play) events
 
-pub entry-kind : (device : Device) (play : List (List Event)) (events : List Event)
+pub entry-kind : (device : Device) (play : Play) (events : List Event)
     → (entry_at device play events).kind ≡ step_kind (log_at device play events)
 unfolding next_record
 entry-kind device play events =
     record_of-kind (start_of device) (log_at device play events) (asks_reset events)
 
 -- the next step is one of a call in which these words passed
-pub record IsTurnOfCall (device : Device) (play : List (List Event)) (events : List Event)
+pub record IsTurnOfCall (device : Device) (play : Play) (events : List Event)
     (regs words : List ℕ) : Type 0 where
   pub kind : step_kind (log_at device play events) ≡ Rom
   pub progress :
       step_progress (log_at device play events) (step_kind (log_at device play events))
       ≡ InCall regs words
 
-pub entry-pc : (device : Device) (play : List (List Event)) (events : List Event)
+pub entry-pc : (device : Device) (play : Play) (events : List Event)
     (regs words : List ℕ)
     → IsTurnOfCall device play events regs words
     → (entry_at device play events).pc ≡ item_pc (call_item words)
@@ -97,7 +98,7 @@ entry-pc device play events regs words turn =
     record_of-pc (start_of device) (log_at device play events) (asks_reset events)
     ∙ ap next_pc_of turn.progress
 
-pub entry-step : (device : Device) (play : List (List Event)) (events : List Event)
+pub entry-step : (device : Device) (play : Play) (events : List Event)
     (regs words : List ℕ)
     → IsTurnOfCall device play events regs words
     → (entry_at device play events).reset ≡ None
@@ -109,13 +110,13 @@ entry-step device play events regs words turn none =
     turn.kind turn.progress
 
 -- the records of its call before it
-abbrev pub earlier_records : Device → List (List Event) → List Event → List BusRecord
+abbrev pub earlier_records : Device → Play → List Event → List BusRecord
 earlier_records device play events =
     if begins_call (entry_at device play events) then []
     else last_call (trace (start_of device) play)
 
 -- the kept counter is of bytes
-pub kept-is : (device : Device) (play : List (List Event))
+pub kept-is : (device : Device) (play : Play)
     → IsCounter (kept_before (start_of device) play 0)
 kept-is device play =
     record {
@@ -125,14 +126,14 @@ kept-is device play =
           (λ place. byte_after-byte (start_of device) play place (start_of-bytes device));
     }
 
-pub none_earlier : (device : Device) (play : List (List Event)) (events : List Event)
+pub none_earlier : (device : Device) (play : Play) (events : List Event)
     → begins_call (entry_at device play events) ≡ true
     → earlier_records device play events ≡ []
 none_earlier device play events begins =
     cond-true (begins_call (entry_at device play events)) []
     (last_call (trace (start_of device) play)) begins
 
-pub first_step : (device : Device) (play : List (List Event)) (events : List Event)
+pub first_step : (device : Device) (play : Play) (events : List Event)
     (contents : AttestedBytes)
     → begins_call (entry_at device play events) ≡ true
     → without_flag_words (contents_before (start_of device) play 0) ≡ without_flag_words contents
@@ -145,14 +146,14 @@ first_step device play events contents begins alike =
     (sym (none_earlier device play events begins))
     (call-begins device play contents (kept-is device play) alike)
 
-pub all_earlier : (device : Device) (play : List (List Event)) (events : List Event)
+pub all_earlier : (device : Device) (play : Play) (events : List Event)
     → begins_call (entry_at device play events) ≡ false
     → earlier_records device play events ≡ last_call (trace (start_of device) play)
 all_earlier device play events goes_on =
     cond-false (begins_call (entry_at device play events)) []
     (last_call (trace (start_of device) play)) goes_on
 
-pub later_step : (device : Device) (play : List (List Event)) (events : List Event)
+pub later_step : (device : Device) (play : Play) (events : List Event)
     (words : List ℕ) (contents : AttestedBytes) (kept : List ℕ)
     → begins_call (entry_at device play events) ≡ false
     → CallSoFar device play (last_call (trace (start_of device) play)) words contents kept
@@ -162,7 +163,7 @@ later_step device play events words contents kept goes_on so_far =
     (sym (all_earlier device play events goes_on)) so_far
 
 -- what a step of the ROM leaves
-pub after_step-bytes : (device : Device) (play : List (List Event)) (events : List Event)
+pub after_step-bytes : (device : Device) (play : Play) (events : List Event)
     → IsRomStep (entry_at device play events)
     → (p : ℕ) → is_flag_word p ≡ false
     → byte_after (start_of device) (events ∷ play) p
@@ -172,7 +173,7 @@ unfolding logs_after
 after_step-bytes device play events step =
     bytes-after (start_of device) (log_at device play events) (entry_at device play events) step
 
-pub after_step-alike : (device : Device) (play : List (List Event)) (events : List Event)
+pub after_step-alike : (device : Device) (play : Play) (events : List Event)
     → IsRomStep (entry_at device play events)
     → without_flag_words (contents_before (start_of device) play 0)
     ≡ without_flag_words (contents_before (start_of device) (events ∷ play) 0)
@@ -182,7 +183,7 @@ after_step-alike device play events step =
     (byte_after (start_of device) play)
     (bytes-alike (start_of device) (log_at device play events) (entry_at device play events) step))
 
-pub after_step-same : (device : Device) (play : List (List Event)) (events : List Event)
+pub after_step-same : (device : Device) (play : Play) (events : List Event)
     → IsRomStep (entry_at device play events)
     → ((entry_at device play events).pc == ROM_ENTRY) ≡ false
     → IsInRom (last_pc (logs_after (start_of device) play).records)
@@ -195,7 +196,7 @@ after_step-same device play events step later last =
     later (with_events-valid (start_of device) (logs_after (start_of device) play) events
     (logs_after-valid (start_of device) play)) last)
 
-pub last-in_rom : (device : Device) (play : List (List Event)) (events : List Event)
+pub last-in_rom : (device : Device) (play : Play) (events : List Event)
     → IsRomStep (entry_at device play events)
     → IsInRom (last_pc (logs_after (start_of device) (events ∷ play)).records)
 unfolding logs_after with_record

@@ -13,7 +13,10 @@ use Rattle.bus_signals.specs.Report.{ReportFields}
 use Rattle.part_definitions.specs.Metadata.{counter_bytes, little_endian}
 use Rattle.part_definitions.specs.Region.{mac_bytes}
 use Rattle.part_definitions.specs.Request.{ATTESTS}
-use Rattle.bus_signals.specs.SeenRecord.{SeenRecord}
+use Rattle.bus_signals.specs.SeenRecord.{SeenHistory}
+use Rattle.bus_signals.specs.Address.{Bytes, Contents}
+use Rattle.part_definitions.specs.Hmac.{Digest}
+use Rattle.device_trace.specs.Play.{Play}
 use Rattle.device_trace.specs.Logs.{Logs, progress_after, step_progress, vector_of, with_events, with_record}
 use Rattle.device_trace.specs.Signals.{step_kind}
 use Rattle.device_trace.specs.Start.{Start, with_key}
@@ -32,7 +35,7 @@ use Rattle.mac_coverage.proofs.Steps.{OnCall, other_step-no_call}
 use Rattle.mac_coverage.proofs.Words.{are_bytes}
 
 -- another step
-other_next : (device : Device) (play : List (List Event)) (events : List Event)
+other_next : (device : Device) (play : Play) (events : List Event)
     → is_rom (step_kind (log_at device play events)) ≡ false
     → PlayStands device (events ∷ play)
 unfolding logs_after with_record
@@ -53,7 +56,7 @@ rom_kind Cpu rom = absurd (cc)
 rom_kind Idle rom = absurd (cc)
 rom_kind Irq rom = absurd (cc)
 
-pub play_stands : (device : Device) (play : List (List Event)) → PlayStands device play
+pub play_stands : (device : Device) (play : Play) → PlayStands device play
 unfolding logs_after
 play_stands device [] = tt
 play_stands device (events ∷ play) =
@@ -64,7 +67,7 @@ play_stands device (events ∷ play) =
       | inr other ↦ other_next device play events other
     ]
 
-pub outcome_at : (device : Device) (play : List (List Event))
+pub outcome_at : (device : Device) (play : Play)
     → ends_in_call (trace (start_of device) play) ≡ true → Outcome device play
 unfolding trace
 outcome_at device [] in_call = absurd (cc)
@@ -74,8 +77,8 @@ outcome_at device (events ∷ play) in_call =
     rom_outcome device play events rom (play_stands device play)
 
 -- the law
-pub mac_covers_call : (flag : List SeenRecord → Bool) (digest : List ℕ → List ℕ) (key : List ℕ)
-    (image : ℕ → ℕ) (play : List (List Event))
+pub mac_covers_call : (flag : SeenHistory → Bool) (digest : Digest) (key : Bytes)
+    (image : Contents) (play : Play)
     → IsDeviceKey key → IsOfBytes image
     → IsTrue (ends_in_call (trace (with_key flag digest key image) play))
     → MacCoversCall digest key (with_key flag digest key image) play
@@ -93,7 +96,7 @@ mac_covers_call flag digest key image play device_key bytes in_call =
 
 -- where the last step makes a report, it finishes a call that attests, and the report tells what is
 -- in memory
-pub record Reports (start : Start) (play : List (List Event)) (report : ReportFields) : Type 0 where
+pub record Reports (start : Start) (play : Play) (report : ReportFields) : Type 0 where
   pub in_call : ends_in_call (trace start play) ≡ true
   pub refused : ends_refused (trace start play) ≡ false
   pub finished : ends_finished (trace start play) ≡ true
@@ -124,7 +127,7 @@ report_where-is start logs step (Some decision) report is =
     let same : decision ≡ ATTESTS = eqb-true decision ATTESTS both.0 in
     record { attests = ap (λ (d : ℕ). Some d) same; same = both.1 }
 
-pub last_report-finishes : (start : Start) (play : List (List Event)) (report : ReportFields)
+pub last_report-finishes : (start : Start) (play : Play) (report : ReportFields)
     → last_report start play ≡ Some report → Reports start play report
 unfolding trace logs_after with_record
 last_report-finishes start [] report is = absurd (cc)
@@ -146,8 +149,8 @@ last_report-finishes start (events ∷ play) report is =
       mac = ap (λ (reports : ReportFields). reports.mac) (sym where_made.same);
     }
 
-pub reported_mac-is_tag : (flag : List SeenRecord → Bool) (digest : List ℕ → List ℕ) (key : List ℕ)
-    (image : ℕ → ℕ) (play : List (List Event)) (report : ReportFields)
+pub reported_mac-is_tag : (flag : SeenHistory → Bool) (digest : Digest) (key : Bytes)
+    (image : Contents) (play : Play) (report : ReportFields)
     → IsDeviceKey key → IsOfBytes image → Gives32Bytes digest
     → last_report (with_key flag digest key image) play ≡ Some report
     → report.mac ≡ tag_of digest key (contents_before (with_key flag digest key image) play 0)
@@ -172,8 +175,8 @@ reported_mac-is_tag flag digest key image play report device_key bytes gives is 
     call_begun [] in_call = absurd (cc)
     call_begun (entry ∷ history) in_call = omega arith
 
-pub report-covered : (flag : List SeenRecord → Bool) (digest : List ℕ → List ℕ) (key : List ℕ)
-    (image : ℕ → ℕ) (play : List (List Event)) (report : ReportFields)
+pub report-covered : (flag : SeenHistory → Bool) (digest : Digest) (key : Bytes) (image : Contents)
+    (play : Play) (report : ReportFields)
     → IsDeviceKey key → IsOfBytes image
     → last_report (with_key flag digest key image) play ≡ Some report
     → MacCoversReport digest key (with_key flag digest key image) report play

@@ -15,7 +15,7 @@ use Rattle.bus_signals.specs.SeenRecord.{SeenRecord}
 use Rattle.part_definitions.specs.Attestation.{call_item, word_passed}
 use Rattle.part_definitions.specs.CpuState.{Boundary, Executing, Entering}
 use Rattle.part_definitions.specs.FirstRule.{first_rule}
-use Rattle.part_definitions.specs.Flag.{last_pc}
+use Rattle.bus_signals.specs.ExecFlag.{last_pc}
 use Rattle.part_definitions.specs.Memory.{MemoryWrite, ShownFlags, byte_at, is_flag_word, with_access}
 use Rattle.part_definitions.specs.MonitorRule.{in_rom, is_written_by_rom, leaves_stack_and_mac}
 use Rattle.device_trace.specs.Blank.{blank_seen}

@@ -12,6 +12,8 @@ use Rattle.part_definitions.specs.Request.{ATTESTS, request_decision}
 use Rattle.mac_coverage.specs.AttestedBytes.{AttestedBytes, counter_left, decision_of, tag_of}
 use Rattle.mac_coverage.proofs.CallItems.{item_after-early, kept_item, key_item, metadata_item, region_item}
 use Rattle.mac_coverage.proofs.Words.{AreBytes, bytes_of_words-read}
+use Rattle.bus_signals.specs.Address.{Bytes}
+use Rattle.part_definitions.specs.Hmac.{Digest}
 
 -- the bounds in the metadata, and how many words of the region they name
 abbrev pub attested_bounds : AttestedBytes → Bounds
@@ -55,7 +57,7 @@ first_mac_words digest key contents count =
 
 -- one word more
 pub planned-more :
-    (digest : List ℕ → List ℕ) (key : List ℕ) (contents : AttestedBytes) (kept words : List ℕ)
+    (digest : Digest) (key : Bytes) (contents : AttestedBytes) (kept words : List ℕ)
     (word : ℕ)
     → ArePlanned digest key contents kept words
     → word ≡ planned_word digest key contents kept (length words)
@@ -80,7 +82,7 @@ pub record IsAttested (contents : AttestedBytes) : Type 0 where
   pub rest_bytes : AreBytes contents.rest
 
 -- the bounds that a call has read, and the decision that it has written
-pub bounds_read-planned : (digest : List ℕ → List ℕ) (key : List ℕ) (contents : AttestedBytes)
+pub bounds_read-planned : (digest : Digest) (key : Bytes) (contents : AttestedBytes)
     (kept words : List ℕ)
     → ArePlanned digest key contents kept words → 77 ≤ length words
     → bounds_read words ≡ attested_bounds contents
@@ -97,7 +99,7 @@ bounds_read-planned digest key contents kept words by_plan past =
       or_max = word 19 (omega arith) j;
     }
 
-pub decision_read-planned : (digest : List ℕ → List ℕ) (key : List ℕ) (contents : AttestedBytes)
+pub decision_read-planned : (digest : Digest) (key : Bytes) (contents : AttestedBytes)
     (kept words : List ℕ)
     → ArePlanned digest key contents kept words → 77 ≤ length words
     → decision_read words ≡ decision_of digest key contents kept
@@ -105,7 +107,7 @@ decision_read-planned digest key contents kept words by_plan past =
     by_plan 76 (omega (arith, past))
 
 -- so its next access is the planned one
-pub call_item-planned : (digest : List ℕ → List ℕ) (key : List ℕ) (contents : AttestedBytes)
+pub call_item-planned : (digest : Digest) (key : Bytes) (contents : AttestedBytes)
     (kept words : List ℕ)
     → ArePlanned digest key contents kept words
     → call_item words
@@ -137,7 +139,7 @@ words_read words bytes first count within size small answer =
     get_or-take count (drop first words) i 0 below
     ∙ (get_or-drop first words i 0 ∙ answer i below))
 
-pub key_read-planned : (digest : List ℕ → List ℕ) (key : List ℕ) (contents : AttestedBytes)
+pub key_read-planned : (digest : Digest) (key : Bytes) (contents : AttestedBytes)
     (kept words : List ℕ)
     → ArePlanned digest key contents kept words
     → length key ≡ 64 → AreBytes key → 74 ≤ length words
@@ -151,7 +153,7 @@ key_read-planned digest key contents kept words by_plan size small past =
     ∙ ap (planned_item digest key contents kept)
     (key_item (attested_words contents) (decision_of digest key contents kept) i within)))
 
-pub metadata_read-planned : (digest : List ℕ → List ℕ) (key : List ℕ) (contents : AttestedBytes)
+pub metadata_read-planned : (digest : Digest) (key : Bytes) (contents : AttestedBytes)
     (kept words : List ℕ)
     → ArePlanned digest key contents kept words → IsAttested contents → 74 ≤ length words
     → metadata_read words ≡ contents.metadata
@@ -168,7 +170,7 @@ pub record IsCounter (counter : List ℕ) : Type 0 where
   pub size : length counter ≡ 4
   pub bytes : AreBytes counter
 
-pub kept_read-planned : (digest : List ℕ → List ℕ) (key : List ℕ) (contents : AttestedBytes)
+pub kept_read-planned : (digest : Digest) (key : Bytes) (contents : AttestedBytes)
     (kept words : List ℕ)
     → ArePlanned digest key contents kept words → IsCounter kept → 74 ≤ length words
     → kept_read words ≡ kept
@@ -180,7 +182,7 @@ kept_read-planned digest key contents kept words by_plan counter past =
     (kept_item (attested_words contents) (decision_of digest key contents kept) i within))
 
 -- so its decision
-pub decision_in-planned : (digest : List ℕ → List ℕ) (key : List ℕ) (contents : AttestedBytes)
+pub decision_in-planned : (digest : Digest) (key : Bytes) (contents : AttestedBytes)
     (kept words : List ℕ)
     → ArePlanned digest key contents kept words → IsAttested contents → IsCounter kept
     → length key ≡ 64 → AreBytes key → 74 ≤ length words
@@ -205,7 +207,7 @@ request_word metadata i within =
     byte : (k : ℕ) → k < 4 → slice_index metadata (44 + k) ≡ slice_index (counter_in metadata) k
     byte k within = sym (get_or-take 4 (drop 44 metadata) k 0 within ∙ get_or-drop 44 metadata k 0)
 
-pub counter_word-planned : (digest : List ℕ → List ℕ) (key : List ℕ) (contents : AttestedBytes)
+pub counter_word-planned : (digest : Digest) (key : Bytes) (contents : AttestedBytes)
     (kept words : List ℕ) (i : ℕ)
     → ArePlanned digest key contents kept words → IsAttested contents → IsCounter kept
     → length key ≡ 64 → AreBytes key → 74 ≤ length words → i < 2
@@ -234,7 +236,7 @@ counter_word-planned digest key contents kept words i by_plan is counter size sm
     choice true first second = refl
     choice false first second = refl
 
-pub counter_left-is : (digest : List ℕ → List ℕ) (key : List ℕ) (contents : AttestedBytes)
+pub counter_left-is : (digest : Digest) (key : Bytes) (contents : AttestedBytes)
     (kept : List ℕ)
     → IsAttested contents → IsCounter kept → IsCounter (counter_left digest key contents kept)
 counter_left-is digest key contents kept is counter =
@@ -264,7 +266,7 @@ counter_left-is digest key contents kept is counter =
             ]
     by_case false = counter
 
-pub tag_in-planned : (digest : List ℕ → List ℕ) (key : List ℕ) (contents : AttestedBytes)
+pub tag_in-planned : (digest : Digest) (key : Bytes) (contents : AttestedBytes)
     (kept words : List ℕ)
     → ArePlanned digest key contents kept words → IsAttested contents
     → length key ≡ 64 → AreBytes key
@@ -290,7 +292,7 @@ tag_in-planned digest key contents kept words by_plan is size small attests past
     λ j. attestation_tag digest (key_same j) (metadata_same j) (rest_same j)
 
 -- one word of the MAC more
-pub first_mac_words-more : (digest : List ℕ → List ℕ) (key : List ℕ) (contents : AttestedBytes)
+pub first_mac_words-more : (digest : Digest) (key : Bytes) (contents : AttestedBytes)
     (count : ℕ)
     → first_mac_words digest key contents (count + 1)
     ≡ first_mac_words digest key contents count

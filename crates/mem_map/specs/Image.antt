@@ -7,10 +7,13 @@ use Rattle.mem_map.specs.declared.image.Image.{Image}
 abbrev pub byte_in : Image → ℕ → Option ℕ
 byte_in image place = slice_index_or image.bytes.items place None
 
+-- what a device is powered on with: the byte at a place, 0 where an image has none
+abbrev pub image_byte : (ℕ → Option ℕ) → ℕ → ℕ
+image_byte image place = unwrap_or (image place) 0
+
 -- powered on with a key and an image
 abbrev pub power_on_with : List ℕ → (ℕ → Option ℕ) → PowerOn
-power_on_with key image =
-    record { key = λ i. slice_index key i; image = λ place. unwrap_or (image place) 0 }
+power_on_with key image = record { key = λ i. slice_index key i; image = image_byte image }
 
 abbrev pub power_on_of : List ℕ → Image → PowerOn
 power_on_of key image = power_on_with key (byte_in image)

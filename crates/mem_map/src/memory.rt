@@ -1,5 +1,6 @@
 ghost use Rattle.std.specs.Prelude.{◌≡◌, ◌+◌, ◌-◌, ◌*◌, ◌/◌, ◌&&◌, ◌∷◌, [], List, IfOk, IfSome, IsSome, IsTrue, ◌↔◌, length, vec_len};
 ghost use Rattle.word_arith.specs.declared.size.Size.{Size};
+ghost use Rattle.bus_signals.specs.Address.{even};
 ghost use Rattle.part_definitions.specs.Memory.{PowerOn, ShownFlags, MemoryWrite, no_flags, byte_at, number_at, with_number, bytes_from};
 ghost use Rattle.part_definitions.specs.Metadata.{bounds_in};
 ghost use Rattle.mem_map.specs.Image.{power_on_of};
@@ -7,7 +8,7 @@ ghost use Rattle.mem_map.specs.Span.{is_span};
 
 use crate::image::Image;
 use crate::place::{PLACES, is_image_place, is_span, rom_byte, takes_write};
-use bus_signals::{AUX_WORD, Bounds, CR, ER_MAX, ER_MIN, EXEC_WORD, KR, OR_MAX, OR_MIN};
+use bus_signals::{AUX_WORD, Bounds, CR, ER_MAX, ER_MIN, EXEC_WORD, KR, OR_MAX, OR_MIN, even};
 use std::alloc::{AllocError, Global};
 use word_arith::Size;
 
@@ -68,15 +69,15 @@ impl Memory {
     #[tactic(auto, using(crate::proofs::Word::word_taken, crate::proofs::Word::word_refused))]
     fn set_word(&mut self, place: u16, low: u8, high: u8)
         ensures { Writes self.old
-            (λ writes. record { place = place / 2 * 2 + 1; byte = high }
-            ∷ record { place = place / 2 * 2; byte = low }
+            (λ writes. record { place = even place + 1; byte = high }
+            ∷ record { place = even place; byte = low }
             ∷ writes) self.new }
     {
-        let even = place / 2 * 2;
-        if takes_write(even) {
-            let even = usize::from(even);
-            self.bytes[even] = low;
-            self.bytes[even + 1] = high;
+        let first = even(place);
+        if takes_write(first) {
+            let first = usize::from(first);
+            self.bytes[first] = low;
+            self.bytes[first + 1] = high;
         }
     }
 
@@ -87,7 +88,7 @@ impl Memory {
         match size {
             Size::Byte => u16::from(self.byte(place)),
             Size::Word => {
-                let low = usize::from(place / 2 * 2);
+                let low = usize::from(even(place));
                 u16::from_le_bytes([self.bytes[low], self.bytes[low + 1]])
             }
         }

@@ -12,10 +12,11 @@ use Rattle.msp_decode.specs.declared.head.Head.{Head}
 use Rattle.msp_decode.specs.declared.head.Head.TheVariants.{Two, One as OneOperand, Reti, Jump}
 use Rattle.msp_decode.specs.Table.{op2_number, one_number, cond_number, size_number, source_mode, source_register, dest_mode, dest_register, offset_number}
 use Rattle.msp_decode.specs.Spelling.{has_form, has_range, is_legal, word_of, Spells}
-use Rattle.msp_decode.specs.Head.{if_legal, one_head, two_head, jump_head, head_of}
+use Rattle.msp_decode.specs.Head.{one_head, two_head, jump_head, head_of}
 use Rattle.msp_decode.specs.Law.{HeadsAreSpelled}
+use Rattle.msp_decode.proofs.OneHead.{if_legal, one_of_fields, one_head-legal}
 use Rattle.msp_decode.proofs.WordRange.{by_range}
-use Rattle.msp_decode.proofs.TableLemmas.{op2_number-op2_of, op2_of-op2_number, op2_number-lt, op2_number-le, one_number-one_of, one_of-one_number, one_number-lt, cond_number-cond_of, cond_of-cond_number, cond_number-lt, size_number-size_of, size_of-size_number, size_number-lt, source_mode-lt, source_register-lt, source_of-fields, source_mode-source_of, source_register-source_of, has_form-source_of, dest_mode-lt, dest_register-lt, dest_of-fields, dest_mode-dest_of, dest_register-dest_of, offset_number-lt, offset_of-offset_number, offset_number-offset_of, has_range-offset_of}
+use Rattle.msp_decode.proofs.TableLemmas.{op2_number-op2_of, op2_of-op2_number, op2_number-lt, op2_number-le, one_number-one_of, one_of-one_number, one_number-lt, cond_number-cond_of, cond_of-cond_number, cond_number-lt, size_number-size_of_bit, size_of_bit-size_number, size_number-lt, source_mode-lt, source_register-lt, source_of-fields, source_mode-source_of, source_register-source_of, has_form-source_of, dest_mode-lt, dest_register-lt, dest_of-fields, dest_mode-dest_of, dest_register-dest_of, offset_number-lt, offset_of-offset_number, offset_number-offset_of, has_range-offset_of}
 
 -- the word of the head that is read from a word is that word
 two_spelled : (word : ℕ) → 0x4000 ≤ word → word < 0x10000 → Spells word (two_head word)
@@ -24,7 +25,7 @@ two_spelled word least fits = (
   grind (
     arith,
     op2_number-op2_of,
-    size_number-size_of,
+    size_number-size_of_bit,
     source_mode-source_of,
     source_register-source_of,
     dest_mode-dest_of,
@@ -32,12 +33,12 @@ two_spelled word least fits = (
   ),
 )
 
-one_is : (word : ℕ) → 0x1000 ≤ word → word < 0x1300 → word ≡ word_of (one_head word)
+one_is : (word : ℕ) → 0x1000 ≤ word → word < 0x1300 → word ≡ word_of (one_of_fields word)
 one_is word least fits =
     grind (
       arith,
       one_number-one_of,
-      size_number-size_of,
+      size_number-size_of_bit,
       source_mode-source_of,
       source_register-source_of,
     )
@@ -73,13 +74,13 @@ two_read op size source dest word is_formed is =
       dest_is,
       last_is,
       op2_of-op2_number op,
-      size_of-size_number size,
+      size_of_bit-size_number size,
       source_of-fields source is_formed,
       dest_of-fields dest,
     ) refl
 
 one_read : (op : One) (size : Size) (source : SourceForm) (word : ℕ) → IsTrue (has_form source)
-    → word ≡ word_of (OneOperand op size source) → one_head word ≡ OneOperand op size source
+    → word ≡ word_of (OneOperand op size source) → one_of_fields word ≡ OneOperand op size source
 one_read op size source word is_formed is =
     let op_fits = one_number-lt op in
     let size_fits = size_number-lt size in
@@ -95,7 +96,7 @@ one_read op size source word is_formed is =
       mode_is,
       register_is,
       one_of-one_number op,
-      size_of-size_number size,
+      size_of_bit-size_number size,
       source_of-fields source is_formed,
     ) refl
 
@@ -122,10 +123,13 @@ pub head_of-low : (word : ℕ) → word < 0x1000 → head_of word ≡ None
 unfolding head_of
 head_of-low word fits = grind (arith, nat_tests)
 
-pub head_of-one : (word : ℕ) → 0x1000 ≤ word → word < 0x1300
-    → head_of word ≡ if_legal (one_head word)
+pub head_of-one : (word : ℕ) → 0x1000 ≤ word → word < 0x1300 → head_of word ≡ one_head word
 unfolding head_of
 head_of-one word least fits = grind (arith, nat_tests)
+
+pub head_of-fields : (word : ℕ) → 0x1000 ≤ word → word < 0x1300
+    → head_of word ≡ if_legal (one_of_fields word)
+head_of-fields word least fits = head_of-one word least fits ∙ one_head-legal word
 
 pub head_of-gap : (word : ℕ) → 0x1300 < word → word < 0x2000 → head_of word ≡ None
 unfolding head_of
@@ -149,9 +153,9 @@ if_legal-legal : (head : Head) → IsTrue (is_legal head) → if_legal head ≡ 
 if_legal-legal head legal = rw legal refl
 
 one_spelled : (word : ℕ) (head : Head) → 0x1000 ≤ word → word < 0x1300
-    → if_legal (one_head word) ≡ Some head → Spells word head
+    → if_legal (one_of_fields word) ≡ Some head → Spells word head
 one_spelled word head least fits is =
-    let answer = some_if (is_legal (one_head word)) (one_head word) head is in
+    let answer = some_if (is_legal (one_of_fields word)) (one_of_fields word) head is in
     subst (λ (h : Head). Spells word h) (answer.1) (answer.0, one_is word least fits)
 
 -- a word that gives no head gives no other
@@ -174,7 +178,7 @@ head_sound : (word : ℕ) (head : Head) → word < 2 ^ 16 → head_of word ≡ S
 head_sound word head fits is =
     by_range (λ _. Spells word head) word
     (λ low. absurd (unread word head (head_of-low word low) is))
-    (λ least most. one_spelled word head least most (sym (head_of-one word least most) ∙ is))
+    (λ least most. one_spelled word head least most (sym (head_of-fields word least most) ∙ is))
     (λ exact. reti_spelled word head exact is)
     (λ above most. absurd (unread word head (head_of-gap word above most) is))
     (λ least most. read_as word (jump_head word) head (head_of-jump word least most) is
@@ -195,7 +199,7 @@ head_complete word (OneOperand op size source) fits spells =
     let register_fits = source_register-lt source in
     let is : word ≡ word_of (OneOperand op size source) = spells.1 in
     let is_formed : IsTrue (has_form source) = grind (arith, spells.0) in
-    head_of-one word (omega (arith, is)) (omega (arith, is))
+    head_of-fields word (omega (arith, is)) (omega (arith, is))
     ∙ ap if_legal (one_read op size source word is_formed is)
     ∙ if_legal-legal (OneOperand op size source) (spells.0)
 head_complete word Reti fits spells = ap head_of (spells.1) ∙ head_of-reti

@@ -4,21 +4,22 @@ use Rattle.std.specs.Prelude.{IsNone}
 use Rattle.std.proofs.lemmas.Bool.Decides.{nat_tests}
 use Rattle.msp_decode.specs.declared.head.Head.{Head}
 use Rattle.msp_decode.specs.declared.head.Head.TheVariants.{One, Reti}
-use Rattle.msp_decode.specs.Field.{one_of, size_of, source_of}
-use Rattle.msp_decode.specs.Spelling.{has_form, has_size, takes_write, writes_operand, is_legal, IsIllegalWord}
-use Rattle.msp_decode.specs.Head.{if_legal, one_head, two_head, jump_head, head_of}
+use Rattle.msp_decode.specs.Field.{one_of, size_of_bit, source_of}
+use Rattle.msp_decode.specs.Spelling.{has_form, has_size, takes_result, writes_operand, is_legal, IsIllegalWord}
+use Rattle.msp_decode.specs.Head.{two_head, jump_head, head_of}
 use Rattle.msp_decode.specs.Law.{IllegalWordsSpellNothing}
+use Rattle.msp_decode.proofs.OneHead.{if_legal, one_of_fields}
 use Rattle.msp_decode.proofs.WordRange.{by_range}
 use Rattle.msp_decode.proofs.TableLemmas.{has_form-source_of}
-use Rattle.msp_decode.proofs.HeadLemmas.{head_of-reti, head_of-low, head_of-one, head_of-gap, head_of-jump, head_of-two}
+use Rattle.msp_decode.proofs.HeadLemmas.{head_of-reti, head_of-low, head_of-fields, head_of-gap, head_of-jump, head_of-two}
 
 -- SWPB, SXT and CALL of bytes, by their fields
-byte_only : (op bit : ℕ) → op < 6 → bit < 2 → has_size (one_of op) (size_of bit) ≡ false
+byte_only : (op bit : ℕ) → op < 6 → bit < 2 → has_size (one_of op) (size_of_bit bit) ≡ false
     → (bit ≡ 1) × ((op ≡ 1) ⊎ (op ≡ 3) ⊎ (op ≡ 5))
 byte_only op bit op_fits bit_fits lacks = grind (arith, nat_tests)
 
 no_size : (op bit : ℕ) → bit ≡ 1 → (op ≡ 1) ⊎ (op ≡ 3) ⊎ (op ≡ 5)
-    → has_size (one_of op) (size_of bit) ≡ false
+    → has_size (one_of op) (size_of_bit bit) ≡ false
 no_size op bit byte words_only = grind (arith, nat_tests)
 
 -- RRC, SWPB, RRA and SXT, by their opcode
@@ -33,12 +34,12 @@ abbrev IsFixed : ℕ → ℕ → Type 0
 IsFixed mode register =
     ((register ≡ 0) × (mode ≡ 3)) ⊎ ((register ≡ 2) × (2 ≤ mode)) ⊎ (register ≡ 3)
 
-is_fixed : (mode register : ℕ) → mode < 4 → takes_write (source_of mode register) ≡ false
+is_fixed : (mode register : ℕ) → mode < 4 → takes_result (source_of mode register) ≡ false
     → IsFixed mode register
 is_fixed mode register fits takes_none = grind (arith, nat_tests)
 
 takes_none : (mode register : ℕ) → mode < 4 → IsFixed mode register
-    → takes_write (source_of mode register) ≡ false
+    → takes_result (source_of mode register) ≡ false
 takes_none mode register fits operand = grind (arith, nat_tests)
 
 -- which of the tests fails
@@ -75,11 +76,11 @@ AreIllegal op bit mode register =
 
 illegal_fields :
     (op bit mode register : ℕ) → op < 6 → bit < 2 → mode < 4 → register < 16
-    → is_legal (One (one_of op) (size_of bit) (source_of mode register)) ≡ false
+    → is_legal (One (one_of op) (size_of_bit bit) (source_of mode register)) ≡ false
     → AreIllegal op bit mode register
 illegal_fields op bit mode register op_fits bit_fits mode_fits register_fits fails =
-    let size : Bool = has_size (one_of op) (size_of bit) in
-    let takes : Bool = takes_write (source_of mode register) in
+    let size : Bool = has_size (one_of op) (size_of_bit bit) in
+    let takes : Bool = takes_result (source_of mode register) in
     let write : Bool = writes_operand (one_of op) in
     let form = has_form-source_of mode register register_fits in
     elim (first_false (has_form (source_of mode register)) size takes write form fails) [
@@ -89,11 +90,11 @@ illegal_fields op bit mode register op_fits bit_fits mode_fits register_fits fai
 
 fields_illegal :
     (op bit mode register : ℕ) → mode < 4 → AreIllegal op bit mode register
-    → is_legal (One (one_of op) (size_of bit) (source_of mode register)) ≡ false
+    → is_legal (One (one_of op) (size_of_bit bit) (source_of mode register)) ≡ false
 fields_illegal op bit mode register mode_fits illegal =
     let form : Bool = has_form (source_of mode register) in
-    let size : Bool = has_size (one_of op) (size_of bit) in
-    let takes : Bool = takes_write (source_of mode register) in
+    let size : Bool = has_size (one_of op) (size_of_bit bit) in
+    let takes : Bool = takes_result (source_of mode register) in
     let write : Bool = writes_operand (one_of op) in
     elim illegal [
       | inl byte ↦ sizeless form size (takes || not write) (no_size op bit (byte.0) (byte.1))
@@ -115,11 +116,11 @@ one_illegal word least fits =
     let bit : ℕ = word / 0x40 % 2 in
     let mode : ℕ = word / 0x10 % 4 in
     let register : ℕ = word % 16 in
-    let is : head_of word ≡ if_legal (one_head word) = head_of-one word least fits in
-    let legal : Bool = is_legal (one_head word) in (
+    let is : head_of word ≡ if_legal (one_of_fields word) = head_of-fields word least fits in
+    let legal : Bool = is_legal (one_of_fields word) in (
       (λ none.
           let fails : legal ≡ false =
-          none_if legal (one_head word) (subst (λ (h : Option Head). IsNone h) is none) in
+          none_if legal (one_of_fields word) (subst (λ (h : Option Head). IsNone h) is none) in
           elim (illegal_fields op bit mode register (omega arith) (omega arith) (omega arith)
           (omega arith) fails) [
             | inl byte ↦ inr (inr (inl (least, fits, byte)))
@@ -128,7 +129,8 @@ one_illegal word least fits =
       (λ illegal.
           let fails : legal ≡ false =
           fields_illegal op bit mode register (omega arith) (word_fields word least fits illegal) in
-          subst (λ (h : Option Head). IsNone h) (sym is) (if_none legal (one_head word) fails)),
+          subst (λ (h : Option Head). IsNone h) (sym is)
+          (if_none legal (one_of_fields word) fails)),
     )
 
 not_none : (word : ℕ) (head : Head) → head_of word ≡ Some head → IsNone (head_of word) → ⊥

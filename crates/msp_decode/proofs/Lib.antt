@@ -1,5 +1,6 @@
 mod WordRange
 mod TableLemmas
+mod OneHead
 mod HeadLemmas
 mod IllegalLemmas
 mod WordLemmas

@@ -12,7 +12,7 @@ use Rattle.msp_decode.specs.declared.source_form.SourceForm.{SourceForm}
 use Rattle.msp_decode.specs.declared.source_form.SourceForm.TheVariants.{Register, Indexed, Indirect, IndirectInc, Immediate, Constant}
 use Rattle.msp_decode.specs.declared.dest_form.DestForm.{DestForm}
 use Rattle.msp_decode.specs.Table.{reg_number, op2_number, one_number, cond_number, size_number, source_mode, source_register, dest_mode, dest_register, offset_number}
-use Rattle.msp_decode.specs.Field.{reg_of, op2_of, one_of, cond_of, size_of, source_of, dest_of, offset_of}
+use Rattle.msp_decode.specs.Field.{reg_of, op2_of, one_of, cond_of, size_of_bit, source_of, dest_of, offset_of}
 use Rattle.msp_decode.specs.Spelling.{has_form, has_range}
 
 pub reg_of-reg_number : (x : Reg) → reg_of (reg_number x) ≡ x
@@ -54,14 +54,14 @@ cond_number-lt x = grind arith
 pub cond_number-cond_of : (n : ℕ) → n < 8 → cond_number (cond_of n) ≡ n
 cond_number-cond_of n fits = grind (arith, nat_tests)
 
-pub size_of-size_number : (x : Size) → size_of (size_number x) ≡ x
-size_of-size_number x = grind (arith, nat_tests)
+pub size_of_bit-size_number : (x : Size) → size_of_bit (size_number x) ≡ x
+size_of_bit-size_number x = grind (arith, nat_tests)
 
 pub size_number-lt : (x : Size) → size_number x < 2
 size_number-lt x = grind arith
 
-pub size_number-size_of : (n : ℕ) → n < 2 → size_number (size_of n) ≡ n
-size_number-size_of n fits = grind (arith, nat_tests)
+pub size_number-size_of_bit : (n : ℕ) → n < 2 → size_number (size_of_bit n) ≡ n
+size_number-size_of_bit n fits = grind (arith, nat_tests)
 
 pub source_mode-lt : (s : SourceForm) → source_mode s < 4
 source_mode-lt s = grind arith

@@ -4,7 +4,7 @@ use Rattle.msp_decode.specs.declared.head.Head.{Head}
 use Rattle.msp_decode.specs.declared.head.Head.TheVariants.{Two, One, Reti, Jump}
 use Rattle.msp_decode.specs.declared.encode_fault.EncodeFault.{EncodeFault}
 use Rattle.msp_decode.specs.declared.encode_fault.EncodeFault.TheVariants.{NoByteForm, NotWritable, NoSuchForm, OffsetRange}
-use Rattle.msp_decode.specs.Spelling.{has_size, has_form, has_range, takes_write, writes_operand}
+use Rattle.msp_decode.specs.Spelling.{has_size, has_form, has_range, takes_result, writes_operand}
 
 -- SWPB, SXT or CALL of a byte
 abbrev pub lacks_byte_form : Head → Bool
@@ -16,7 +16,7 @@ lacks_byte_form (Jump cond offset) = false
 -- RRC, SWPB, RRA or SXT of an immediate or a constant
 abbrev pub writes_to_value : Head → Bool
 writes_to_value (Two op size source dest) = false
-writes_to_value (One op size source) = writes_operand op && not (takes_write source)
+writes_to_value (One op size source) = writes_operand op && not (takes_result source)
 writes_to_value Reti = false
 writes_to_value (Jump cond offset) = false
 

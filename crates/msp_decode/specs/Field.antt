@@ -18,34 +18,34 @@ use Rattle.msp_decode.specs.declared.dest_form.DestForm.TheVariants.{Register as
 use Rattle.msp_decode.specs.Table.{reg_number, op2_number, one_number, cond_number, size_number}
 
 -- the first of some values that has a number, the last value where none of them has it
-abbrev pub value_of : {A : Type 0} → (A → ℕ) → List A → A → ℕ → A
-value_of number_of [] last n = last
-value_of number_of (value ∷ values) last n =
-    if n == number_of value then value else value_of number_of values last n
+abbrev pub value_numbered : {A : Type 0} → (A → ℕ) → List A → A → ℕ → A
+value_numbered number_of [] last n = last
+value_numbered number_of (value ∷ values) last n =
+    if n == number_of value then value else value_numbered number_of values last n
 
 -- the register of a number below 16
 abbrev pub reg_of : ℕ → Reg
 reg_of n =
-    value_of reg_number
+    value_numbered reg_number
     (R0 ∷ R1 ∷ R2 ∷ R3 ∷ R4 ∷ R5 ∷ R6 ∷ R7 ∷ R8 ∷ R9 ∷ R10 ∷ R11 ∷ R12 ∷ R13 ∷ R14 ∷ []) R15 n
 
 -- the operation of two operands of an opcode from 4 to 15
 abbrev pub op2_of : ℕ → Op2
 op2_of n =
-    value_of op2_number
+    value_numbered op2_number
     (Mov ∷ Add ∷ Addc ∷ Subc ∷ Sub ∷ Cmp ∷ Dadd ∷ Bit ∷ Bic ∷ Bis ∷ Xor ∷ []) And n
 
 -- the operation of one operand of an opcode below 6
 abbrev pub one_of : ℕ → One
-one_of n = value_of one_number (Rrc ∷ Swpb ∷ Rra ∷ Sxt ∷ Push ∷ []) Call n
+one_of n = value_numbered one_number (Rrc ∷ Swpb ∷ Rra ∷ Sxt ∷ Push ∷ []) Call n
 
 -- the condition of a number below 8
 abbrev pub cond_of : ℕ → Cond
-cond_of n = value_of cond_number (Ne ∷ Eq ∷ Nc ∷ C ∷ N ∷ Ge ∷ L ∷ []) Always n
+cond_of n = value_numbered cond_number (Ne ∷ Eq ∷ Nc ∷ C ∷ N ∷ Ge ∷ L ∷ []) Always n
 
 -- the size of the B/W bit
-abbrev pub size_of : ℕ → Size
-size_of bit = value_of size_number (Word ∷ []) Byte bit
+abbrev pub size_of_bit : ℕ → Size
+size_of_bit bit = value_numbered size_number (Word ∷ []) Byte bit
 
 -- the source of a mode and a register
 abbrev pub source_of : ℕ → ℕ → SourceForm

@@ -1,26 +1,29 @@
 -- The head of an instruction word, as a function that computes.
-use Rattle.std.specs.Prelude.{◌/◌, ◌%◌, ◌==◌, nat_lt, if◌then◌else◌, Option, Some, None}
+use Rattle.std.specs.Prelude.{◌/◌, ◌%◌, ◌==◌, ◌&&◌, ◌||◌, not, nat_lt, if◌then◌else◌, Option, Some, None}
+use Rattle.word_arith.specs.declared.size.Size.{Size}
 use Rattle.word_arith.specs.Word16.{Word16}
+use Rattle.msp_decode.specs.declared.one.One.{One}
+use Rattle.msp_decode.specs.declared.source_form.SourceForm.{SourceForm}
 use Rattle.msp_decode.specs.declared.head.Head.{Head}
 use Rattle.msp_decode.specs.declared.head.Head.TheVariants.{Two, One as OneOperand, Reti, Jump}
-use Rattle.msp_decode.specs.Spelling.{is_legal}
-use Rattle.msp_decode.specs.Field.{op2_of, one_of, cond_of, size_of, source_of, dest_of, offset_of}
-
--- the head, if it is legal
-abbrev pub if_legal : Head → Option Head
-if_legal head = if is_legal head then Some head else None
+use Rattle.msp_decode.specs.Spelling.{has_size, takes_result, writes_operand}
+use Rattle.msp_decode.specs.Field.{op2_of, one_of, cond_of, size_of_bit, source_of, dest_of, offset_of}
 
 -- a word of two operands
 abbrev pub two_head : Word16 → Head
 two_head word =
-    Two (op2_of (word / 0x1000)) (size_of (word / 0x40 % 2))
+    Two (op2_of (word / 0x1000)) (size_of_bit (word / 0x40 % 2))
     (source_of (word / 0x10 % 4) (word / 0x100 % 16)) (dest_of (word / 0x80 % 2) (word % 16))
 
--- a word of one operand
-abbrev pub one_head : Word16 → Head
+-- a word of one operand, where there is the operation in this size, and the source takes what is
+-- written back
+abbrev pub one_head : Word16 → Option Head
 one_head word =
-    OneOperand (one_of (word / 0x80 % 8)) (size_of (word / 0x40 % 2))
-    (source_of (word / 0x10 % 4) (word % 16))
+    let op : One = one_of (word / 0x80 % 8) in
+    let size : Size = size_of_bit (word / 0x40 % 2) in
+    let source : SourceForm = source_of (word / 0x10 % 4) (word % 16) in
+    if has_size op size && (takes_result source || not (writes_operand op))
+    then Some (OneOperand op size source) else None
 
 -- the word of a jump
 abbrev pub jump_head : Word16 → Head
@@ -30,7 +33,7 @@ jump_head word = Jump (cond_of (word / 0x400 % 8)) (offset_of (word % 0x400))
 unfoldable pub head_of : Word16 → Option Head
 head_of word =
     if nat_lt word 0x1000 then None
-    else if nat_lt word 0x1300 then if_legal (one_head word)
+    else if nat_lt word 0x1300 then one_head word
     else if word == 0x1300 then Some Reti
     else if nat_lt word 0x2000 then None
     else if nat_lt word 0x4000 then Some (jump_head word)

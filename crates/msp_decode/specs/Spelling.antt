@@ -13,35 +13,27 @@ use Rattle.msp_decode.specs.Table.{reg_number, op2_number, one_number, cond_numb
 
 -- SWPB, SXT and CALL are of words alone
 abbrev pub has_byte_form : One → Bool
-has_byte_form Rrc = true
 has_byte_form Swpb = false
-has_byte_form Rra = true
 has_byte_form Sxt = false
-has_byte_form Push = true
 has_byte_form Call = false
+has_byte_form op = true
 
 -- an operation that there is in this size
 abbrev pub has_size : One → Size → Bool
 has_size op Word = true
 has_size op Byte = has_byte_form op
 
--- RRC, SWPB, RRA and SXT write their operand
+-- RRC, SWPB, RRA and SXT write their operand, PUSH and CALL do not
 abbrev pub writes_operand : One → Bool
-writes_operand Rrc = true
-writes_operand Swpb = true
-writes_operand Rra = true
-writes_operand Sxt = true
 writes_operand Push = false
 writes_operand Call = false
+writes_operand op = true
 
 -- an immediate or a constant takes no write
-abbrev pub takes_write : SourceForm → Bool
-takes_write (Register r) = true
-takes_write (Indexed r) = true
-takes_write (Indirect r) = true
-takes_write (IndirectInc r) = true
-takes_write Immediate = false
-takes_write (Constant g) = false
+abbrev pub takes_result : SourceForm → Bool
+takes_result Immediate = false
+takes_result (Constant g) = false
+takes_result form = true
 
 -- the source is written in its mode: there R2 and R3 give no constant, and R0 no immediate
 abbrev pub has_form : SourceForm → Bool
@@ -50,8 +42,7 @@ has_form (Indexed r) = not (reg_number r == 3)
 has_form (Indirect r) = not (reg_number r == 2) && not (reg_number r == 3)
 has_form (IndirectInc r) =
     not (reg_number r == 0) && not (reg_number r == 2) && not (reg_number r == 3)
-has_form Immediate = true
-has_form (Constant g) = true
+has_form form = true
 
 -- a jump's offset is from -512 to 511; negsuc n is -(n + 1)
 abbrev pub has_range : ℤ → Bool
@@ -62,7 +53,7 @@ has_range (negsuc n) = nat_lt n 512
 abbrev pub is_legal : Head → Bool
 is_legal (Two op size source dest) = has_form source
 is_legal (OneOperand op size source) =
-    has_form source && has_size op size && (takes_write source || not (writes_operand op))
+    has_form source && has_size op size && (takes_result source || not (writes_operand op))
 is_legal Reti = true
 is_legal (Jump cond offset) = has_range offset
 

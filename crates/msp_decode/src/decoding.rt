@@ -1,7 +1,7 @@
 ghost use Rattle.std.specs.Prelude.{◌≡◌, ◌↔◌, ◌<◌, ◌≤◌, IsNone};
 ghost use Rattle.msp_decode.specs.declared.head.Head.{Head};
 ghost use Rattle.msp_decode.specs.Spelling.{Spells, IsIllegalWord};
-ghost use Rattle.msp_decode.specs.Head.{head_of, one_head, two_head, jump_head, if_legal};
+ghost use Rattle.msp_decode.specs.Head.{head_of, one_head, two_head, jump_head};
 
 use crate::cond::Cond;
 use crate::dest_form::DestForm;
@@ -14,12 +14,12 @@ use crate::source_form::SourceForm;
 fn one_operand(word: u16) -> Option<Head>
     requires least { 0x1000 ≤ word }
     requires most { word < 0x1300 }
-    ensures { result ≡ if_legal (one_head word) }
+    ensures { result ≡ one_head word }
 {
     let op = One::from_number(word / 0x80 % 8);
     let size = size_from_number(word / 0x40 % 2);
     let source = SourceForm::from_fields(word / 0x10 % 4, word % 16);
-    if op.has_size(size) && (source.takes_write() || !op.writes_operand()) {
+    if op.has_size(size) && (source.takes_result() || !op.writes_operand()) {
         Some(Head::One(op, size, source))
     } else {
         None

@@ -91,7 +91,7 @@ fn one_fault(op: One, size: Size, source: SourceForm) -> Option<EncodeFault>
 {
     if !op.has_size(size) {
         Some(EncodeFault::NoByteForm)
-    } else if op.writes_operand() && !source.takes_write() {
+    } else if op.writes_operand() && !source.takes_result() {
         Some(EncodeFault::NotWritable)
     } else if !source.has_form() {
         Some(EncodeFault::NoSuchForm)

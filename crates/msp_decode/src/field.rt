@@ -1,6 +1,6 @@
 ghost use Rattle.std.specs.Prelude.{◌≡◌, ◌<◌, ◌≤◌, IsTrue};
 ghost use Rattle.msp_decode.specs.Table.{op2_number, size_number, offset_number};
-ghost use Rattle.msp_decode.specs.Field.{op2_of, size_of, offset_of};
+ghost use Rattle.msp_decode.specs.Field.{op2_of, size_of_bit, offset_of};
 ghost use Rattle.msp_decode.specs.Spelling.{has_range};
 
 use word_arith::{Op2, Size};
@@ -53,7 +53,7 @@ pub(crate) fn size_number(size: Size) -> u16
 // The size of a B/W bit.
 pub(crate) fn size_from_number(bit: u16) -> Size
     requires { bit < 2 }
-    ensures { result ≡ size_of bit }
+    ensures { result ≡ size_of_bit bit }
 {
     match bit {
         0 => Size::Word,

@@ -17,7 +17,7 @@ pub enum SourceForm {
 impl SourceForm {
     ghost use Rattle.msp_decode.specs.Table.{source_mode, source_register};
     ghost use Rattle.msp_decode.specs.Field.{source_of};
-    ghost use Rattle.msp_decode.specs.Spelling.{has_form, takes_write};
+    ghost use Rattle.msp_decode.specs.Spelling.{has_form, takes_result};
 
     // The mode (As) in which the form is written.
     pub(crate) fn mode(self) -> u16
@@ -88,8 +88,8 @@ impl SourceForm {
     }
 
     // Whether a result can be written to the operand.
-    pub(crate) fn takes_write(self) -> bool
-        ensures { result ≡ takes_write self }
+    pub(crate) fn takes_result(self) -> bool
+        ensures { result ≡ takes_result self }
     {
         !matches!(self, SourceForm::Immediate | SourceForm::Constant(_))
     }

@@ -5,12 +5,12 @@ use Rattle.outside_edge.specs.Sink.{Takes, TakesPrefix}
 use Rattle.outside_edge.proofs.SinkLemmas.{prefix_after, prefix_of_more}
 use Rattle.msp_disasm.specs.declared.item.Item.{Item}
 use Rattle.msp_disasm.specs.Item.{item_at}
-use Rattle.msp_disasm.specs.Listing.{place_after, item_begun, with_item, items_below, lines_of, line_at, free_after, listing}
+use Rattle.msp_disasm.specs.Listing.{place_after, item_begun, with_item, items_below, listing_lines, line_at, free_after, listing}
 
-lines_of-with : (earlier : List (ℕ × Item)) (place : ℕ) (answer : Option Item)
-    → lines_of (with_item earlier place answer) ≡ lines_of earlier ++ line_at place answer
-lines_of-with earlier place None = sym (append-nil (lines_of earlier))
-lines_of-with earlier place (Some item) = refl
+listing_lines-with : (earlier : List (ℕ × Item)) (place : ℕ) (answer : Option Item)
+    → listing_lines (with_item earlier place answer) ≡ listing_lines earlier ++ line_at place answer
+listing_lines-with earlier place None = sym (append-nil (listing_lines earlier))
+listing_lines-with earlier place (Some item) = refl
 
 place_after-with : (earlier : List (ℕ × Item)) (place : ℕ) (answer : Option Item)
     → place_after (with_item earlier place answer) ≡ free_after (place_after earlier) place answer
@@ -23,12 +23,12 @@ item_there bytes place =
     item_begun (place_after (items_below bytes place)) place (item_at bytes place)
 
 -- the lines below the next place
-pub lines_of-next : (bytes : ℕ → Option ℕ) (place : ℕ)
-    → lines_of (items_below bytes (place + 1))
-    ≡ lines_of (items_below bytes place) ++ line_at place (item_there bytes place)
+pub listing_lines-next : (bytes : ℕ → Option ℕ) (place : ℕ)
+    → listing_lines (items_below bytes (place + 1))
+    ≡ listing_lines (items_below bytes place) ++ line_at place (item_there bytes place)
 unfolding items_below
-lines_of-next bytes place =
-    rw add-one (lines_of-with (items_below bytes place) place (item_there bytes place))
+listing_lines-next bytes place =
+    rw add-one (listing_lines-with (items_below bytes place) place (item_there bytes place))
 
 pub place_after-next : (bytes : ℕ → Option ℕ) (place : ℕ)
     → place_after (items_below bytes (place + 1))
@@ -38,22 +38,22 @@ place_after-next bytes place =
     rw add-one (place_after-with (items_below bytes place) place (item_there bytes place))
 
 -- the lines below a place begin those below a later one
-lines_of-prefix : (bytes : ℕ → Option ℕ) (first last : ℕ) → first ≤ last
+listing_lines-prefix : (bytes : ℕ → Option ℕ) (first last : ℕ) → first ≤ last
     → (rest : List ℕ)
-    × (lines_of (items_below bytes last) ≡ lines_of (items_below bytes first) ++ rest)
-lines_of-prefix bytes first zero order =
+    × (listing_lines (items_below bytes last) ≡ listing_lines (items_below bytes first) ++ rest)
+listing_lines-prefix bytes first zero order =
     let none : first ≡ 0 = omega arith in
-    ([], rw none (sym (append-nil (lines_of (items_below bytes 0)))))
-lines_of-prefix bytes first (suc last) order =
+    ([], rw none (sym (append-nil (listing_lines (items_below bytes 0)))))
+listing_lines-prefix bytes first (suc last) order =
     elim (cases_lt last first) [
       | inl same ↦
           let is : first ≡ suc last = omega arith in
-          ([], rw is (sym (append-nil (lines_of (items_below bytes (suc last))))))
+          ([], rw is (sym (append-nil (listing_lines (items_below bytes (suc last))))))
       | inr below ↦
-          let before = lines_of-prefix bytes first last below in (
+          let before = listing_lines-prefix bytes first last below in (
             before.0 ++ line_at last (item_there bytes last),
-            rw (← add-one last, lines_of-next bytes last, before.1)
-                (append_assoc (lines_of (items_below bytes first)) before.0
+            rw (← add-one last, listing_lines-next bytes last, before.1)
+                (append_assoc (listing_lines (items_below bytes first)) before.0
                 (line_at last (item_there bytes last))),
           )
     ]
@@ -61,13 +61,13 @@ lines_of-prefix bytes first (suc last) order =
 -- a prefix of a line is a prefix of the listing, where the lines before it were taken
 pub prefix_in_listing : {S : Type 0} (stands : S → List ℕ → Type 0) (bytes : ℕ → Option ℕ)
     (old mid new : S) (place : ℕ) → place < 65536
-    → Takes stands old mid (lines_of (items_below bytes place))
+    → Takes stands old mid (listing_lines (items_below bytes place))
     → TakesPrefix stands mid new (line_at place (item_there bytes place))
     → TakesPrefix stands old new (listing bytes)
 prefix_in_listing stands bytes old mid new place within before prefix =
-    let rest = lines_of-prefix bytes (place + 1) 65536 (omega arith) in
-    let lines = lines_of (items_below bytes place) in
+    let rest = listing_lines-prefix bytes (place + 1) 65536 (omega arith) in
+    let lines = listing_lines (items_below bytes place) in
     let line = line_at place (item_there bytes place) in
-    rw (rest.1, lines_of-next)
+    rw (rest.1, listing_lines-next)
     (prefix_of_more stands old new (lines ++ line) rest.0
     (prefix_after stands old mid new lines line before prefix))

@@ -51,13 +51,13 @@ items_below bytes (suc place) =
     with_item earlier place (item_begun (place_after earlier) place (item_at bytes place))
 
 -- their lines upwards
-abbrev pub lines_of : List (ℕ × Item) → List ℕ
-lines_of [] = []
-lines_of ((place, item) ∷ earlier) = lines_of earlier ++ line_text place item
+abbrev pub listing_lines : List (ℕ × Item) → List ℕ
+listing_lines [] = []
+listing_lines ((place, item) ∷ earlier) = listing_lines earlier ++ line_text place item
 
 -- the listing of an image
 abbrev pub listing : (ℕ → Option ℕ) → List ℕ
-listing bytes = lines_of (items_below bytes 65536)
+listing bytes = listing_lines (items_below bytes 65536)
 
 -- what one place adds to the listing, and where the next item may begin
 abbrev pub line_at : ℕ → Option Item → List ℕ

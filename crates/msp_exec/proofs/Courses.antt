@@ -1,7 +1,7 @@
 -- A processor that has the course of a state asks for what the state asks for, and goes with it.
 use Rattle.std.proofs.Common.{◌≡◌, ◌++◌, ℕ, false, List, [], ◌∷◌, Some, refl, sym, ap, ◌∙◌, append_assoc}
 use Rattle.bus_signals.specs.declared.access.Access.{Access}
-use Rattle.part_definitions.specs.NextAccess.{Next, Asks, Ends, next_access, entry_access}
+use Rattle.part_definitions.specs.NextAccess.{Next, Asks, Completes, next_access, entry_access}
 use Rattle.part_definitions.specs.CpuState.{CpuState, Boundary, Executing, Entering, registers_of, is_at_boundary, is_entering, cpu_next, ask_of, cpu_access, with_value, completion_or, cpu_after, cpu_takes}
 use Rattle.msp_exec.specs.declared.phase.Phase.{Phase}
 use Rattle.msp_exec.specs.declared.phase.Phase.TheVariants.{Boundary as AtBoundary, Executing as InInstruction, Entering as InEntry}
@@ -82,7 +82,7 @@ goes_on before after state value (Asks access) stands (regs, boundary, entry, co
           state_course-with_value state value values
           ∙ (stands.same_course (value ∷ values) ∙ course values);
     }
-goes_on before after state value (Ends left) stands (regs, work, phase) =
+goes_on before after state value (Completes left) stands (regs, work, phase) =
     record {
       same_regs = regs;
       same_boundary = rw phase refl;

@@ -8,7 +8,7 @@ use Rattle.part_definitions.specs.declared.working_state.WorkingState.{WorkingSt
 use Rattle.part_definitions.specs.BusAccess.{write_at}
 use Rattle.part_definitions.specs.Operand.{size_of}
 use Rattle.part_definitions.specs.Instruction.{bus_access}
-use Rattle.part_definitions.specs.NextAccess.{Next, Asks, Ends, walk, is_illegal, next_access, entry_access}
+use Rattle.part_definitions.specs.NextAccess.{Next, Asks, Completes, walk, is_illegal, next_access, entry_access}
 use Rattle.part_definitions.specs.CpuState.{CpuState, Boundary, Executing, Entering, registers_of, is_at_boundary, is_entering}
 use Rattle.part_definitions.specs.CpuRegister.{Registers}
 use Rattle.msp_exec.specs.declared.phase.EntryAccess.{EntryAccess}
@@ -41,7 +41,7 @@ latched_access head access work number = bus_access head access work
 -- the result is written, and leaves these registers
 abbrev pub write_course : Head → WorkingState → ℕ → List ℕ → Next
 write_course head work number [] = Asks (latched_access head WriteResult work number)
-write_course head work number (value ∷ values) = Ends work.regs
+write_course head work number (value ∷ values) = Completes work.regs
 
 -- the rest of an instruction; the registers are as it leaves them once its result is written
 abbrev pub instruction_course : Head → CpuAccess → WorkingState → ℕ → List ℕ → Next
@@ -85,7 +85,7 @@ abbrev pub GoesOnAs : Cpu → Registers → Bool → (List ℕ → Next) → Nex
 GoesOnAs cpu regs entry course (Asks access) =
     (cpu.regs ≡ regs) × (is_boundary cpu.phase ≡ false) × (is_entry cpu.phase ≡ entry)
     × ((values : List ℕ) → course values ≡ cpu_course cpu values)
-GoesOnAs cpu regs entry course (Ends after) =
+GoesOnAs cpu regs entry course (Completes after) =
     (cpu.regs ≡ after) × (cpu.work.regs ≡ after) × (cpu.phase ≡ AtBoundary)
 
 -- the processor follows this course, which began with these registers

@@ -5,7 +5,7 @@ ghost use Rattle.msp_exec.specs.Course.{latched_access};
 
 use crate::instruction::size_of;
 use crate::register::{lowered_sp, pc_in, sp_in};
-use bus_signals::Access;
+use bus_signals::{Access, even};
 use msp_decode::Head;
 use part_definitions::{CpuAccess, WorkingState};
 use word_arith::Size;
@@ -15,7 +15,7 @@ pub fn fetch_at(place: u16) -> Access
     ensures value { result ≡ fetch_at place }
     ensures formed { IsFormed result }
 {
-    Access::Fetch(place / 2 * 2)
+    Access::Fetch(even(place))
 }
 
 /// A read at a place.
@@ -25,7 +25,7 @@ pub fn read_at(size: Size, place: u16) -> Access
 {
     match size {
         Size::Byte => Access::Read(place, Size::Byte),
-        Size::Word => Access::Read(place / 2 * 2, Size::Word),
+        Size::Word => Access::Read(even(place), Size::Word),
     }
 }
 
@@ -36,7 +36,7 @@ pub fn write_at(size: Size, place: u16, number: u16) -> Access
 {
     match size {
         Size::Byte => Access::Write(place, Size::Byte, number % 0x100),
-        Size::Word => Access::Write(place / 2 * 2, Size::Word, number),
+        Size::Word => Access::Write(even(place), Size::Word, number),
     }
 }
 

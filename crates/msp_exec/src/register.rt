@@ -3,6 +3,7 @@ ghost use Rattle.part_definitions.specs.CpuRegister.{pc_of, sp_of, sr_of, word_i
 ghost use Rattle.part_definitions.specs.Instruction.{push_place};
 ghost use Rattle.part_definitions.specs.NextAccess.{handler_registers};
 
+use bus_signals::even;
 use msp_decode::Reg;
 use word_arith::{Flags, Size};
 
@@ -49,7 +50,7 @@ fn word_for(register: Reg, word: u16) -> u16
     ensures { result ≡ word_for register word }
 {
     match register {
-        Reg::R0 | Reg::R1 => word / 2 * 2,
+        Reg::R0 | Reg::R1 => even(word),
         Reg::R2 => word % 512,
         Reg::R3 => 0,
         _ => word,
@@ -65,13 +66,13 @@ pub fn set_register(regs: &mut [u16; 16], register: Reg, word: u16)
 pub fn set_pc(regs: &mut [u16; 16], pc: u16)
     ensures { regs.new ≡ with_pc regs.old pc }
 {
-    regs[0] = pc / 2 * 2;
+    regs[0] = even(pc);
 }
 
 pub fn set_sp(regs: &mut [u16; 16], sp: u16)
     ensures { regs.new ≡ with_sp regs.old sp }
 {
-    regs[1] = sp / 2 * 2;
+    regs[1] = even(sp);
 }
 
 fn set_sr(regs: &mut [u16; 16], sr: u16)

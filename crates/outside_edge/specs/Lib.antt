@@ -3,6 +3,7 @@ pub mod Calls
 pub mod Count
 pub mod File
 pub mod FileFault
+pub mod OpenFile
 pub mod Shelf
 pub mod Sink
 pub mod Source

@@ -15,13 +15,16 @@ Gives (Some left) (Some after) n old new = GivesBytes left after n old new
 Gives None None n old new = Unit {0}
 Gives left after n old new = ⊥
 
--- A source in memory: the bytes that are left, how many it gives in one call, and its counts.
+-- A source in memory: the bytes that are left, how many it gave and how many it gives in one call,
+-- and its counts.
 pub record SourceInMemory : Type 0 where
   pub left : List ℕ
+  pub given : ℕ
   pub most : ℕ
   pub counts : CallCounts
 
 -- A source in memory that doesn't fail.
 pub record SureSource : Type 0 where
   pub left : List ℕ
+  pub given : ℕ
   pub most : ℕ

@@ -1,4 +1,4 @@
-ghost use Rattle.std.specs.Prelude.{◌≡◌, ◌≤◌, length, min};
+ghost use Rattle.std.specs.Prelude.{◌≡◌, ◌≤◌, ◌+◌, length, min};
 ghost use Rattle.outside_edge.specs.Source.{GivesBytes};
 
 use std::marker::Model;
@@ -19,6 +19,7 @@ impl Model for ByteQueue {
 
     ghost view = { λ queue. record {
       left = drop queue.at queue.bytes.items;
+      given = queue.at;
       most = queue.most;
     } };
 
@@ -28,7 +29,7 @@ impl Model for ByteQueue {
 impl ByteQueue {
     pub fn new(left: Vec<u8>, most: usize) -> ByteQueue
         requires { 1 ≤ most }
-        ensures { result ≡ record { left = left.items; most = most } }
+        ensures { result ≡ record { left = left.items; given = 0; most = most } }
     {
         ByteQueue {
             bytes: left,
@@ -43,6 +44,7 @@ impl ByteQueue {
             ≡ min (length piece.old) (min self.old.most (length self.old.left)) }
         ensures within { result ≤ length piece.new }
         ensures bytes { GivesBytes self.old.left self.new.left result piece.old piece.new }
+        ensures given { self.new.given ≡ self.old.given + result }
         ensures most { self.new.most ≡ self.old.most }
     {
         let rest = &self.bytes[self.at..];

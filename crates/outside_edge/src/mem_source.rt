@@ -1,4 +1,4 @@
-ghost use Rattle.std.specs.Prelude.{◌≡◌, ◌≤◌, ◌↔◌, Some, IsErr, Contains, length, min, IfOk, OnErr};
+ghost use Rattle.std.specs.Prelude.{◌≡◌, ◌≤◌, ◌+◌, ◌↔◌, Some, IsErr, Contains, length, min, IfOk, OnErr};
 ghost use Rattle.outside_edge.specs.Calls.{with_call, with_fault};
 ghost use Rattle.outside_edge.specs.Sink.{CountsFaults};
 ghost use Rattle.outside_edge.specs.Source.{GivesBytes};
@@ -23,6 +23,7 @@ impl Model for MemSource {
 
     ghost view = { λ source. record {
       left = source.queue.left;
+      given = source.queue.given;
       most = source.queue.most;
       counts = source.counts;
     } };
@@ -35,6 +36,7 @@ impl MemSource {
         requires { 1 ≤ most }
         ensures { result ≡ record {
           left = left.items;
+          given = 0;
           most = most;
           counts = record { failing = failing.items; calls = 0; faults = 0 };
         } }
@@ -49,6 +51,8 @@ impl MemSource {
 impl Source for MemSource {
     ghost left = { λ source. Some source.left };
 
+    ghost given = { λ source. source.given };
+
     ghost faults = { λ source. source.counts.faults };
 
     fn take(&mut self, piece: &mut [u8]) -> Result<usize, Failed>
@@ -61,6 +65,7 @@ impl Source for MemSource {
             GivesBytes self.old.left self.new.left n piece.old piece.new) }
         ensures after { IfOk result (λ n. self.new ≡ record self.old {
           left = self.new.left;
+          given = self.old.given + n;
           counts = with_call self.old.counts;
         }) }
         ensures kept { OnErr result (self.new ≡ record self.old {

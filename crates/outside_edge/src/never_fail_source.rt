@@ -1,4 +1,4 @@
-ghost use Rattle.std.specs.Prelude.{◌≡◌, ◌≤◌, Some, IsOk, length, min, IfOk};
+ghost use Rattle.std.specs.Prelude.{◌≡◌, ◌≤◌, ◌+◌, Some, IsOk, length, min, IfOk};
 ghost use Rattle.outside_edge.specs.Source.{GivesBytes};
 
 use crate::byte_queue::ByteQueue;
@@ -24,7 +24,7 @@ impl NeverFailSource {
     /// A source that gives at most `most` bytes in one call.
     pub fn new(left: Vec<u8>, most: usize) -> NeverFailSource
         requires { 1 ≤ most }
-        ensures { result ≡ record { left = left.items; most = most } }
+        ensures { result ≡ record { left = left.items; given = 0; most = most } }
     {
         NeverFailSource {
             queue: ByteQueue::new(left, most),
@@ -35,6 +35,8 @@ impl NeverFailSource {
 impl Source for NeverFailSource {
     ghost left = { λ source. Some source.left };
 
+    ghost given = { λ source. source.given };
+
     ghost faults = { λ _. 0 };
 
     fn take(&mut self, piece: &mut [u8]) -> Result<usize, Failed>
@@ -44,6 +46,7 @@ impl Source for NeverFailSource {
         ensures within { IfOk result (λ n. n ≤ length piece.new) }
         ensures bytes { IfOk result (λ n.
             GivesBytes self.old.left self.new.left n piece.old piece.new) }
+        ensures given { IfOk result (λ n. self.new.given ≡ self.old.given + n) }
         ensures most { self.new.most ≡ self.old.most }
     {
         Ok(self.queue.take(piece))

@@ -1,5 +1,6 @@
 -- The rule that a step breaks: the first in the order in which records name them.
 use Rattle.std.specs.Prelude.{◌&&◌, Bool, Option, Some, None, if◌then◌else◌}
+use Rattle.std.specs.Option.{option_or}
 use Rattle.bus_signals.specs.declared.rule.Rule.{Rule}
 use Rattle.bus_signals.specs.declared.rule.Rule.TheVariants.{X0, I1}
 use Rattle.bus_signals.specs.declared.signals.Signals.{Signals}
@@ -18,14 +19,9 @@ breaks_i1 now = now.opcode && is_illegal now.word
 abbrev pub rule_where : Bool → Rule → Option Rule
 rule_where holds rule = if holds then Some rule else None
 
--- the first of two
-abbrev pub or_else : Option Rule → Option Rule → Option Rule
-or_else None later = later
-or_else (Some rule) later = Some rule
-
 -- X0, then A3, A2, A1, A4, then K1 to K6, then I1; of the record before, its `pc` is given
 unfoldable pub first_rule : Option Address → Signals → Option Rule
 first_rule last now =
-    or_else (rule_where (breaks_x0 now) X0)
-    (or_else (atomicity_rule last now)
-    (or_else (key_rule now) (rule_where (breaks_i1 now) I1)))
+    option_or (rule_where (breaks_x0 now) X0)
+    (option_or (atomicity_rule last now)
+    (option_or (key_rule now) (rule_where (breaks_i1 now) I1)))

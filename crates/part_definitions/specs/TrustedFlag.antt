@@ -9,9 +9,8 @@ use Rattle.bus_signals.specs.Bounds.{executable_region}
 use Rattle.bus_signals.specs.Kind.{is_irq}
 use Rattle.bus_signals.specs.Map.{lies_in, vector_region}
 use Rattle.bus_signals.specs.SeenRecord.{SeenHistory, SeenRecord}
-use Rattle.bus_signals.specs.Address.{Address}
-use Rattle.part_definitions.specs.AddressSum.{even}
-use Rattle.part_definitions.specs.Flag.{accesses_in, writes_to, runs_inside, enters_region, fetches_first, starts_run, clears_both, records_since}
+use Rattle.bus_signals.specs.Address.{Address, even}
+use Rattle.bus_signals.specs.ExecFlag.{accesses_in, writes_to, runs_inside, enters_region, fetches_first, clears_both, is_set}
 
 -- an interrupt entry reads its vector
 abbrev pub reads_vector : BusRecord → Bool
@@ -42,6 +41,5 @@ abbrev pub clears_aux : Option Address → SeenRecord → Bool
 clears_aux last now =
     clears_both last now || clears_f3 last now || clears_f4 now || clears_f10 now
 
--- there is a record that starts a run, and neither it nor a later one clears the second flag
 unfoldable pub aux : SeenHistory → Bool
-aux records = list_any starts_run (records_since clears_aux records)
+aux records = is_set clears_aux records

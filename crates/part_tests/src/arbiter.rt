@@ -1,6 +1,5 @@
-use bus_arbiter::exchange;
 use bus_signals::Access;
-use mem_map::{Image, Memory};
+use mem_map::{Image, Memory, exchange};
 use std::test::Fail;
 use word_arith::Size;
 

@@ -86,8 +86,8 @@ fn call<D: Digest32>(memory: &[(u16, u16)], counter: u16, steps: usize) -> Outco
     Outcome {
         mac,
         kept,
-        registers: rom.done(),
-        decision: rom.decision(),
+        registers: rom.done().map(|end| (end.pc, end.sp)),
+        decision: rom.done().map(|end| end.decision),
     }
 }
 

@@ -1,13 +1,14 @@
 ghost use Rattle.std.specs.Prelude.{◌≡◌};
 ghost use Rattle.part_definitions.specs.PeripheralRegister.{register_of, covers, part_of};
 
+use bus_signals::even;
 use word_arith::Size;
 
 /// The address of the register that the byte at `place` belongs to.
 pub fn register_place(place: u16) -> u16
     ensures { result ≡ register_of place }
 {
-    place / 2 * 2
+    even(place)
 }
 
 /// Whether an access has the byte at the address `byte` among its own.

@@ -4,12 +4,12 @@ use Rattle.std.specs.Prelude.{nat_lt, if◌then◌else◌}
 use Rattle.text_scan.specs.declared.fault_at.FaultAt.{FaultAt}
 use Rattle.text_scan.specs.declared.fault_kind.FaultKind.{FaultKind}
 use Rattle.text_scan.specs.declared.fault_kind.FaultKind.TheVariants.{Order}
-use Rattle.text_scan.specs.Line.{lines_of}
+use Rattle.text_scan.specs.Line.{text_lines}
 use Rattle.text_scan.specs.LineFold.{state_after, text_fold}
 use Rattle.text_scan.specs.Reader.{◌>>=◌, in_line}
 use Rattle.text_scan.specs.Utf8.{utf8_of}
 use Rattle.text_scan.specs.Word.{is_passed_over, words_of}
-use Rattle.play_script.specs.Grammar.{ScriptSoFar, no_lines, line_of, timed_events, with_entry, with_line, script_of}
+use Rattle.play_script.specs.Grammar.{ScriptSoFar, no_lines, script_line_of, timed_events, with_entry, with_line, script_of}
 use Rattle.play_script.specs.Meaning.{Entry, entry_in}
 use Rattle.play_script.specs.Script.{TimedEvent}
 
@@ -19,7 +19,7 @@ in_order greatest line = if nat_lt line.0 greatest then Err Order else Ok line
 
 -- what a line with its number says, where `greatest` is the greatest step of the lines before
 abbrev pub entry_of : ℕ → (ℕ × List ℕ) → Result Entry FaultAt
-entry_of greatest line = in_line line.0 (line_of (words_of line.1) >>= in_order greatest)
+entry_of greatest line = in_line line.0 (script_line_of (words_of line.1) >>= in_order greatest)
 
 -- the events of lines, or the first fault
 unfoldable pub script_lines : ℕ → List (ℕ × List ℕ) → Result (List TimedEvent) FaultAt
@@ -108,6 +108,6 @@ in_turn lines (Err fault) = refl
 
 -- a script is read from the front, where the whole text is UTF-8
 pub script_of-in_turn : (text : List ℕ)
-    → script_of text ≡ (utf8_of text >>= (λ _. script_lines 0 (lines_of text)))
+    → script_of text ≡ (utf8_of text >>= (λ _. script_lines 0 (text_lines text)))
 unfolding script_of text_fold
-script_of-in_turn text = in_turn (lines_of text) (utf8_of text)
+script_of-in_turn text = in_turn (text_lines text) (utf8_of text)

@@ -59,16 +59,16 @@ abbrev pub report_keyword : Version → Bytes
 report_keyword One = codes "report "
 report_keyword Two = codes "report2 "
 
-abbrev pub request_words : Version → Bool → ℕ → Bytes
-request_words One aux count = []
-request_words Two aux count =
+abbrev pub version_words : Version → Bool → ℕ → Bytes
+version_words One aux count = []
+version_words Two aux count =
     codes " aux " ++ flag_digit aux ++ codes " count " ++ decimal count
 
 -- all before the output, the output, and all after it
 abbrev pub report_head : ReportFields → Bytes
 report_head report =
     report_keyword report.version ++ decimal report.step ++ codes " exec " ++ flag_digit report.exec
-    ++ request_words report.version report.aux report.count
+    ++ version_words report.version report.aux report.count
     ++ codes " chal " ++ encode_lower report.chal ++ codes " " ++ bounds_words report.bounds
     ++ codes " data "
 

@@ -12,7 +12,7 @@ use Rattle.bus_signals.specs.Map.{lies_in, ROM_ENTRY}
 use Rattle.part_definitions.specs.Attestation.{call_item, item_pc}
 use Rattle.part_definitions.specs.CpuRegister.{pc_of, is_asleep}
 use Rattle.part_definitions.specs.CpuState.{Boundary, Executing, Entering}
-use Rattle.part_definitions.specs.Flag.{fetches_at, ran_inside}
+use Rattle.bus_signals.specs.ExecFlag.{fetches_at, ran_inside}
 use Rattle.part_definitions.specs.MonitorRule.{in_rom}
 use Rattle.part_definitions.specs.NextAccess.{next_access}
 use Rattle.device_trace.specs.Progress.{Progress, Held, Runs, InCall, next_pc_of, boundary_kind, kind_of, progress_from_boundary, progress_within, tells_irq, access_of, next_progress}

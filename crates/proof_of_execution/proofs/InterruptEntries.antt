@@ -18,7 +18,8 @@ use Rattle.part_definitions.specs.CpuRegister.{pc_of, is_asleep}
 use Rattle.part_definitions.specs.CpuState.{CpuState, Boundary, Executing, Entering, cpu_access, cpu_after, completion_or}
 use Rattle.part_definitions.specs.FirstRule.{first_rule}
 use Rattle.part_definitions.specs.MonitorRule.{in_rom}
-use Rattle.part_definitions.specs.NextAccess.{Next, Asks, Ends, handler_registers, entry_access}
+use Rattle.part_definitions.specs.NextAccess.{Next, Asks, Completes, handler_registers, entry_access}
+use Rattle.device_trace.specs.Play.{Play}
 use Rattle.device_trace.specs.Logs.{Logs, step_progress, progress_after, with_events, with_record}
 use Rattle.device_trace.specs.Progress.{access_of, kind_of, Progress, Held, Runs, InCall, next_pc_of, boundary_kind, progress_from_boundary, progress_within, after_return, call_after, cpu_state_after, next_progress}
 use Rattle.device_trace.specs.Signals.{step_kind, signals_at, signals_of}
@@ -50,7 +51,7 @@ entering-early regs vector (a ∷ b ∷ c ∷ values) value = tt
 executing-early : (regs values : List ℕ) (next : Next)
     → IsEarlyState (completion_or (Executing regs values) next)
 executing-early regs values (Asks access) = tt
-executing-early regs values (Ends after) = tt
+executing-early regs values (Completes after) = tt
 
 cpu_after-early : (cpu : CpuState) (value : ℕ) → IsEarlyState (cpu_after cpu value)
 cpu_after-early (Boundary regs) value = executing-early regs _ _
@@ -116,7 +117,7 @@ unfolding next_record with_events
 next_logs-early start logs events early =
     after_record-early start (with_events logs events) _ early
 
-pub logs_after-early : (start : Start) (play : List (List Event))
+pub logs_after-early : (start : Start) (play : Play)
     → IsEarly (logs_after start play).progress
 unfolding logs_after
 logs_after-early start [] = tt

@@ -11,10 +11,10 @@ use Rattle.bus_signals.specs.Access.{some_writes}
 use Rattle.bus_signals.specs.Bounds.{executable_region, output_region}
 use Rattle.bus_signals.specs.Map.{some_touches, metadata_region}
 use Rattle.bus_signals.specs.SeenRecord.{SeenRecord}
-use Rattle.part_definitions.specs.Flag.{accesses_in, writes_to, fetches_outside, runs_inside, ran_inside, ran_at, clears_e1, clears_e2, clears_e3, clears_e4, clears_e5, clears_e6, clears_e7, clears_e8, clears_e9, clears_both, clears}
+use Rattle.bus_signals.specs.ExecFlag.{accesses_in, writes_to, fetches_outside, runs_inside, ran_inside, ran_at, clears_e1, clears_e2, clears_e3, clears_e4, clears_e5, clears_e6, clears_e7, clears_e8, clears_e9, clears_both, clears}
 use Rattle.trace_facts.proofs.Choices.{other_false, first_false, none_there}
 use Rattle.trace_facts.proofs.MissedPlace.{writes_nowhere}
-use Rattle.device_trace.specs.WholeRun.{is_inside, runs_alone, runs_undisturbed, keeps_code, keeps_output}
+use Rattle.device_trace.specs.RegionRun.{NoInterrupts, is_inside, runs_alone, runs_with, keeps_code, keeps_output}
 
 -- what clears neither flag
 pub record KeepsBoth (last : Option ℕ) (now : SeenRecord) : Type 0 where
@@ -69,7 +69,7 @@ alone-kept last now keeps inside =
 
 pub undisturbed-kept : (last : Option ℕ) (now : SeenRecord)
     → Keeps last now → runs_inside now ≡ true
-    → runs_undisturbed now.bounds now.entry ≡ true
+    → runs_with NoInterrupts now.bounds now.entry ≡ true
 undisturbed-kept last now keeps inside =
     let quiet : now.entry.irq ≡ false =
     other_false now.entry.irq (runs_inside now) keeps.e4 inside in

@@ -8,11 +8,10 @@ use Rattle.bus_signals.specs.Bounds.{are_valid, executable_region}
 use Rattle.bus_signals.specs.Kind.{is_irq}
 use Rattle.bus_signals.specs.Map.{lies_in}
 use Rattle.bus_signals.specs.SeenRecord.{SeenRecord}
-use Rattle.part_definitions.specs.Flag.{runs_inside, ran_inside, fetches_first, starts_run, clears_both}
+use Rattle.bus_signals.specs.ExecFlag.{runs_inside, ran_inside, fetches_first, starts_run, clears_both}
 use Rattle.part_definitions.specs.TrustedFlag.{enters_elsewhere, clears_f3, clears_f4, clears_f10, clears_aux}
 use Rattle.device_trace.specs.Blank.{touches_secrets, blank_access, blank_value, blank_seen}
-use Rattle.device_trace.specs.TrustedRun.{runs_trusted, keeps_code_and_vectors}
-use Rattle.device_trace.specs.WholeRun.{runs_alone, keeps_code}
+use Rattle.device_trace.specs.RegionRun.{TrustedInterrupts, runs_alone, runs_with, keeps_code, keeps_code_with}
 use Rattle.proof_of_execution.proofs.Keeps.{KeepsBoth, clears_both-kept, alone-kept, code-kept}
 use Rattle.proof_of_execution.proofs.Regions.{inside-open}
 
@@ -96,7 +95,8 @@ clears_aux-kept last now valid none =
     }
 
 pub trusted-kept : (last : Option ℕ) (now : SeenRecord)
-    → KeepsAux last now → runs_inside now ≡ true → runs_trusted now.bounds now.entry ≡ true
+    → KeepsAux last now → runs_inside now ≡ true
+    → runs_with TrustedInterrupts now.bounds now.entry ≡ true
 trusted-kept last now keeps inside =
     let entered : enters_elsewhere (executable_region now.bounds) now.entry ≡ false =
     holds (runs_inside now) (enters_elsewhere (executable_region now.bounds) now.entry)
@@ -109,7 +109,7 @@ trusted-kept last now keeps inside =
     holds false y off is = absurd (cc)
 
 pub code_and_vectors-kept : (last : Option ℕ) (now : SeenRecord) → KeepsAux last now
-    → keeps_code_and_vectors now.bounds now.entry ≡ true
+    → keeps_code_with TrustedInterrupts now.bounds now.entry ≡ true
 code_and_vectors-kept last now keeps =
     and_from (keeps_code now.bounds now.entry) _ (code-kept last now keeps.both)
     (not_from_false _ keeps.f10)

@@ -14,16 +14,17 @@ use Rattle.bus_signals.specs.Report.{ReportFields}
 use Rattle.bus_signals.specs.SeenRecord.{SeenRecord}
 use Rattle.part_definitions.specs.FirstRule.{first_rule}
 use Rattle.part_definitions.specs.Request.{ATTESTS}
-use Rattle.part_definitions.specs.Flag.{accesses_in, writes_to, is_opcode_fetch, starts_run, runs_inside, ran_inside, last_pc}
+use Rattle.bus_signals.specs.ExecFlag.{accesses_in, writes_to, is_opcode_fetch, starts_run, runs_inside, ran_inside, last_pc}
 use Rattle.part_definitions.specs.MonitorRule.{in_rom}
-use Rattle.device_trace.specs.Logs.{Logs, exec_of, logged_bounds, vector_of, step_progress, finishes_call, decision_in, progress_after, with_events, with_record}
+use Rattle.device_trace.specs.Play.{Play}
+use Rattle.device_trace.specs.Logs.{Logs, exec_of, logged_bounds, vector_of, step_progress, finishes_call, call_decision, progress_after, with_events, with_record}
 use Rattle.device_trace.specs.Progress.{Progress, last_registers}
 use Rattle.device_trace.specs.Signals.{value_read, step_kind, proposed_access, signals_at, signals_of}
 use Rattle.device_trace.specs.Start.{Start}
 use Rattle.device_trace.specs.Step.{dma_value_read, record_from, record_of, asks_reset, next_record}
 use Rattle.device_trace.specs.Text.{report_of, report_where, denial_where, last_report, last_decision, last_denial}
 use Rattle.device_trace.specs.Trace.{logs_after, trace}
-use Rattle.device_trace.specs.WholeRun.{WholeRun}
+use Rattle.device_trace.specs.RegionRun.{WholeRun}
 use Rattle.trace_facts.proofs.ExecFlag.{exec-more, exec-none}
 use Rattle.trace_facts.proofs.Choices.{other_false, none_there, some_where}
 use Rattle.trace_facts.proofs.BoundsStay.{logged_bounds-stay}
@@ -212,7 +213,7 @@ unfolding next_record with_events
 step_state start logs events history fresh before =
     record_state start (with_events logs events) (asks_reset events) history fresh before
 
-play_state : (start : Start) (play : List (List Event))
+play_state : (start : Start) (play : Play)
     → LogsState start (logs_after start play) (trace start play)
 unfolding logs_after trace
 play_state start [] set = absurd (exec-none set)
@@ -269,10 +270,10 @@ pub decision_finishes : (start : Start) (logs : Logs) (entry : BusRecord)
     → is_some (with_record start logs entry).decision ≡ true → finishes_call entry ≡ true
 unfolding with_record
 decision_finishes start logs entry some =
-    finished_where (finishes_call entry) (decision_in (step_progress logs entry.kind)) some
+    finished_where (finishes_call entry) (call_decision (step_progress logs entry.kind)) some
 
 -- after a finished call, whatever it decided
-finished-whole_run : (start : Start) (play : List (List Event))
+finished-whole_run : (start : Start) (play : Play)
     → is_some (last_decision start play) ≡ true
     → exec_of (logs_after start play) ≡ true
     → WholeRun (logged_bounds start (logs_after start play)) (trace start play)
@@ -289,12 +290,12 @@ finished-whole_run start (events ∷ play) finished set =
     (step_state start logs events (trace start play) (logs_after-fresh start play)
     (play_state start play)) set
 
-pub decision-whole_run : (start : Start) (play : List (List Event))
+pub decision-whole_run : (start : Start) (play : Play)
     → ExecAfterCallMeansWholeRun start play
 decision-whole_run start play decision is set =
     finished-whole_run start play (ap (λ (one : Option ℕ). is_some one) is) set
 
-pub report-whole_run : (start : Start) (play : List (List Event)) (report : ReportFields)
+pub report-whole_run : (start : Start) (play : Play) (report : ReportFields)
     → last_report start play ≡ Some report → IsTrue report.exec
     → WholeRun report.bounds (trace start play)
 report-whole_run start [] report is set = absurd (cc)
@@ -312,7 +313,7 @@ pub denied_where : (decision : Option ℕ) (denial : ℕ) → denial_where decis
 denied_where None denial is = absurd (cc)
 denied_where (Some decision) denial is = refl
 
-pub denial-whole_run : (start : Start) (play : List (List Event)) (denial : ℕ)
+pub denial-whole_run : (start : Start) (play : Play) (denial : ℕ)
     → last_denial start play ≡ Some denial
     → exec_of (logs_after start play) ≡ true
     → WholeRun (logged_bounds start (logs_after start play)) (trace start play)

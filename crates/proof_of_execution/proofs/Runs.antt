@@ -8,8 +8,8 @@ use Rattle.bus_signals.specs.declared.bounds.Bounds.{Bounds}
 use Rattle.bus_signals.specs.Bounds.{are_valid, executable_region}
 use Rattle.bus_signals.specs.Map.{lies_in}
 use Rattle.bus_signals.specs.SeenRecord.{SeenRecord}
-use Rattle.part_definitions.specs.Flag.{is_opcode_fetch, starts_run, ran_inside, ran_at, runs_inside}
-use Rattle.device_trace.specs.WholeRun.{is_inside, runs_undisturbed, keeps_code, keeps_output, begins_run, has_left, WholeRun}
+use Rattle.bus_signals.specs.ExecFlag.{is_opcode_fetch, starts_run, ran_inside, ran_at, runs_inside}
+use Rattle.device_trace.specs.RegionRun.{NoInterrupts, is_inside, runs_with, keeps_code, keeps_output, begins_run, has_left, WholeRun}
 use Rattle.proof_of_execution.proofs.Keeps.{Keeps, undisturbed-kept, code-kept, output-kept, leaves_at_end}
 use Rattle.proof_of_execution.proofs.Regions.{min-inside}
 
@@ -20,7 +20,7 @@ pub record Inside (bounds : Bounds) (history : List BusRecord) (last : Option �
   pub before : List BusRecord
   pub parts : history ≡ (newest ∷ older) ++ before
   pub begins : begins_run bounds (newest ∷ older) ≡ true
-  pub undisturbed : list_all (runs_undisturbed bounds) (newest ∷ older) ≡ true
+  pub undisturbed : list_all (runs_with NoInterrupts bounds) (newest ∷ older) ≡ true
   pub code : list_all (keeps_code bounds) (newest ∷ older) ≡ true
   pub is_last : last ≡ Some newest.pc
   pub inside : is_inside bounds newest ≡ true
@@ -48,7 +48,7 @@ run_starts last now history keeps starts =
       parts = refl;
       begins = valid.0;
       undisturbed =
-          and_from (runs_undisturbed now.bounds now.entry) true
+          and_from (runs_with NoInterrupts now.bounds now.entry) true
           (undisturbed-kept last now keeps inside) refl;
       code = and_from (keeps_code now.bounds now.entry) true (code-kept last now keeps.both) refl;
       is_last = refl;
@@ -67,7 +67,7 @@ run_goes_on last now history keeps inside run =
       parts = ap (λ (entries : List BusRecord). now.entry ∷ entries) run.parts;
       begins = run.begins;
       undisturbed =
-          and_from (runs_undisturbed now.bounds now.entry) _
+          and_from (runs_with NoInterrupts now.bounds now.entry) _
           (undisturbed-kept last now keeps inside) run.undisturbed;
       code = and_from (keeps_code now.bounds now.entry) _ (code-kept last now keeps.both) run.code;
       is_last = refl;
@@ -94,7 +94,7 @@ run_ends last now history keeps valid outside run =
       parts = ap (λ (entries : List BusRecord). now.entry ∷ entries) run.parts;
       begins = run.begins;
       ends = at_end;
-      undisturbed = run.undisturbed;
+      runs = run.undisturbed;
       left = and_from (not (is_inside now.bounds now.entry)) true (not_from_false _ outside) refl;
       code = and_from (keeps_code now.bounds now.entry) _ (code-kept last now keeps.both) run.code;
       output = and_from (keeps_output now.bounds now.entry) true
@@ -121,7 +121,7 @@ stays_outside last now history keeps outside run =
       parts = ap (λ (entries : List BusRecord). now.entry ∷ entries) run.whole.parts;
       begins = run.whole.begins;
       ends = run.whole.ends;
-      undisturbed = run.whole.undisturbed;
+      runs = run.whole.runs;
       left =
           and_from (not (is_inside now.bounds now.entry)) _ (not_from_false _ outside)
           (all_left now.bounds run.whole.after run.whole.left);

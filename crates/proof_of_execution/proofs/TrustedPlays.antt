@@ -12,8 +12,9 @@ use Rattle.bus_signals.specs.Bounds.{are_valid, executable_region}
 use Rattle.bus_signals.specs.Map.{lies_in, metadata_region}
 use Rattle.bus_signals.specs.SeenRecord.{SeenRecord}
 use Rattle.part_definitions.specs.FirstRule.{first_rule}
-use Rattle.part_definitions.specs.Flag.{accesses_in, writes_to, fetches_first, ran_inside, last_pc}
+use Rattle.bus_signals.specs.ExecFlag.{accesses_in, writes_to, fetches_first, ran_inside, last_pc}
 use Rattle.part_definitions.specs.TrustedFlag.{aux, clears_aux, enters_elsewhere, reads_vector, handler_read}
+use Rattle.device_trace.specs.Play.{Play}
 use Rattle.device_trace.specs.Blank.{blank_seen}
 use Rattle.device_trace.specs.Logs.{Logs, logged_bounds, vector_of, step_progress, progress_after, with_events, with_record}
 use Rattle.device_trace.specs.Progress.{Progress, last_registers}
@@ -21,8 +22,7 @@ use Rattle.device_trace.specs.Signals.{value_read, step_kind, proposed_access, s
 use Rattle.device_trace.specs.Start.{Start}
 use Rattle.device_trace.specs.Step.{dma_value_read, record_from, record_of, asks_reset, next_record}
 use Rattle.device_trace.specs.Trace.{logs_after, trace}
-use Rattle.device_trace.specs.TrustedRun.{runs_trusted, TrustedRun}
-use Rattle.device_trace.specs.WholeRun.{runs_alone}
+use Rattle.device_trace.specs.RegionRun.{TrustedInterrupts, TrustedRun, runs_alone, runs_with}
 use Rattle.trace_facts.proofs.ExecFlag.{aux-more, aux-none}
 use Rattle.trace_facts.proofs.Choices.{none_there}
 use Rattle.trace_facts.proofs.BoundsStay.{logged_bounds-stay}
@@ -32,7 +32,8 @@ use Rattle.proof_of_execution.proofs.TrustedRuns.{TrustedState, Follows, trusted
 use Rattle.trace_facts.proofs.BlankRecords.{last_pc-blank}
 
 -- a record that runs trusted has its handler in the region, if it reads a vector
-handler_inside : (bounds : Bounds) (entry : BusRecord) → runs_trusted bounds entry ≡ true
+handler_inside : (bounds : Bounds) (entry : BusRecord)
+    → runs_with TrustedInterrupts bounds entry ≡ true
     → reads_vector entry ≡ true
     → lies_in (executable_region bounds) (handler_read entry) ≡ true
 handler_inside bounds entry trusted reads =
@@ -145,7 +146,7 @@ unfolding next_record with_events
 step_state start logs events history early before =
     record_state start (with_events logs events) (asks_reset events) history early before
 
-pub play_state : (start : Start) (play : List (List Event))
+pub play_state : (start : Start) (play : Play)
     → LogsState start (logs_after start play) (trace start play)
 unfolding logs_after trace
 play_state start [] set = absurd (aux-none set)
@@ -154,7 +155,7 @@ play_state start (events ∷ play) set =
     (play_state start play) set
 
 -- where the flag is set and the last record is outside the region, there is a trusted run
-pub aux-trusted_run : (start : Start) (play : List (List Event))
+pub aux-trusted_run : (start : Start) (play : Play)
     → aux_seen (logs_after start play) ≡ true
     → ran_inside (last_pc (logs_after start play).records)
     (executable_region (logged_bounds start (logs_after start play))) ≡ false

@@ -9,10 +9,9 @@ use Rattle.bus_signals.specs.Bounds.{are_valid, executable_region}
 use Rattle.bus_signals.specs.Kind.{is_irq, is_cpu}
 use Rattle.bus_signals.specs.Map.{lies_in}
 use Rattle.bus_signals.specs.SeenRecord.{SeenRecord}
-use Rattle.part_definitions.specs.Flag.{is_opcode_fetch, fetches_at, fetches_first, starts_run, ran_inside, ran_at, runs_inside}
+use Rattle.bus_signals.specs.ExecFlag.{is_opcode_fetch, fetches_at, fetches_first, starts_run, ran_inside, ran_at, runs_inside}
 use Rattle.device_trace.specs.Progress.{Progress, next_pc_of, kind_of, progress_within}
-use Rattle.device_trace.specs.WholeRun.{is_inside, keeps_output, begins_run}
-use Rattle.device_trace.specs.TrustedRun.{runs_trusted, keeps_code_and_vectors, TrustedRun}
+use Rattle.device_trace.specs.RegionRun.{TrustedInterrupts, is_inside, runs_with, keeps_code_with, keeps_output, begins_run, TrustedRun}
 use Rattle.proof_of_execution.proofs.Keeps.{output-kept, leaves_at_end}
 use Rattle.proof_of_execution.proofs.KeepsAux.{KeepsAux, trusted-kept, code_and_vectors-kept, enters_first}
 use Rattle.proof_of_execution.proofs.Regions.{min-inside}
@@ -34,8 +33,8 @@ pub record TrustedInside (bounds : Bounds) (history : List BusRecord) (progress 
   pub before : List BusRecord
   pub parts : history ≡ (newest ∷ older) ++ before
   pub begins : begins_run bounds (newest ∷ older) ≡ true
-  pub trusted : list_all (runs_trusted bounds) (newest ∷ older) ≡ true
-  pub code : list_all (keeps_code_and_vectors bounds) (newest ∷ older) ≡ true
+  pub trusted : list_all (runs_with TrustedInterrupts bounds) (newest ∷ older) ≡ true
+  pub code : list_all (keeps_code_with TrustedInterrupts bounds) (newest ∷ older) ≡ true
   pub is_last : last ≡ Some newest.pc
   pub inside : is_inside bounds newest ≡ true
   pub enters : is_irq newest.kind ≡ true → StaysInside bounds progress
@@ -55,7 +54,7 @@ pub record TrustedState (bounds : Bounds) (history : List BusRecord) (progress :
 -- in the same region as the entry, or in that of its handler
 pub record Follows (now : SeenRecord) (before after : Progress) : Type 0 where
   pub stays : StaysInside now.bounds before → runs_inside now ≡ true
-  pub enters : are_valid now.bounds ≡ true → runs_trusted now.bounds now.entry ≡ true
+  pub enters : are_valid now.bounds ≡ true → runs_with TrustedInterrupts now.bounds now.entry ≡ true
       → is_irq now.entry.kind ≡ true → StaysInside now.bounds after
 
 no_irq : (entry : BusRecord) → is_opcode_fetch entry ≡ true → is_irq entry.kind ≡ true → ⊥
@@ -83,10 +82,10 @@ trusted-starts last now history progress keeps starts =
         parts = refl;
         begins = valid.0;
         trusted =
-            and_from (runs_trusted now.bounds now.entry) true
+            and_from (runs_with TrustedInterrupts now.bounds now.entry) true
             (trusted-kept last now keeps inside) refl;
         code =
-            and_from (keeps_code_and_vectors now.bounds now.entry) true
+            and_from (keeps_code_with TrustedInterrupts now.bounds now.entry) true
             (code_and_vectors-kept last now keeps) refl;
         is_last = refl;
         inside = inside;
@@ -108,10 +107,10 @@ goes_on last now history before after keeps follows valid inside run =
       parts = ap (λ (entries : List BusRecord). now.entry ∷ entries) run.parts;
       begins = run.begins;
       trusted =
-          and_from (runs_trusted now.bounds now.entry) _
+          and_from (runs_with TrustedInterrupts now.bounds now.entry) _
           (trusted-kept last now keeps inside) run.trusted;
       code =
-          and_from (keeps_code_and_vectors now.bounds now.entry) _
+          and_from (keeps_code_with TrustedInterrupts now.bounds now.entry) _
           (code_and_vectors-kept last now keeps) run.code;
       is_last = refl;
       inside = inside;
@@ -142,10 +141,10 @@ ends last now history before after keeps follows valid outside run =
       begins = run.begins;
       ends =
           and_from (run.newest.pc == now.bounds.er_max) _ at_end (not_from_false _ no_entry);
-      trusted = run.trusted;
+      runs = run.trusted;
       left = and_from (not (is_inside now.bounds now.entry)) true (not_from_false _ outside) refl;
       code =
-          and_from (keeps_code_and_vectors now.bounds now.entry) _
+          and_from (keeps_code_with TrustedInterrupts now.bounds now.entry) _
           (code_and_vectors-kept last now keeps) run.code;
       output = and_from (keeps_output now.bounds now.entry) true
           (output-kept last now keeps.both outside) refl;
@@ -166,12 +165,12 @@ stays_out last now history keeps outside run =
       parts = ap (λ (entries : List BusRecord). now.entry ∷ entries) run.whole.parts;
       begins = run.whole.begins;
       ends = run.whole.ends;
-      trusted = run.whole.trusted;
+      runs = run.whole.runs;
       left =
           and_from (not (is_inside now.bounds now.entry)) _ (not_from_false _ outside)
           (all_left now.bounds run.whole.after run.whole.left);
       code =
-          and_from (keeps_code_and_vectors now.bounds now.entry) _
+          and_from (keeps_code_with TrustedInterrupts now.bounds now.entry) _
           (code_and_vectors-kept last now keeps) run.whole.code;
       output = and_from (keeps_output now.bounds now.entry) _
           (output-kept last now keeps.both outside) run.whole.output;

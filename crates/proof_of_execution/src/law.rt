@@ -5,7 +5,7 @@ ghost use Rattle.device_trace.specs.Report.{EachReport, ExecMeansWholeRun};
 ghost use Rattle.device_trace.specs.Start.{Start};
 ghost use Rattle.device_trace.specs.Text.{last_denial, last_report};
 ghost use Rattle.device_trace.specs.Trace.{logs_after, trace};
-ghost use Rattle.device_trace.specs.WholeRun.{WholeRun};
+ghost use Rattle.device_trace.specs.RegionRun.{WholeRun};
 ghost use Rattle.device_trace.specs.Play.{Play};
 ghost use Rattle.proof_of_execution.specs.WholeCall.{ExecAfterCallMeansWholeRun};
 

@@ -21,11 +21,11 @@ use Rattle.report_verifier.specs.declared.decision.Decision.{Decision}
 use Rattle.report_verifier.specs.declared.decision.Decision.TheVariants.{Accept, NoChallenge, VersionDiffers, ChalDiffers, CountDiffers, BoundsDiffer, ExecZero, AuxZero, MacDiffers}
 use Rattle.report_text.specs.ReadBack.{IsPrintable, IsReadBack, IsPassedOver}
 use Rattle.report_text.specs.ReportFile.{with_report, with_line, reports_of}
-use Rattle.report_text.specs.ReportLine.{name_of, tx_line_of, reset_of, denied_of, end_line_of, verdict_of, no_report_of, line_of}
+use Rattle.report_text.specs.ReportLine.{name_of, tx_line_of, reset_of, denied_of, end_line_of, verdict_of, no_report_of, report_line_of}
 use Rattle.report_text.specs.RuleName.{is_rule_name}
 use Rattle.report_text.specs.VerdictLine.{verdict_line}
 use Rattle.report_text.specs.VerdictName.{verdict_name, is_verdict_name}
-use Rattle.report_text.proofs.ReportWords.{report_words, report_fields, report_line-words, line-some, line-shown, line_of-words, count_of-decimal, flag_of-digit, plain-words, plain-flag, plain-place}
+use Rattle.report_text.proofs.ReportWords.{report_words, report_fields, report_line-words, line-some, line-shown, report_line_of-words, count_of-decimal, flag_of-digit, plain-words, plain-flag, plain-place}
 
 -- What a text says, whatever stands before and behind it: these lines, and these reports of them.
 pub record ReadsAs (text : List ℕ) (reports : List ReportFields) : Type 0 where
@@ -95,7 +95,7 @@ state_after-next before next number line later says answer = rw says (rw answer 
 
 with_line-words : (before next : List ReportFields) (words : List (List ℕ))
     (entry : Option ReportFields)
-    → ArePlain words → line_of words ≡ Ok entry → with_report before entry ≡ Ok next
+    → ArePlain words → report_line_of words ≡ Ok entry → with_report before entry ≡ Ok next
     → with_line before (join_with_byte 32 words) ≡ Ok next
 unfolding with_line
 with_line-words before next words entry plain is adds =
@@ -106,7 +106,7 @@ pub reads-line : (words : List (List ℕ)) (text : List ℕ) (entry : Option Rep
     (reports : List ReportFields)
     → text ≡ join_with_byte 32 words ++ 10 ∷ []
     → 0 < length (join_with_byte 32 words) → says_nothing words ≡ false → ArePlain words
-    → line_of words ≡ Ok entry
+    → report_line_of words ≡ Ok entry
     → ((before : List ReportFields) → with_report before entry ≡ Ok (before ++ reports))
     → ReadsAs text reports
 reads-line words text entry reports is some says plain has adds =
@@ -130,7 +130,7 @@ reads-line words text entry reports is some says plain has adds =
 reads-other : (words : List (List ℕ)) (text : List ℕ)
     → text ≡ join_with_byte 32 words ++ 10 ∷ []
     → 0 < length (join_with_byte 32 words) → says_nothing words ≡ false → ArePlain words
-    → line_of words ≡ Ok None
+    → report_line_of words ≡ Ok None
     → ReadsAs text []
 reads-other words text is some says plain has =
     reads-line words text None [] is some says plain has
@@ -145,7 +145,7 @@ reads-report report printable =
     (report_line-words report)
     (line-some report.version (decimal report.step) (drop 1 (report_fields report)))
     (line-shown report.version (report_fields report)) (plain-words report printable)
-    (line_of-words report printable) (λ before. rw printable.fits refl)
+    (report_line_of-words report printable) (λ before. rw printable.fits refl)
 
 pub read_back : IsReadBack
 read_back report printable =
@@ -158,10 +158,10 @@ three-words : (first second third : List ℕ)
     ≡ join_with_byte 32 (first ∷ second ∷ third ∷ []) ++ 10 ∷ []
 three-words first second third = simp append_assoc
 
-line_of-sent : (step byte : ℕ) → step ≤ 4294967295 → byte < 256
-    → line_of (codes "tx" ∷ decimal step ∷ byte_digits byte ∷ []) ≡ Ok None
-unfolding line_of no_report_of tx_line_of block_of
-line_of-sent step byte within fits =
+report_line_of-sent : (step byte : ℕ) → step ≤ 4294967295 → byte < 256
+    → report_line_of (codes "tx" ∷ decimal step ∷ byte_digits byte ∷ []) ≡ Ok None
+unfolding report_line_of no_report_of tx_line_of block_of
+report_line_of-sent step byte within fits =
     rw (
       count_of-decimal step (byte_digits byte ∷ []) within,
       hex_bytes_of-digits 1 (byte ∷ []) refl (one_byte byte fits),
@@ -177,7 +177,7 @@ reads-sent step byte within fits =
         (plain-encoded (byte ∷ []) (one_byte byte fits) (omega arith), tt),
       ),
     )
-    (line_of-sent step byte (omega (arith, within)) fits)
+    (report_line_of-sent step byte (omega (arith, within)) fits)
 
 name_of-rule : (rule : Rule) → name_of is_rule_name (rule_name rule ∷ []) ≡ Ok (tt, [])
 unfolding name_of
@@ -208,10 +208,10 @@ plain-rule K5 = (omega arith, refl)
 plain-rule K6 = (omega arith, refl)
 plain-rule I1 = (omega arith, refl)
 
-line_of-reset : (step : ℕ) (rule : Rule) → step ≤ 4294967295
-    → line_of (codes "reset" ∷ decimal step ∷ rule_name rule ∷ []) ≡ Ok None
-unfolding line_of no_report_of reset_of
-line_of-reset step rule within =
+report_line_of-reset : (step : ℕ) (rule : Rule) → step ≤ 4294967295
+    → report_line_of (codes "reset" ∷ decimal step ∷ rule_name rule ∷ []) ≡ Ok None
+unfolding report_line_of no_report_of reset_of
+report_line_of-reset step rule within =
     rw (count_of-decimal step (rule_name rule ∷ []) within, name_of-rule rule) refl
 
 pub reads-reset : (step : ℕ) (rule : Rule) → step < 2 ^ 32 → ReadsAs (reset_line step rule) []
@@ -221,7 +221,7 @@ reads-reset step rule within =
       (omega arith, refl),
       (plain-decimal step (omega (arith, within)), (plain-rule rule, tt)),
     )
-    (line_of-reset step rule (omega (arith, within)))
+    (report_line_of-reset step rule (omega (arith, within)))
 
 denied_of-decision : (step decision : ℕ) → step ≤ 4294967295 → (decision ≡ 2) ⊎ (decision ≡ 3)
     → denied_of (decimal step ∷ decimal decision ∷ []) ≡ Ok (tt, [])
@@ -231,10 +231,10 @@ denied_of-decision step decision within (inl is) =
 denied_of-decision step decision within (inr is) =
     rw is (rw (count_of-decimal step (decimal 3 ∷ []) within) refl)
 
-line_of-denied : (step decision : ℕ) → step ≤ 4294967295 → (decision ≡ 2) ⊎ (decision ≡ 3)
-    → line_of (codes "denied" ∷ decimal step ∷ decimal decision ∷ []) ≡ Ok None
-unfolding line_of no_report_of
-line_of-denied step decision within denies =
+report_line_of-denied : (step decision : ℕ) → step ≤ 4294967295 → (decision ≡ 2) ⊎ (decision ≡ 3)
+    → report_line_of (codes "denied" ∷ decimal step ∷ decimal decision ∷ []) ≡ Ok None
+unfolding report_line_of no_report_of
+report_line_of-denied step decision within denies =
     rw (denied_of-decision step decision within denies) refl
 
 plain-decision : (decision : ℕ) → (decision ≡ 2) ⊎ (decision ≡ 3) → IsPlainWord (decimal decision)
@@ -252,7 +252,7 @@ reads-denied step decision within denies =
         (plain-decision decision denies, tt),
       ),
     )
-    (line_of-denied step decision (omega (arith, within)) denies)
+    (report_line_of-denied step decision (omega (arith, within)) denies)
 
 name_of-verdict : (verdict : Decision)
     → name_of is_verdict_name (verdict_name verdict ∷ []) ≡ Ok (tt, [])
@@ -278,10 +278,10 @@ plain-verdict ExecZero = (omega arith, refl)
 plain-verdict AuxZero = (omega arith, refl)
 plain-verdict MacDiffers = (omega arith, refl)
 
-line_of-verdict : (number : ℕ) (verdict : Decision) → number ≤ 4294967295
-    → line_of (codes "verdict" ∷ decimal number ∷ verdict_name verdict ∷ []) ≡ Ok None
-unfolding line_of no_report_of verdict_of
-line_of-verdict number verdict within =
+report_line_of-verdict : (number : ℕ) (verdict : Decision) → number ≤ 4294967295
+    → report_line_of (codes "verdict" ∷ decimal number ∷ verdict_name verdict ∷ []) ≡ Ok None
+unfolding report_line_of no_report_of verdict_of
+report_line_of-verdict number verdict within =
     rw (count_of-decimal number (verdict_name verdict ∷ []) within, name_of-verdict verdict) refl
 
 reads-verdict : (number : ℕ) (verdict : Decision) → number < 2 ^ 32
@@ -293,7 +293,7 @@ reads-verdict number verdict within =
       (omega arith, refl),
       (plain-decimal number (omega (arith, within)), (plain-verdict verdict, tt)),
     )
-    (line_of-verdict number verdict (omega (arith, within)))
+    (report_line_of-verdict number verdict (omega (arith, within)))
 
 pub passed_over : IsPassedOver
 passed_over number verdict within =
@@ -310,13 +310,13 @@ place_of-digits : (place : ℕ) (rest : List (List ℕ)) → place < 65536
 unfolding place_of
 place_of-digits place rest fits = rw (hex_word_of-digits place fits) refl
 
-line_of-end : (steps pc : ℕ) (exec : Bool) → steps ≤ 4294967295 → pc < 65536
-    → line_of
+report_line_of-end : (steps pc : ℕ) (exec : Bool) → steps ≤ 4294967295 → pc < 65536
+    → report_line_of
     (codes "end" ∷ decimal steps ∷ codes "pc" ∷ word_digits pc ∷ codes "exec" ∷ flag_digit exec
     ∷ [])
     ≡ Ok None
-unfolding line_of no_report_of end_line_of
-line_of-end steps pc exec within fits =
+unfolding report_line_of no_report_of end_line_of
+report_line_of-end steps pc exec within fits =
     let flag : List (List ℕ) = codes "exec" ∷ flag_digit exec ∷ [] in
     rw (
       count_of-decimal steps (codes "pc" ∷ word_digits pc ∷ flag) within,
@@ -341,4 +341,4 @@ reads-end steps pc exec within fits =
         ),
       ),
     )
-    (line_of-end steps pc exec (omega (arith, within)) fits)
+    (report_line_of-end steps pc exec (omega (arith, within)) fits)

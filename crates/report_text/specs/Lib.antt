@@ -5,3 +5,4 @@ pub mod ReportLine
 pub mod RuleName
 pub mod VerdictLine
 pub mod VerdictName
+pub mod RequestLine

@@ -1,9 +1,9 @@
 -- The line of a report is read as that report, and the line of a verdict as none.
 use Rattle.std.specs.Prelude.{◌≡◌, ◌<◌, ◌^◌, ℕ, Bool, false, List, [], ◌∷◌, length, Ok, IfSome, IsTrue}
 use Rattle.hex.specs.Hex.{IsBytes}
-use Rattle.bus_signals.specs.declared.bounds.Bounds.{Bounds}
 use Rattle.bus_signals.specs.declared.version.Version.{Version}
 use Rattle.bus_signals.specs.declared.version.Version.TheVariants.{One, Two}
+use Rattle.bus_signals.specs.Bounds.{AreWords}
 use Rattle.bus_signals.specs.Report.{ReportFields}
 use Rattle.printed_lines.specs.Line.{report_line}
 use Rattle.report_verifier.specs.declared.decision.Decision.{Decision}
@@ -14,13 +14,6 @@ use Rattle.report_text.specs.VerdictLine.{verdict_line}
 pub record IsBlock (bytes : List ℕ) : Type 0 where
   pub size : length bytes ≡ 32
   pub fits : IsBytes bytes
-
--- the places are words
-pub record AreWords (bounds : Bounds) : Type 0 where
-  pub er_min : bounds.er_min < 2 ^ 16
-  pub er_max : bounds.er_max < 2 ^ 16
-  pub or_min : bounds.or_min < 2 ^ 16
-  pub or_max : bounds.or_max < 2 ^ 16
 
 -- the second flag and the counter of a report: in version 1 there are none
 abbrev pub IsRequest : Version → Bool → ℕ → Type 0

@@ -11,7 +11,7 @@ use Rattle.text_scan.specs.LineFold.{text_fold}
 use Rattle.text_scan.specs.Reader.{◌>>=◌}
 use Rattle.text_scan.specs.Word.{words_of, keyword_of, end_of}
 use Rattle.report_verifier.specs.Validity.{are_valid_for}
-use Rattle.report_text.specs.ReportLine.{line_of, report_of}
+use Rattle.report_text.specs.ReportLine.{report_line_of, report_of}
 
 -- with valid bounds there are the bytes of the output region, else there are none
 abbrev pub output_fits : Version → Bounds → Option (List ℕ) → Bool
@@ -32,7 +32,7 @@ with_report reports (Some report) = do
 
 unfoldable pub with_line : List ReportFields → List ℕ → Result (List ReportFields) FaultKind
 with_line reports line = do
-  entry ← line_of (words_of line)
+  entry ← report_line_of (words_of line)
   with_report reports entry
 
 abbrev pub reports_of : List ℕ → Result (List ReportFields) FaultAt

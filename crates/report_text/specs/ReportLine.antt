@@ -185,16 +185,17 @@ no_report_of keyword words = do
   later ← other_or_collision_of keyword words
   Ok (None, later.1)
 
-abbrev pub kind_of : List ℕ → List (List ℕ) → Result (Option ReportFields × List (List ℕ)) FaultKind
-kind_of keyword words =
+abbrev pub report_by_keyword :
+    List ℕ → List (List ℕ) → Result (Option ReportFields × List (List ℕ)) FaultKind
+report_by_keyword keyword words =
     if bytes_eq keyword (codes "report") then some_report_of One words
     else if bytes_eq keyword (codes "report2") then some_report_of Two words
     else no_report_of keyword words
 
 -- the report of a line, none where the line is of another kind
-unfoldable pub line_of : List (List ℕ) → Result (Option ReportFields) FaultKind
-line_of words = do
+unfoldable pub report_line_of : List (List ℕ) → Result (Option ReportFields) FaultKind
+report_line_of words = do
   keyword ← word_of words
-  report ← kind_of keyword.0 keyword.1
+  report ← report_by_keyword keyword.0 keyword.1
   end ← end_of report.1
   Ok report.0

@@ -1,4 +1,5 @@
-//! The lines that the program prints of a play and of verdicts, and reports read from such lines.
+//! The lines that the program prints of a play, of requests and of verdicts, and reports read from
+//! such lines.
 //!
 //! Each print call puts exactly one line of the text into any byte sink, and takes no memory; after
 //! a failure the sink took a prefix of the line. [`read_reports`] gives the reports of a file in
@@ -16,6 +17,7 @@ mod report2;
 mod report_entry;
 mod report_line;
 mod report_list;
+mod request_line;
 mod rule_name;
 mod verdict_line;
 
@@ -27,4 +29,5 @@ pub use report::Report;
 pub use report_line::print_report;
 pub use report_list::read_reports;
 pub use report2::read_report2;
+pub use request_line::{print_request, push_request_fields};
 pub use verdict_line::print_verdict;

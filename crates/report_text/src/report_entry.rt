@@ -1,7 +1,7 @@
 ghost use Rattle.std.specs.Prelude.{◌≤◌, IfOk};
 ghost use Rattle.text_scan.specs.Reader.{ReadsOn, ReadsWord, ReadsWordOn};
 ghost use Rattle.text_scan.specs.Word.{words_of};
-ghost use Rattle.report_text.specs.ReportLine.{count_of, flag_of, request_of, digest_of, bounds_of, output_in, output_of, report_of, some_report_of, no_report_of, kind_of, line_of};
+ghost use Rattle.report_text.specs.ReportLine.{count_of, flag_of, request_of, digest_of, bounds_of, output_in, output_of, report_of, some_report_of, no_report_of, report_by_keyword, report_line_of};
 
 use crate::passed_line::pass_line;
 use crate::report::Report;
@@ -13,9 +13,9 @@ use text_scan::{Bytes, FaultKind, WordFault, Words};
 const GREATEST: u64 = 4_294_967_295;
 
 /// The report of a line, `None` where the line is of another kind.
-#[tactic(auto, unfolding(crate::specs::ReportLine::line_of))]
+#[tactic(auto, unfolding(crate::specs::ReportLine::report_line_of))]
 pub fn read_report_entry(alloc: Global, line: &[u8]) -> Result<Option<Report>, WordFault>
-    ensures { ReadsWord result (line_of (words_of line.now)) }
+    ensures { ReadsWord result (report_line_of (words_of line.now)) }
 {
     let mut words = Words::new(line);
     let keyword = words.word()?;
@@ -29,7 +29,7 @@ fn read_kind(
     keyword: &[u8],
     words: &mut Words<'_>,
 ) -> Result<Option<Report>, WordFault>
-    ensures { ReadsWordOn result words.new (kind_of keyword.now words.old) }
+    ensures { ReadsWordOn result words.new (report_by_keyword keyword.now words.old) }
 {
     if keyword == b"report".as_slice() {
         return read_some(alloc, Version::One, words);

@@ -2,11 +2,10 @@ ghost use Rattle.std.specs.Prelude.{◌≡◌, ◌≤◌, ◌+◌, ◌++◌, len
 ghost use Rattle.hex.specs.Hex.{encode_lower};
 ghost use Rattle.outside_edge.specs.Sink.{Puts, CountsFaults};
 ghost use Rattle.bus_signals.specs.Report.{fields_of};
-ghost use Rattle.printed_lines.specs.Line.{output_word, bounds_words, report_keyword, request_words, report_head, report_tail, report_line};
+ghost use Rattle.printed_lines.specs.Line.{output_word, bounds_words, report_keyword, version_words, report_head, report_tail, report_line};
 
-use crate::printed_line::flag_digit;
 use bus_signals::{Bounds, ReportView, Version};
-use line_buffer::LineBuffer;
+use line_buffer::{LineBuffer, flag_digit};
 use outside_edge::{Failed, Sink, put_all};
 
 // How many bytes of the output are put at once.
@@ -41,7 +40,7 @@ fn print_head<W: Sink>(view: &ReportView<'_>, sink: &mut W) -> Result<(), Failed
     line.push_decimal(view.step);
     line.push(b" exec ");
     line.push(flag_digit(view.exec));
-    push_request(&mut line, view.version, view.aux, view.count);
+    push_version_words(&mut line, view.version, view.aux, view.count);
     line.push(b" chal ");
     line.push_hex(&view.chal);
     line.push(b" ");
@@ -62,9 +61,9 @@ fn keyword(version: Version) -> &'static [u8]
 }
 
 // What is new in version 2: the second flag and the counter.
-fn push_request(line: &mut LineBuffer, version: Version, aux: bool, count: u32)
+fn push_version_words(line: &mut LineBuffer, version: Version, aux: bool, count: u32)
     requires { length line.old ≤ 60 }
-    ensures text { line.new ≡ line.old ++ request_words version aux count }
+    ensures text { line.new ≡ line.old ++ version_words version aux count }
     ensures len { length line.new ≤ length line.old + 33 }
 {
     match version {

@@ -1,5 +1,5 @@
 -- An accepted report is of the bytes that were expected, or there are two lists with one digest.
-use Rattle.std.proofs.Common.{◌≡◌, ◌∙◌, ◌+◌, ◌-◌, ◌++◌, ◌&&◌, ◌⊎◌, ap, sym, ℕ, List, Bool, true, false, Option, Some, inl, inr, refl, length, length-append, take, drop, arith}
+use Rattle.std.proofs.Common.{◌≡◌, ◌∙◌, ◌<◌, ◌+◌, ◌-◌, ◌++◌, ◌&&◌, ◌⊎◌, ap, sym, ℕ, List, Bool, true, false, Option, Some, inl, inr, refl, length, length-append, take, drop, arith}
 use Rattle.std.specs.Prelude.{◌==◌, not, if◌then◌else◌, IsTrue}
 use Rattle.std.specs.Str.{bytes_eq}
 use Rattle.std.proofs.Math.Seq.{take-append_seam, drop-append_seam}
@@ -19,11 +19,13 @@ use Rattle.report_verifier.specs.declared.expect.Expect.{Expect}
 use Rattle.report_verifier.specs.declared.flag_kind.FlagKind.{FlagKind}
 use Rattle.report_verifier.specs.declared.flag_kind.FlagKind.TheVariants.{Exec, Aux, Plain}
 use Rattle.report_verifier.specs.Acceptance.{HasFlag, IsAccepted, StandsAsExpected}
-use Rattle.report_verifier.specs.Collision.{Collides, colliding_pair}
+use Rattle.report_verifier.specs.Collision.{AreBytes, Collides, GivesBytes, colliding_pair}
 use Rattle.report_verifier.specs.Comparison.{expected_key, expected_bytes, own_bytes}
-use Rattle.report_verifier.specs.Expectation.{expected_mac, expected_metadata, expected_rest, image_byte, image_code, output_of}
+use Rattle.mem_map.specs.Image.{image_byte}
+use Rattle.report_verifier.specs.Expectation.{expected_mac, expected_metadata, expected_rest, image_code, output_of}
 use Rattle.report_verifier.specs.PolicyGrammar.{bounds_with}
 use Rattle.report_verifier.specs.Verdict.{same_version, same_bounds, lacks_exec, lacks_aux, verdict}
+use Rattle.report_verifier.proofs.ComparedBytes.{expected-bytes, from-bytes, memory-words, own-bytes}
 use Rattle.report_verifier.proofs.ExpectedMetadata.{take-chal}
 use Rattle.report_verifier.proofs.Pairs.{one_mac-collides}
 
@@ -207,13 +209,48 @@ expected-where digest key image expect bytes report is same =
       output = sym output;
     }
 
+-- both are bytes
+pub compared-bytes : (digest : List ℕ → List ℕ) (key : List ℕ) (image : ℕ → Option ℕ)
+    (expect : Expect) (bytes : ℕ → ℕ) (report : ReportFields)
+    → GivesBytes digest → ((place : ℕ) → bytes place < 256)
+    → ((place : ℕ) → image_byte image place < 256)
+    → IsAccepted digest key image expect bytes report
+    → AreBytes (expected_bytes digest key image expect report)
+compared-bytes digest key image expect bytes report gives small image_small is =
+    let agrees = accept-agrees digest key image expect report is.accepted in
+    let chal = chal-here digest key image expect bytes report is in
+    let here : expect.bounds ≡ bounds_in bytes = agrees.bounds ∙ is.of_memory.bounds in
+    let version : expect.version ≡ Two = agrees.version ∙ is.of_memory.version in
+    let valid : are_valid expect.bounds ≡ true = rw version at is.valid in
+    let output : report.output ≡ Some (output_bytes bytes expect.bounds) =
+    rw (← agrees.bounds) at (is.of_memory.output (rw agrees.bounds at valid)) in
+    expected-bytes digest key image expect report gives
+    (rw chal (from-bytes bytes _ 32 small)) (rw here (memory-words bytes small)) image_small
+    (rw output (from-bytes bytes expect.bounds.or_min _ small))
+
+pub accepted-collides : (digest : List ℕ → List ℕ) (key : List ℕ) (image : ℕ → Option ℕ)
+    (expect : Expect) (bytes : ℕ → ℕ) (report : ReportFields)
+    → GivesBytes digest → ((place : ℕ) → bytes place < 256)
+    → ((place : ℕ) → image_byte image place < 256)
+    → IsAccepted digest key image expect bytes report
+    → (expected_bytes digest key image expect report ≡ own_bytes bytes → ⊥)
+    → Collides digest (colliding_pair digest (expected_key digest key expect)
+    (expected_bytes digest key image expect report) (own_bytes bytes))
+accepted-collides digest key image expect bytes report gives small image_small is differ =
+    one_mac-collides digest (expected_key digest key expect)
+    (expected_bytes digest key image expect report) (own_bytes bytes) gives (gives _)
+    (compared-bytes digest key image expect bytes report gives small image_small is)
+    (own-bytes bytes small) (differ, one_mac digest key image expect bytes report is)
+
 pub expected-or_collides : (digest : List ℕ → List ℕ) (key : List ℕ) (image : ℕ → Option ℕ)
     (expect : Expect) (bytes : ℕ → ℕ) (report : ReportFields)
+    → GivesBytes digest → ((place : ℕ) → bytes place < 256)
+    → ((place : ℕ) → image_byte image place < 256)
     → IsAccepted digest key image expect bytes report
     → StandsAsExpected digest key image expect report bytes
     ⊎ Collides digest (colliding_pair digest (expected_key digest key expect)
     (expected_bytes digest key image expect report) (own_bytes bytes))
-expected-or_collides digest key image expect bytes report is =
+expected-or_collides digest key image expect bytes report gives small image_small is =
     let target : List ℕ = expected_bytes digest key image expect report in
     let own : List ℕ = own_bytes bytes in
     elim (cases_Bool (bytes_eq target own)) [
@@ -221,8 +258,6 @@ expected-or_collides digest key image expect bytes report is =
           inl (expected-where digest key image expect bytes report is
           ((bytes_eq-Decides target own).0 same))
       | inr differ ↦
-          inr (one_mac-collides digest (expected_key digest key expect) target own (
-            λ same. false≢true (sym differ ∙ (bytes_eq-Decides target own).1 same),
-            one_mac digest key image expect bytes report is,
-          ))
+          inr (accepted-collides digest key image expect bytes report gives small image_small is
+          (λ same. false≢true (sym differ ∙ (bytes_eq-Decides target own).1 same)))
     ]

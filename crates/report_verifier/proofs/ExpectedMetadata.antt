@@ -1,9 +1,10 @@
 -- The challenge is the beginning of the expected metadata, and how many bytes they begin with.
 use Rattle.std.proofs.Common.{◌≡◌, ◌+◌, ◌∙◌, ◌∷◌, [], ℕ, Bool, List, ap, length, length-append, take}
+use Rattle.word_arith.specs.Number.{bit_of}
 use Rattle.bus_signals.specs.Report.{ReportFields}
 use Rattle.part_definitions.specs.Attestation.{bytes_of_words}
 use Rattle.report_verifier.specs.declared.expect.Expect.{Expect}
-use Rattle.report_verifier.specs.Expectation.{flag_word, first_metadata, expected_metadata}
+use Rattle.report_verifier.specs.Expectation.{first_metadata, expected_metadata}
 use Rattle.report_verifier.proofs.Pieces.{take-first}
 
 pub take-chal : (digest : List ℕ → List ℕ) (key : List ℕ) (expect : Expect)
@@ -17,5 +18,5 @@ pub length-first : (expect : Expect) (exec : Bool) → length expect.chal ≡ 32
 length-first expect exec is =
     length-append expect.chal (bytes_of_words
     (expect.bounds.er_min ∷ expect.bounds.er_max ∷ expect.bounds.or_min ∷ expect.bounds.or_max
-    ∷ flag_word exec ∷ []))
+    ∷ bit_of exec ∷ []))
     ∙ ap (λ (n : ℕ). n + 10) is

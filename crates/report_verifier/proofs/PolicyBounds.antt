@@ -8,7 +8,7 @@ use Rattle.bus_signals.specs.declared.version.Version.TheVariants.{One, Two}
 use Rattle.text_scan.specs.declared.fault_at.FaultAt.{FaultAt}
 use Rattle.text_scan.specs.declared.fault_kind.FaultKind.{FaultKind}
 use Rattle.text_scan.specs.declared.fault_kind.FaultKind.TheVariants as kinds
-use Rattle.text_scan.specs.Line.{lines_of}
+use Rattle.text_scan.specs.Line.{text_lines}
 use Rattle.text_scan.specs.LineFold.{state_after, text_fold}
 use Rattle.text_scan.specs.Reader.{◌>>=◌, in_line}
 use Rattle.text_scan.specs.Utf8.{utf8_of}
@@ -19,7 +19,7 @@ use Rattle.report_verifier.specs.declared.draft.Draft.TheVariants.{Empty, Versio
 use Rattle.report_verifier.specs.declared.policy_line.PolicyLine.{PolicyLine}
 use Rattle.report_verifier.specs.declared.policy_line.PolicyLine.TheVariants.{VersionTwo, Executable, Output, Flag, Request, Challenge}
 use Rattle.report_verifier.specs.Policy.{PolicyFields}
-use Rattle.report_verifier.specs.PolicyGrammar.{policy_of, line_of, bounds_with, draft_with, has_request, with_request, with_challenge, with_entry, with_line, whole_policy}
+use Rattle.report_verifier.specs.PolicyGrammar.{policy_of, policy_line_of, bounds_with, draft_with, has_request, with_request, with_challenge, with_entry, with_line, whole_policy}
 use Rattle.report_verifier.specs.Validity.{are_valid_for}
 
 -- the bounds that a draft has are valid in its version
@@ -93,7 +93,7 @@ with_entry-valid (Whole policy) (Challenge chal) valid =
 with_line-valid : (draft : Draft) (line : List ℕ) → HasValidBounds draft
     → IfOk (with_line draft line) HasValidBounds
 unfolding with_line
-with_line-valid draft line valid = by_entry (line_of draft (words_of line))
+with_line-valid draft line valid = by_entry (policy_line_of draft (words_of line))
   where
     by_entry : (entry : Result PolicyLine FaultKind)
         → IfOk (entry >>= (λ entry. with_entry draft entry)) HasValidBounds
@@ -140,10 +140,10 @@ unfolding policy_of text_fold
 policy_of-valid text = by_case (utf8_of text)
   where
     by_case : (sound : Result Unit FaultAt)
-        → IfOk ((sound >>= (λ is. state_after with_line Empty (lines_of text)))
+        → IfOk ((sound >>= (λ is. state_after with_line Empty (text_lines text)))
         >>= whole_policy (length (lines text)))
         IsValidPolicy
     by_case (Err fault) = tt
     by_case (Ok is) =
-        draft-valid (length (lines text)) (state_after with_line Empty (lines_of text))
-        (state_after-valid Empty (lines_of text) tt)
+        draft-valid (length (lines text)) (state_after with_line Empty (text_lines text))
+        (state_after-valid Empty (text_lines text) tt)

@@ -1,6 +1,7 @@
 -- What a verifier expects a report's MAC to be of.
-use Rattle.std.specs.Prelude.{◌++◌, ℕ, Bool, true, false, List, [], ◌∷◌, Option, Some, None, unwrap_or}
+use Rattle.std.specs.Prelude.{◌++◌, ℕ, Bool, List, [], ◌∷◌, Option, Some, None}
 use Rattle.std.specs.Int.{w32, to_le_bytes}
+use Rattle.word_arith.specs.Number.{bit_of}
 use Rattle.bus_signals.specs.declared.bounds.Bounds.{Bounds}
 use Rattle.bus_signals.specs.declared.version.Version.{Version}
 use Rattle.bus_signals.specs.declared.version.Version.TheVariants.{One, Two}
@@ -8,11 +9,8 @@ use Rattle.bus_signals.specs.Report.{ReportFields}
 use Rattle.part_definitions.specs.Attestation.{bytes_of_words, attestation_tag}
 use Rattle.part_definitions.specs.Region.{bytes_between}
 use Rattle.part_definitions.specs.Request.{request_token}
+use Rattle.mem_map.specs.Image.{image_byte}
 use Rattle.report_verifier.specs.declared.expect.Expect.{Expect}
-
-abbrev pub flag_word : Bool → ℕ
-flag_word true = 1
-flag_word false = 0
 
 -- the four bytes of a counter, the lowest first
 abbrev pub count_bytes : ℕ → List ℕ
@@ -28,13 +26,13 @@ first_metadata expect exec =
     expect.chal
     ++ bytes_of_words
     (expect.bounds.er_min ∷ expect.bounds.er_max ∷ expect.bounds.or_min ∷ expect.bounds.or_max
-    ∷ flag_word exec ∷ [])
+    ∷ bit_of exec ∷ [])
 
 -- what version 2 has behind them: the AUX word, the expected counter, and its token
 abbrev pub request_metadata : Version → (List ℕ → List ℕ) → List ℕ → Expect → Bool → List ℕ
 request_metadata One digest key expect aux = []
 request_metadata Two digest key expect aux =
-    bytes_of_words (flag_word aux ∷ [])
+    bytes_of_words (bit_of aux ∷ [])
     ++ (count_bytes expect.count ++ expected_token digest key expect)
 
 -- both, with the flags as the report tells them
@@ -44,9 +42,6 @@ expected_metadata digest key expect report =
     ++ request_metadata expect.version digest key expect report.aux
 
 -- the image's code, 0 where it has no byte
-abbrev pub image_byte : (ℕ → Option ℕ) → ℕ → ℕ
-image_byte image place = unwrap_or (image place) 0
-
 abbrev pub image_code : (ℕ → Option ℕ) → Bounds → List ℕ
 image_code image bounds = bytes_between (image_byte image) bounds.er_min bounds.er_max
 

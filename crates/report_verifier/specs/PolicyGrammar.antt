@@ -72,8 +72,8 @@ challenge_of words = do
   Ok (Challenge chal.0, chal.1)
 
 -- the keywords of version 1
-abbrev pub kind_of : List ℕ → List (List ℕ) → Result (PolicyLine × List (List ℕ)) FaultKind
-kind_of keyword words =
+abbrev pub line_by_keyword : List ℕ → List (List ℕ) → Result (PolicyLine × List (List ℕ)) FaultKind
+line_by_keyword keyword words =
     if bytes_eq keyword (codes "er") then executable_of words
     else if bytes_eq keyword (codes "or") then output_of words
     else if bytes_eq keyword (codes "chal") then challenge_of words
@@ -82,12 +82,12 @@ kind_of keyword words =
 -- in version 2 there are three more; `chal` is read in its form there too
 abbrev pub kind_for :
     Version → List ℕ → List (List ℕ) → Result (PolicyLine × List (List ℕ)) FaultKind
-kind_for One keyword words = kind_of keyword words
+kind_for One keyword words = line_by_keyword keyword words
 kind_for Two keyword words =
     if bytes_eq keyword (codes "version") then version_of words
     else if bytes_eq keyword (codes "flag") then flag_of words
     else if bytes_eq keyword (codes "ask") then request_of words
-    else kind_of keyword words
+    else line_by_keyword keyword words
 
 -- the version of a policy whose next line has this keyword: the first line says it
 abbrev pub version_after : Draft → List ℕ → Version
@@ -98,8 +98,8 @@ version_after (BoundsKnown policy) keyword = Two
 version_after (Whole policy) keyword = policy.version
 
 -- what a line says after what was said before
-unfoldable pub line_of : Draft → List (List ℕ) → Result PolicyLine FaultKind
-line_of draft words = do
+unfoldable pub policy_line_of : Draft → List (List ℕ) → Result PolicyLine FaultKind
+policy_line_of draft words = do
   keyword ← word_of words
   line ← kind_for (version_after draft keyword.0) keyword.0 keyword.1
   end ← end_of line.1
@@ -158,7 +158,7 @@ with_entry draft line = Err Order
 
 unfoldable pub with_line : Draft → List ℕ → Result Draft FaultKind
 with_line draft line = do
-  entry ← line_of draft (words_of line)
+  entry ← policy_line_of draft (words_of line)
   with_entry draft entry
 
 -- a text that ends too early has the fault in its last line

@@ -2,7 +2,7 @@ ghost use Rattle.std.specs.Prelude.{◌≡◌, IsTrue};
 ghost use Rattle.text_scan.specs.LineFold.{TakesLine, Takes};
 ghost use Rattle.text_scan.specs.Word.{words_of};
 ghost use Rattle.report_verifier.specs.declared.policy_line.PolicyLine.TheVariants as lines;
-ghost use Rattle.report_verifier.specs.PolicyGrammar.{line_of, version_after, draft_with, with_entry, with_line};
+ghost use Rattle.report_verifier.specs.PolicyGrammar.{policy_line_of, version_after, draft_with, with_entry, with_line};
 ghost use Rattle.report_verifier.specs.Validity.{are_valid_for};
 
 use crate::asked::Asked;
@@ -40,9 +40,9 @@ impl<'a> LineReader<'a> for Draft {
 }
 
 // What a line says after the earlier ones, or its first fault.
-#[tactic(auto, unfolding(crate::specs::PolicyGrammar::line_of))]
+#[tactic(auto, unfolding(crate::specs::PolicyGrammar::policy_line_of))]
 fn read_policy_line(draft: &Draft, line: &[u8]) -> Result<PolicyLine, FaultKind>
-    ensures { result ≡ line_of draft.now (words_of line.now) }
+    ensures { result ≡ policy_line_of draft.now (words_of line.now) }
 {
     let mut words = Words::new(line);
     let keyword = words.word()?;

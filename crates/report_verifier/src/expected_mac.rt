@@ -1,10 +1,10 @@
 ghost use Rattle.std.specs.Prelude.{◌≡◌, ◌≤◌, ◌+◌, ◌-◌, ◌++◌, ℕ, List, option_map, IsTrue};
 ghost use Rattle.bus_signals.specs.Report.{fields_of};
 ghost use Rattle.hmac_core.specs.Hmac.{HmacStandsFor};
-ghost use Rattle.mem_map.specs.Image.{byte_in};
+ghost use Rattle.mem_map.specs.Image.{byte_in, image_byte};
 ghost use Rattle.part_definitions.specs.Hmac.{hmac};
 ghost use Rattle.part_definitions.specs.Memory.{bytes_from};
-ghost use Rattle.report_verifier.specs.Expectation.{image_byte, image_code, output_of, expected_mac};
+ghost use Rattle.report_verifier.specs.Expectation.{image_code, output_of, expected_mac};
 ghost use Rattle.report_verifier.specs.Validity.{are_valid_for};
 
 use crate::byte_list::ByteList;
@@ -75,8 +75,7 @@ fn derived_mac<D: Digest32>(
     mac.update(metadata);
     take_code(&mut mac, image, expect);
     mac.update(output);
-    let (inner, outer) = mac.inner();
-    outer.finish(&inner)
+    mac.finish()
 }
 
 /// The MAC that a report shall have.

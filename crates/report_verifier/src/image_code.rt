@@ -1,7 +1,6 @@
 ghost use Rattle.std.specs.Prelude.{◌≡◌, ◌≤◌, ◌+◌, ◌-◌, ◌++◌, length};
-ghost use Rattle.mem_map.specs.Image.{byte_in};
+ghost use Rattle.mem_map.specs.Image.{byte_in, image_byte};
 ghost use Rattle.part_definitions.specs.Memory.{bytes_from};
-ghost use Rattle.report_verifier.specs.Expectation.{image_byte};
 
 use crate::byte_list::ByteList;
 use mem_map::Image;

@@ -1,12 +1,13 @@
-ghost use Rattle.std.specs.Prelude.{◌≡◌, ◌⊎◌, ℕ, List, Option, Ok, IfOk, IsTrue};
+ghost use Rattle.std.specs.Prelude.{◌≡◌, ◌<◌, ◌⊎◌, ℕ, List, Option, Ok, IfOk, IsTrue};
 ghost use Rattle.std.specs.declared.alloc.AllocError.{AllocError};
 ghost use Rattle.bus_signals.specs.Report.{ReportFields};
 ghost use Rattle.part_definitions.specs.Hmac.{hmac};
 ghost use Rattle.report_verifier.specs.declared.evidence.Exhibit.TheVariants.{MacsDiffer};
 ghost use Rattle.report_verifier.specs.declared.expect.Expect.{Expect};
 ghost use Rattle.report_verifier.specs.Acceptance.{IsAccepted, StandsAsExpected};
-ghost use Rattle.report_verifier.specs.Collision.{Collides, Exhibits, HaveOneMac, colliding_pair};
+ghost use Rattle.report_verifier.specs.Collision.{AreBytes, Collides, Exhibits, GivesBytes, HaveOneMac, colliding_pair};
 ghost use Rattle.report_verifier.specs.Comparison.{expected_bytes, expected_key, own_bytes};
+ghost use Rattle.mem_map.specs.Image.{image_byte};
 ghost use Rattle.report_verifier.specs.PolicyGrammar.{policy_of};
 ghost use Rattle.report_verifier.specs.Validity.{are_valid_for};
 
@@ -17,16 +18,21 @@ pub fn policies_have_valid_bounds()
         IsTrue (are_valid_for policy.version policy.bounds)) }
 {}
 
-/// Two unequal messages with one HMAC give a pair of unequal lists with one digest.
+/// Two unequal messages with one HMAC give a pair of unequal lists of bytes with one digest.
 pub fn one_mac_gives_collision()
     ensures { (digest : List ℕ → List ℕ) (key left right : List ℕ)
+        → GivesBytes digest
+        → AreBytes key
+        → AreBytes left
+        → AreBytes right
         → HaveOneMac digest key left right
         → Collides digest (colliding_pair digest key left right) }
 {}
 
 /// Let a report of a device be accepted. The bytes that it is expected to be of and the device's
 /// own have one HMAC; so either what stands in memory is what was expected, or the pair of the two
-/// collides. A comparison never shows that their HMACs differ.
+/// collides, where digest, memory and image are of bytes. A comparison never shows that their HMACs
+/// differ.
 pub fn accept_is_of_expected_bytes()
     ensures one_mac { (digest : List ℕ → List ℕ) (key : List ℕ) (image : ℕ → Option ℕ)
         (expect : Expect) (bytes : ℕ → ℕ) (report : ReportFields)
@@ -36,6 +42,9 @@ pub fn accept_is_of_expected_bytes()
         ≡ hmac digest (expected_key digest key expect) (own_bytes bytes) }
     ensures expected { (digest : List ℕ → List ℕ) (key : List ℕ) (image : ℕ → Option ℕ)
         (expect : Expect) (bytes : ℕ → ℕ) (report : ReportFields)
+        → GivesBytes digest
+        → ((place : ℕ) → bytes place < 256)
+        → ((place : ℕ) → image_byte image place < 256)
         → IsAccepted digest key image expect bytes report
         → StandsAsExpected digest key image expect report bytes
         ⊎ Collides digest (colliding_pair digest (expected_key digest key expect)

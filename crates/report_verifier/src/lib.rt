@@ -28,6 +28,7 @@ mod policy_line;
 mod policy_reader;
 mod request_token;
 mod validity;
+mod verifier;
 
 pub use asked::Asked;
 pub use collision::exhibit;
@@ -41,3 +42,4 @@ pub use policy::Policy;
 pub use policy_reader::read_policy;
 pub use request_token::token;
 pub use validity::valid_for;
+pub use verifier::Verifier;

@@ -1,6 +1,7 @@
 ghost use Rattle.std.specs.Prelude.{◌≡◌, ◌++◌, [], length};
+ghost use Rattle.word_arith.specs.Number.{bit_of};
 ghost use Rattle.bus_signals.specs.Report.{fields_of};
-ghost use Rattle.report_verifier.specs.Expectation.{flag_word, first_metadata, request_metadata, expected_metadata};
+ghost use Rattle.report_verifier.specs.Expectation.{first_metadata, request_metadata, expected_metadata};
 ghost use Rattle.report_verifier.specs.Validity.{metadata_len};
 
 use crate::byte_list::ByteList;
@@ -41,7 +42,7 @@ fn push_first(metadata: &mut ByteList<MOST_METADATA>, expect: &Expect, exec: boo
 
 // A flag as a word.
 fn flag_word(flag: bool) -> u16
-    ensures { result ≡ flag_word flag }
+    ensures { result ≡ bit_of flag }
 {
     if flag { 1 } else { 0 }
 }

@@ -1,6 +1,6 @@
 ghost use Rattle.std.specs.Prelude.{◌≡◌};
 ghost use Rattle.text_scan.specs.Reader.{ReadsOn};
-ghost use Rattle.report_verifier.specs.PolicyGrammar.{version_of, executable_of, output_of, flag_named, flag_of, request_of, challenge_of, kind_of, kind_for};
+ghost use Rattle.report_verifier.specs.PolicyGrammar.{version_of, executable_of, output_of, flag_named, flag_of, request_of, challenge_of, line_by_keyword, kind_for};
 
 use crate::asked::Asked;
 use crate::flag_kind::FlagKind;
@@ -40,7 +40,7 @@ pub fn read_kind(
 
 // The keywords of version 1.
 fn read_one(keyword: &[u8], words: &mut Words<'_>) -> Result<PolicyLine, FaultKind>
-    ensures { ReadsOn result words.new (kind_of keyword.now words.old) }
+    ensures { ReadsOn result words.new (line_by_keyword keyword.now words.old) }
 {
     match keyword {
         b"er" => read_executable(words),

@@ -10,6 +10,9 @@ use Rattle.bus_signals.specs.Kind.{is_rom}
 use Rattle.bus_signals.specs.Map.{ROM_ENTRY}
 use Rattle.part_definitions.specs.Metadata.{counter_in, kept_bytes, little_endian, token_in}
 use Rattle.part_definitions.specs.Request.{ATTESTS, request_decision, right_token}
+use Rattle.bus_signals.specs.Address.{Bytes}
+use Rattle.part_definitions.specs.Hmac.{Digest}
+use Rattle.device_trace.specs.Play.{Play}
 use Rattle.device_trace.specs.Logs.{Logs, step_progress, vector_of, with_events}
 use Rattle.device_trace.specs.Progress.{InCall}
 use Rattle.device_trace.specs.Signals.{step_kind}
@@ -65,7 +68,7 @@ last_choice true old is = absurd (cc)
 last_choice false true is = absurd (cc)
 last_choice false false is = refl
 
-pub attests-newer : (digest : List ℕ → List ℕ) (key metadata kept : List ℕ)
+pub attests-newer : (digest : Digest) (key metadata kept : List ℕ)
     → request_decision digest key metadata kept ≡ ATTESTS
     → little_endian kept < little_endian (counter_in metadata)
 attests-newer digest key metadata kept attests =
@@ -73,7 +76,7 @@ attests-newer digest key metadata kept attests =
     (last_choice (not (bytes_eq (token_in metadata) (right_token digest key metadata)))
     (nat_le (little_endian (counter_in metadata)) (little_endian kept)) attests)
 
-left-grows : (digest : List ℕ → List ℕ) (key : List ℕ) (contents : AttestedBytes)
+left-grows : (digest : Digest) (key : Bytes) (contents : AttestedBytes)
     (kept : List ℕ)
     → little_endian kept ≤ little_endian (counter_left digest key contents kept)
 left-grows digest key contents kept =
@@ -91,7 +94,7 @@ left-grows digest key contents kept =
     by_test false newer = omega arith
 
 -- what a step may do: the counter falls only after the high word was written
-abbrev pub CounterStep : Device → List (List Event) → List Event → Type 0
+abbrev pub CounterStep : Device → Play → List Event → Type 0
 CounterStep device play events =
     (kept_counter (start_of device) play ≤ kept_counter (start_of device) (events ∷ play))
     ⊎ ((LastWroteHighWord (trace (start_of device) play))
@@ -100,7 +103,7 @@ CounterStep device play events =
     ≤ kept_counter (start_of device) (events ∷ play)))
 
 -- it leaves it
-stays : (device : Device) (play : List (List Event)) (events : List Event)
+stays : (device : Device) (play : Play) (events : List Event)
     → kept_bytes (byte_after (start_of device) (events ∷ play))
     ≡ kept_bytes (byte_after (start_of device) play)
     → CounterStep device play events
@@ -109,7 +112,7 @@ stays device play events same =
     inl (omega (arith, number))
 
 -- the bytes of the kept counter at the moments of a call
-pub record KeptMoments (device : Device) (play : List (List Event)) (kept left : List ℕ)
+pub record KeptMoments (device : Device) (play : Play) (kept left : List ℕ)
     : Type 0 where
   pub at : (steps : ℕ) → steps ≤ call_length (start_of device) play
       → kept_before (start_of device) play steps
@@ -118,7 +121,7 @@ pub record KeptMoments (device : Device) (play : List (List Event)) (kept left :
   pub is_left : IsCounter left
   pub grows : little_endian kept ≤ little_endian left
 
-early_step : (device : Device) (play : List (List Event)) (events : List Event)
+early_step : (device : Device) (play : Play) (events : List Event)
     (kept left : List ℕ)
     → KeptMoments device (events ∷ play) kept left
     → 1 ≤ call_length (start_of device) (events ∷ play)
@@ -133,7 +136,7 @@ early_step device play events kept left moments begun early =
     (omega (arith, early)) in
     stays device play events (now ∙ sym before)
 
-late_step : (device : Device) (play : List (List Event)) (events : List Event)
+late_step : (device : Device) (play : Play) (events : List Event)
     (kept left : List ℕ)
     → KeptMoments device (events ∷ play) kept left
     → 77 ≤ call_length (start_of device) (events ∷ play)
@@ -147,7 +150,7 @@ late_step device play events kept left moments late =
     (omega (arith, late)) in
     stays device play events (now ∙ sym before)
 
-high_step : (device : Device) (play : List (List Event)) (events : List Event)
+high_step : (device : Device) (play : Play) (events : List Event)
     (kept left : List ℕ)
     → KeptMoments device (events ∷ play) kept left
     → call_length (start_of device) (events ∷ play) ≡ 75
@@ -163,7 +166,7 @@ high_step device play events kept left moments count =
     let grows = high_word-grows kept left moments.is_kept moments.is_left moments.grows in
     inl (omega (arith, number, number_before, grows))
 
-low_step : (device : Device) (play : List (List Event)) (events : List Event)
+low_step : (device : Device) (play : Play) (events : List Event)
     (kept left : List ℕ)
     → KeptMoments device (events ∷ play) kept left
     → call_length (start_of device) (events ∷ play) ≡ 76
@@ -181,7 +184,7 @@ low_step device play events kept left moments count high before_count =
     inr (high, before_count, omega (arith, number, number_older, grows))
 
 -- an earlier step of the call of this one
-pub record IsLaterStep (device : Device) (play : List (List Event)) (events : List Event)
+pub record IsLaterStep (device : Device) (play : Play) (events : List Event)
     : Type 0 where
   pub count :
       call_length (start_of device) (events ∷ play) ≡ call_length (start_of device) play + 1
@@ -191,7 +194,7 @@ pub record IsLaterStep (device : Device) (play : List (List Event)) (events : Li
   pub words : List ℕ
   pub progress : (logs_after (start_of device) play).progress ≡ InCall regs words
 
-pub later_or_first : (device : Device) (play : List (List Event)) (events : List Event)
+pub later_or_first : (device : Device) (play : Play) (events : List Event)
     → step_kind (log_at device play events) ≡ Rom
     → (call_length (start_of device) (events ∷ play) ≡ 1) ⊎ IsLaterStep device play events
 unfolding trace with_events
@@ -236,7 +239,7 @@ later_or_first device play events rom =
     ]
 
 -- the kept counter at the moments of the call of a step
-pub record CallMoments (device : Device) (play : List (List Event)) : Type 0 where
+pub record CallMoments (device : Device) (play : Play) : Type 0 where
   pub covers : MacCoversCall device.digest device.key (start_of device) play
   pub begun : 1 ≤ call_length (start_of device) play
   pub stands : contents_before (start_of device) play 0 ≡ covers.contents
@@ -244,7 +247,7 @@ pub record CallMoments (device : Device) (play : List (List Event)) : Type 0 whe
       KeptMoments device play covers.kept
       (counter_left device.digest device.key covers.contents covers.kept)
 
-pub call-moments : (device : Device) (play : List (List Event)) (events : List Event)
+pub call-moments : (device : Device) (play : Play) (events : List Event)
     → step_kind (log_at device play events) ≡ Rom
     → is_some (entry_at device play events).reset ≡ false
     → CallMoments device (events ∷ play)
@@ -304,7 +307,7 @@ each_step Holds count early high low late =
           ]
     ]
 
-call_step : (device : Device) (play : List (List Event)) (events : List Event)
+call_step : (device : Device) (play : Play) (events : List Event)
     → step_kind (log_at device play events) ≡ Rom
     → is_some (entry_at device play events).reset ≡ false
     → CounterStep device play events
@@ -327,7 +330,7 @@ call_step device play events rom no_reset =
     (late_step device play events kept left call.moments)
 
 -- of every step
-pub counter_step : (device : Device) (play : List (List Event)) (events : List Event)
+pub counter_step : (device : Device) (play : Play) (events : List Event)
     → CounterStep device play events
 unfolding logs_after next_record with_events
 counter_step device play events =

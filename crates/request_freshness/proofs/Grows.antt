@@ -6,11 +6,13 @@ use Rattle.std.proofs.lemmas.List.{drop-append-le}
 use Rattle.bus_signals.specs.declared.access.Access.{Access}
 use Rattle.bus_signals.specs.declared.access.Access.TheVariants.{Fetch, Read, Write}
 use Rattle.bus_signals.specs.declared.bus_record.BusRecord.{BusRecord}
-use Rattle.bus_signals.specs.declared.event.Event.{Event}
 use Rattle.bus_signals.specs.declared.rule.Rule.{Rule}
-use Rattle.bus_signals.specs.SeenRecord.{SeenRecord}
+use Rattle.bus_signals.specs.SeenRecord.{SeenHistory}
 use Rattle.part_definitions.specs.Metadata.{counter_in, little_endian}
 use Rattle.part_definitions.specs.Request.{ATTESTS}
+use Rattle.bus_signals.specs.Address.{Bytes, Contents}
+use Rattle.part_definitions.specs.Hmac.{Digest}
+use Rattle.device_trace.specs.Play.{Play}
 use Rattle.device_trace.specs.Start.{Start, with_key}
 use Rattle.device_trace.specs.Trace.{trace}
 use Rattle.mac_coverage.specs.AttestedBytes.{AttestedBytes, counter_left, decision_of}
@@ -44,12 +46,12 @@ last_wrote-between (entry ∷ history) wrote =
     not_refused entry.reset (writes_high_word entry.cpu) wrote.0 (writes_high entry.cpu wrote.1)
 
 -- a moment from which the counter does not fall
-abbrev pub IsFirm : Device → List (List Event) → Type 0
+abbrev pub IsFirm : Device → Play → Type 0
 IsFirm device play =
     (LastWroteHighWord (trace (start_of device) play))
     → (call_length (start_of device) play ≡ 75) → ⊥
 
-pub never_falls : (device : Device) (later earlier : List (List Event)) → IsFirm device earlier
+pub never_falls : (device : Device) (later earlier : Play) → IsFirm device earlier
     → kept_counter (start_of device) earlier ≤ kept_counter (start_of device) (later ++ earlier)
 never_falls device [] earlier firm = omega arith
 never_falls device (events ∷ []) earlier firm =
@@ -69,8 +71,8 @@ never_falls device (events ∷ before ∷ later) earlier firm =
     ]
 
 -- a device
-abbrev pub device_of : (flag : List SeenRecord → Bool) (digest : List ℕ → List ℕ) (key : List ℕ)
-    (image : ℕ → ℕ) → IsDeviceKey key → IsOfBytes image → Device
+abbrev pub device_of : (flag : SeenHistory → Bool) (digest : Digest) (key : Bytes)
+    (image : Contents) → IsDeviceKey key → IsOfBytes image → Device
 device_of flag digest key image device_key bytes =
     record {
       flag = flag;
@@ -82,8 +84,8 @@ device_of flag digest key image device_key bytes =
       image_bytes = bytes;
     }
 
-pub kept_counter-never_falls : (flag : List SeenRecord → Bool) (digest : List ℕ → List ℕ)
-    (key : List ℕ) (image : ℕ → ℕ) (later earlier : List (List Event))
+pub kept_counter-never_falls : (flag : SeenHistory → Bool) (digest : Digest)
+    (key : Bytes) (image : Contents) (later earlier : Play)
     → IsDeviceKey key → IsOfBytes image
     → IsFalse (ends_between_words (trace (with_key flag digest key image) earlier))
     → kept_counter (with_key flag digest key image) earlier
@@ -96,7 +98,7 @@ kept_counter-never_falls flag digest key image later earlier device_key bytes fi
     cc)
 
 -- what is known where a call has decided to attest
-record AttestsHere (device : Device) (play : List (List Event)) (counter : ℕ) : Type 0 where
+record AttestsHere (device : Device) (play : Play) (counter : ℕ) : Type 0 where
   -- the counter of the request is kept
   kept : kept_counter (start_of device) play ≡ counter
   late : 77 ≤ call_length (start_of device) play
@@ -110,7 +112,7 @@ first_word-is : (words later rest : List ℕ) (decision first : ℕ)
 first_word-is [] later rest decision first is same = absurd (cc)
 first_word-is (word ∷ words) later rest decision first is same = (cc, omega arith)
 
-attests-here : (device : Device) (play : List (List Event)) (counter : ℕ)
+attests-here : (device : Device) (play : Play) (counter : ℕ)
     → Attests (start_of device) play counter → AttestsHere device play counter
 attests-here device play counter attests =
     let start : Start = start_of device in
@@ -149,7 +151,7 @@ attests-here device play counter attests =
       older = omega (arith, newer, number_before, asked);
     }
 
-pub counters-grow : (device : Device) (later earlier : List (List Event)) (first second : ℕ)
+pub counters-grow : (device : Device) (later earlier : Play) (first second : ℕ)
     → Attests (start_of device) earlier first
     → Attests (start_of device) (later ++ earlier) second
     → call_length (start_of device) (later ++ earlier) ≤ length later
@@ -166,8 +168,8 @@ counters-grow device later earlier first second attests attests_later begins =
     let older = there.older in
     omega (arith, same, grows, kept, older)
 
-pub attested_counters-grow : (flag : List SeenRecord → Bool) (digest : List ℕ → List ℕ)
-    (key : List ℕ) (image : ℕ → ℕ) (later earlier : List (List Event)) (first second : ℕ)
+pub attested_counters-grow : (flag : SeenHistory → Bool) (digest : Digest)
+    (key : Bytes) (image : Contents) (later earlier : Play) (first second : ℕ)
     → IsDeviceKey key → IsOfBytes image
     → Attests (with_key flag digest key image) earlier first
     → Attests (with_key flag digest key image) (later ++ earlier) second
@@ -176,8 +178,8 @@ pub attested_counters-grow : (flag : List SeenRecord → Bool) (digest : List �
 attested_counters-grow flag digest key image later earlier first second device_key bytes =
     counters-grow (device_of flag digest key image device_key bytes) later earlier first second
 
-pub request-attested_once : (flag : List SeenRecord → Bool) (digest : List ℕ → List ℕ)
-    (key : List ℕ) (image : ℕ → ℕ) (later earlier : List (List Event)) (counter : ℕ)
+pub request-attested_once : (flag : SeenHistory → Bool) (digest : Digest)
+    (key : Bytes) (image : Contents) (later earlier : Play) (counter : ℕ)
     → IsDeviceKey key → IsOfBytes image
     → Attests (with_key flag digest key image) earlier counter
     → Attests (with_key flag digest key image) (later ++ earlier) counter

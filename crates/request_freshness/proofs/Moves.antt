@@ -8,9 +8,12 @@ use Rattle.std.proofs.lemmas.Slice.Eq.{bytes_eq-Decides}
 use Rattle.bus_signals.specs.declared.event.Event.{Event}
 use Rattle.bus_signals.specs.declared.kind.Kind.TheVariants.{Rom}
 use Rattle.bus_signals.specs.Kind.{is_rom}
-use Rattle.bus_signals.specs.SeenRecord.{SeenRecord}
+use Rattle.bus_signals.specs.SeenRecord.{SeenHistory}
 use Rattle.part_definitions.specs.Metadata.{counter_in, kept_bytes, little_endian, token_in}
 use Rattle.part_definitions.specs.Request.{ATTESTS, right_token, request_decision}
+use Rattle.bus_signals.specs.Address.{Bytes, Contents}
+use Rattle.part_definitions.specs.Hmac.{Digest}
+use Rattle.device_trace.specs.Play.{Play}
 use Rattle.device_trace.specs.Logs.{Logs, with_events}
 use Rattle.device_trace.specs.Signals.{step_kind}
 use Rattle.device_trace.specs.Start.{with_key}
@@ -35,7 +38,7 @@ first_choice : (other old : Bool) → choice other old ≡ ATTESTS → other ≡
 first_choice true old is = absurd (cc)
 first_choice false old is = refl
 
-attests-right : (digest : List ℕ → List ℕ) (key metadata kept : List ℕ)
+attests-right : (digest : Digest) (key metadata kept : List ℕ)
     → request_decision digest key metadata kept ≡ ATTESTS
     → token_in metadata ≡ right_token digest key metadata
 attests-right digest key metadata kept attests =
@@ -62,26 +65,26 @@ same_high kept left is_kept is_left =
     ∙ ap (λ (counter : List ℕ). little_endian counter / 65536) (sym same_left)))
 
 -- what a step did
-abbrev Moved : Device → List (List Event) → List Event → Type 0
+abbrev Moved : Device → Play → List Event → Type 0
 Moved device play events =
     (kept_counter (start_of device) (events ∷ play) ≡ kept_counter (start_of device) play → ⊥)
     → IsRightlyRequested device.digest device.key (start_of device) (events ∷ play)
 
-stays : (device : Device) (play : List (List Event)) (events : List Event)
+stays : (device : Device) (play : Play) (events : List Event)
     → kept_bytes (byte_after (start_of device) (events ∷ play))
     ≡ kept_bytes (byte_after (start_of device) play)
     → Moved device play events
 stays device play events same moves = absurd (moves (ap little_endian same))
 
 -- the bytes before and after a step that writes a word
-record WordStep (device : Device) (play : List (List Event)) (events : List Event)
+record WordStep (device : Device) (play : Play) (events : List Event)
     (kept left : List ℕ) : Type 0 where
   before : (left ≡ kept) → kept_bytes (byte_after (start_of device) play) ≡ kept
   after : (left ≡ kept) → kept_bytes (byte_after (start_of device) (events ∷ play)) ≡ kept
   bound :
       kept_counter (start_of device) (events ∷ play) / 65536 ≡ little_endian left / 65536
 
-high-word_step : (device : Device) (play : List (List Event)) (events : List Event)
+high-word_step : (device : Device) (play : Play) (events : List Event)
     (kept left : List ℕ)
     → KeptMoments device (events ∷ play) kept left
     → call_length (start_of device) (events ∷ play) ≡ 75
@@ -102,7 +105,7 @@ high-word_step device play events kept left moments count =
           ∙ same_high kept left moments.is_kept moments.is_left;
     }
 
-low-word_step : (device : Device) (play : List (List Event)) (events : List Event)
+low-word_step : (device : Device) (play : Play) (events : List Event)
     (kept left : List ℕ)
     → KeptMoments device (events ∷ play) kept left
     → call_length (start_of device) (events ∷ play) ≡ 76
@@ -121,7 +124,7 @@ low-word_step device play events kept left moments count =
       bound = ap (λ (counter : List ℕ). little_endian counter / 65536) now;
     }
 
-word_step-moves : (device : Device) (play : List (List Event)) (events : List Event)
+word_step-moves : (device : Device) (play : Play) (events : List Event)
     (call : CallMoments device (events ∷ play))
     → ends_in_call (trace (start_of device) (events ∷ play)) ≡ true
     → WordStep device play events call.covers.kept
@@ -157,7 +160,7 @@ word_step-moves device play events call in_call step moves =
           absurd (moves (ap little_endian (step.after same ∙ sym (step.before same))))
     ]
 
-call_moves : (device : Device) (play : List (List Event)) (events : List Event)
+call_moves : (device : Device) (play : Play) (events : List Event)
     → step_kind (log_at device play events) ≡ Rom
     → is_some (entry_at device play events).reset ≡ false
     → Moved device play events
@@ -189,7 +192,7 @@ call_moves device play events rom no_reset =
     ∙ kept-late kept left (count - 1) (omega (arith, late)))))
 
 -- of every step
-step_moves : (device : Device) (play : List (List Event)) (events : List Event)
+step_moves : (device : Device) (play : Play) (events : List Event)
     → Moved device play events
 unfolding logs_after next_record with_events
 step_moves device play events =
@@ -209,8 +212,8 @@ step_moves device play events =
           ]
     ]
 
-pub kept_counter-moves : (flag : List SeenRecord → Bool) (digest : List ℕ → List ℕ)
-    (key : List ℕ) (image : ℕ → ℕ) (play : List (List Event)) (events : List Event)
+pub kept_counter-moves : (flag : SeenHistory → Bool) (digest : Digest)
+    (key : Bytes) (image : Contents) (play : Play) (events : List Event)
     → IsDeviceKey key → IsOfBytes image
     → (kept_counter (with_key flag digest key image) (events ∷ play)
     ≡ kept_counter (with_key flag digest key image) play

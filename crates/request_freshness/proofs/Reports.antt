@@ -11,8 +11,11 @@ use Rattle.bus_signals.specs.declared.rule.Rule.{Rule}
 use Rattle.bus_signals.specs.Kind.{is_rom}
 use Rattle.bus_signals.specs.Map.{ROM_EXIT}
 use Rattle.bus_signals.specs.Report.{ReportFields}
-use Rattle.bus_signals.specs.SeenRecord.{SeenRecord}
+use Rattle.bus_signals.specs.SeenRecord.{SeenHistory}
 use Rattle.part_definitions.specs.Attestation.{call_item, is_return, word_passed}
+use Rattle.bus_signals.specs.Address.{Bytes, Contents}
+use Rattle.part_definitions.specs.Hmac.{Digest}
+use Rattle.device_trace.specs.Play.{Play}
 use Rattle.device_trace.specs.Logs.{Logs, finishes_call, progress_after, step_progress, vector_of, with_events, with_record}
 use Rattle.device_trace.specs.Progress.{Progress, InCall, after_return, call_after}
 use Rattle.device_trace.specs.Signals.{step_kind}
@@ -32,7 +35,7 @@ use Rattle.request_freshness.proofs.CounterSteps.{later_or_first}
 use Rattle.request_freshness.proofs.Grows.{counters-grow, device_of}
 
 -- the progress after a step of a call that is not refused
-record CallProgress (device : Device) (play : List (List Event)) (events : List Event)
+record CallProgress (device : Device) (play : Play) (events : List Event)
     : Type 0 where
   regs : List ℕ
   words : List ℕ
@@ -41,7 +44,7 @@ record CallProgress (device : Device) (play : List (List Event)) (events : List 
   returns : finishes_call (entry_at device play events) ≡ true
       → is_return (call_item words) ≡ true
 
-call-progress : (device : Device) (play : List (List Event)) (events : List Event)
+call-progress : (device : Device) (play : Play) (events : List Event)
     → step_kind (log_at device play events) ≡ Rom
     → is_some (entry_at device play events).reset ≡ false
     → CallProgress device play events
@@ -71,7 +74,7 @@ call-progress device play events rom no_reset =
     }
 
 -- a call that begins after a play has made no more steps than there are since
-abbrev BeganAfter : Device → List (List Event) → List (List Event) → Type 0
+abbrev BeganAfter : Device → Play → Play → Type 0
 BeganAfter device later earlier =
     OnCall (λ regs words. call_length (start_of device) (later ++ earlier) ≤ length later)
     (logs_after (start_of device) (later ++ earlier)).progress
@@ -90,7 +93,7 @@ not_refused None ends finishes = refl
 not_refused (Some rule) true finishes = absurd (cc)
 not_refused (Some rule) false finishes = absurd (cc)
 
-finished-no_call : (device : Device) (play : List (List Event))
+finished-no_call : (device : Device) (play : Play)
     → ends_finished (trace (start_of device) play) ≡ true
     → BeganAfter device [] play
 unfolding trace
@@ -125,7 +128,7 @@ refused-no_call Holds None kind progress access value refuses = absurd (cc)
 refused-no_call Holds (Some rule) kind progress access value refuses = tt
 
 -- with one step more
-length-began : (device : Device) (later earlier : List (List Event)) (events : List Event)
+length-began : (device : Device) (later earlier : Play) (events : List Event)
     → BeganAfter device later earlier
     → step_kind (log_at device (later ++ earlier) events) ≡ Rom
     → call_length (start_of device) (events ∷ later ++ earlier) ≤ suc (length later)
@@ -142,12 +145,12 @@ length-began device later earlier events began rom =
           omega (arith, so_far, count))
     ]
 
-began_after : (device : Device) (later earlier : List (List Event))
+began_after : (device : Device) (later earlier : Play)
     → BeganAfter device [] earlier → BeganAfter device later earlier
 unfolding logs_after with_record
 began_after device [] earlier none = none
 began_after device (events ∷ later) earlier none =
-    let play : List (List Event) = later ++ earlier in
+    let play : Play = later ++ earlier in
     let logs : Logs = log_at device play events in
     let entry : BusRecord = entry_at device play events in
     let Holds : Type 0 =
@@ -175,7 +178,7 @@ began_after device (events ∷ later) earlier none =
           ]
     ]
 
-call-began : (device : Device) (later earlier : List (List Event))
+call-began : (device : Device) (later earlier : Play)
     → ends_finished (trace (start_of device) earlier) ≡ true
     → 1 ≤ length later
     → ends_in_call (trace (start_of device) (later ++ earlier)) ≡ true
@@ -183,14 +186,14 @@ call-began : (device : Device) (later earlier : List (List Event))
 unfolding trace
 call-began device [] earlier finishes some in_call = absurd (omega (arith, some))
 call-began device (events ∷ later) earlier finishes some in_call =
-    let play : List (List Event) = later ++ earlier in
+    let play : Play = later ++ earlier in
     let rom : step_kind (log_at device play events) ≡ Rom =
     sym (entry-kind device play events) ∙ rom_kind (entry_at device play events).kind in_call in
     length-began device later earlier events
     (began_after device later earlier (finished-no_call device earlier finishes)) rom
 
 -- a report tells the counter of a request that its call attests
-report-attests : (device : Device) (play : List (List Event)) (report : ReportFields)
+report-attests : (device : Device) (play : Play) (report : ReportFields)
     → Reports (start_of device) play report → Attests (start_of device) play report.count
 report-attests device play report reports =
     let covers = (outcome_at device play reports.in_call).covers in
@@ -210,8 +213,8 @@ report-attests device play report reports =
       request = sym reports.count;
     }
 
-pub report-new : (flag : List SeenRecord → Bool) (digest : List ℕ → List ℕ) (key : List ℕ)
-    (image : ℕ → ℕ) (play : List (List Event)) (report : ReportFields)
+pub report-new : (flag : SeenHistory → Bool) (digest : Digest) (key : Bytes) (image : Contents)
+    (play : Play) (report : ReportFields)
     → IsDeviceKey key → IsOfBytes image
     → last_report (with_key flag digest key image) play ≡ Some report
     → TellsNewCounter (with_key flag digest key image) report play

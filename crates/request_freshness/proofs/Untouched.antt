@@ -14,7 +14,7 @@ use Rattle.bus_signals.specs.Kind.{is_rom}
 use Rattle.bus_signals.specs.Map.{lies_in, some_touches, stack_region}
 use Rattle.part_definitions.specs.CpuState.{cpu_pc}
 use Rattle.part_definitions.specs.FirstRule.{first_rule}
-use Rattle.part_definitions.specs.Flag.{last_pc}
+use Rattle.bus_signals.specs.ExecFlag.{last_pc}
 use Rattle.part_definitions.specs.Memory.{MemoryWrite, first_byte, last_written, takes_write, with_access}
 use Rattle.part_definitions.specs.Metadata.{kept_bytes}
 use Rattle.part_definitions.specs.MonitorRule.{in_rom}

@@ -2,7 +2,7 @@
 use Rattle.std.proofs.Common.{◌≡◌, ◌++◌, ◌∷◌, [], ℕ, List, if◌then◌else◌, subst, sym, ap}
 use Rattle.part_definitions.specs.Attestation.{decision_read}
 use Rattle.hmac_core.specs.Hash.{Hash}
-use Rattle.swatt_rom.specs.RomCall.{RomCall, NoCall, InCall, AfterCall, next_word, after_step, after_value}
+use Rattle.swatt_rom.specs.RomCall.{RomCall, NoCall, InCall, AfterCall, end_of_call, next_word, after_step, after_value}
 use Rattle.swatt_rom.specs.Phase.{PhaseStandsFor, IsBeforeReturn}
 use Rattle.swatt_rom.specs.State.{StateStandsFor}
 use Rattle.swatt_rom.specs.declared.phase.Phase.{Phase}
@@ -17,7 +17,7 @@ module _ {D : Type 0} (hash : Hash D) where
       → InCall sp (words ++ next_word hash.digest_of sp words value ∷ [])
       ≡ after_step hash.digest_of sp words value
   after_step-phase phase sp words value stands =
-      sym (ap (λ returns. if returns then AfterCall sp value (decision_read words)
+      sym (ap (λ returns. if returns then AfterCall (end_of_call sp value (decision_read words))
       else InCall sp (words ++ next_word hash.digest_of sp words value ∷ []))
       (is_return-phase hash phase words stands))
 
@@ -34,7 +34,7 @@ module _ {D : Type 0} (hash : Hash D) where
       subst (StateStandsFor hash (Calls sp next))
       (after_step-phase phase start words value stands.1)
       (stands.0, step start words stands.1)
-  after_value-calls sp value phase next step (AfterCall start word written) stands = absurd stands
+  after_value-calls sp value phase next step (AfterCall end) stands = absurd stands
 
   pub after_value-returns :
       (sp value decision : ℕ) (phase : Phase D)
@@ -50,5 +50,4 @@ module _ {D : Type 0} (hash : Hash D) where
       subst (StateStandsFor {D = D} hash (Returns sp decision))
       (after_step-phase phase start words value stands.1)
       (stands.0, step start words stands.1)
-  after_value-returns sp value decision phase step (AfterCall start word written) stands =
-      absurd stands
+  after_value-returns sp value decision phase step (AfterCall end) stands = absurd stands

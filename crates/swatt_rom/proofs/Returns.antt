@@ -1,15 +1,15 @@
 -- The return read of a call.
-use Rattle.std.proofs.Common.{◌≡◌, ◌+◌, ◌∙◌, ◌++◌, ◌∷◌, [], ℕ, false, List, length, inl, inr, ap, sym, subst, arith}
+use Rattle.std.proofs.Common.{◌≡◌, ◌+◌, ◌∙◌, ◌++◌, ◌∷◌, [], ℕ, false, List, length, inl, inr, ap, refl, sym, subst, arith}
 use Rattle.std.specs.Prelude.{◌==◌, if◌then◌else◌}
 use Rattle.std.proofs.lemmas.Bool.{cases_Bool, eqb-true, cond-true, cond-false}
 use Rattle.std.proofs.lemmas.Bool.Decides.{nat_tests}
-use Rattle.part_definitions.specs.AddressSum.{even, plus}
 use Rattle.part_definitions.specs.Attestation.{ReturnRead, item_after, item_pc, is_return, call_item, decision_read}
 use Rattle.part_definitions.specs.Request.{ATTESTS}
 use Rattle.hmac_core.specs.Hash.{Hash}
-use Rattle.swatt_rom.specs.RomCall.{RomCall, NoCall, InCall, AfterCall, next_word, after_value, rom_pc}
+use Rattle.swatt_rom.specs.RomCall.{RomCall, NoCall, InCall, AfterCall, end_of_call, next_word, after_value, rom_pc}
 use Rattle.swatt_rom.specs.Phase.{IsBeforeReturn}
 use Rattle.swatt_rom.specs.State.{StateStandsFor}
+use Rattle.swatt_rom.specs.declared.call_end.CallEnd.{CallEnd}
 use Rattle.swatt_rom.specs.declared.state.State.TheVariants.{Returns, Leaves}
 use Rattle.swatt_rom.proofs.WordsPassed.{region_in}
 
@@ -43,20 +43,19 @@ module _ {D : Type 0} (hash : Hash D) where
   pc-returns sp decision NoCall stands = absurd stands
   pc-returns sp decision (InCall start words) stands =
       sym (ap item_pc (return-item decision words stands.1))
-  pc-returns sp decision (AfterCall start word written) stands = absurd stands
+  pc-returns sp decision (AfterCall end) stands = absurd stands
 
-  pub after_value-leaves : (sp decision value pc next : ℕ)
-      → pc ≡ even value → next ≡ plus sp 2
+  pub after_value-leaves : (sp decision value : ℕ) (end : CallEnd)
+      → end ≡ end_of_call sp value decision
       → (call : RomCall)
       → StateStandsFor {D = D} hash (Returns sp decision) call
-      → StateStandsFor {D = D} hash (Leaves pc next decision)
-      (after_value hash.digest_of call value)
-  after_value-leaves sp decision value pc next at_pc at_sp NoCall stands = absurd stands
-  after_value-leaves sp decision value pc next at_pc at_sp (InCall start words) stands =
-      subst (StateStandsFor {D = D} hash (Leaves pc next decision))
-      (sym (ap (λ item. if is_return item then AfterCall start value (decision_read words)
+      → StateStandsFor {D = D} hash (Leaves end) (after_value hash.digest_of call value)
+  after_value-leaves sp decision value end is NoCall stands = absurd stands
+  after_value-leaves sp decision value end is (InCall start words) stands =
+      subst (StateStandsFor {D = D} hash (Leaves end))
+      (sym (ap (λ item. if is_return item
+      then AfterCall (end_of_call start value (decision_read words))
       else InCall start (words ++ next_word hash.digest_of start words value ∷ []))
       (return-item decision words stands.1)))
-      (at_pc, at_sp ∙ ap (λ begin. plus begin 2) stands.0, stands.1.same_decision)
-  after_value-leaves sp decision value pc next at_pc at_sp (AfterCall start word written) stands =
-      absurd stands
+      (rw (is, stands.0, stands.1.same_decision) refl)
+  after_value-leaves sp decision value end is (AfterCall left) stands = absurd stands

@@ -6,6 +6,7 @@ use Rattle.hmac_core.specs.Hash.{Hash}
 use Rattle.hmac_core.specs.Hmac.{HmacStandsFor}
 use Rattle.hmac_core.specs.declared.running_hmac.Hmac.{Hmac}
 use Rattle.part_definitions.specs.Attestation.{BEFORE_KEPT_WRITE, BEFORE_DERIVED_KEY, BEFORE_REGION, BEFORE_MAC, BEFORE_RETURN, bounds_read, decision_read, region_words, metadata_read, region_read, call_key, decision_in, counter_word, inner_in, tag_in}
+use Rattle.part_definitions.specs.Hmac.{Digest}
 use Rattle.part_definitions.specs.Request.{ATTESTS}
 use Rattle.swatt_rom.specs.DigestWords.{WritesDigest}
 use Rattle.swatt_rom.specs.declared.decided.Decided.{Decided}
@@ -29,7 +30,7 @@ before_return words =
 
 -- the call has decided, and so many of the words that come of it have passed
 pub record HasDecided
-    (digest : List ℕ → List ℕ) (decided : Decided) (passed : ℕ) (words : List ℕ) : Type 0 where
+    (digest : Digest) (decided : Decided) (passed : ℕ) (words : List ℕ) : Type 0 where
   pub rest : List ℕ
   pub begins : words ≡ decided.words ++ rest
   pub size : length decided.words ≡ BEFORE_KEPT_WRITE
@@ -39,7 +40,7 @@ pub record HasDecided
   pub same_high : slice_index decided.counter 1 ≡ counter_word words (decision_in digest words) 1
 
 pub record StandsAtDerivedKey
-    (digest : List ℕ → List ℕ) (key : DigestWords) (bounds : Bounds) (metadata words : List ℕ)
+    (digest : Digest) (key : DigestWords) (bounds : Bounds) (metadata words : List ℕ)
     : Type 0 where
   pub at_word : WritesDigest key (call_key digest words) BEFORE_DERIVED_KEY words
   pub same_bounds : bounds ≡ bounds_read words
@@ -47,14 +48,13 @@ pub record StandsAtDerivedKey
   pub attests : decision_read words ≡ ATTESTS
 
 pub record StandsAtInnerDigest
-    (digest : List ℕ → List ℕ) (inner mac : DigestWords) (words : List ℕ) : Type 0 where
+    (digest : Digest) (inner mac : DigestWords) (words : List ℕ) : Type 0 where
   pub at_word : WritesDigest inner (inner_in digest words) (before_inner_digest words) words
   pub same_mac : mac.bytes ≡ tag_in digest words
   pub mac_first : mac.next ≡ 0
   pub attests : decision_read words ≡ ATTESTS
 
-pub record StandsAtMac
-    (digest : List ℕ → List ℕ) (mac : DigestWords) (words : List ℕ) : Type 0 where
+pub record StandsAtMac (digest : Digest) (mac : DigestWords) (words : List ℕ) : Type 0 where
   pub at_word : WritesDigest mac (tag_in digest words) (before_mac words) words
   pub attests : decision_read words ≡ ATTESTS
 

@@ -1,7 +1,6 @@
 -- Which calls a state stands for. `hash` is the digest: its function, and the bytes that a running
 -- one has taken.
 use Rattle.std.specs.Prelude.{◌≡◌}
-use Rattle.part_definitions.specs.AddressSum.{even, plus}
 use Rattle.hmac_core.specs.Hash.{Hash}
 use Rattle.swatt_rom.specs.RomCall.{RomCall, NoCall, InCall, AfterCall}
 use Rattle.swatt_rom.specs.Phase.{PhaseStandsFor, IsBeforeReturn}
@@ -15,6 +14,5 @@ StateStandsFor hash (Calls sp phase) (InCall start words) =
     (sp ≡ start) × PhaseStandsFor hash phase words
 StateStandsFor hash (Returns sp decision) (InCall start words) =
     (sp ≡ start) × IsBeforeReturn decision words
-StateStandsFor hash (Leaves pc sp decision) (AfterCall start word written) =
-    (pc ≡ even word) × (sp ≡ plus start 2) × (decision ≡ written)
+StateStandsFor hash (Leaves end) (AfterCall left) = end ≡ left
 StateStandsFor hash state call = ⊥

@@ -62,9 +62,7 @@ fn counter_number(bytes: &[u8]) -> u32
     requires { length bytes.now ≡ 4 }
     ensures { result ≡ little_endian bytes.now }
 {
-    let low = u32::from(bytes[0]) + 256 * u32::from(bytes[1]);
-    let high = u32::from(bytes[2]) + 256 * u32::from(bytes[3]);
-    low + 65536 * high
+    u32::from_le_bytes([bytes[0], bytes[1], bytes[2], bytes[3]])
 }
 
 // What a call decides on a request where this counter is kept.

@@ -5,6 +5,7 @@
 //! The one contract is that whatever it reads the engine asks for the definition's next access.
 #![tactic(auto)]
 
+mod call_end;
 mod decided;
 mod digest_words;
 mod phase;
@@ -14,5 +15,6 @@ mod rom;
 mod state;
 mod word_bytes;
 
+pub use call_end::CallEnd;
 pub use decided::ATTESTS;
 pub use rom::Rom;

@@ -1,8 +1,9 @@
 ghost use Rattle.std.specs.Prelude.{◌≡◌, [], IfSome};
 ghost use Rattle.bus_signals.specs.Access.{IsFormed};
 ghost use Rattle.part_definitions.specs.Part.{Answers, Becomes};
-ghost use Rattle.swatt_rom.specs.RomCall.{RomCall, NoCall, InCall, rom_access, rom_pc, registers_after, decision_after, after_value};
+ghost use Rattle.swatt_rom.specs.RomCall.{RomCall, NoCall, InCall, rom_access, rom_pc, call_end, after_value};
 
+use crate::call_end::CallEnd;
 use crate::phase::Phase;
 use crate::state::State;
 use bus_signals::{Access, BusMaster};
@@ -46,18 +47,11 @@ impl<D: Digest32> Rom<D> {
         self.state.pc()
     }
 
-    /// PC and SP after a call: there from its last step until the next call begins.
-    pub fn done(&self) -> Option<(u16, u16)>
-        ensures { Answers (RomStandsFor D.hash) self.now registers_after result }
+    /// What a call leaves: there from its last step until the next call begins.
+    pub fn done(&self) -> Option<CallEnd>
+        ensures { Answers (RomStandsFor D.hash) self.now call_end result }
     {
-        self.state.registers()
-    }
-
-    /// The decision that a call wrote: there from its last step until the next call begins.
-    pub fn decision(&self) -> Option<u16>
-        ensures { Answers (RomStandsFor D.hash) self.now decision_after result }
-    {
-        self.state.decision()
+        self.state.call_end()
     }
 }
 

@@ -1,10 +1,11 @@
 ghost use Rattle.std.specs.Prelude.{IfSome};
 ghost use Rattle.bus_signals.specs.Access.{IsFormed};
 ghost use Rattle.part_definitions.specs.Part.{Answers, Becomes};
-ghost use Rattle.swatt_rom.specs.RomCall.{rom_access, rom_pc, registers_after, decision_after, after_value};
+ghost use Rattle.swatt_rom.specs.RomCall.{rom_access, rom_pc, call_end, after_value};
 
+use crate::call_end::CallEnd;
 use crate::phase::Phase;
-use bus_signals::{Access, ROM_EXIT};
+use bus_signals::{Access, ROM_EXIT, even};
 use hmac_core::Digest32;
 use word_arith::Size;
 
@@ -17,8 +18,8 @@ pub enum State<D> {
     Calls { sp: u16, phase: Phase<D> },
     /// Before the return read, at the stack pointer, of a call with this decision.
     Returns { sp: u16, decision: u16 },
-    /// After the last step: PC and SP with which the processor goes on, and the decision.
-    Leaves { pc: u16, sp: u16, decision: u16 },
+    /// After the last step.
+    Leaves { end: CallEnd },
 }
 
 impl<D: Digest32> State<D> {
@@ -31,7 +32,7 @@ impl<D: Digest32> State<D> {
     {
         match self {
             State::Calls { phase, .. } => Some(phase.access()),
-            State::Returns { sp, .. } => Some(Access::Read(*sp / 2 * 2, Size::Word)),
+            State::Returns { sp, .. } => Some(Access::Read(even(*sp), Size::Word)),
             State::Idle | State::Leaves { .. } => None,
         }
     }
@@ -46,22 +47,12 @@ impl<D: Digest32> State<D> {
         }
     }
 
-    /// PC and SP after the last step.
-    pub fn registers(&self) -> Option<(u16, u16)>
-        ensures { Answers (StateStandsFor D.hash) self.now registers_after result }
+    /// What the call leaves, after its last step.
+    pub fn call_end(&self) -> Option<CallEnd>
+        ensures { Answers (StateStandsFor D.hash) self.now call_end result }
     {
         match self {
-            State::Leaves { pc, sp, .. } => Some((*pc, *sp)),
-            _ => None,
-        }
-    }
-
-    /// The decision, after the last step.
-    pub fn decision(&self) -> Option<u16>
-        ensures { Answers (StateStandsFor D.hash) self.now decision_after result }
-    {
-        match self {
-            State::Leaves { decision, .. } => Some(*decision),
+            State::Leaves { end } => Some(*end),
             _ => None,
         }
     }
@@ -77,11 +68,12 @@ impl<D: Digest32> State<D> {
                 Some(decision) => *self = State::Returns { sp: *sp, decision },
             },
             State::Returns { sp, decision } => {
-                *self = State::Leaves {
-                    pc: value / 2 * 2,
+                let end = CallEnd {
+                    pc: even(value),
                     sp: sp.wrapping_add(2),
                     decision: *decision,
                 };
+                *self = State::Leaves { end };
             }
             State::Idle | State::Leaves { .. } => {}
         }

@@ -1,7 +1,7 @@
 ghost use Rattle.std.specs.Prelude.{◌≡◌, ◌∷◌, ◌+◌, ◌<◌, ◌≤◌, ◌^◌, ◌≢◌, ℕ, List, length, slice_index};
 ghost use Rattle.std.specs.Iterator.{YieldsFirstBy, item_count};
 ghost use Rattle.std.specs.Str.Lines.{lines, strip_carriage_return};
-ghost use Rattle.text_scan.specs.Line.{numbered_lines, lines_of};
+ghost use Rattle.text_scan.specs.Line.{numbered_lines, text_lines};
 
 use memchr::memchr;
 use std::marker::Model;
@@ -25,7 +25,7 @@ impl<'a> Model for Lines<'a> {
 
 impl<'a> Lines<'a> {
     pub fn new(text: &'a [u8]) -> Lines<'a>
-        ensures { result ≡ lines_of text.now }
+        ensures { result ≡ text_lines text.now }
     {
         Lines {
             rest: text,

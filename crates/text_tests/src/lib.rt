@@ -1,5 +1,5 @@
 //! Tables for the texts: lines, words, numbers and keys, images, some of which other tools wrote,
-//! scripts, and the lines that a play prints.
+//! scripts, the lines that a play prints, and sources, with their words or their first fault.
 //!
 //! The contracts say that readers and printers agree with the definitions. What stands here says
 //! that both are read as they are meant: a row fails also where code and definition are changed
@@ -14,3 +14,9 @@ mod printed_line;
 mod scan;
 #[cfg(test)]
 mod script;
+#[cfg(test)]
+mod source;
+#[cfg(test)]
+mod source_fault;
+#[cfg(test)]
+mod statement_words;

@@ -54,7 +54,7 @@ fn makes_bytes(rt: HostRuntime) -> Result<(), Fail> {
         b"abc".as_slice()
     );
     match Bytes::from_hex(rt.alloc(), b"0aFf") {
-        Ok(bytes) => assert_eq!(rt; bytes.into_vec().as_slice(), [10, 255].as_slice()),
+        Ok(bytes) => assert_eq!(rt; bytes.as_slice(), [10, 255].as_slice()),
         Err(_) => panic!(rt; "the word has bytes"),
     }
     Ok(())

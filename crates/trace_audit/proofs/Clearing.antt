@@ -12,7 +12,7 @@ use Rattle.bus_signals.specs.Map.{touches, some_touches, metadata_region}
 use Rattle.bus_signals.specs.Bounds.{executable_region, output_region}
 use Rattle.bus_signals.specs.SeenRecord.{SeenRecord}
 use Rattle.trace_audit.specs.Disturbance.{disturbs_run, disturbs_rest}
-use Rattle.part_definitions.specs.Flag.{clears, runs_inside, ran_inside, ran_at, fetches_outside, writes_to}
+use Rattle.bus_signals.specs.ExecFlag.{clears, runs_inside, ran_inside, ran_at, fetches_outside, writes_to}
 
 -- what clears the flag, of a step in ER or outside it
 abbrev clears_at : Bool → Region → Region → Option Access → Option Access

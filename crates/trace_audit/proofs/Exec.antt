@@ -3,7 +3,7 @@ use Rattle.std.proofs.Common.{◌≡◌, ◌&&◌, ◌||◌, Bool, true, false, 
 use Rattle.std.proofs.Math.Bool.{and-true, and-false, or_comm}
 use Rattle.std.specs.List.{list_any}
 use Rattle.bus_signals.specs.SeenRecord.{SeenRecord}
-use Rattle.part_definitions.specs.Flag.{exec, clears, starts_run, last_pc, records_since}
+use Rattle.bus_signals.specs.ExecFlag.{exec, clears, starts_run, last_pc, records_since}
 
 pub exec_cons : (now : SeenRecord) (before : List SeenRecord)
     → exec (now ∷ before) ≡ ((exec before || starts_run now) && not (clears (last_pc before) now))

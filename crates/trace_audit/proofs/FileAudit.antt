@@ -4,7 +4,7 @@ use Rattle.std.proofs.lemmas.Bool.Decides.{nat_tests}
 use Rattle.text_scan.specs.declared.fault_at.FaultAt.{FaultAt}
 use Rattle.text_scan.specs.Reader.{in_line}
 use Rattle.text_scan.specs.Word.{words_of}
-use Rattle.trace_line.specs.LineGrammar.{line_of}
+use Rattle.trace_line.specs.LineGrammar.{trace_line_of}
 use Rattle.trace_line.specs.TraceFile.{is_empty, lines_after}
 use Rattle.trace_line.specs.declared.trace_line.TraceLine.{TraceLine}
 use Rattle.trace_audit.specs.declared.audit.Audit.{Audit}
@@ -56,7 +56,7 @@ seen-passed all audit said line rest lines seen next skips =
 lines_after-line : (all : Result (List TraceLine) FaultAt) (before : List TraceLine)
     (entry : TraceLine) (line : ℕ × List ℕ) (rest lines : List (ℕ × List ℕ))
     → all ≡ lines_after before rest → rest ≡ line ∷ lines → is_empty line.1 ≡ false
-    → in_line line.0 (line_of (length before) (words_of line.1)) ≡ Ok entry
+    → in_line line.0 (trace_line_of (length before) (words_of line.1)) ≡ Ok entry
     → all ≡ lines_after (entry ∷ before) lines
 unfolding lines_after
 lines_after-line all before entry line rest lines same next says answer =
@@ -67,7 +67,7 @@ pub seen-line : (all : Result (List TraceLine) FaultAt) (audit after : Audit)
     (before said : Audited) (line : ℕ × List ℕ) (rest lines : List (ℕ × List ℕ))
     (seen : HasSeen all audit before rest) → rest ≡ line ∷ lines → is_empty line.1 ≡ false
     → (entry : TraceLine)
-    × (in_line line.0 (line_of (length seen.lines) (words_of line.1)) ≡ Ok entry)
+    × (in_line line.0 (trace_line_of (length seen.lines) (words_of line.1)) ≡ Ok entry)
     × AuditStandsFor after (entry ∷ seen.lines) × (said ≡ audited (entry ∷ seen.lines))
     → HasSeen all after said lines
 seen-line all audit after before said line rest lines seen next says more =
@@ -82,7 +82,7 @@ seen-line all audit after before said line rest lines seen next says more =
 pub seen-fault : (all : Result (List TraceLine) FaultAt) (audit : Audit) (said : Audited)
     (line : ℕ × List ℕ) (rest lines : List (ℕ × List ℕ)) (fault : FaultAt)
     (seen : HasSeen all audit said rest) → rest ≡ line ∷ lines → is_empty line.1 ≡ false
-    → in_line line.0 (line_of (length seen.lines) (words_of line.1)) ≡ Err fault
+    → in_line line.0 (trace_line_of (length seen.lines) (words_of line.1)) ≡ Err fault
     → all ≡ Err fault
 unfolding lines_after
 seen-fault all audit said line rest lines fault seen next says answer =

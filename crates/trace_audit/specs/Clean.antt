@@ -7,7 +7,7 @@ use Rattle.bus_signals.specs.declared.signals.Signals.{Signals}
 use Rattle.bus_signals.specs.Kind.{is_cpu}
 use Rattle.bus_signals.specs.SeenRecord.{SeenRecord}
 use Rattle.part_definitions.specs.FirstRule.{first_rule}
-use Rattle.part_definitions.specs.Flag.{exec, fetches_at, last_pc}
+use Rattle.bus_signals.specs.ExecFlag.{exec, fetches_at, last_pc}
 use Rattle.trace_line.specs.declared.trace_line.TraceLine.{TraceLine}
 
 -- what the step of a line was about to do: a fetch of the processor at its own `pc` is an opcode's
@@ -25,8 +25,8 @@ signals_in line =
     }
 
 -- what the step did; a line does not tell the registers
-abbrev pub record_in : TraceLine → BusRecord
-record_in line =
+abbrev pub record_in_line : TraceLine → BusRecord
+record_in_line line =
     record {
       kind = line.kind;
       pc = line.pc;
@@ -40,7 +40,7 @@ record_in line =
     }
 
 abbrev pub seen_in : TraceLine → SeenRecord
-seen_in line = record { entry = record_in line; bounds = line.bounds }
+seen_in line = record { entry = record_in_line line; bounds = line.bounds }
 
 -- the first rule that the step of a line breaks, after these lines
 abbrev pub right_rule : List TraceLine → TraceLine → Option Rule

@@ -5,7 +5,7 @@ use Rattle.bus_signals.specs.declared.access.Access.{Access}
 use Rattle.bus_signals.specs.declared.region.Region.{Region}
 use Rattle.bus_signals.specs.Access.{some_writes}
 use Rattle.bus_signals.specs.Map.{some_touches, metadata_region}
-use Rattle.part_definitions.specs.Flag.{fetches_outside}
+use Rattle.bus_signals.specs.ExecFlag.{fetches_outside}
 
 abbrev pub disturbs_run : Region → Option Access → Option Access
     → Bool → Bool → Bool → Bool → Bool

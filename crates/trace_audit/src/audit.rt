@@ -21,7 +21,7 @@ impl Audit {
     ghost use Rattle.trace_audit.specs.Audit.{AuditStandsFor};
 
     /// An audit that has seen no line.
-    #[tactic(auto, unfolding(part_definitions::specs::Flag::exec))]
+    #[tactic(auto, unfolding(bus_signals::specs::ExecFlag::exec))]
     pub fn new() -> Audit
         ensures { AuditStandsFor result [] }
     {

@@ -4,9 +4,9 @@ ghost use Rattle.trace_audit.specs.AuditText.{audit_text, clean_line, offence_li
 
 use crate::audited::Audited;
 use crate::offence::Offence;
-use line_buffer::LineBuffer;
+use line_buffer::{LineBuffer, flag_digit};
 use outside_edge::{Failed, Sink, put_all};
-use trace_line::{flag_digit, rule_word};
+use trace_line::rule_word;
 
 /// Puts `clean N`, or `offence S rule R` or `offence S exec E` with the right rule or value.
 pub fn print_audited<W: Sink>(audited: &Audited, sink: &mut W) -> Result<(), Failed>

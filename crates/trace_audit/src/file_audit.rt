@@ -1,7 +1,7 @@
 ghost use Rattle.std.specs.Prelude.{◌≡◌, ◌+◌, ◌<◌, ◌^◌, List, length};
 ghost use Rattle.text_scan.specs.Reader.{in_line};
 ghost use Rattle.text_scan.specs.Word.{words_of};
-ghost use Rattle.trace_line.specs.LineGrammar.{line_of};
+ghost use Rattle.trace_line.specs.LineGrammar.{trace_line_of};
 ghost use Rattle.trace_line.specs.declared.trace_line.TraceLine.{TraceLine};
 ghost use Rattle.trace_audit.specs.Audit.{AuditStandsFor, SaysMore};
 ghost use Rattle.trace_audit.specs.AuditText.{audit_of, audited};
@@ -43,7 +43,7 @@ fn see_text(
         → AuditStandsFor audit.old lines
         → before ≡ audited lines
         → SaysMore audit.new lines result
-        (in_line number (line_of (length lines) (words_of text.now))) }
+        (in_line number (trace_line_of (length lines) (words_of text.now))) }
 {
     match read_line(text, before.lines) {
         Ok(line) => Ok(with_line(before, audit.see(&line))),

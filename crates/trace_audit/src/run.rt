@@ -2,7 +2,7 @@ ghost use Rattle.std.specs.Prelude.{◌≡◌, ◌+◌, ◌%◌, ◌<◌, ◌==�
 ghost use Rattle.bus_signals.specs.Bounds.{is_disjoint, unwrapped_region, are_valid, is_valid_region, executable_region, output_region};
 ghost use Rattle.bus_signals.specs.Map.{metadata_region};
 ghost use Rattle.std.specs.List.{list_any};
-ghost use Rattle.part_definitions.specs.Flag.{clears, starts_run, ran_inside, ran_at, fetches_outside};
+ghost use Rattle.bus_signals.specs.ExecFlag.{clears, starts_run, ran_inside, ran_at, fetches_outside};
 ghost use Rattle.trace_audit.specs.Span.{region_of};
 ghost use Rattle.trace_audit.specs.Disturbance.{disturbs_run, disturbs_rest};
 ghost use Rattle.trace_audit.specs.Clean.{seen_in};

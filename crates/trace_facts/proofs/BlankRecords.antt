@@ -1,7 +1,7 @@
 -- What blanking the records leaves.
 use Rattle.std.proofs.Common.{◌≡◌, List, [], ◌∷◌, map, refl}
 use Rattle.bus_signals.specs.SeenRecord.{SeenRecord}
-use Rattle.part_definitions.specs.Flag.{last_pc}
+use Rattle.bus_signals.specs.ExecFlag.{last_pc}
 use Rattle.device_trace.specs.Blank.{blank_seen}
 
 pub last_pc-blank : (records : List SeenRecord) → last_pc (map blank_seen records) ≡ last_pc records

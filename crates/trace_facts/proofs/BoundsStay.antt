@@ -11,7 +11,7 @@ use Rattle.bus_signals.specs.declared.access.Access.TheVariants.{Fetch, Read, Wr
 use Rattle.bus_signals.specs.declared.bus_record.BusRecord.{BusRecord}
 use Rattle.bus_signals.specs.declared.rule.Rule.{Rule}
 use Rattle.bus_signals.specs.Map.{lies_in, metadata_region}
-use Rattle.part_definitions.specs.Flag.{accesses_in, writes_to}
+use Rattle.bus_signals.specs.ExecFlag.{accesses_in, writes_to}
 use Rattle.part_definitions.specs.Memory.{MemoryWrite, last_written, with_access}
 use Rattle.device_trace.specs.Logs.{Logs, logged_bounds, memory_after, with_record}
 use Rattle.device_trace.specs.Start.{Start}

@@ -4,7 +4,8 @@ use Rattle.std.specs.Prelude.{if◌then◌else◌}
 use Rattle.bus_signals.specs.declared.rule.Rule.{Rule}
 use Rattle.bus_signals.specs.declared.rule.Rule.TheVariants.{X0, A1, A2, A3, A4, K1, K2, K3, K4, K5, K6, I1}
 use Rattle.bus_signals.specs.declared.signals.Signals.{Signals}
-use Rattle.part_definitions.specs.FirstRule.{breaks_x0, breaks_i1, rule_where, or_else, first_rule}
+use Rattle.std.specs.Option.{option_or}
+use Rattle.part_definitions.specs.FirstRule.{breaks_x0, breaks_i1, rule_where, first_rule}
 use Rattle.part_definitions.specs.MonitorRule.{breaks_a1, breaks_a2, breaks_a3, breaks_a4, breaks_k1, breaks_k2, breaks_k3, breaks_k4, breaks_k5, breaks_k6, key_rule, atomicity_rule}
 
 pub record BreaksNoKeyRule (now : Signals) : Type 0 where
@@ -32,7 +33,7 @@ if_none : (test : Bool) (rule : Rule) (rest : Option Rule)
 if_none true rule rest none = absurd (cc)
 if_none false rule rest none = (refl, none)
 
-or_else_none : (first second : Option Rule) → or_else first second ≡ None
+or_else_none : (first second : Option Rule) → option_or first second ≡ None
     → (first ≡ None) × (second ≡ None)
 or_else_none None second none = (refl, none)
 or_else_none (Some rule) second none = absurd (cc)

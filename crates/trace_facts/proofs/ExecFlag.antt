@@ -8,8 +8,9 @@ use Rattle.bus_signals.specs.declared.event.Event.{Event}
 use Rattle.bus_signals.specs.Bounds.{are_valid}
 use Rattle.bus_signals.specs.Map.{metadata_region}
 use Rattle.bus_signals.specs.SeenRecord.{SeenRecord}
-use Rattle.part_definitions.specs.Flag.{accesses_in, writes_to, is_opcode_fetch, clears_e3, clears_e4, clears_e9, clears, starts_run, last_pc, records_since, exec}
+use Rattle.bus_signals.specs.ExecFlag.{accesses_in, writes_to, is_opcode_fetch, clears_e3, clears_e4, clears_e9, clears, starts_run, last_pc, records_since, exec}
 use Rattle.part_definitions.specs.TrustedFlag.{clears_aux, aux}
+use Rattle.device_trace.specs.Play.{Play}
 use Rattle.device_trace.specs.Logs.{Logs, exec_of, logged_bounds, with_events, with_record}
 use Rattle.device_trace.specs.Start.{Start}
 use Rattle.device_trace.specs.Step.{next_record}
@@ -78,7 +79,7 @@ unfolding with_events
 with_events-valid start logs events valid = valid
 
 -- after every play
-pub logs_after-valid : (start : Start) (play : List (List Event))
+pub logs_after-valid : (start : Start) (play : Play)
     → LogsAreValid start (logs_after start play)
 unfolding logs_after
 logs_after-valid start [] set = absurd (exec-none set)

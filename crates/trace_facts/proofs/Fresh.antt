@@ -10,8 +10,9 @@ use Rattle.part_definitions.specs.Attestation.{call_item, is_return, word_passed
 use Rattle.part_definitions.specs.CpuRegister.{pc_of}
 use Rattle.part_definitions.specs.CpuState.{CpuState, Boundary, Executing, Entering, cpu_pc, with_value, completion_or}
 use Rattle.part_definitions.specs.FirstRule.{first_rule}
-use Rattle.part_definitions.specs.Flag.{last_pc}
-use Rattle.part_definitions.specs.NextAccess.{Next, Asks, Ends}
+use Rattle.bus_signals.specs.ExecFlag.{last_pc}
+use Rattle.part_definitions.specs.NextAccess.{Next, Asks, Completes}
+use Rattle.device_trace.specs.Play.{Play}
 use Rattle.device_trace.specs.Logs.{Logs, step_progress, progress_after, with_events, with_record}
 use Rattle.device_trace.specs.Progress.{Progress, Held, Runs, InCall, next_pc_of, after_return, call_after, cpu_state_after, next_progress}
 use Rattle.device_trace.specs.Signals.{step_kind, signals_at, signals_of}
@@ -44,7 +45,7 @@ after_value-fresh (Entering regs vector values) value = refl
 completion_or-fresh : (cpu : CpuState) (next : Next) (last : Option ℕ) → IsOfLast cpu last
     → IsOfLast (completion_or cpu next) last
 completion_or-fresh cpu (Asks access) last fresh = fresh
-completion_or-fresh cpu (Ends regs) last fresh = tt
+completion_or-fresh cpu (Completes regs) last fresh = tt
 
 cpu_state_after-fresh : (kind : Kind) (cpu : CpuState) (value : ℕ)
     → IsOfLast (cpu_state_after kind cpu value) (Some (cpu_pc cpu))
@@ -96,7 +97,7 @@ next_logs-fresh : (start : Start) (logs : Logs) (events : List Event)
 unfolding next_record
 next_logs-fresh start logs events = after_record-fresh start (with_events logs events) _
 
-pub logs_after-fresh : (start : Start) (play : List (List Event))
+pub logs_after-fresh : (start : Start) (play : Play)
     → LogsAreFresh (logs_after start play)
 unfolding logs_after
 logs_after-fresh start [] = tt

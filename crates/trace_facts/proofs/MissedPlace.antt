@@ -9,7 +9,7 @@ use Rattle.bus_signals.specs.declared.access.Access.TheVariants.{Fetch, Read, Wr
 use Rattle.bus_signals.specs.declared.region.Region.{Region}
 use Rattle.bus_signals.specs.Access.{is_write, some_writes}
 use Rattle.bus_signals.specs.Map.{touches, some_touches}
-use Rattle.part_definitions.specs.Flag.{writes_to}
+use Rattle.bus_signals.specs.ExecFlag.{writes_to}
 use Rattle.part_definitions.specs.Memory.{MemoryWrite, last_written, with_access}
 
 -- a byte elsewhere

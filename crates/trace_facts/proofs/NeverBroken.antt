@@ -17,9 +17,11 @@ use Rattle.bus_signals.specs.Map.{ROM_ENTRY, ROM_BODY}
 use Rattle.part_definitions.specs.Attestation.{CallItem, KeyRead, MetadataRead, KeptRead, KeptWrite, DecisionWrite, DerivedKeyWrite, RegionRead, InnerDigestWrite, MacWrite, ReturnRead, region_words, bounds_read, decision_read, call_item, item_access, item_pc}
 use Rattle.part_definitions.specs.CpuRegister.{sp_of}
 use Rattle.part_definitions.specs.CpuState.{cpu_pc}
-use Rattle.part_definitions.specs.FirstRule.{breaks_x0, breaks_i1, rule_where, or_else, first_rule}
-use Rattle.part_definitions.specs.Flag.{last_pc}
+use Rattle.std.specs.Option.{option_or}
+use Rattle.part_definitions.specs.FirstRule.{breaks_x0, breaks_i1, rule_where, first_rule}
+use Rattle.bus_signals.specs.ExecFlag.{last_pc}
 use Rattle.part_definitions.specs.MonitorRule.{in_rom, was_inside, leaves_stack_and_mac, breaks_a1, breaks_a2, breaks_a3, breaks_a4, breaks_k1, breaks_k2, breaks_k3, breaks_k4, breaks_k5, breaks_k6, key_rule, atomicity_rule}
+use Rattle.device_trace.specs.Play.{Play}
 use Rattle.device_trace.specs.Logs.{Logs, vector_of, step_progress, with_events}
 use Rattle.device_trace.specs.Progress.{Progress, Held, Runs, InCall, next_pc_of, kind_of, progress_within, access_of}
 use Rattle.device_trace.specs.Signals.{step_kind, signals_at, signals_of}
@@ -61,7 +63,7 @@ names_no_a1 : (k1 k2 k3 k4 k5 k6 : Bool) → key_chain k1 k2 k3 k4 k5 k6 ≡ Som
 names_no_a1 k1 k2 k3 k4 k5 k6 name = grind (arith, nat_tests)
 
 or_else-some : (first second : Option Rule) (rule : Rule)
-    → or_else first second ≡ Some rule
+    → option_or first second ≡ Some rule
     → (first ≡ Some rule) ⊎ ((first ≡ None) × (second ≡ Some rule))
 or_else-some None second rule name = inr (refl, name)
 or_else-some (Some earlier) second rule name = inl name
@@ -237,7 +239,7 @@ next_record-names_neither start logs events sound =
     record_of-names_neither start (with_events logs events) (asks_reset events)
     (with_events-sound logs events sound)
 
-pub trace-names_neither : (start : Start) (play : List (List Event))
+pub trace-names_neither : (start : Start) (play : Play)
     → All NamesNeitherA1NorK3 (trace start play)
 unfolding trace
 trace-names_neither start [] place default within = absurd (omega (arith, within))

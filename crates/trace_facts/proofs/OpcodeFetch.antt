@@ -6,7 +6,7 @@ use Rattle.bus_signals.specs.declared.kind.Kind.{Kind}
 use Rattle.bus_signals.specs.declared.kind.Kind.TheVariants.{Boot, Cpu, Idle, Irq, Rom}
 use Rattle.bus_signals.specs.Kind.{is_cpu}
 use Rattle.part_definitions.specs.CpuState.{Boundary, Executing, Entering}
-use Rattle.part_definitions.specs.Flag.{fetches_at}
+use Rattle.bus_signals.specs.ExecFlag.{fetches_at}
 use Rattle.device_trace.specs.Logs.{Logs, vector_of}
 use Rattle.device_trace.specs.Progress.{Progress, Held, Runs, InCall, kind_of, next_pc_of, progress_within, access_of, fetches_opcode}
 use Rattle.device_trace.specs.Signals.{step_kind, signals_at, signals_of}

@@ -18,11 +18,12 @@ use Rattle.msp_decode.specs.declared.source_form.SourceForm.TheVariants.{Registe
 use Rattle.msp_decode.specs.Head.{head_of}
 use Rattle.word_arith.specs.declared.op2.Op2.{Op2}
 use Rattle.word_arith.specs.declared.op2.Op2.TheVariants.{Mov, Add, Addc, Subc, Sub, Cmp, Dadd, Bit, Bic, Bis, Xor, And}
-use Rattle.part_definitions.specs.AddressSum.{plus, even}
+use Rattle.part_definitions.specs.AddressSum.{plus}
+use Rattle.bus_signals.specs.Address.{even}
 use Rattle.part_definitions.specs.BusAccess.{read_at, write_at}
 use Rattle.part_definitions.specs.CpuRegister.{pc_of, after_word}
 use Rattle.part_definitions.specs.CpuState.{ask_of}
-use Rattle.part_definitions.specs.Flag.{fetches_at}
+use Rattle.bus_signals.specs.ExecFlag.{fetches_at}
 use Rattle.part_definitions.specs.Instruction.{bus_access, after_value}
 use Rattle.part_definitions.specs.NextAccess.{walk, walk_head, next_access}
 use Rattle.part_definitions.specs.Operand.{size_of, state_at_start, after_increment}

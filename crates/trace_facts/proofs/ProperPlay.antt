@@ -11,7 +11,8 @@ use Rattle.part_definitions.specs.Attestation.{call_item, is_return, word_passed
 use Rattle.part_definitions.specs.CpuRegister.{clear_registers, after_pop}
 use Rattle.part_definitions.specs.CpuState.{CpuState, Boundary, Executing, Entering}
 use Rattle.part_definitions.specs.FirstRule.{first_rule}
-use Rattle.part_definitions.specs.Flag.{last_pc}
+use Rattle.bus_signals.specs.ExecFlag.{last_pc}
+use Rattle.device_trace.specs.Play.{Play}
 use Rattle.device_trace.specs.Logs.{Logs, vector_of, step_progress, progress_after, with_events, with_record}
 use Rattle.device_trace.specs.Progress.{Progress, Held, Runs, InCall, progress_from_boundary, progress_within, after_return, call_after, cpu_state_after, next_progress}
 use Rattle.device_trace.specs.Signals.{step_kind, signals_at, signals_of}
@@ -94,7 +95,7 @@ unfolding next_record
 next_logs-proper start logs events proper =
     after_record-proper start (with_events logs events) _ (with_events-proper logs events proper)
 
-pub logs_after-proper : (start : Start) (play : List (List Event))
+pub logs_after-proper : (start : Start) (play : Play)
     → IsProperProgress (logs_after start play).progress
 unfolding logs_after
 logs_after-proper start [] = tt

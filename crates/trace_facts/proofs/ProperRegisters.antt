@@ -16,7 +16,7 @@ use Rattle.part_definitions.specs.AddressSum.{minus}
 use Rattle.part_definitions.specs.CpuRegister.{pc_of, sp_of, with_register, with_pc, with_sp, with_flags, after_pop, flags_in}
 use Rattle.part_definitions.specs.CpuState.{CpuState, Boundary, Executing, Entering, cpu_next, with_value, completion_or, cpu_after}
 use Rattle.part_definitions.specs.Instruction.{has_result, result_of, with_destination, with_operand, after_one, after_result, is_taken, jump_target, after_value}
-use Rattle.part_definitions.specs.NextAccess.{Next, Asks, Ends, walk, walk_head, next_access, entry_access}
+use Rattle.part_definitions.specs.NextAccess.{Next, Asks, Completes, walk, walk_head, next_access, entry_access}
 use Rattle.part_definitions.specs.Operand.{state_at_start}
 use Rattle.part_definitions.specs.CpuAccess.{accesses_of}
 use Rattle.part_definitions.specs.declared.cpu_access.CpuAccess.{CpuAccess}
@@ -129,7 +129,7 @@ after_result-proper (Jump condition offset) result regs proper =
 -- what is next ends with such registers
 abbrev pub EndsProper : Next → Type 0
 EndsProper (Asks access) = Unit {0}
-EndsProper (Ends regs) = IsProper regs
+EndsProper (Completes regs) = IsProper regs
 
 walk-proper : (head : Head) (accesses : List CpuAccess) (work : WorkingState) (values : List ℕ)
     → IsProper work.regs → EndsProper (walk head accesses work values)
@@ -195,7 +195,7 @@ cpu_next-proper (Entering regs vector values) proper =
 completion_or-proper : (cpu : CpuState) (next : Next) → IsProperCpu cpu → EndsProper next
     → IsProperCpu (completion_or cpu next)
 completion_or-proper cpu (Asks access) proper ends = proper
-completion_or-proper cpu (Ends regs) proper ends = ends
+completion_or-proper cpu (Completes regs) proper ends = ends
 
 pub cpu_after-proper : (cpu : CpuState) (value : ℕ) → IsProperCpu cpu
     → IsProperCpu (cpu_after cpu value)

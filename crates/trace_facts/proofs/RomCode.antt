@@ -5,6 +5,7 @@ use Rattle.bus_signals.specs.declared.event.Event.{Event}
 use Rattle.bus_signals.specs.declared.kind.Kind.{Kind}
 use Rattle.bus_signals.specs.declared.kind.Kind.TheVariants.{Rom}
 use Rattle.part_definitions.specs.MonitorRule.{in_rom}
+use Rattle.device_trace.specs.Play.{Play}
 use Rattle.device_trace.specs.Logs.{Logs, step_progress, with_events}
 use Rattle.device_trace.specs.Progress.{Progress, Held, Runs, InCall, next_pc_of}
 use Rattle.device_trace.specs.Signals.{step_kind, signals_at}
@@ -37,7 +38,7 @@ next_record-in_call start logs events sound =
     record_of-in_call start (with_events logs events) (asks_reset events)
     (with_events-sound logs events sound)
 
-pub trace-in_call : (start : Start) (play : List (List Event))
+pub trace-in_call : (start : Start) (play : Play)
     → All RunsRomInCall (trace start play)
 unfolding trace
 trace-in_call start [] place default within = absurd (omega (arith, within))

@@ -11,7 +11,7 @@ use Rattle.bus_signals.specs.Map.{ROM_ENTRY}
 use Rattle.part_definitions.specs.Attestation.{CallItem, KeyRead, MetadataRead, KeptRead, KeptWrite, DecisionWrite, DerivedKeyWrite, RegionRead, InnerDigestWrite, MacWrite, ReturnRead, call_item, item_pc, is_return, word_passed}
 use Rattle.part_definitions.specs.CpuRegister.{pc_of, is_asleep}
 use Rattle.part_definitions.specs.CpuState.{CpuState, Boundary, Executing, Entering, cpu_pc, with_value, completion_or}
-use Rattle.part_definitions.specs.NextAccess.{Next, Asks, Ends}
+use Rattle.part_definitions.specs.NextAccess.{Next, Asks, Completes}
 use Rattle.part_definitions.specs.MonitorRule.{in_rom, was_inside}
 use Rattle.device_trace.specs.Logs.{progress_after}
 use Rattle.device_trace.specs.Progress.{Progress, Held, Runs, InCall, next_pc_of, boundary_kind, kind_of, progress_from_boundary, progress_within, after_return, call_after, cpu_state_after, next_progress}
@@ -100,7 +100,7 @@ with_value-outside (Entering regs vector values) value outside = outside
 completion_or-outside : (cpu : CpuState) (next : Next) → IsOutside cpu
     → IsOutside (completion_or cpu next)
 completion_or-outside cpu (Asks access) outside = outside
-completion_or-outside cpu (Ends regs) outside = tt
+completion_or-outside cpu (Completes regs) outside = tt
 
 cpu_state_after-outside : (kind : Kind) (cpu : CpuState) (value : ℕ)
     → in_rom (cpu_pc cpu) ≡ false → IsOutside (cpu_state_after kind cpu value)

@@ -2,7 +2,8 @@
 use Rattle.std.proofs.Common.{◌≡◌, Bool, List, [], ◌∷◌, None}
 use Rattle.bus_signals.specs.declared.event.Event.{Event}
 use Rattle.part_definitions.specs.FirstRule.{first_rule}
-use Rattle.part_definitions.specs.Flag.{last_pc}
+use Rattle.bus_signals.specs.ExecFlag.{last_pc}
+use Rattle.device_trace.specs.Play.{Play}
 use Rattle.device_trace.specs.Logs.{Logs, vector_of, step_progress, with_events, with_record}
 use Rattle.device_trace.specs.Signals.{step_kind, signals_at, signals_of}
 use Rattle.device_trace.specs.Start.{Start}
@@ -43,7 +44,7 @@ unfolding next_record
 next_logs-sound start logs events sound =
     after_record-sound start (with_events logs events) _ (with_events-sound logs events sound)
 
-pub logs_after-sound : (start : Start) (play : List (List Event))
+pub logs_after-sound : (start : Start) (play : Play)
     → LogsAreSound (logs_after start play)
 unfolding logs_after
 logs_after-sound start [] = tt

@@ -19,13 +19,14 @@ use Rattle.text_scan.specs.WordValue.{number_of, place_of}
 use Rattle.text_scan.proofs.PlainWords.{ArePlain, IsPlainWord, is_plain, one_byte, two_bytes, decimal_of-decimal, hex_bytes_of-digits, hex_word_of-digits, words_of-join, plain-decimal, plain-encoded}
 use Rattle.trace_line.specs.declared.trace_line.TraceLine.{TraceLine}
 use Rattle.trace_line.specs.LineText.{kind_name, access_word, rule_word, line_words}
-use Rattle.trace_line.specs.LineGrammar.{LAST_STEP, fetch_in, read_in, write_in, access_in, kind_in, rule_in, named_of, flag_of, bounds_of, fields_of, line_of}
-use Rattle.trace_line.specs.ReadBack.{IsAllowed, AreWords, IsPrintable, LinesReadBack}
+use Rattle.trace_line.specs.LineGrammar.{LAST_TRACED_STEP, fetch_in, read_in, write_in, access_in, kind_in, rule_in, named_of, flag_of, bounds_of, fields_of, trace_line_of}
+use Rattle.bus_signals.specs.Bounds.{AreWords}
+use Rattle.trace_line.specs.ReadBack.{IsAllowed, IsPrintable, LinesReadBack}
 
 -- the value of each word
 
 number_of-decimal : (step : ℕ) (rest : List (List ℕ)) → step < 2 ^ 32
-    → number_of 0 LAST_STEP (decimal step ∷ rest) ≡ Ok (step, rest)
+    → number_of 0 LAST_TRACED_STEP (decimal step ∷ rest) ≡ Ok (step, rest)
 unfolding number_of
 number_of-decimal step rest small =
     rw (decimal_of-decimal 4294967295 step (omega (arith, small)) (omega arith)) refl
@@ -151,10 +152,10 @@ fields_of-words line printable =
       rule_of-word line.rule [],
     ) refl
 
-line_of-words : (step : ℕ) (line : TraceLine) → step < 2 ^ 32 → IsPrintable line
-    → line_of step (line_words step line) ≡ Ok line
-unfolding line_of
-line_of-words step line small printable =
+trace_line_of-words : (step : ℕ) (line : TraceLine) → step < 2 ^ 32 → IsPrintable line
+    → trace_line_of step (line_words step line) ≡ Ok line
+unfolding trace_line_of
+trace_line_of-words step line small printable =
     rw (
       number_of-decimal step _ small,
       fields_of-words line printable,
@@ -275,5 +276,6 @@ plain-words step line small printable = (
 
 pub line_reads_back : LinesReadBack
 line_reads_back step line small printable =
-    ap (line_of step) (words_of-join (line_words step line) (plain-words step line small printable))
-    ∙ line_of-words step line small printable
+    ap (trace_line_of step)
+    (words_of-join (line_words step line) (plain-words step line small printable))
+    ∙ trace_line_of-words step line small printable

@@ -19,8 +19,8 @@ use Rattle.text_scan.specs.WordValue.{number_of, place_of}
 use Rattle.trace_line.specs.declared.trace_line.TraceLine.{TraceLine}
 
 -- the last number that a step can have in a trace file
-abbrev pub LAST_STEP : ℕ
-LAST_STEP = 4294967295
+abbrev pub LAST_TRACED_STEP : ℕ
+LAST_TRACED_STEP = 4294967295
 
 -- a word that has no form is `Word`, whatever is wrong with it
 abbrev pub or_no_form : {A : Type 0} → Result A FaultKind → Result A FaultKind
@@ -170,10 +170,10 @@ fields_of words = do
 abbrev pub in_order : ℕ → ℕ → TraceLine → Result TraceLine FaultKind
 in_order step said line = if said == step then Ok line else Err faults.Order
 
-unfoldable pub line_of : ℕ → List (List ℕ) → Result TraceLine FaultKind
-line_of step words = do
+unfoldable pub trace_line_of : ℕ → List (List ℕ) → Result TraceLine FaultKind
+trace_line_of step words = do
   rest ← keyword_of (codes "t") words
-  said ← number_of 0 LAST_STEP rest
+  said ← number_of 0 LAST_TRACED_STEP rest
   fields ← fields_of said.1
   end ← end_of fields.1
   in_order step said.0 fields.0

@@ -2,11 +2,11 @@
 use Rattle.std.specs.Prelude.{◌≡◌, ◌<◌, ◌≤◌, ◌^◌, ℕ, List, [], ◌∷◌, length, IfSome, Ok}
 use Rattle.bus_signals.specs.declared.access.Access.{Access}
 use Rattle.bus_signals.specs.declared.access.Access.TheVariants.{Fetch, Read, Write}
-use Rattle.bus_signals.specs.declared.bounds.Bounds.{Bounds}
 use Rattle.bus_signals.specs.Access.{IsFormed}
+use Rattle.bus_signals.specs.Bounds.{AreWords}
 use Rattle.text_scan.specs.Word.{words_of}
 use Rattle.trace_line.specs.declared.trace_line.TraceLine.{TraceLine}
-use Rattle.trace_line.specs.LineGrammar.{line_of}
+use Rattle.trace_line.specs.LineGrammar.{trace_line_of}
 use Rattle.trace_line.specs.LineText.{line_text, file_text}
 use Rattle.trace_line.specs.TraceFile.{trace_of}
 
@@ -21,12 +21,6 @@ pub record IsAllowed (access : Access) : Type 0 where
   pub formed : IsFormed access
   pub words : HasWords access
 
-pub record AreWords (bounds : Bounds) : Type 0 where
-  pub er_min : bounds.er_min < 2 ^ 16
-  pub er_max : bounds.er_max < 2 ^ 16
-  pub or_min : bounds.or_min < 2 ^ 16
-  pub or_max : bounds.or_max < 2 ^ 16
-
 -- a line whose numbers are words and whose accesses are allowed
 pub record IsPrintable (line : TraceLine) : Type 0 where
   pub pc : line.pc < 2 ^ 16
@@ -40,7 +34,7 @@ pub record IsPrintable (line : TraceLine) : Type 0 where
 abbrev pub LinesReadBack : Type 0
 LinesReadBack =
     (step : ℕ) (line : TraceLine) → step < 2 ^ 32 → IsPrintable line
-    → line_of step (words_of (line_text step line)) ≡ Ok line
+    → trace_line_of step (words_of (line_text step line)) ≡ Ok line
 
 abbrev pub ArePrintable : List TraceLine → Type 0
 ArePrintable [] = Unit {0}

@@ -8,5 +8,5 @@ mod trace_line;
 
 pub use law::{trace_file_reads_back, trace_line_reads_back};
 pub use line_reader::read_line;
-pub use printed_line::{flag_digit, print_line, rule_word};
+pub use printed_line::{print_line, rule_word};
 pub use trace_line::TraceLine;

@@ -4,7 +4,7 @@ ghost use Rattle.word_arith.specs.declared.size.Size.TheVariants.{Byte};
 ghost use Rattle.text_scan.specs.Hexadecimal.{hex_bytes_of};
 ghost use Rattle.text_scan.specs.Reader.{ReadsOn};
 ghost use Rattle.text_scan.specs.Word.{words_of};
-ghost use Rattle.trace_line.specs.LineGrammar.{number_of_bytes, is_even_if, fetch_in, read_in, written_in, write_in, access_by, access_in, kind_in, rule_in, named_of, flag_of, bounds_of, fields_of, line_of};
+ghost use Rattle.trace_line.specs.LineGrammar.{number_of_bytes, is_even_if, fetch_in, read_in, written_in, write_in, access_by, access_in, kind_in, rule_in, named_of, flag_of, bounds_of, fields_of, trace_line_of};
 
 use crate::trace_line::TraceLine;
 use bus_signals::{Access, Bounds, Kind, Rule};
@@ -12,20 +12,20 @@ use text_scan::{FaultKind, Words, hex_bytes, hex_word};
 use word_arith::Size;
 
 // The last number that a step can have in a trace file.
-const LAST_STEP: u64 = 4_294_967_295;
+const LAST_TRACED_STEP: u64 = 4_294_967_295;
 
 /// The line of a step, or its first fault: word by word from the left, and then `Order` where it is
 /// of another step.
-#[tactic(auto, unfolding(crate::specs::LineGrammar::line_of))]
+#[tactic(auto, unfolding(crate::specs::LineGrammar::trace_line_of))]
 pub fn read_line(text: &[u8], step: u64) -> Result<TraceLine, FaultKind>
-    ensures value { result ≡ line_of step (words_of text.now) }
+    ensures value { result ≡ trace_line_of step (words_of text.now) }
     ensures step { IfOk result (λ line. step < 2 ^ 32) }
     ensures cpu { IfOk result (λ line. IfSome line.cpu IsFormed) }
     ensures dma { IfOk result (λ line. IfSome line.dma IsFormed) }
 {
     let mut words = Words::new(text);
     words.keyword(b"t")?;
-    let said = words.number(0, LAST_STEP)?;
+    let said = words.number(0, LAST_TRACED_STEP)?;
     let line = read_fields(&mut words)?;
     words.end()?;
     if said == step {
@@ -252,9 +252,5 @@ fn cut(bytes: &[u8], count: usize) -> (&[u8], &[u8])
     ensures first { result.0.now ≡ take count bytes.now }
     ensures rest { result.1.now ≡ drop count bytes.now }
 {
-    if count <= bytes.len() {
-        bytes.split_at(count)
-    } else {
-        (bytes, &[])
-    }
+    bytes.split_at_checked(count).unwrap_or((bytes, &[]))
 }

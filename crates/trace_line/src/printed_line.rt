@@ -8,7 +8,7 @@ ghost use Rattle.trace_line.specs.Spaced.{spaced};
 
 use crate::trace_line::TraceLine;
 use bus_signals::{Access, Bounds, Kind, Rule};
-use line_buffer::LineBuffer;
+use line_buffer::{LineBuffer, flag_digit};
 use outside_edge::{Failed, Sink, put_all};
 use word_arith::Size;
 
@@ -155,14 +155,6 @@ fn kind_name(kind: Kind) -> &'static [u8]
         Kind::Irq => b"irq",
         Kind::Rom => b"rom",
     }
-}
-
-/// `1` where it is set, else `0`.
-pub fn flag_digit(flag: bool) -> &'static [u8]
-    ensures digit { result.now ≡ flag_digit flag }
-    ensures len { length result.now ≡ 1 }
-{
-    if flag { b"1" } else { b"0" }
 }
 
 /// The name of a rule, `-` for none.

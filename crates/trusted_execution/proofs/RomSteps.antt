@@ -8,7 +8,7 @@ use Rattle.bus_signals.specs.Access.{bytes_of}
 use Rattle.bus_signals.specs.Bounds.{are_valid}
 use Rattle.bus_signals.specs.Map.{lies_in, touches, vector_region}
 use Rattle.bus_signals.specs.SeenRecord.{SeenRecord}
-use Rattle.part_definitions.specs.Flag.{last_pc, runs_inside, records_since}
+use Rattle.bus_signals.specs.ExecFlag.{last_pc, runs_inside, records_since}
 use Rattle.part_definitions.specs.MonitorRule.{in_rom, is_written_by_rom}
 use Rattle.part_definitions.specs.TrustedFlag.{aux, clears_aux, clears_f3, clears_f4, clears_f10}
 use Rattle.mac_coverage.proofs.ExecKept.{IsRomStep, rom_step-outside, rom_step-apart, rom_step-keeps_both, rom_step-starts_none, kept_flag}

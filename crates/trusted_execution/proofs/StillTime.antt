@@ -14,10 +14,11 @@ use Rattle.bus_signals.specs.Bounds.{are_valid, executable_region}
 use Rattle.bus_signals.specs.Kind.{is_rom}
 use Rattle.bus_signals.specs.Map.{lies_in, ROM_ENTRY, ROM_EXIT}
 use Rattle.bus_signals.specs.Report.{ReportFields}
-use Rattle.bus_signals.specs.SeenRecord.{SeenRecord}
-use Rattle.part_definitions.specs.Flag.{last_pc, ran_inside}
+use Rattle.bus_signals.specs.SeenRecord.{SeenRecord, SeenHistory}
+use Rattle.bus_signals.specs.ExecFlag.{last_pc, ran_inside}
 use Rattle.part_definitions.specs.MonitorRule.{in_rom, leaves_stack_and_mac}
 use Rattle.part_definitions.specs.TrustedFlag.{aux}
+use Rattle.device_trace.specs.Play.{Play}
 use Rattle.device_trace.specs.Blank.{blank_access, blank_record, blank_seen}
 use Rattle.device_trace.specs.Logs.{Logs, aux_of, goes_on_in_call, records_until_call, logged_bounds, vector_of, step_progress, progress_after, with_events, with_record}
 use Rattle.device_trace.specs.Progress.{Progress, Held, Runs, InCall, next_pc_of}
@@ -26,7 +27,7 @@ use Rattle.device_trace.specs.Start.{Start}
 use Rattle.device_trace.specs.Step.{record_of, asks_reset, next_record}
 use Rattle.device_trace.specs.Text.{last_report, last_decision, last_denial}
 use Rattle.device_trace.specs.Trace.{logs_after, trace}
-use Rattle.device_trace.specs.TrustedRun.{TrustedRun}
+use Rattle.device_trace.specs.RegionRun.{TrustedRun}
 use Rattle.mac_coverage.proofs.ExecKept.{IsRomStep}
 use Rattle.mac_coverage.proofs.Plays.{rom_kind}
 use Rattle.mac_coverage.proofs.Steps.{rom_step-of_call, OnCall, other_step-no_call, record_of-call, record_of-kind, record_of-pc, IsInRom}
@@ -166,12 +167,12 @@ unfolding next_record with_events
 step_holds start logs events valid holds =
     record_holds start (with_events logs events) (asks_reset events) valid holds
 
-valid_after : (start : Start) (play : List (List Event))
+valid_after : (start : Start) (play : Play)
     → aux_seen (logs_after start play) ≡ true
     → are_valid (logged_bounds start (logs_after start play)) ≡ true
 valid_after start play set = (play_state start play set).valid
 
-play_holds : (start : Start) (play : List (List Event))
+play_holds : (start : Start) (play : Play)
     → HoldsInCall (logs_after start play).progress (logs_after start play).records
 unfolding logs_after
 play_holds start [] = tt
@@ -224,7 +225,7 @@ until_after start logs events valid holds =
     ∙ state.flag)
     (λ other. refl)
 
-until-is : (start : Start) (play : List (List Event))
+until-is : (start : Start) (play : Play)
     → aux_until (logs_after start play) ≡ aux_seen (logs_after start play)
 unfolding logs_after
 until-is start [] = refl
@@ -233,10 +234,10 @@ until-is start (events ∷ play) =
     (play_holds start play)
 
 -- so memory shows the flag as it is
-pub shown-is : (start : Start) (play : List (List Event)) → start.second_flag ≡ aux
+pub shown-is : (start : Start) (play : Play) → start.second_flag ≡ aux
     → aux_of start (logs_after start play) ≡ aux_seen (logs_after start play)
 shown-is start play is_aux =
-    ap (λ (flag : List SeenRecord → Bool).
+    ap (λ (flag : SeenHistory → Bool).
     flag (map blank_seen (records_until_call (logs_after start play).records))) is_aux
     ∙ until-is start play
 
@@ -254,14 +255,14 @@ exit_outside bounds last valid is =
     ] in
     ap (λ pc. ran_inside pc (executable_region bounds)) is ∙ outside _ refl
 
-last_after : (start : Start) (events : List Event) (play : List (List Event))
+last_after : (start : Start) (events : List Event) (play : Play)
     → last_pc (logs_after start (events ∷ play)).records
     ≡ Some (next_record start (logs_after start play) events).pc
 unfolding logs_after with_record
 last_after start events play = refl
 
 -- a call is finished by a step of the ROM at its exit
-finished-exit : (start : Start) (events : List Event) (play : List (List Event))
+finished-exit : (start : Start) (events : List Event) (play : Play)
     → is_some (last_decision start (events ∷ play)) ≡ true
     → (next_record start (logs_after start play) events).pc ≡ ROM_EXIT
 unfolding logs_after
@@ -276,7 +277,7 @@ unfolding logs_after
 none_finished start finished = cc
 
 -- after a finished call, whatever it decided
-pub finished-trusted_run : (start : Start) (play : List (List Event)) → start.second_flag ≡ aux
+pub finished-trusted_run : (start : Start) (play : Play) → start.second_flag ≡ aux
     → is_some (last_decision start play) ≡ true
     → aux_of start (logs_after start play) ≡ true
     → TrustedRun (logged_bounds start (logs_after start play)) (trace start play)
@@ -289,12 +290,12 @@ finished-trusted_run start (events ∷ play) is_aux finished set =
     (valid_after start (events ∷ play) seen)
     (last_after start events play ∙ ap Some (finished-exit start events play finished)))
 
-pub decision-trusted_run : (start : Start) (play : List (List Event)) → start.second_flag ≡ aux
+pub decision-trusted_run : (start : Start) (play : Play) → start.second_flag ≡ aux
     → AuxAfterCallMeansTrustedRun start play
 decision-trusted_run start play is_aux decision is set =
     finished-trusted_run start play is_aux (ap (λ (one : Option ℕ). is_some one) is) set
 
-pub report-trusted_run : (start : Start) (play : List (List Event)) (report : ReportFields)
+pub report-trusted_run : (start : Start) (play : Play) (report : ReportFields)
     → start.second_flag ≡ aux → last_report start play ≡ Some report → report.aux ≡ true
     → TrustedRun report.bounds (trace start play)
 report-trusted_run start [] report is_aux is set = absurd (cc)
@@ -306,7 +307,7 @@ report-trusted_run start (events ∷ play) report is_aux is set =
     (finished-trusted_run start (events ∷ play) is_aux made.0
     (ap (λ (r : ReportFields). r.aux) made.1 ∙ set))
 
-pub denial-trusted_run : (start : Start) (play : List (List Event)) (denial : ℕ)
+pub denial-trusted_run : (start : Start) (play : Play) (denial : ℕ)
     → start.second_flag ≡ aux → last_denial start play ≡ Some denial
     → aux_of start (logs_after start play) ≡ true
     → TrustedRun (logged_bounds start (logs_after start play)) (trace start play)

@@ -5,7 +5,7 @@ use Rattle.device_trace.specs.Play.{Play}
 use Rattle.device_trace.specs.Start.{Start}
 use Rattle.device_trace.specs.Text.{last_decision}
 use Rattle.device_trace.specs.Trace.{logs_after, trace}
-use Rattle.device_trace.specs.TrustedRun.{TrustedRun}
+use Rattle.device_trace.specs.RegionRun.{TrustedRun}
 
 -- where the last step of a play finishes a call, whatever it decides, and AUX is 1 after it, the
 -- play has a trusted run of the executable region

@@ -7,7 +7,7 @@ use Rattle.desk_memory.specs.declared.device_state.DeviceState.{DeviceState}
 use Rattle.desk_memory.specs.DeviceState.{is_new}
 use Rattle.desk_memory.specs.Entry.{Entry}
 use Rattle.desk_memory.specs.KeyMark.{key_mark}
-use Rattle.verifier_desk.specs.DeskLine.{DeskLine, TooLong, Silent, Foreign, Own, line_of}
+use Rattle.verifier_desk.specs.DeskLine.{DeskLine, TooLong, Silent, Foreign, Own, desk_line_of}
 use Rattle.verifier_desk.specs.DeviceKey.{DeviceKey, key_named}
 use Rattle.verifier_desk.specs.DeviceLine.{DeviceLine}
 use Rattle.verifier_desk.specs.DeviceReply.{answer_after, state_after, state_from}
@@ -21,9 +21,9 @@ own_lines-append : (devices : List DeviceKey) (name : List ℕ) (later earlier :
     ≡ own_lines devices name later ++ own_lines devices name earlier
 own_lines-append devices name [] earlier = refl
 own_lines-append devices name (line ∷ later) earlier =
-    ap (λ (own : List DeviceLine). own_line name (line_of devices line) ++ own)
+    ap (λ (own : List DeviceLine). own_line name (desk_line_of devices line) ++ own)
     (own_lines-append devices name later earlier)
-    ∙ sym (append_assoc (own_line name (line_of devices line)) (own_lines devices name later)
+    ∙ sym (append_assoc (own_line name (desk_line_of devices line)) (own_lines devices name later)
     (own_lines devices name earlier))
 
 state_from-append : (judge : Judge) (state : DeviceState) (later earlier : List DeviceLine)
@@ -86,17 +86,20 @@ replies_go_on desk earlier (line ∷ later) =
     (reply desk (later ++ earlier) line)
     ∙ ap (λ (last : List ℕ). replies desk earlier
     ++ (replies (started_after desk earlier) later ++ last))
-    (reply_goes_on desk earlier later (line_of desk.devices line) (line_known desk.devices line))
+    (reply_goes_on desk earlier later (desk_line_of desk.devices line)
+    (line_known desk.devices line))
 
 entries_go_on : (desk : DeskFields) (earlier later : List (List ℕ))
     → entries_after desk (later ++ earlier) ≡ entries_after (started_after desk earlier) later
 entries_go_on desk earlier [] = refl
 entries_go_on desk earlier (line ∷ later) =
-    ap (with_noted (noted_of desk (lines_said desk (later ++ earlier)) (line_of desk.devices line)))
+    ap (with_noted (noted_of desk (lines_said desk (later ++ earlier))
+    (desk_line_of desk.devices line)))
     (entries_go_on desk earlier later)
     ∙ ap (λ (entry : Option Entry). with_noted entry
     (entries_after (started_after desk earlier) later))
-    (noted_goes_on desk earlier later (line_of desk.devices line) (line_known desk.devices line))
+    (noted_goes_on desk earlier later (desk_line_of desk.devices line)
+    (line_known desk.devices line))
 
 pub desk_goes_on : IsGoneOn
 desk_goes_on desk earlier later =

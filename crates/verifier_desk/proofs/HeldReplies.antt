@@ -15,7 +15,7 @@ use Rattle.verifier_desk.specs.declared.served.Served.TheVariants.{Done, Spent, 
 use Rattle.verifier_desk.specs.declared.desk.Desk.{Desk}
 use Rattle.verifier_desk.specs.Answering.{Answers, OnlyNotes}
 use Rattle.verifier_desk.specs.Desk.{DeskStandsFor}
-use Rattle.verifier_desk.specs.DeskLine.{DeskLine, LONGEST_LINE, TooLong, line_of, line_of_words}
+use Rattle.verifier_desk.specs.DeskLine.{DeskLine, LONGEST_LINE, TooLong, desk_line_of, desk_line_of_words}
 use Rattle.verifier_desk.specs.DeviceKey.{DeviceKey}
 use Rattle.verifier_desk.specs.HeldLine.{short_line}
 use Rattle.verifier_desk.specs.Noted.{entries_after, noted_of, with_noted}
@@ -106,10 +106,10 @@ module _ {M W : Type 0} (m : memory.Ghosts M) (w : sink.Ghosts W) (first : W)
       → OnlyNotes m old new
       → withheld.replies ≡ before.replies ++ reply fields earlier bytes
       → ((entries : List Entry) → m.stands old entries
-      → m.stands new (with_noted (noted_of fields (lines_said fields earlier) (line_of
+      → m.stands new (with_noted (noted_of fields (lines_said fields earlier) (desk_line_of
       fields.devices bytes)) entries))
       → (withheld.is_noted ≡ false → (before.is_noted ≡ false) × (new ≡ old)
-      × (noted_of fields (lines_said fields earlier) (line_of fields.devices bytes) ≡ None))
+      × (noted_of fields (lines_said fields earlier) (desk_line_of fields.devices bytes) ≡ None))
       → Told m w first now new withheld fields (bytes ∷ earlier)
   line_told now old new before withheld earlier bytes so only holds notes quiet =
       let done : List ℕ = replies fields so.whole.done in
@@ -273,7 +273,7 @@ module _ {M W : Type 0} (m : memory.Ghosts M) (w : sink.Ghosts W) (first : W)
   -- the reply to a line is held back
   pub reply_told : (now : W) (old new : M) (before withheld : Withheld) (earlier : List (List ℕ))
       (bytes : List ℕ) (desk : Desk) (said : DeskLine) (answer : ReplyFields)
-      → line_of fields.devices bytes ≡ said
+      → desk_line_of fields.devices bytes ≡ said
       → Told m w first now old before fields earlier
       → OnlyNotes m old new
       → Answers m old new desk fields (lines_said fields earlier) said (Ok answer)
@@ -325,9 +325,10 @@ long_says true line says is = refl
 long_says false line says is = absurd (cc is)
 
 pub says_long : (devices : List DeviceKey) (line : List ℕ) → None ≡ short_line line
-    → line_of devices line ≡ TooLong
+    → desk_line_of devices line ≡ TooLong
 says_long devices line is =
-    long_says (nat_lt LONGEST_LINE (length line)) line (line_of_words devices (words_of line)) is
+    long_says (nat_lt LONGEST_LINE (length line)) line
+    (desk_line_of_words devices (words_of line)) is
 
 is_short : (long : Bool) (line held : List ℕ)
     → ◌≡◌ {A = Option (List ℕ)} (Some held) (if long then None else Some line)
@@ -336,10 +337,10 @@ is_short true line held is = absurd (cc is)
 is_short false line held is = (refl, cc is)
 
 pub says_short : (devices : List DeviceKey) (line held : List ℕ) → Some held ≡ short_line line
-    → line_of devices line ≡ line_of_words devices (words_of held)
+    → desk_line_of devices line ≡ desk_line_of_words devices (words_of held)
 says_short devices line held is =
     let short = is_short (nat_lt LONGEST_LINE (length line)) line held is in
-    rw short.0 (ap (λ (one : List ℕ). line_of_words devices (words_of one)) short.1)
+    rw short.0 (ap (λ (one : List ℕ). desk_line_of_words devices (words_of one)) short.1)
 
 -- without a reply nothing more is held back
 pub nothing_more : (before : Withheld)

@@ -10,7 +10,7 @@ use Rattle.desk_memory.specs.DeviceState.{is_new}
 use Rattle.desk_memory.specs.Entry.{Entry, is_renewed, owner_in, state_in, state_named, with_entry}
 use Rattle.desk_memory.specs.KeyMark.{key_mark}
 use Rattle.desk_memory.proofs.Noted.{owner_is_kept, owner_is_noted}
-use Rattle.verifier_desk.specs.DeskLine.{DeskLine, TooLong, Silent, Foreign, Own, line_of}
+use Rattle.verifier_desk.specs.DeskLine.{DeskLine, TooLong, Silent, Foreign, Own, desk_line_of}
 use Rattle.verifier_desk.specs.DeviceKey.{DeviceKey, key_named}
 use Rattle.verifier_desk.specs.DeviceLine.{DeviceLine}
 use Rattle.verifier_desk.specs.KeyOwner.{HasDevice, IsFreeFor, IsKeyKept, IsServedIn, IsServedThrough, IsUnderOneName, KeysAreKept, KeysStandApart, KeysStandApartIn}
@@ -192,7 +192,7 @@ keys_are_kept desk [] apart =
       owned = λ device known. inl refl;
     }
 keys_are_kept desk (line ∷ earlier) apart =
-    said_kept desk (lines_said desk earlier) (line_of desk.devices line)
+    said_kept desk (lines_said desk earlier) (desk_line_of desk.devices line)
     (entries_after desk earlier) (line_known desk.devices line) (keys_are_kept desk earlier apart)
 
 -- whoever was served in a run owns its key after it

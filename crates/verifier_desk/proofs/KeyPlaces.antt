@@ -83,7 +83,7 @@ none_first true key rest none = absurd (cc none)
 none_first false key rest none = (refl, none)
 
 -- a name that no device has
-unnamed : (name : List ℕ) (devices : List DeviceKey) (i : ℕ) (d : DeviceKey)
+pub unnamed : (name : List ℕ) (devices : List DeviceKey) (i : ℕ) (d : DeviceKey)
     → key_named name devices ≡ None → i < length devices
     → (slice_index_or devices i d).name ≡ name → ⊥
 unnamed name [] i d none within same = omega (arith, within)
@@ -107,7 +107,7 @@ at_end devices device d i last =
     ap (λ (at : ℕ). (slice_index_or (devices ++ device ∷ []) at d).name) last
     ∙ ap (λ (one : DeviceKey). one.name) (get_or-append_seam devices device [] d)
 
-front_or_end : (devices : List DeviceKey) (device : DeviceKey) (i : ℕ)
+pub front_or_end : (devices : List DeviceKey) (device : DeviceKey) (i : ℕ)
     → i < length (devices ++ device ∷ []) → (i < length devices) ⊎ (i ≡ length devices)
 front_or_end devices device i within =
     ⊎_elim

@@ -11,6 +11,8 @@ pub mod AllRuns
 pub mod KeyOwners
 pub mod KeyMarks
 pub mod KeyPlaces
+pub mod PlaceMap
+pub mod PlacedWords
 pub mod SilentLine
 pub mod DeskError
 pub mod NotedReply

@@ -9,7 +9,7 @@ use Rattle.desk_memory.specs.declared.memory_fault.MemoryFault.{MemoryFault}
 use Rattle.desk_memory.specs.Entry.{Entry}
 use Rattle.verifier_desk.specs.declared.served.Served.{Served}
 use Rattle.verifier_desk.specs.declared.served.Served.TheVariants.{Done, Spent, ReadFault, WriteFault, Memory, Unkept}
-use Rattle.verifier_desk.specs.DeskLine.{line_of}
+use Rattle.verifier_desk.specs.DeskLine.{desk_line_of}
 use Rattle.verifier_desk.specs.Replies.{DeskFields, gives_report, lines_said, replies, reply}
 use Rattle.verifier_desk.specs.Serving.{HasAnswered, HasFailed, HasPut, HasPutWhole, IsBeginning, PutsLines, ServesLines, Told, Withheld}
 
@@ -43,7 +43,7 @@ abbrev StopsAt : DeskFields → (List (List ℕ) → Type 0) → List (List ℕ)
 StopsAt fields Answered lines =
     (later : List (List ℕ)) × (line : List ℕ) × (earlier : List (List ℕ))
     × (lines ≡ later ++ line ∷ earlier)
-    × IsTrue (gives_report fields (lines_said fields earlier) (line_of fields.devices line))
+    × IsTrue (gives_report fields (lines_said fields earlier) (desk_line_of fields.devices line))
     × Answered earlier
 
 stops_among_more : (fields : DeskFields) (Answered : List (List ℕ) → Type 0)

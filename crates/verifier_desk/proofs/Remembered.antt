@@ -11,7 +11,7 @@ use Rattle.desk_memory.specs.declared.device_state.DeviceState.{DeviceState}
 use Rattle.desk_memory.specs.DeviceState.{is_new}
 use Rattle.desk_memory.specs.Entry.{Entry, state_named, with_entry}
 use Rattle.desk_memory.proofs.Noted.{state_is_noted}
-use Rattle.verifier_desk.specs.DeskLine.{DeskLine, TooLong, Silent, Foreign, Own, LONGEST_LINE, is_verb, own_or_foreign, line_of_words, line_of}
+use Rattle.verifier_desk.specs.DeskLine.{DeskLine, TooLong, Silent, Foreign, Own, LONGEST_LINE, is_verb, own_or_foreign, desk_line_of_words, desk_line_of}
 use Rattle.verifier_desk.specs.DeviceKey.{DeviceKey, key_named}
 use Rattle.verifier_desk.specs.DeviceLine.{DeviceLine}
 use Rattle.verifier_desk.specs.Law.{IsRemembered, remembered}
@@ -34,7 +34,7 @@ own_known devices (Some key) (Ok number) verb name words same =
     ⊎_elim (λ is. rw is same) (λ other. rw other tt) (cases_Bool (is_verb verb))
 
 words_known : (devices : List DeviceKey) (words : List (List ℕ))
-    → IsKnown devices (line_of_words devices words)
+    → IsKnown devices (desk_line_of_words devices words)
 words_known devices [] = tt
 words_known devices (verb ∷ []) = tt
 words_known devices (verb ∷ name ∷ []) = tt
@@ -42,7 +42,7 @@ words_known devices (verb ∷ name ∷ number ∷ words) =
     own_known devices (key_named name devices) (decimal_of 1 4294967295 number) verb name words refl
 
 pub line_known : (devices : List DeviceKey) (line : List ℕ)
-    → IsKnown devices (line_of devices line)
+    → IsKnown devices (desk_line_of devices line)
 line_known devices line =
     ⊎_elim
     (λ long. rw long tt)
@@ -136,7 +136,8 @@ all_known : (desk : DeskFields) (lines : List (List ℕ)) (name : List ℕ)
     ≡ state_known desk name (key_named name desk.devices) (lines_said desk lines name)
 all_known desk [] name = nothing_known desk name (key_named name desk.devices)
 all_known desk (line ∷ earlier) name =
-    noted desk (lines_said desk earlier) (line_of desk.devices line) (entries_after desk earlier)
+    noted desk (lines_said desk earlier) (desk_line_of desk.devices line)
+    (entries_after desk earlier)
     name (line_known desk.devices line) (all_known desk earlier)
 
 same_known : (desk : DeskFields) (name : List ℕ) (key : Option (List ℕ)) (lines : List (List ℕ))

@@ -8,7 +8,7 @@ use Rattle.std.proofs.lemmas.Slice.Eq.{bytes_eq-Decides}
 use Rattle.text_scan.specs.declared.fault_kind.FaultKind.{FaultKind}
 use Rattle.text_scan.specs.Decimal.{decimal_of}
 use Rattle.text_scan.specs.Word.{words_of}
-use Rattle.verifier_desk.specs.DeskLine.{DeskLine, TooLong, Silent, Foreign, Own, LONGEST_LINE, is_verb, own_or_foreign, line_of_words, line_of}
+use Rattle.verifier_desk.specs.DeskLine.{DeskLine, TooLong, Silent, Foreign, Own, LONGEST_LINE, is_verb, own_or_foreign, desk_line_of_words, desk_line_of}
 use Rattle.verifier_desk.specs.DeviceKey.{DeviceKey, key_named}
 use Rattle.verifier_desk.specs.DeviceLine.{DeviceLine}
 use Rattle.verifier_desk.specs.Replies.{DeskFields, own_line, own_lines, own_reply, reply_to, reply, replies}
@@ -43,8 +43,8 @@ other_name name (Some key) (Ok number) verb owner words differ =
 -- a line of the device says the same beside others and alone
 own_words : (devices : List DeviceKey) (device : DeviceKey) (words : List (List ℕ))
     → key_named device.name devices ≡ Some device.key
-    → is_named device.name (line_of_words devices words) ≡ true
-    → line_of_words (device ∷ []) words ≡ line_of_words devices words
+    → is_named device.name (desk_line_of_words devices words) ≡ true
+    → desk_line_of_words (device ∷ []) words ≡ desk_line_of_words devices words
 own_words devices device [] known named = absurd (false≢true named)
 own_words devices device (verb ∷ []) known named = absurd (false≢true named)
 own_words devices device (verb ∷ name ∷ []) known named = absurd (false≢true named)
@@ -58,13 +58,13 @@ own_words devices device (verb ∷ name ∷ number ∷ words) known named =
 
 short_line : (devices : List DeviceKey) (line : List ℕ)
     → nat_lt LONGEST_LINE (length line) ≡ false
-    → line_of devices line ≡ line_of_words devices (words_of line)
+    → desk_line_of devices line ≡ desk_line_of_words devices (words_of line)
 short_line devices line short = rw short refl
 
 own_says : (devices : List DeviceKey) (device : DeviceKey) (line : List ℕ)
     → key_named device.name devices ≡ Some device.key
-    → is_named device.name (line_of devices line) ≡ true
-    → line_of (device ∷ []) line ≡ line_of devices line
+    → is_named device.name (desk_line_of devices line) ≡ true
+    → desk_line_of (device ∷ []) line ≡ desk_line_of devices line
 own_says devices device line known named =
     ⊎_elim
     (λ long. rw long refl)
@@ -93,11 +93,11 @@ own_lines-alone desk device (line ∷ earlier) known =
     (λ named. rw named (
     ap (λ says. own_line device.name says ++ own_lines desk.devices device.name earlier)
     (sym (own_says desk.devices device line known named))
-    ∙ ap (λ own. own_line device.name (line_of (device ∷ []) line) ++ own) rest
+    ∙ ap (λ own. own_line device.name (desk_line_of (device ∷ []) line) ++ own) rest
     ))
     (λ other. rw other (
     ap (λ own. own ++ own_lines desk.devices device.name earlier)
-    (own_line-unnamed device.name (line_of desk.devices line) other)
+    (own_line-unnamed device.name (desk_line_of desk.devices line) other)
     ∙ rest
     ))
     (cases_Bool (is_of desk device.name line))
@@ -133,7 +133,7 @@ device_is_served_alone desk device (line ∷ earlier) known =
     (λ named. rw named (
     ap (λ before. before ++ reply desk earlier line) rest
     ∙ ap (λ last. replies (alone desk device) (lines_of_device desk device.name earlier) ++ last)
-    (reply_to-alone desk device earlier (line_of desk.devices line) known named
+    (reply_to-alone desk device earlier (desk_line_of desk.devices line) known named
     ∙ ap (reply_to (alone desk device)
     (said_before (alone desk device) (lines_of_device desk device.name earlier)))
     (sym (own_says desk.devices device line known named)))

@@ -13,7 +13,7 @@ use Rattle.verifier_desk.specs.HeldLine.{last_line}
 use Rattle.verifier_desk.specs.LineCut.{LineCut, with_bytes, with_last}
 use Rattle.verifier_desk.specs.Noted.{entries_after}
 use Rattle.verifier_desk.specs.Replies.{DeskFields, gives_report, lines_said, replies}
-use Rattle.verifier_desk.specs.DeskLine.{line_of}
+use Rattle.verifier_desk.specs.DeskLine.{desk_line_of}
 use Rattle.verifier_desk.specs.Serving.{HasAnswered, HasPutWhole, IsBeginning, KeepsAnswered, PutsLines, PutsPiece, ServesLines, ServesPiece, StopsBefore, Told, Withheld, nothing_withheld}
 use Rattle.verifier_desk.proofs.Pieces.{held_line}
 use Rattle.verifier_desk.proofs.SessionPiece.{AnsweredAt, Moment, ServedAt, lines_of_line}
@@ -198,13 +198,13 @@ module _ {M W : Type 0} (m : memory.Ghosts M) (w : sink.Ghosts W) where
   stops_without : (first now : W) (memory_now : M) (fields : DeskFields)
       (lines later : List (List ℕ)) (line : List ℕ) (earlier : List (List ℕ))
       → [] ∷ lines ≡ later ++ line ∷ earlier
-      → gives_report fields (lines_said fields earlier) (line_of fields.devices line) ≡ true
+      → gives_report fields (lines_said fields earlier) (desk_line_of fields.devices line) ≡ true
       → HasAnswered m w first now memory_now fields earlier
       → StopsBefore m w first now memory_now fields lines
   stops_without first now memory_now fields lines [] line earlier parts gives so =
       let none : [] ≡ line = cc parts in
       absurd (false≢true (subst (λ (one : List ℕ). gives_report fields (lines_said fields earlier)
-      (line_of fields.devices one) ≡ true) (sym none) gives))
+      (desk_line_of fields.devices one) ≡ true) (sym none) gives))
   stops_without first now memory_now fields lines (other ∷ later) line earlier parts gives so =
       (later, line, earlier, cc parts, gives, so)
 

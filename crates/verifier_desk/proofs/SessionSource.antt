@@ -11,33 +11,47 @@ use Rattle.verifier_desk.specs.declared.served.Served.TheVariants.{Done, Spent, 
 use Rattle.verifier_desk.specs.Desk.{DeskStandsFor, no_lines_of}
 use Rattle.verifier_desk.specs.LineCut.{LineCut, all_lines, cut_of, no_lines, whole_lines, with_bytes, with_last}
 use Rattle.verifier_desk.specs.Replies.{DeskFields}
-use Rattle.verifier_desk.specs.Serving.{AreTaken, HasAnswered, HasCause, Keeps, Outside, PutsLines, PutsPiece, PutsReplies, Serves, most_input, nothing_withheld}
+use Rattle.verifier_desk.specs.Serving.{AreFirst, AreTaken, HasAnswered, HasCause, Keeps, Outside, PutsLines, PutsPiece, PutsReplies, Serves, most_input, nothing_withheld}
 use Rattle.verifier_desk.proofs.MoreLines.{puts_more, puts_since, rose_more}
 use Rattle.verifier_desk.proofs.Pieces.{cut_anywhere}
 use Rattle.verifier_desk.proofs.SessionLast.{answered_of_told, told_anew}
 use Rattle.verifier_desk.proofs.SessionPiece.{Moment, ServedAt}
 
--- one take after another
-pub taken_both : (first left rest : Option (List ℕ)) (one two : List ℕ)
-    → AreTaken first left one → AreTaken left rest two → AreTaken first rest (one ++ two)
-taken_both (Some first) (Some left) (Some rest) one two before next =
+-- one take after another, of the bytes that are told
+first_both : (first left rest : Option (List ℕ)) (one two : List ℕ)
+    → AreFirst first left one → AreFirst left rest two → AreFirst first rest (one ++ two)
+first_both (Some first) (Some left) (Some rest) one two before next =
     before ∙ ap (λ (more : List ℕ). one ++ more) next ∙ sym (append_assoc one two rest)
-taken_both None None None one two before next = tt
-taken_both (Some first) None rest one two before next = absurd before
-taken_both None (Some left) rest one two before next = absurd before
-taken_both (Some first) (Some left) None one two before next = absurd next
-taken_both None None (Some rest) one two before next = absurd next
+first_both None None None one two before next = tt
+first_both (Some first) None rest one two before next = absurd before
+first_both None (Some left) rest one two before next = absurd before
+first_both (Some first) (Some left) None one two before next = absurd next
+first_both None None (Some rest) one two before next = absurd next
 
-no_more : (first left rest : Option (List ℕ)) (one two : List ℕ) → two ≡ []
-    → AreTaken first left one → AreTaken left rest two → AreTaken first rest one
-no_more first left rest one two none before next =
-    subst (AreTaken first rest) (ap (λ (more : List ℕ). one ++ more) none ∙ append-nil one)
-    (taken_both first left rest one two before next)
+first_none : (left : Option (List ℕ)) → AreFirst left left []
+first_none (Some left) = refl
+first_none None = tt
 
--- no bytes are taken of those that are left
-none_of : (left : Option (List ℕ)) → AreTaken left left []
-none_of (Some left) = refl
-none_of None = tt
+module _ {R : Type 0} (r : source.Ghosts R) where
+  -- and of the source
+  pub taken_both : (first mid last : R) (one two : List ℕ)
+      → AreTaken r first mid one → AreTaken r mid last two → AreTaken r first last (one ++ two)
+  taken_both first mid last one two before next =
+      record {
+        first = first_both (r.left first) (r.left mid) (r.left last) one two before.first
+            next.first;
+        given = omega (arith, before.given, next.given, length-append one two);
+      }
+
+  no_more : (first mid last : R) (one two : List ℕ) → two ≡ []
+      → AreTaken r first mid one → AreTaken r mid last two → AreTaken r first last one
+  no_more first mid last one two none before next =
+      subst (AreTaken r first last) (ap (λ (more : List ℕ). one ++ more) none ∙ append-nil one)
+      (taken_both first mid last one two before next)
+
+  -- no bytes were taken
+  none_of : (now : R) → AreTaken r now now []
+  none_of now = record { first = first_none (r.left now); given = omega arith }
 
 -- the whole lines are among all
 last_more : (lines : List (List ℕ)) (rest : List ℕ)
@@ -70,7 +84,7 @@ module _ {R M W : Type 0} (r : source.Ghosts R) (m : memory.Ghosts M) (w : sink.
   pub record IsServedTo (start : Moment M W) (source : R) (now : Moment M W) (source_now : R)
       (room : ℕ) : Type 0 where
     pub taken : List ℕ
-    pub are_taken : AreTaken (r.left source) (r.left source_now) taken
+    pub are_taken : AreTaken r source source_now taken
     pub count : length taken + room ≡ most_input
     pub serves : (fields : DeskFields) → DeskStandsFor start.desk fields no_lines_of
         → Keeps m start.memory fields.entries → start.held ≡ Some []
@@ -98,7 +112,7 @@ module _ {R M W : Type 0} (r : source.Ghosts R) (m : memory.Ghosts M) (w : sink.
   none_taken start source =
       record {
         taken = [];
-        are_taken = none_of (r.left source);
+        are_taken = none_of r source;
         count = refl;
         serves = λ fields stood keeps empty none. record {
           desk_stands = stood;
@@ -154,7 +168,7 @@ module _ {R M W : Type 0} (r : source.Ghosts R) (m : memory.Ghosts M) (w : sink.
       (piece : List ℕ) {served : Served}
       → IsServedTo start source now source_now room
       → 0 < room → n ≡ 0
-      → AreTaken (r.left source_now) (r.left source_new) (take n piece)
+      → AreTaken r source_now source_new (take n piece)
       → (n ≡ 0 → IfSome (r.left source_new) (λ bytes. bytes ≡ []))
       → ((fields : DeskFields) (cut : LineCut) (first : W) → ServedAt m w first now fields cut
       → PutsLines m w first now.sink sink_new now.memory memory_new fields
@@ -171,8 +185,8 @@ module _ {R M W : Type 0} (r : source.Ghosts R) (m : memory.Ghosts M) (w : sink.
       (last fields (cut_of so.taken) start.sink (so.serves fields stood keeps empty nothing)) in
       record {
         taken = so.taken;
-        are_taken = no_more (r.left source) (r.left source_now) (r.left source_new) so.taken
-            (take n piece) (ap (λ (count : ℕ). take count piece) none) so.are_taken next;
+        are_taken = no_more r source source_now source_new so.taken (take n piece)
+            (ap (λ (count : ℕ). take count piece) none) so.are_taken next;
         few = omega (arith, so.count);
         puts = line_puts old new fields so.taken served lines;
         cause = line_cause old new fields (all_lines so.taken) (length so.taken) served
@@ -183,15 +197,14 @@ module _ {R M W : Type 0} (r : source.Ghosts R) (m : memory.Ghosts M) (w : sink.
   pub fault_served : {start : Moment M W} {source : R} {now : Moment M W}
       {source_now source_new : R} {room : ℕ}
       → IsServedTo start source now source_now room
-      → 0 < room → r.left source_new ≡ r.left source_now
+      → 0 < room → AreTaken r source_now source_new []
       → Rose (r.faults source_now) (r.faults source_new)
       → ServesRun start source source_new now.memory now.sink ReadFault
   fault_served {start} {source} {now} {source_now} {source_new} {room} so some kept rose fields
       stood keeps empty nothing =
       record {
         taken = so.taken;
-        are_taken = subst (λ (rest : Option (List ℕ)). AreTaken (r.left source) rest so.taken)
-            (sym kept) so.are_taken;
+        are_taken = no_more r source source_now source_new so.taken [] refl so.are_taken kept;
         few = omega (arith, so.count);
         puts = whole_put start source now source_now room so fields stood keeps empty nothing;
         cause = (
@@ -221,7 +234,7 @@ module _ {R M W : Type 0} (r : source.Ghosts R) (m : memory.Ghosts M) (w : sink.
       {new : Moment M W} {source_new : R} {room room_new : ℕ} (bytes : List ℕ)
       → IsServedTo start source now source_now room
       → room_new + length bytes ≡ room
-      → AreTaken (r.left source_now) (r.left source_new) bytes
+      → AreTaken r source_now source_new bytes
       → r.faults source_now ≤ r.faults source_new
       → (m.is_honest new.memory → m.is_honest now.memory)
       → m.faults now.memory ≤ m.faults new.memory → w.faults now.sink ≤ w.faults new.sink
@@ -234,8 +247,7 @@ module _ {R M W : Type 0} (r : source.Ghosts R) (m : memory.Ghosts M) (w : sink.
       less next source_rises honest memory_rises sink_rises serves nothing =
       record {
         taken = so.taken ++ bytes;
-        are_taken = taken_both (r.left source) (r.left source_now) (r.left source_new) so.taken
-            bytes so.are_taken next;
+        are_taken = taken_both r source source_now source_new so.taken bytes so.are_taken next;
         count = omega (arith, so.count, less, length-append so.taken bytes);
         serves = λ fields stood keeps empty none.
             rw (nothing, cut_anywhere no_lines so.taken bytes)
@@ -252,7 +264,7 @@ module _ {R M W : Type 0} (r : source.Ghosts R) (m : memory.Ghosts M) (w : sink.
       (new : Moment M W) {source_new : R} {room : ℕ} (bytes : List ℕ) {served : Served}
       → IsServedTo start source now source_now room
       → length bytes ≤ room
-      → AreTaken (r.left source_now) (r.left source_new) bytes
+      → AreTaken r source_now source_new bytes
       → (served ≡ Done → ⊥)
       → ((fields : DeskFields) (cut : LineCut) (first : W) → ServedAt m w first now fields cut
       → PutsPiece m w first now.sink new.sink now.memory new.memory fields new.desk new.held
@@ -281,8 +293,7 @@ module _ {R M W : Type 0} (r : source.Ghosts R) (m : memory.Ghosts M) (w : sink.
       in
       record {
         taken = taken;
-        are_taken = taken_both (r.left source) (r.left source_now) (r.left source_new) so.taken
-            bytes so.are_taken next;
+        are_taken = taken_both r source source_now source_new so.taken bytes so.are_taken next;
         few = omega (arith, so.count, few, length-append so.taken bytes);
         puts = line_puts outside_old outside_new fields taken served lines;
         cause = line_cause outside_old outside_new fields (all_lines taken) (length taken) served

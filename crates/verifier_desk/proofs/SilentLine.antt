@@ -3,10 +3,11 @@ use Rattle.std.proofs.Common.{◌≡◌, ℕ, List, [], ◌∷◌, Result, Ok, E
 use Rattle.std.specs.Prelude.{◌↔◌, IfOk}
 use Rattle.verifier_desk.specs.declared.desk_line.SaidLine.{SaidLine}
 use Rattle.verifier_desk.specs.declared.desk_line.SaidLine.TheVariants as said
-use Rattle.verifier_desk.specs.DeskLine.{line_of_words}
+use Rattle.verifier_desk.specs.DeskLine.{desk_line_of_words}
 use Rattle.verifier_desk.specs.OwnLine.{said_at}
 
-pub silent_is : (one : SaidLine) (words : List (List ℕ)) → line_of_words [] words ≡ said_at [] one
+pub silent_is : (one : SaidLine) (words : List (List ℕ))
+    → desk_line_of_words [] words ≡ said_at [] one
     → (one ≡ said.Silent) ↔ (words ≡ [])
 silent_is said.Silent [] same = (λ is. refl, λ is. refl)
 silent_is said.Foreign [] same = absurd (cc same)

@@ -32,12 +32,13 @@ own_or_foreign (Some key) (Ok number) verb name words =
 own_or_foreign key number verb name words = Foreign
 
 -- `ask NAME R ..` or `give NAME R ..`
-abbrev pub line_of_words : List DeviceKey → List (List ℕ) → DeskLine
-line_of_words devices [] = Silent
-line_of_words devices (verb ∷ name ∷ number ∷ words) =
+abbrev pub desk_line_of_words : List DeviceKey → List (List ℕ) → DeskLine
+desk_line_of_words devices [] = Silent
+desk_line_of_words devices (verb ∷ name ∷ number ∷ words) =
     own_or_foreign (key_named name devices) (decimal_of 1 4294967295 number) verb name words
-line_of_words devices words = Foreign
+desk_line_of_words devices words = Foreign
 
-abbrev pub line_of : List DeviceKey → List ℕ → DeskLine
-line_of devices line =
-    if nat_lt LONGEST_LINE (length line) then TooLong else line_of_words devices (words_of line)
+abbrev pub desk_line_of : List DeviceKey → List ℕ → DeskLine
+desk_line_of devices line =
+    if nat_lt LONGEST_LINE (length line) then TooLong
+    else desk_line_of_words devices (words_of line)

@@ -13,7 +13,7 @@ use Rattle.desk_memory.specs.declared.answer.Answer.TheVariants.{Stale, Requeste
 use Rattle.desk_memory.specs.declared.device_state.DeviceState.{DeviceState}
 use Rattle.desk_memory.specs.DeviceState.{is_new, new_device}
 use Rattle.desk_memory.specs.Entry.{state_named}
-use Rattle.verifier_desk.specs.DeskLine.{DeskLine, Own, line_of}
+use Rattle.verifier_desk.specs.DeskLine.{DeskLine, Own, desk_line_of}
 use Rattle.verifier_desk.specs.DeviceKey.{DeviceKey, key_named}
 use Rattle.verifier_desk.specs.DeviceLine.{DeviceLine}
 use Rattle.verifier_desk.specs.DeviceReply.{answer_after, desk_challenge, state_after}
@@ -30,7 +30,7 @@ is_named name (Own device line) = bytes_eq device.name name
 is_named name line = false
 
 abbrev pub is_of : DeskFields → List ℕ → List ℕ → Bool
-is_of desk name line = is_named name (line_of desk.devices line)
+is_of desk name line = is_named name (desk_line_of desk.devices line)
 
 -- the lines of one device, and the replies to them
 abbrev pub lines_of_device : DeskFields → List ℕ → List (List ℕ) → List (List ℕ)

@@ -10,6 +10,7 @@ pub mod Law
 pub mod LineCut
 pub mod Noted
 pub mod OwnLine
+pub mod Places
 pub mod Replies
 pub mod Reply
 pub mod Run

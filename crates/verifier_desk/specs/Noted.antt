@@ -3,7 +3,7 @@ use Rattle.std.specs.Prelude.{ℕ, List, [], ◌∷◌, if◌then◌else◌, Opt
 use Rattle.desk_memory.specs.DeviceState.{is_new}
 use Rattle.desk_memory.specs.Entry.{Entry, with_entry}
 use Rattle.desk_memory.specs.KeyMark.{key_mark}
-use Rattle.verifier_desk.specs.DeskLine.{DeskLine, Own, line_of}
+use Rattle.verifier_desk.specs.DeskLine.{DeskLine, Own, desk_line_of}
 use Rattle.verifier_desk.specs.DeviceKey.{DeviceKey}
 use Rattle.verifier_desk.specs.DeviceLine.{DeviceLine}
 use Rattle.verifier_desk.specs.Replies.{DeskFields, lines_said, state_at}
@@ -33,5 +33,5 @@ with_noted (Some entry) entries = with_entry entries entry
 abbrev pub entries_after : DeskFields → List (List ℕ) → List Entry
 entries_after desk [] = desk.entries
 entries_after desk (line ∷ earlier) =
-    with_noted (noted_of desk (lines_said desk earlier) (line_of desk.devices line))
+    with_noted (noted_of desk (lines_said desk earlier) (desk_line_of desk.devices line))
     (entries_after desk earlier)

@@ -2,8 +2,8 @@
 use Rattle.std.specs.Prelude.{ℕ, ◌++◌, Bool, false, List, [], ◌∷◌, if◌then◌else◌, Option, codes}
 use Rattle.std.specs.Fmt.{decimal}
 use Rattle.std.specs.Str.{bytes_eq}
-use Rattle.hex.specs.Hex.{encode_lower}
 use Rattle.part_definitions.specs.Request.{request_token}
+use Rattle.report_text.specs.RequestLine.{request_fields}
 use Rattle.report_text.specs.VerdictName.{verdict_name}
 use Rattle.report_verifier.specs.Expectation.{count_bytes}
 use Rattle.report_verifier.specs.Judge.{Judge}
@@ -13,7 +13,7 @@ use Rattle.desk_memory.specs.declared.answer.Answer.TheVariants.{Stale, Bad, Spe
 use Rattle.desk_memory.specs.declared.device_state.DeviceState.{DeviceState}
 use Rattle.desk_memory.specs.Entry.{Entry, state_named}
 use Rattle.desk_memory.specs.FaultName.{fault_name}
-use Rattle.verifier_desk.specs.DeskLine.{DeskLine, TooLong, Silent, Foreign, Own, line_of}
+use Rattle.verifier_desk.specs.DeskLine.{DeskLine, TooLong, Silent, Foreign, Own, desk_line_of}
 use Rattle.verifier_desk.specs.DeviceKey.{DeviceKey}
 use Rattle.verifier_desk.specs.DeviceLine.{DeviceLine}
 use Rattle.verifier_desk.specs.DeviceReply.{answer_after, desk_challenge, is_new_give, state_from}
@@ -40,12 +40,11 @@ abbrev pub state_at : DeskFields → DeviceKey → List DeviceLine → DeviceSta
 state_at desk device lines =
     state_from (judge_at desk device) (state_named desk.entries device.name) lines
 
--- ` H64 n token H64`
-abbrev pub request_words : (List ℕ → List ℕ) → List ℕ → ℕ → List ℕ
-request_words digest key count =
-    codes " " ++ encode_lower (desk_challenge digest key count) ++ codes " " ++ decimal count
-    ++ codes " token "
-    ++ encode_lower (request_token digest key (desk_challenge digest key count) (count_bytes count))
+-- a request with the desk's challenge of this counter
+abbrev pub requested_words : (List ℕ → List ℕ) → List ℕ → ℕ → List ℕ
+requested_words digest key count =
+    let chal = desk_challenge digest key count in
+    codes " " ++ request_fields chal count (request_token digest key chal (count_bytes count))
 
 abbrev pub answer_verb : Answer → List ℕ
 answer_verb Stale = codes "stale"
@@ -56,7 +55,7 @@ answer_verb (Judged decision) = codes "verdict"
 
 abbrev pub answer_words : (List ℕ → List ℕ) → List ℕ → Answer → List ℕ
 answer_words digest key (Bad kind) = codes " " ++ fault_name kind
-answer_words digest key (Requested count) = request_words digest key count
+answer_words digest key (Requested count) = requested_words digest key count
 answer_words digest key (Judged decision) = codes " " ++ verdict_name decision
 answer_words digest key answer = []
 
@@ -74,7 +73,7 @@ own_line name line = []
 abbrev pub own_lines : List DeviceKey → List ℕ → List (List ℕ) → List DeviceLine
 own_lines devices name [] = []
 own_lines devices name (line ∷ earlier) =
-    own_line name (line_of devices line) ++ own_lines devices name earlier
+    own_line name (desk_line_of devices line) ++ own_lines devices name earlier
 
 -- the lines of each device among these
 abbrev pub lines_said : DeskFields → List (List ℕ) → List ℕ → List DeviceLine
@@ -101,7 +100,7 @@ gives_report desk earlier said = false
 
 -- the reply to a line after earlier ones
 abbrev pub reply : DeskFields → List (List ℕ) → List ℕ → List ℕ
-reply desk earlier line = reply_to desk (lines_said desk earlier) (line_of desk.devices line)
+reply desk earlier line = reply_to desk (lines_said desk earlier) (desk_line_of desk.devices line)
 
 -- the replies to lines, the newest first, in the order of the lines
 abbrev pub replies : DeskFields → List (List ℕ) → List ℕ

@@ -1,5 +1,5 @@
 -- What a desk that serves a source puts into a sink, and what a crash leaves of its memory.
-use Rattle.std.specs.Prelude.{◌≡◌, ◌<◌, ◌≤◌, ◌⊎◌, ◌++◌, ℕ, Bool, false, List, [], ◌∷◌, length, Option, Some, None, IfSome, IsTrue}
+use Rattle.std.specs.Prelude.{◌≡◌, ◌<◌, ◌≤◌, ◌+◌, ◌⊎◌, ◌++◌, ℕ, Bool, false, List, [], ◌∷◌, length, Option, Some, None, IfSome, IsTrue}
 use Rattle.outside_edge.specs.Count.{Rose}
 use Rattle.outside_edge.specs.Sink.{Takes}
 use Rattle.outside_edge.specs.declared.sink.Sink as sink
@@ -13,7 +13,7 @@ use Rattle.verifier_desk.specs.declared.desk.Desk.{Desk}
 use Rattle.verifier_desk.specs.declared.served.Served.{Served}
 use Rattle.verifier_desk.specs.declared.served.Served.TheVariants.{Done, Spent, ReadFault, WriteFault, Memory, Unkept}
 use Rattle.verifier_desk.specs.Desk.{DeskStandsFor}
-use Rattle.verifier_desk.specs.DeskLine.{line_of}
+use Rattle.verifier_desk.specs.DeskLine.{desk_line_of}
 use Rattle.verifier_desk.specs.HeldLine.{HoldsRest}
 use Rattle.verifier_desk.specs.LineCut.{LineCut, all_lines, whole_lines}
 use Rattle.verifier_desk.specs.Noted.{entries_after}
@@ -23,11 +23,17 @@ use Rattle.verifier_desk.specs.Replies.{DeskFields, gives_report, lines_said, re
 abbrev pub most_input : ℕ
 most_input = 1073741824
 
--- these bytes were taken of those that were left, where they are told
-abbrev pub AreTaken : Option (List ℕ) → Option (List ℕ) → List ℕ → Type 0
-AreTaken (Some left) (Some rest) taken = left ≡ taken ++ rest
-AreTaken None None taken = Unit {0}
-AreTaken left rest taken = ⊥
+-- these are the first of the bytes that were left, where they are told
+abbrev pub AreFirst : Option (List ℕ) → Option (List ℕ) → List ℕ → Type 0
+AreFirst (Some left) (Some rest) taken = left ≡ taken ++ rest
+AreFirst None None taken = Unit {0}
+AreFirst left rest taken = ⊥
+
+-- these bytes were taken of a source, which gave so many, told or not
+pub record AreTaken {R : Type 0} (r : source.Ghosts R) (old new : R) (taken : List ℕ)
+    : Type 0 where
+  pub first : AreFirst (r.left old) (r.left new) taken
+  pub given : r.given new ≡ r.given old + length taken
 
 -- a memory has these entries, and whatever crash leaves them and no others
 pub record Keeps {M : Type 0} (m : memory.Ghosts M) (now : M) (entries : List Entry)
@@ -83,7 +89,7 @@ abbrev pub StopsBefore : {M W : Type 0} → memory.Ghosts M → sink.Ghosts W �
 StopsBefore m w first now memory_now fields lines =
     (later : List (List ℕ)) × (line : List ℕ) × (earlier : List (List ℕ))
     × (lines ≡ later ++ line ∷ earlier)
-    × IsTrue (gives_report fields (lines_said fields earlier) (line_of fields.devices line))
+    × IsTrue (gives_report fields (lines_said fields earlier) (desk_line_of fields.devices line))
     × HasAnswered m w first now memory_now fields earlier
 
 -- what was put, where these bytes were taken: the replies to all lines, to all that are whole, a
@@ -115,8 +121,8 @@ abbrev pub HasFailed : {M : Type 0} → memory.Ghosts M → M → M → MemoryFa
 HasFailed m old new fault =
     ((fault ≡ refused.Memory) × m.lacks) ⊎ Rose (m.faults old) (m.faults new)
 
--- why it ended so, where it took so many bytes: the source is at its end before the limit, or at
--- the limit; or a fault was counted
+-- why it ended so, where it took so many bytes: the source is at its end before the limit, or has
+-- given as many as the limit; or a fault was counted
 abbrev pub HasCause : {R M W : Type 0} → source.Ghosts R → memory.Ghosts M → sink.Ghosts W
     → Outside R M W → Outside R M W → ℕ → Served → Type 0
 HasCause r m w old new count Done =
@@ -134,7 +140,7 @@ pub record Serves {R M W : Type 0} (r : source.Ghosts R) (m : memory.Ghosts M)
     (w : sink.Ghosts W) (desk : DeskFields) (old new : Outside R M W) (served : Served)
     : Type 0 where
   pub taken : List ℕ
-  pub are_taken : AreTaken (r.left old.source) (r.left new.source) taken
+  pub are_taken : AreTaken r old.source new.source taken
   pub few : length taken ≤ most_input
   pub puts : PutsReplies m w old.sink new.sink new.memory desk taken served
   pub cause : HasCause r m w old new (length taken) served
@@ -174,7 +180,7 @@ abbrev pub LacksAt : {M W : Type 0} → memory.Ghosts M → sink.Ghosts W → W 
 LacksAt m w first now memory_now withheld fields lines =
     (later : List (List ℕ)) × (line : List ℕ) × (earlier : List (List ℕ))
     × (lines ≡ later ++ line ∷ earlier)
-    × IsTrue (gives_report fields (lines_said fields earlier) (line_of fields.devices line))
+    × IsTrue (gives_report fields (lines_said fields earlier) (desk_line_of fields.devices line))
     × Told m w first now memory_now withheld fields earlier
 
 -- these lines were answered up to the first fault

@@ -2,12 +2,12 @@ ghost use Rattle.std.specs.Prelude.{◌≡◌, ◌≤◌, ◌+◌, ◌++◌, len
 ghost use Rattle.sha2.specs.Sha256.{sha256};
 ghost use Rattle.report_text.specs.VerdictName.{verdict_name};
 ghost use Rattle.desk_memory.specs.FaultName.{fault_name};
-ghost use Rattle.verifier_desk.specs.Replies.{answer_line, answer_verb, answer_words, request_words};
+ghost use Rattle.verifier_desk.specs.Replies.{answer_line, answer_verb, answer_words};
 
 use crate::challenge::desk_challenge;
 use desk_memory::{Answer, fault_name};
 use line_buffer::LineBuffer;
-use report_text::verdict_name;
+use report_text::{push_request_fields, verdict_name};
 use report_verifier::token;
 
 /// The line of an answer: its verb, the device's name, the number of the device's line, and what
@@ -51,7 +51,11 @@ fn push_words(line: &mut LineBuffer, key: &[u8; 64], answer: Answer)
     match answer {
         Answer::Stale | Answer::Spent => {}
         Answer::Bad(kind) => push_name(line, fault_name(kind)),
-        Answer::Requested(count) => push_request(line, key, count),
+        Answer::Requested(count) => {
+            let chal = desk_challenge(key, count);
+            line.push(b" ");
+            push_request_fields(line, &chal, count, &token(key, &chal, count));
+        }
         Answer::Judged(decision) => push_name(line, verdict_name(decision)),
     }
 }
@@ -64,18 +68,4 @@ fn push_name(line: &mut LineBuffer, name: &[u8])
 {
     line.push(b" ");
     line.push(name);
-}
-
-fn push_request(line: &mut LineBuffer, key: &[u8; 64], count: u32)
-    requires { length line.old ≤ 64 }
-    ensures text { line.new ≡ line.old ++ request_words sha256 key.now count }
-    ensures len { length line.new ≤ length line.old + 157 }
-{
-    let chal = desk_challenge(key, count);
-    line.push(b" ");
-    line.push_hex(&chal);
-    line.push(b" ");
-    line.push_decimal(u64::from(count));
-    line.push(b" token ");
-    line.push_hex(&token(key, &chal, count));
 }

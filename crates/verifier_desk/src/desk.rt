@@ -3,7 +3,7 @@ ghost use Rattle.mem_map.specs.Image.{byte_in};
 ghost use Rattle.text_scan.specs.Word.{words_of};
 ghost use Rattle.desk_memory.specs.Entry.{state_named};
 ghost use Rattle.verifier_desk.specs.declared.desk_line.SaidLine.TheVariants.{Silent};
-ghost use Rattle.verifier_desk.specs.DeskLine.{Own, line_of_words};
+ghost use Rattle.verifier_desk.specs.DeskLine.{Own, desk_line_of_words};
 ghost use Rattle.verifier_desk.specs.DeviceKey.{DeviceKey as DeviceFields, key_named};
 ghost use Rattle.verifier_desk.specs.DeviceLine.{DeviceLine};
 ghost use Rattle.verifier_desk.specs.OwnLine.{line_in, own_or_none, said_at};
@@ -19,7 +19,7 @@ use crate::noting::note_new;
 use crate::reply::Reply;
 use desk_memory::{DeviceState, Entry, Memory, state_of};
 use mem_map::Image;
-use report_verifier::Policy;
+use report_verifier::{Policy, Verifier};
 use std::alloc::{AllocError, Global};
 
 /// A desk: its devices with their states, in one order, and what it judges their reports by.
@@ -87,7 +87,7 @@ impl Desk {
         ensures answers { (fields : DeskFields) (lines : List ℕ → List DeviceLine)
             → DeskStandsFor self.old fields lines
             → Answers M.Memory memory.old memory.new self.new fields lines
-            (line_of_words fields.devices (words_of line.now)) (reply_in result) }
+            (desk_line_of_words fields.devices (words_of line.now)) (reply_in result) }
         ensures kept { OnErr result (self.new ≡ self.old) }
         ensures silent { IfOk result (λ reply. (reply ≡ None) ↔ (words_of line.now ≡ [])) }
         ensures only { OnlyNotes M.Memory memory.old memory.new }
@@ -152,19 +152,16 @@ impl Desk {
         ensures only { OnlyNotes M.Memory memory.old memory.new }
     {
         let mut state = self.states[place];
-        let is_new = state.is_new(own.number);
         let device = self.keys.device_at(place);
-        let answer = answer_device(
-            self.alloc,
-            device.key(),
-            &self.image,
-            &self.policy,
-            &mut state,
-            own,
-        )?;
-        note_new(is_new, device, state, memory)?;
-        let line = answer_line(device.key(), device.name(), own.number, answer);
+        let verifier = Verifier {
+            key: device.key(),
+            image: &self.image,
+            policy: &self.policy,
+        };
+        let outcome = answer_device(self.alloc, &verifier, &mut state, own)?;
+        note_new(outcome.is_new, device, state, memory)?;
+        let line = answer_line(device.key(), device.name(), own.number, outcome.answer);
         self.states[place] = state;
-        Ok(Reply::new(line, is_new))
+        Ok(Reply::new(line, outcome.is_new))
     }
 }

@@ -1,6 +1,6 @@
 ghost use Rattle.std.specs.Prelude.{◌≡◌, ◌∷◌, List};
 ghost use Rattle.text_scan.specs.Word.{words_of};
-ghost use Rattle.verifier_desk.specs.DeskLine.{line_of_words};
+ghost use Rattle.verifier_desk.specs.DeskLine.{desk_line_of_words};
 ghost use Rattle.verifier_desk.specs.DeviceKey.{DeviceKey};
 ghost use Rattle.verifier_desk.specs.OwnLine.{said_at};
 
@@ -34,7 +34,7 @@ pub enum SaidLine<'a> {
 /// What a line says: `ask NAME R ..` or `give NAME R ..` is a line of a device.
 pub fn read_desk_line<'a>(line: &'a [u8]) -> SaidLine<'a>
     ensures { (devices : List DeviceKey)
-        → line_of_words devices (words_of line.now) ≡ said_at devices result }
+        → desk_line_of_words devices (words_of line.now) ≡ said_at devices result }
 {
     let mut words = Words::new(line);
     let Ok(verb) = words.word() else {
@@ -51,7 +51,7 @@ pub fn read_desk_line<'a>(line: &'a [u8]) -> SaidLine<'a>
 
 fn read_own<'a>(verb: &[u8], name: &'a [u8], number: &[u8], rest: &'a [u8]) -> SaidLine<'a>
     ensures { (devices : List DeviceKey)
-        → line_of_words devices (verb.now ∷ name.now ∷ number.now ∷ words_of rest.now)
+        → desk_line_of_words devices (verb.now ∷ name.now ∷ number.now ∷ words_of rest.now)
         ≡ said_at devices result }
 {
     let is_give = verb == b"give".as_slice();

@@ -1,8 +1,8 @@
 ghost use Rattle.std.specs.Prelude.{◌≡◌, IsTrue, IfOk, OnOk, OnErr, IfSome, option_map};
-ghost use Rattle.report_verifier.specs.Judge.{judge_with};
+ghost use Rattle.report_verifier.specs.Judge.{judge_of};
 ghost use Rattle.report_verifier.specs.Validity.{are_valid_for};
-ghost use Rattle.mem_map.specs.Image.{byte_in};
 ghost use Rattle.sha2.specs.Sha256.{sha256};
+ghost use Rattle.desk_memory.specs.DeviceState.{is_new};
 ghost use Rattle.text_scan.specs.Word.{words_of};
 ghost use Rattle.report_verifier.specs.Policy.{expectation};
 ghost use Rattle.report_text.specs.ReportFile.{report2_of};
@@ -12,11 +12,17 @@ ghost use Rattle.verifier_desk.specs.OwnLine.{line_in};
 use crate::challenge::desk_challenge;
 use crate::desk_line::OwnLine;
 use desk_memory::{Answer, DeviceState};
-use mem_map::Image;
 use report_text::read_report2;
-use report_verifier::{Expect, Policy, decide};
+use report_verifier::{Expect, Policy, Verifier, decide};
 use std::alloc::{AllocError, Global};
 use text_scan::{FaultKind, WordFault, Words};
+
+/// The answer to a line of a device, and whether its number is new.
+#[derive(Clone, Copy, Debug)]
+pub struct DeviceAnswer {
+    pub answer: Answer,
+    pub is_new: bool,
+}
 
 /// The answer to a new line that asks, where this is what follows its number.
 pub fn answer_to_ask(count: u32, rest: &[u8]) -> Answer
@@ -34,23 +40,27 @@ pub fn answer_to_ask(count: u32, rest: &[u8]) -> Answer
 /// The answer to a new line that gives a report.
 pub fn answer_to_give(
     alloc: Global,
-    key: &[u8; 64],
-    image: &Image,
-    policy: &Policy,
+    verifier: &Verifier<'_>,
     outstanding: Option<u32>,
     rest: &[u8],
 ) -> Result<Answer, AllocError>
     ensures { IfOk result (λ answer. answer
-        ≡ answer_to_give (judge_with key.now (byte_in image.now) policy.now)
-        outstanding (report2_of (words_of rest.now))) }
+        ≡ answer_to_give (judge_of sha256 verifier.now) outstanding
+        (report2_of (words_of rest.now))) }
 {
     let report = match read_report2(alloc, rest) {
         Ok(report) => report,
         Err(WordFault::Kind(kind)) => return Ok(Answer::Bad(kind)),
         Err(WordFault::Memory(error)) => return Err(error),
     };
-    let expect = expectation(key, policy, outstanding);
-    Ok(Answer::Judged(decide(key, image, expect.as_ref(), &report.view())))
+    let expect = expectation(verifier.key, verifier.policy, outstanding);
+    let decision = decide(
+        verifier.key,
+        verifier.image,
+        expect.as_ref(),
+        &report.view(),
+    );
+    Ok(Answer::Judged(decision))
 }
 
 // What a report shall name.
@@ -73,19 +83,16 @@ fn expectation(key: &[u8; 64], policy: &Policy, outstanding: Option<u32>) -> Opt
 // The answer to a line with a new number.
 fn new_answer(
     alloc: Global,
-    key: &[u8; 64],
-    image: &Image,
-    policy: &Policy,
+    verifier: &Verifier<'_>,
     state: &DeviceState,
     own: &OwnLine<'_>,
 ) -> Result<Answer, AllocError>
     ensures answer { IfOk result (λ answer. answer
-        ≡ new_answer (judge_with key.now (byte_in image.now) policy.now) state.now
-        (line_in own.now)) }
+        ≡ new_answer (judge_of sha256 verifier.now) state.now (line_in own.now)) }
     ensures memory { OnErr result (IsTrue own.now.is_give) }
 {
     if own.is_give {
-        return answer_to_give(alloc, key, image, policy, state.outstanding, own.rest);
+        return answer_to_give(alloc, verifier, state.outstanding, own.rest);
     }
     Ok(answer_to_ask(state.count, own.rest))
 }
@@ -94,25 +101,29 @@ fn new_answer(
 /// state as it was.
 pub fn answer_device(
     alloc: Global,
-    key: &[u8; 64],
-    image: &Image,
-    policy: &Policy,
+    verifier: &Verifier<'_>,
     state: &mut DeviceState,
     own: &OwnLine<'_>,
-) -> Result<Answer, AllocError>
-    ensures answer { IfOk result (λ answer. answer
-        ≡ answer_after (judge_with key.now (byte_in image.now) policy.now) state.old
-        (line_in own.now)) }
+) -> Result<DeviceAnswer, AllocError>
+    ensures answer { IfOk result (λ outcome. outcome.answer
+        ≡ answer_after (judge_of sha256 verifier.now) state.old (line_in own.now)) }
+    ensures new { IfOk result (λ outcome. outcome.is_new
+        ≡ is_new own.now.number state.old.last) }
     ensures state { OnOk result (state.new
-        ≡ state_after (judge_with key.now (byte_in image.now) policy.now) state.old
-        (line_in own.now)) }
+        ≡ state_after (judge_of sha256 verifier.now) state.old (line_in own.now)) }
     ensures kept { OnErr result (state.new ≡ state.old) }
     ensures memory { OnErr result (IsTrue (is_new_give state.old.last (line_in own.now))) }
 {
     if let Some(answer) = state.earlier_answer(own.number) {
-        return Ok(answer);
+        return Ok(DeviceAnswer {
+            answer,
+            is_new: false,
+        });
     }
-    let answer = new_answer(alloc, key, image, policy, state, own)?;
+    let answer = new_answer(alloc, verifier, state, own)?;
     state.keep(own.number, answer);
-    Ok(answer)
+    Ok(DeviceAnswer {
+        answer,
+        is_new: true,
+    })
 }

@@ -1,4 +1,4 @@
-ghost use Rattle.std.specs.Prelude.{◌≡◌, ◌<◌, ◌++◌, ◌∷◌, [], ℕ, Some, None, IfSome, IfNone, OnOk, length, slice_index_or};
+ghost use Rattle.std.specs.Prelude.{◌≡◌, ◌<◌, ◌++◌, ◌∷◌, [], ℕ, false, Some, None, IfSome, IfNone, OnOk, length, slice_index_or};
 ghost use Rattle.std.specs.List.{position_from};
 ghost use Rattle.std.specs.Option.{is_some};
 ghost use Rattle.std.specs.Str.{bytes_eq};
@@ -7,27 +7,33 @@ ghost use Rattle.text_scan.specs.Reader.{Reads};
 ghost use Rattle.verifier_desk.specs.DeviceKey.{DeviceKey as DeviceFields, devices_of, has_key, key_named, with_device, with_line};
 
 use crate::device_key::{DeviceKey, read_device};
+use crate::places::Places;
 use std::alloc::{AllocError, Global};
 use std::marker::Model;
 use text_scan::{FaultKind, LineReader, TextFault, WordFault, read_text};
 
-/// The devices of a file of keys in its order.
+/// The devices of a file of keys in its order, with their places by names and by keys.
 #[derive(Drop)]
 pub struct KeyList {
     devices: Vec<DeviceKey>,
+    names: Places,
+    keys: Places,
 }
 
 /// Seen as its devices.
 impl Model for KeyList {
     ghost use Rattle.std.specs.Prelude.{List};
     ghost use Rattle.verifier_desk.specs.DeviceKey.{DeviceKey as DeviceFields};
+    ghost use Rattle.verifier_desk.specs.Places.{ArePlaced, place_in};
     ghost use Rattle.verifier_desk.specs.Standing.{AreDistinct};
 
     ghost Value = { List DeviceFields };
 
     ghost view = { λ list. list.devices.items };
 
-    ghost invariant = { λ list. AreDistinct list.devices.items };
+    ghost invariant = { λ list. AreDistinct list.devices.items
+        × ArePlaced (λ device. device.name) list.devices.items (place_in list.names)
+        × ArePlaced (λ device. device.key) list.devices.items (place_in list.keys) };
 }
 
 impl<'a> LineReader<'a> for KeyList {
@@ -36,7 +42,7 @@ impl<'a> LineReader<'a> for KeyList {
     #[tactic(auto, unfolding(crate::specs::DeviceKey::with_line))]
     fn take(&mut self, alloc: Global, line: &'a [u8]) -> Result<(), WordFault> {
         let device = read_device(alloc, line)?;
-        self.add(device)
+        self.add(alloc, device)
     }
 }
 
@@ -46,24 +52,30 @@ impl KeyList {
     {
         KeyList {
             devices: Vec::new(alloc),
+            names: Places::new(alloc),
+            keys: Places::new(alloc),
         }
     }
 
     // Puts a device after the others, where its name and its key are new.
-    fn add(&mut self, device: DeviceKey) -> Result<(), WordFault>
+    fn add(&mut self, alloc: Global, device: DeviceKey) -> Result<(), WordFault>
         ensures { TakesLine result self.new (with_device self.old device) }
     {
         if self.has_name(device.name()) || self.has_key(device.key()) {
             return Err(WordFault::Kind(FaultKind::Twice));
         }
-        self.push(device).map_err(WordFault::Memory)
+        self.push(alloc, device).map_err(WordFault::Memory)
     }
 
-    // Puts a device with a new name after the others.
-    fn push(&mut self, device: DeviceKey) -> Result<(), AllocError>
-        requires { key_named device.name self.old ≡ None }
+    // Puts a device with a new name and a new key after the others.
+    fn push(&mut self, alloc: Global, device: DeviceKey) -> Result<(), AllocError>
+        requires name { key_named device.name self.old ≡ None }
+        requires key { has_key device.key self.old ≡ false }
         ensures { OnOk result (self.new ≡ self.old ++ device ∷ []) }
     {
+        let place = self.devices.len();
+        self.names.insert(alloc, device.name(), place)?;
+        self.keys.insert(alloc, device.key(), place)?;
         self.devices.push(device)?;
         Ok(())
     }
@@ -86,11 +98,20 @@ impl KeyList {
         self.first_named(name)
     }
 
-    // The place of the first device of a name.
+    // The place of the first device of a name. A place that was noted before memory ran out has no
+    // device, or another one.
     fn first_named(&self, name: &[u8]) -> Option<usize>
         ensures { result ≡ position_from (λ device. bytes_eq device.name name.now) 0 self.now }
     {
-        self.devices.iter().position(|device| device.name() == name)
+        let place = self.names.get(name)?;
+        if place >= self.devices.len() {
+            return None;
+        }
+        if self.devices[place].name() == name {
+            Some(place)
+        } else {
+            None
+        }
     }
 
     // Whether a device has this name.
@@ -104,7 +125,10 @@ impl KeyList {
     fn has_key(&self, key: &[u8; 64]) -> bool
         ensures { result ≡ has_key key.now self.now }
     {
-        self.devices.iter().any(|device| device.key() == key)
+        match self.keys.get(key) {
+            Some(place) => place < self.devices.len() && self.devices[place].key() == key,
+            None => false,
+        }
     }
 
     /// The device at a place.

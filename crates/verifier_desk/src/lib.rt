@@ -25,6 +25,7 @@ mod key_list;
 mod key_owner;
 mod law;
 mod noting;
+mod places;
 mod reply;
 mod served;
 mod session;

@@ -9,7 +9,7 @@ ghost use Rattle.verifier_desk.specs.Serving.{AreTaken, HasServed, Keeps, PutsLi
 use crate::desk::Desk;
 use crate::held_line::HeldLine;
 use crate::served::Served;
-use crate::telling::{answer_line, put_after};
+use crate::telling::{put_after, serve_line};
 use crate::withheld::Withheld;
 use desk_memory::Memory;
 use memchr::memchr;
@@ -95,10 +95,9 @@ fn take_piece<R: Source>(source: &mut R, piece: &mut [u8], room: u64) -> Result<
     requires { (0 < length piece.old) × (0 < room) }
     ensures within { IfOk result (λ n. n ≤ length piece.new) }
     ensures few { IfOk result (λ n. n ≤ room) }
-    ensures bytes { IfOk result (λ n.
-        AreTaken (R.left source.old) (R.left source.new) (take n piece.new)) }
+    ensures bytes { IfOk result (λ n. AreTaken R.Source source.old source.new (take n piece.new)) }
     ensures ends { IfOk result (λ n. n ≡ 0 → IfSome (R.left source.new) (λ left. left ≡ [])) }
-    ensures kept { OnErr result (R.left source.new ≡ R.left source.old) }
+    ensures kept { OnErr result (AreTaken R.Source source.old source.new []) }
     ensures counts { CountsFaults R.faults source.old source.new result }
 {
     let most = (piece.len() as u64).min(room) as usize;
@@ -149,7 +148,7 @@ fn answer_lines<M: Memory, W: Sink>(
     let mut rest = piece;
     while let Some(end) = line_end(rest) {
         held.push(&rest[..end]);
-        match answer_line(desk, held.ended(), withheld, memory, sink) {
+        match serve_line(desk, held.ended(), withheld, memory, sink) {
             Served::Done => held.clear(),
             ended => return ended,
         }
@@ -186,6 +185,6 @@ fn answer_last<M: Memory, W: Sink>(
     ensures memory_faults { M.faults memory.old ≤ M.faults memory.new }
     ensures sink_faults { W.faults sink.old ≤ W.faults sink.new }
 {
-    let answered = answer_line(desk, held.last(), withheld, memory, sink);
+    let answered = serve_line(desk, held.last(), withheld, memory, sink);
     put_after(answered, withheld, memory, sink)
 }

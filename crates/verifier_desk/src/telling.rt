@@ -119,7 +119,7 @@ fn hold(withheld: &mut Withheld, reply: &Reply)
 }
 
 /// Answers a line; `None` is one that is too long. Its reply is held back.
-pub fn answer_line<M: Memory, W: Sink>(
+pub fn serve_line<M: Memory, W: Sink>(
     desk: &mut Desk,
     line: Option<&[u8]>,
     withheld: &mut Withheld,

@@ -8,7 +8,7 @@ use Rattle.text_scan.proofs.PlainWords.{is_plain}
 use Rattle.wave_dump.specs.declared.wire.Wire.{Wire}
 use Rattle.wave_dump.specs.declared.wire.Wire.TheVariants.{Pc, StepKind, Irq, Asked, BrokenRule, CpuOp, CpuAddress, CpuData, FetchWord, DmaOp, DmaAddress, DmaData, ErMin, ErMax, OrMin, OrMax, Exec}
 use Rattle.wave_dump.specs.Wire.{wires, wire_code}
-use Rattle.wave_dump.specs.WireValue.{bit_of}
+use Rattle.word_arith.specs.Number.{bit_of}
 use Rattle.wave_dump.specs.WaveText.{change_text, digits_text, is_bit}
 use Rattle.wave_dump.specs.WaveReader.{WavePoint, with_change, with_value}
 use Rattle.wave_dump.proofs.Fitting.{IsShort, Suits}

@@ -13,7 +13,8 @@ use Rattle.trace_line.specs.LineText.{kind_name}
 use Rattle.trace_line.specs.ReadBack.{IsAllowed, IsPrintable}
 use Rattle.wave_dump.specs.declared.wire.Wire.{Wire}
 use Rattle.wave_dump.specs.declared.wire.Wire.TheVariants.{Pc, StepKind, Irq, Asked, BrokenRule, CpuOp, CpuAddress, CpuData, FetchWord, DmaOp, DmaAddress, DmaData, ErMin, ErMax, OrMin, OrMax, Exec}
-use Rattle.wave_dump.specs.WireValue.{access_data, access_letter, access_place, bit_of, of_access, rule_number, text_number, wire_value}
+use Rattle.word_arith.specs.Number.{bit_of}
+use Rattle.wave_dump.specs.WireValue.{access_data, access_letter, access_place, of_access, rule_number, text_number, wire_value}
 use Rattle.wave_dump.specs.WaveText.{is_bit}
 
 -- a number of 32 bits, or none

@@ -1,6 +1,7 @@
 -- What the wires show of a trace line.
 use Rattle.std.specs.Prelude.{◌+◌, ◌*◌, ◌==◌, ℕ, Bool, true, false, List, [], ◌∷◌, Option, Some, None}
 use Rattle.word_arith.specs.declared.size.Size.TheVariants.{Byte, Word}
+use Rattle.word_arith.specs.Number.{bit_of}
 use Rattle.bus_signals.specs.declared.access.Access.{Access}
 use Rattle.bus_signals.specs.declared.access.Access.TheVariants.{Fetch, Read, Write}
 use Rattle.bus_signals.specs.declared.rule.Rule.{Rule}
@@ -17,10 +18,6 @@ number_onto number (character ∷ characters) = number_onto (256 * number + char
 
 abbrev pub text_number : List ℕ → ℕ
 text_number characters = number_onto 0 characters
-
-abbrev pub bit_of : Bool → ℕ
-bit_of true = 1
-bit_of false = 0
 
 -- 0 for no rule
 abbrev pub rule_number : Option Rule → ℕ

@@ -8,9 +8,9 @@ ghost use Rattle.wave_dump.specs.WaveText.{change_of, change_text, changes_text,
 
 use crate::shown_value::wire_value;
 use crate::wire::{WIRES, Wire};
-use line_buffer::LineBuffer;
+use line_buffer::{LineBuffer, flag_digit};
 use outside_edge::{Failed, Sink, put_all};
-use trace_line::{TraceLine, flag_digit};
+use trace_line::TraceLine;
 
 /// Puts what a step changes, after the line of the step before, if there is one.
 pub fn print_step<W: Sink>(

@@ -1,6 +1,7 @@
 ghost use Rattle.std.specs.Prelude.{◌≡◌};
 ghost use Rattle.trace_line.specs.LineText.{kind_name};
-ghost use Rattle.wave_dump.specs.WireValue.{access_data, access_letter, access_place, bit_of, of_access, rule_number, text_number, wire_value};
+ghost use Rattle.word_arith.specs.Number.{bit_of};
+ghost use Rattle.wave_dump.specs.WireValue.{access_data, access_letter, access_place, of_access, rule_number, text_number, wire_value};
 
 use crate::wire::Wire;
 use bus_signals::{Access, Kind, Rule};

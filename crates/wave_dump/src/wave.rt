@@ -67,6 +67,7 @@ impl Wave {
     }
 
     /// Puts the time after the last step, and EXEC if that step changed it.
+    #[inline(always)]
     pub fn end<W: Sink>(&self, sink: &mut W) -> Result<(), Failed>
         ensures puts { (lines : List TraceLine) → WaveStandsFor self.now lines
             → Puts W.stands sink.old sink.new (end_text lines) result }

@@ -2,13 +2,13 @@
 use Rattle.std.proofs.Common.{◌≡◌, ℕ, zero, suc, ◌<◌, ◌+◌, ◌*◌, ◌/◌, ◌%◌, ◌^◌, Bool, true, false, nat_le, refl, ap, arith}
 use Rattle.std.proofs.lemmas.Bool.Decides.{nat_tests}
 use Rattle.std.proofs.Math.Nat.{pow-suc}
-use Rattle.word_arith.specs.Number.{number_of}
+use Rattle.word_arith.specs.Number.{bit_of}
 use Rattle.word_arith.specs.Decimal.{digit_of}
 use Rattle.word_arith.specs.DecimalNumber.{coded_decimal, DecimalSumIsOfNumbers}
 
 -- what the places above the lowest add up to
 higher_sum : (left right carry : ℕ) → carry < 2
-    → left / 10 + right / 10 + number_of (nat_le 10 (left % 10 + right % 10 + carry))
+    → left / 10 + right / 10 + bit_of (nat_le 10 (left % 10 + right % 10 + carry))
     ≡ (left + right + carry) / 10
 higher_sum left right carry fits = grind (arith, nat_tests)
 
@@ -21,12 +21,12 @@ lowest_digit left right carry fits = grind (arith, nat_tests)
 reaches : (power number : ℕ) → nat_le power (number / 10) ≡ nat_le (power * 10) number
 reaches power number = grind (arith, nat_tests)
 
-number_of-lt : (carry : Bool) → number_of carry < 2
-number_of-lt true = omega arith
-number_of-lt false = omega arith
+bit_of-lt : (carry : Bool) → bit_of carry < 2
+bit_of-lt true = omega arith
+bit_of-lt false = omega arith
 
 first_carry : (left right : ℕ) (carry : Bool) → left < 1 → right < 1
-    → carry ≡ nat_le 1 (left + right + number_of carry)
+    → carry ≡ nat_le 1 (left + right + bit_of carry)
 first_carry left right true left_fits right_fits = grind (arith, nat_tests)
 first_carry left right false left_fits right_fits = grind (arith, nat_tests)
 
@@ -47,17 +47,17 @@ decimal_sum_is_of_numbers (suc places) left right carry left_fits right_fits =
     ≡ coded_decimal places (right / 10) = omega arith in
     let higher =
     decimal_sum_is_of_numbers places (left / 10) (right / 10)
-    (nat_le 10 (left % 10 + right % 10 + number_of carry)) left_rest right_rest in
+    (nat_le 10 (left % 10 + right % 10 + bit_of carry)) left_rest right_rest in
     rw (
       left_low,
       right_low,
       left_high,
       right_high,
       higher,
-      higher_sum left right (number_of carry)
-          (number_of-lt carry),
-      lowest_digit left right (number_of carry)
-          (number_of-lt carry),
-      reaches (10 ^ places) (left + right + number_of carry),
+      higher_sum left right (bit_of carry)
+          (bit_of-lt carry),
+      lowest_digit left right (bit_of carry)
+          (bit_of-lt carry),
+      reaches (10 ^ places) (left + right + bit_of carry),
       power,
     ) refl

@@ -2,11 +2,11 @@
 use Rattle.std.specs.Prelude.{◌+◌, ◌*◌, ◌/◌, ◌%◌, ℕ, zero, suc, Bool, nat_lt, nat_le, if◌then◌else◌}
 use Rattle.word_arith.specs.declared.size.Size.{Size}
 use Rattle.word_arith.specs.declared.size.Size.TheVariants.{Byte, Word}
-use Rattle.word_arith.specs.Number.{number_of}
+use Rattle.word_arith.specs.Number.{bit_of}
 
 -- the sum of the lowest decimal place, with the carry in
 abbrev pub lowest_sum : ℕ → ℕ → Bool → ℕ
-lowest_sum left right carry = left % 16 + right % 16 + number_of carry
+lowest_sum left right carry = left % 16 + right % 16 + bit_of carry
 
 -- a sum below 10 is the digit; one of 10 or more is corrected by 6, and carries
 abbrev pub digit_of : ℕ → ℕ

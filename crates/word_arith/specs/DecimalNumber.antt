@@ -1,6 +1,6 @@
 -- Numbers in binary-coded decimal, and what a decimal sum is of them.
 use Rattle.std.specs.Prelude.{◌≡◌, ◌+◌, ◌*◌, ◌/◌, ◌%◌, ◌^◌, ◌<◌, ℕ, zero, suc, Bool, nat_le}
-use Rattle.word_arith.specs.Number.{number_of}
+use Rattle.word_arith.specs.Number.{bit_of}
 use Rattle.word_arith.specs.Decimal.{decimal_places}
 
 -- the lowest `places` decimal digits of a number, a nibble a digit
@@ -16,6 +16,6 @@ DecimalSumIsOfNumbers =
     → left < 10 ^ places
     → right < 10 ^ places
     → decimal_places places (coded_decimal places left) (coded_decimal places right) carry ≡ (
-      coded_decimal places (left + right + number_of carry),
-      nat_le (10 ^ places) (left + right + number_of carry),
+      coded_decimal places (left + right + bit_of carry),
+      nat_le (10 ^ places) (left + right + bit_of carry),
     )

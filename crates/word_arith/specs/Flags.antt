@@ -5,6 +5,6 @@ use Rattle.word_arith.specs.declared.flags.Flags.{Flags}
 use Rattle.word_arith.specs.Number.{is_negative}
 
 -- N is the result's top bit, Z is set where the result is 0; C and V are the operation's own
-abbrev pub flags_of : Size → ℕ → Bool → Bool → Flags
-flags_of size outcome carry overflow =
+abbrev pub result_flags : Size → ℕ → Bool → Bool → Flags
+result_flags size outcome carry overflow =
     record { c = carry; z = outcome == 0; n = is_negative size outcome; v = overflow }

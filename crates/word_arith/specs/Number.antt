@@ -21,10 +21,10 @@ inverse size operand = modulus size - 1 - operand
 abbrev pub is_negative : Size → ℕ → Bool
 is_negative size operand = nat_le (modulus size / 2) operand
 
--- a carry as a number to add
-abbrev pub number_of : Bool → ℕ
-number_of true = 1
-number_of false = 0
+-- a flag as a number
+abbrev pub bit_of : Bool → ℕ
+bit_of true = 1
+bit_of false = 0
 
 -- two signs agree
 abbrev pub alike : Bool → Bool → Bool

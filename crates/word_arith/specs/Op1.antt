@@ -5,23 +5,23 @@ use Rattle.word_arith.specs.declared.size.Size.TheVariants.{Byte, Word}
 use Rattle.word_arith.specs.declared.flags.Flags.{Flags}
 use Rattle.word_arith.specs.declared.op1.Op1.{Op1}
 use Rattle.word_arith.specs.declared.op1.Op1.TheVariants.{Rrc, Swpb, Rra, Sxt}
-use Rattle.word_arith.specs.Number.{modulus, low_part, is_negative, number_of}
-use Rattle.word_arith.specs.Flags.{flags_of}
+use Rattle.word_arith.specs.Number.{modulus, low_part, is_negative, bit_of}
+use Rattle.word_arith.specs.Flags.{result_flags}
 use Rattle.word_arith.specs.Word16.{Word16}
 
 -- half the operand, with a bit put in at the top; C is the bit that leaves, and V is 0
 abbrev pub shift_of : Size → Word16 → Bool → ℕ × Flags
 shift_of size dst top =
     let operand : ℕ = low_part size dst in
-    let outcome : ℕ = operand / 2 + number_of top * (modulus size / 2) in
-    (outcome, flags_of size outcome (operand % 2 == 1) false)
+    let outcome : ℕ = operand / 2 + bit_of top * (modulus size / 2) in
+    (outcome, result_flags size outcome (operand % 2 == 1) false)
 
 -- the low byte with bit 7 copied to bits 8 to 15; C says that the word is not 0, and V is 0
 abbrev pub extend_of : Word16 → ℕ × Flags
 extend_of dst =
     let low : ℕ = low_part Byte dst in
     let outcome : ℕ = if is_negative Byte low then low + 0xFF00 else low in
-    (outcome, flags_of Word outcome (not (outcome == 0)) false)
+    (outcome, result_flags Word outcome (not (outcome == 0)) false)
 
 -- SWPB and SXT are of words, whatever the size
 abbrev pub shifted_size : Op1 → Size → Size

@@ -5,20 +5,20 @@ use Rattle.word_arith.specs.declared.flags.Flags.{Flags}
 use Rattle.word_arith.specs.declared.op2.Op2.{Op2}
 use Rattle.word_arith.specs.declared.op2.Op2.TheVariants.{Mov, Add, Addc, Subc, Sub, Cmp, Dadd, Bit, Bic, Bis, Xor, And}
 use Rattle.word_arith.specs.Number.{low_part, inverse, is_negative}
-use Rattle.word_arith.specs.Flags.{flags_of}
+use Rattle.word_arith.specs.Flags.{result_flags}
 use Rattle.word_arith.specs.Sum.{sum_of}
 use Rattle.word_arith.specs.Decimal.{decimal_sum}
 use Rattle.word_arith.specs.Word16.{Word16}
 
 -- a result whose carry says that it is not 0
 abbrev pub test_of : Size → ℕ → Bool → ℕ × Flags
-test_of size outcome overflow = (outcome, flags_of size outcome (not (outcome == 0)) overflow)
+test_of size outcome overflow = (outcome, result_flags size outcome (not (outcome == 0)) overflow)
 
 -- the decimal sum; C is its last decimal carry, and V is left
-abbrev pub decimal_of : Size → ℕ → ℕ → Flags → ℕ × Flags
-decimal_of size src dst flags =
+abbrev pub dadd_of : Size → ℕ → ℕ → Flags → ℕ × Flags
+dadd_of size src dst flags =
     let sum : ℕ × Bool = decimal_sum size src dst flags.c in
-    (sum.0, flags_of size sum.0 sum.1 flags.v)
+    (sum.0, result_flags size sum.0 sum.1 flags.v)
 
 -- result and flags for operands of the size
 abbrev pub alu_of : Op2 → Size → ℕ → ℕ → Flags → ℕ × Flags
@@ -28,7 +28,7 @@ alu_of Addc size src dst flags = sum_of size dst src flags.c
 alu_of Subc size src dst flags = sum_of size dst (inverse size src) flags.c
 alu_of Sub size src dst flags = sum_of size dst (inverse size src) true
 alu_of Cmp size src dst flags = sum_of size dst (inverse size src) true
-alu_of Dadd size src dst flags = decimal_of size src dst flags
+alu_of Dadd size src dst flags = dadd_of size src dst flags
 alu_of Bit size src dst flags = test_of size (bit_and dst src) false
 alu_of Bic size src dst flags = (bit_and dst (inverse size src), flags)
 alu_of Bis size src dst flags = (bit_or dst src, flags)

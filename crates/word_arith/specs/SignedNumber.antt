@@ -3,7 +3,7 @@ use Rattle.std.specs.Prelude.{◌≡◌, ◌↔◌, ◌<◌, ◌≤◌, ◌+ℤ�
 use Rattle.word_arith.specs.declared.size.Size.{Size}
 use Rattle.word_arith.specs.declared.flags.Flags.{Flags}
 use Rattle.word_arith.specs.declared.op2.Op2.TheVariants.{Cmp}
-use Rattle.word_arith.specs.Number.{modulus, is_negative, number_of, alike}
+use Rattle.word_arith.specs.Number.{modulus, is_negative, bit_of, alike}
 use Rattle.word_arith.specs.Sum.{sum_of}
 use Rattle.word_arith.specs.Op2.{alu_of}
 
@@ -20,7 +20,7 @@ OverflowIsSigned =
     → right < modulus size
     → IsFalse ((sum_of size left right carry).1.v)
     ↔ (signed_value size (sum_of size left right carry).0 ≡
-    signed_value size left +ℤ signed_value size right +ℤ pos (number_of carry))
+    signed_value size left +ℤ signed_value size right +ℤ pos (bit_of carry))
 
 -- after CMP, Z says that the operands are equal, C that the destination is not below the source,
 -- and unlike N and V that it is below the source as a signed number

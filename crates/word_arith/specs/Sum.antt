@@ -2,8 +2,8 @@
 use Rattle.std.specs.Prelude.{◌+◌, ◌%◌, ◌&&◌, ℕ, Bool, not, nat_le}
 use Rattle.word_arith.specs.declared.size.Size.{Size}
 use Rattle.word_arith.specs.declared.flags.Flags.{Flags}
-use Rattle.word_arith.specs.Number.{modulus, is_negative, number_of, alike}
-use Rattle.word_arith.specs.Flags.{flags_of}
+use Rattle.word_arith.specs.Number.{modulus, is_negative, bit_of, alike}
+use Rattle.word_arith.specs.Flags.{result_flags}
 
 -- two operands of one sign have a sum of the other
 abbrev pub overflows : Size → ℕ → ℕ → ℕ → Bool
@@ -14,6 +14,6 @@ overflows size left right sum =
 -- the remainder of the whole sum by 256 or 65,536; C is set where the whole sum reaches that
 abbrev pub sum_of : Size → ℕ → ℕ → Bool → ℕ × Flags
 sum_of size left right carry =
-    let whole : ℕ = left + right + number_of carry in
+    let whole : ℕ = left + right + bit_of carry in
     let sum : ℕ = whole % modulus size in
-    (sum, flags_of size sum (nat_le (modulus size) whole) (overflows size left right sum))
+    (sum, result_flags size sum (nat_le (modulus size) whole) (overflows size left right sum))

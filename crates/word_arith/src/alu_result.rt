@@ -1,6 +1,6 @@
 ghost use Rattle.std.specs.Prelude.{◌≡◌, ◌<◌};
 ghost use Rattle.word_arith.specs.Number.{modulus};
-ghost use Rattle.word_arith.specs.Op2.{alu_result, alu_of, test_of, decimal_of};
+ghost use Rattle.word_arith.specs.Op2.{alu_result, alu_of, test_of, dadd_of};
 
 use crate::decimal_sum::bcd_add;
 use crate::flags::Flags;
@@ -22,7 +22,7 @@ fn test(size: Size, outcome: u16, overflow: bool) -> (u16, Flags)
 
 // The decimal sum with its flags.
 fn add_decimal(size: Size, src: u16, dst: u16, flags: Flags) -> (u16, Flags)
-    ensures value { result ≡ decimal_of size src dst flags }
+    ensures value { result ≡ dadd_of size src dst flags }
     ensures fits { result.0 < modulus size }
 {
     let (sum, carry) = bcd_add(size, src, dst, flags.c);

@@ -12,11 +12,11 @@ pub struct Flags {
 }
 
 impl Flags {
-    ghost use Rattle.word_arith.specs.Flags.{flags_of};
+    ghost use Rattle.word_arith.specs.Flags.{result_flags};
 
     // The flags of a result, beside the carry and the overflow that came with it.
     pub(crate) fn of_result(size: Size, outcome: u16, carry: bool, overflow: bool) -> Flags
-        ensures { result ≡ flags_of size outcome carry overflow }
+        ensures { result ≡ result_flags size outcome carry overflow }
     {
         Flags {
             c: carry,

@@ -1,8 +1,8 @@
 use crate::command_end::CommandEnd;
 use crate::ending::Ending;
 use crate::kind::source::Source;
-use crate::put_fault::PutFault;
 use crate::task::Task;
+use device_play::PutFault;
 use hex_loader::write_hex;
 use input_files::{File, Inputs, Refusal};
 use outside_edge::{Shelf, Sink};
@@ -27,6 +27,8 @@ impl<'a> Task<'a> for Asm<'a> {
     ghost command_row = { λ asm. asm_row asm.source.name.now };
 
     ghost outcome = { λ asm image. plain (hex_text (byte_in image)) };
+
+    ghost once_put = { λ outcome. Unit {0} };
 
     fn from_arguments(arguments: &'a [String]) -> Option<Asm<'a>> {
         let [source] = arguments else {

@@ -1,8 +1,8 @@
 use crate::command_end::CommandEnd;
 use crate::ending::Ending;
 use crate::kind::trace::Trace;
-use crate::put_fault::PutFault;
 use crate::task::Task;
+use device_play::PutFault;
 use input_files::{File, Inputs, Refusal};
 use outside_edge::{Shelf, Sink};
 use std::alloc::Global;
@@ -24,6 +24,8 @@ impl<'a> Task<'a> for Audit<'a> {
     ghost command_row = { λ audit. audit_row audit.trace.name.now };
 
     ghost outcome = { λ audit audited. audit_outcome audited };
+
+    ghost once_put = { λ outcome. Unit {0} };
 
     fn from_arguments(arguments: &'a [String]) -> Option<Audit<'a>> {
         let [trace] = arguments else {

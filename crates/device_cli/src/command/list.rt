@@ -1,7 +1,7 @@
 use crate::command_end::CommandEnd;
 use crate::ending::Ending;
-use crate::put_fault::PutFault;
 use crate::task::Task;
+use device_play::PutFault;
 use input_files::{File, Image, Inputs, Refusal};
 use msp_disasm::write_listing;
 use outside_edge::{Shelf, Sink};
@@ -26,6 +26,8 @@ impl<'a> Task<'a> for List<'a> {
     ghost command_row = { λ list. list_row list.image.name.now };
 
     ghost outcome = { λ list image. plain (listing (byte_in image)) };
+
+    ghost once_put = { λ outcome. Unit {0} };
 
     fn from_arguments(arguments: &'a [String]) -> Option<List<'a>> {
         let [image] = arguments else {

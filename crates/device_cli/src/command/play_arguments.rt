@@ -1,5 +1,5 @@
 ghost use Rattle.std.specs.Prelude.{◌≤◌};
-ghost use Rattle.device_cli.specs.Limit.{most_steps};
+ghost use Rattle.device_play.specs.Limit.{most_steps};
 
 use crate::command::play_files::{PlayFiles, play_files};
 use text_scan::decimal;

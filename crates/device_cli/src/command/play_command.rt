@@ -1,11 +1,11 @@
 use crate::command::play_arguments::PlayArguments;
 use crate::command::play_files::PlayValues;
-use crate::command::telling::Telling;
+use crate::command::telling::{Telling, tell};
 use crate::command_end::CommandEnd;
 use crate::ending::Ending;
-use crate::put_fault::PutFault;
 use crate::task::Task;
 use device_core::power_on;
+use device_play::PutFault;
 use hmac_core::Sha256Digest;
 use input_files::{Inputs, Refusal};
 use isr_flag::IsrFlag;
@@ -35,6 +35,8 @@ impl<'a, T: Telling> Task<'a> for PlayCommand<'a, T> {
     ghost outcome = { λ command values. steps_outcome T.outcome command.arguments.steps values.0.0
         (byte_in values.0.1) values.1 };
 
+    ghost once_put = { T.once_put };
+
     fn from_arguments(arguments: &'a [String]) -> Option<PlayCommand<'a, T>> {
         let arguments = PlayArguments::from_arguments(arguments)?;
         Some(PlayCommand {
@@ -55,7 +57,7 @@ impl<'a, T: Telling> Task<'a> for PlayCommand<'a, T> {
     ) -> Result<Ending, PutFault> {
         let ((key, image), script) = values;
         let device = power_on::<Sha256Digest, IsrFlag>(alloc, key, image, IsrFlag::new())?;
-        T::tell(device, script, self.arguments.steps, sink)?;
+        tell::<T, Sha256Digest, IsrFlag, W>(device, script, self.arguments.steps, sink)?;
         Ok(Ending::Done)
     }
 }

@@ -1,11 +1,11 @@
 use crate::command_end::CommandEnd;
 use crate::ending::Ending;
 use crate::kind::key::Key;
-use crate::put_fault::PutFault;
-use crate::request_line::print_request;
 use crate::task::Task;
+use device_play::PutFault;
 use input_files::{File, Inputs, Refusal};
 use outside_edge::{Shelf, Sink};
+use report_text::print_request;
 use report_verifier::token;
 use std::alloc::Global;
 use text_scan::{decimal, hex_bytes};
@@ -32,6 +32,8 @@ impl<'a> Task<'a> for Request<'a> {
     ghost command_row = { λ request. request_row request.key.name.now request.chal request.count };
 
     ghost outcome = { λ request key. plain (request_text request.chal request.count key) };
+
+    ghost once_put = { λ outcome. Unit {0} };
 
     /// CHAL has 64 hexadecimal digits, COUNTER is a decimal in 1..4,294,967,295.
     fn from_arguments(arguments: &'a [String]) -> Option<Request<'a>> {

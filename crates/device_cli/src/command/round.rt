@@ -1,19 +1,19 @@
 ghost use Rattle.std.specs.Prelude.{◌≤◌};
-ghost use Rattle.device_cli.specs.Limit.{most_steps};
+ghost use Rattle.device_play.specs.Limit.{most_steps};
 
 use crate::command::play_arguments::MOST_STEPS;
 use crate::command::play_files::{PlayFiles, PlayValues, play_files};
 use crate::command_end::CommandEnd;
 use crate::ending::Ending;
-use crate::put_fault::PutFault;
-use crate::round_text::round_on;
 use crate::task::Task;
-use crate::verdict::verifier::Verifier;
+use crate::verdict::judging::Judging;
 use device_core::power_on;
+use device_play::{PutFault, play_before};
 use hmac_core::Sha256Digest;
 use input_files::{File, Inputs, Policy, Refusal};
 use isr_flag::IsrFlag;
 use outside_edge::{Shelf, Sink};
+use report_verifier::Verifier;
 use std::alloc::Global;
 use text_scan::decimal;
 
@@ -43,6 +43,8 @@ impl<'a> Task<'a> for Round<'a> {
     ghost outcome = { λ round values. round_outcome round.steps values.0.0.0
         (byte_in values.0.0.1) values.0.1 values.1 };
 
+    ghost once_put = { λ outcome. Unit {0} };
+
     /// STEPS is a decimal in 1..10,000,000.
     fn from_arguments(arguments: &'a [String]) -> Option<Round<'a>> {
         let [image, script, key, policy, steps] = arguments else {
@@ -70,7 +72,11 @@ impl<'a> Task<'a> for Round<'a> {
         let (((key, image), script), policy) = values;
         let device = power_on::<Sha256Digest, IsrFlag>(alloc, key, image, IsrFlag::new())?;
         let verifier = Verifier { key, image, policy };
-        let all_accept = round_on(alloc, device, script, &verifier, self.steps, sink)?;
-        Ok(Ending::of(all_accept))
+        let judging = Judging {
+            alloc,
+            verifier: &verifier,
+        };
+        let (_, tally) = play_before(device, script, self.steps, &judging, sink)?;
+        Ok(Ending::of(tally.all_accept))
     }
 }

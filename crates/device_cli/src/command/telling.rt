@@ -1,57 +1,72 @@
-ghost use Rattle.device_cli.specs.Limit.{most_steps};
+ghost use Rattle.std.specs.Prelude.{◌≡◌, ◌≤◌, [], OnOk};
+ghost use Rattle.outside_edge.specs.Sink.{Puts, CountsFaults};
+ghost use Rattle.play_script.specs.Script.{events_of};
+ghost use Rattle.device_trace.specs.Trace.{play_of};
+ghost use Rattle.device_core.specs.Device.{HeldStandsFor};
+ghost use Rattle.device_play.specs.Limit.{most_steps};
+ghost use Rattle.device_play.specs.Watching.{IsPoweredOn};
+ghost use Rattle.device_cli.specs.Row.{DevicePlay, start_in};
 
+use bus_signals::TraceFlag;
 use device_core::{Device, Held};
-use exec_automaton::TraceFlag;
+use device_play::{PutFault, Watcher, play_before};
 use hmac_core::Digest32;
 use outside_edge::{Failed, Sink};
 use play_script::Script;
 
-/// What a command tells of a play that nobody judges.
-pub trait Telling: Copy {
-    ghost use Rattle.std.specs.Prelude.{◌≡◌, ◌≤◌, [], ℕ, List, OnOk, Some, true};
-    ghost use Rattle.bus_signals.specs.declared.event.Event.{Event};
-    ghost use Rattle.device_core.specs.Device.{HeldStandsFor, steps_of};
-    ghost use Rattle.device_trace.specs.Start.{Start, with_key};
-    ghost use Rattle.device_trace.specs.Trace.{play_of};
-    ghost use Rattle.play_script.specs.Script.{events_of};
-    ghost use Rattle.outside_edge.specs.Sink.{Puts, CountsFaults};
-    ghost use Rattle.device_cli.specs.Answer.{ReadsBack};
+/// A watcher that says what a command puts of a play, which nobody judges.
+pub trait Telling: Watcher + Copy {
+    ghost use Rattle.std.specs.Prelude.{◌≡◌, [], Some, true};
+    ghost use Rattle.part_definitions.specs.Hmac.{Digest};
+    ghost use Rattle.device_trace.specs.Play.{Play};
+    ghost use Rattle.device_trace.specs.Start.{Start};
     ghost use Rattle.device_cli.specs.Play.{PlayOutcome};
-    ghost use Rattle.device_cli.specs.Row.{DevicePlay};
-    ghost use Rattle.device_cli.specs.TracedPlay.{IsPoweredOn};
+    ghost use Rattle.device_cli.specs.Row.{DevicePlay, Outcome};
+    ghost use Rattle.device_cli.specs.Told.{IsToldBy};
 
     /// What is put of a play.
     ghost outcome: { PlayOutcome };
 
-    /// Plays a script's first steps on a device at power-on, and puts it of that play.
-    fn tell<D: Digest32, G: TraceFlag, W: Sink>(
-        device: Device<Held, D, G>,
-        script: &Script,
-        steps: u64,
-        sink: &mut W,
-    ) -> Result<(), Failed>
-        requires powered_on { IsPoweredOn D.hash G.flag device }
-        requires fresh { steps_of device ≡ 0 }
-        requires few { steps ≤ most_steps }
-        ensures puts { (key : List ℕ) (image : ℕ → ℕ) (device_play : DevicePlay)
-            → HeldStandsFor D.hash G.flag device
-            (with_key G.flag.value D.hash.digest_of key image) []
-            → Puts W.stands sink.old sink.new
-            (outcome device_play (with_key G.flag.value D.hash.digest_of key image)
-            (play_of (events_of script.now) steps)).text result }
-        ensures reads_back { (key : List ℕ) (image : ℕ → ℕ) (device_play : DevicePlay)
-            → HeldStandsFor D.hash G.flag device
-            (with_key G.flag.value D.hash.digest_of key image) []
-            → OnOk result (ReadsBack
-            (outcome device_play (with_key G.flag.value D.hash.digest_of key image)
-            (play_of (events_of script.now) steps))) }
-        ensures counts { CountsFaults W.faults sink.old sink.new result };
+    /// What holds of it once all of it was put.
+    ghost once_put: { Outcome → Type 0 };
+
+    /// The watcher. It takes no memory.
+    fn watcher() -> Self
+        ensures told { (digest : Digest) (device_play : DevicePlay)
+            → IsToldBy (Self.account digest result) once_put (outcome device_play) device_play }
+        ensures uncut { (digest : Digest) (start : Start) (play : Play)
+            → (Self.account digest result).cuts start play ≡ [] };
 
     /// It is put of that play.
-    ghost of_play: { (device_play : DevicePlay) (start : Start) (play : List (List Event))
-        → (outcome device_play start play).device_play ≡ Some device_play };
+    ghost of_play: { (device_play : DevicePlay)
+        → (outcome device_play).device_play ≡ Some device_play };
 
     /// There is no verdict in it.
-    ghost accepted: { (device_play : DevicePlay) (start : Start) (play : List (List Event))
-        → (outcome device_play start play).is_accepted ≡ true };
+    ghost accepted: { (device_play : DevicePlay) → (outcome device_play).is_accepted ≡ true };
+}
+
+/// Tells a play of a script's first steps on a device at power-on. It takes no memory.
+pub fn tell<T: Telling, D: Digest32, G: TraceFlag, W: Sink>(
+    device: Device<Held, D, G>,
+    script: &Script,
+    steps: u64,
+    sink: &mut W,
+) -> Result<(), Failed>
+    requires powered_on { IsPoweredOn D.hash G.flag device }
+    requires few { steps ≤ most_steps }
+    ensures puts { (device_play : DevicePlay)
+        → HeldStandsFor D.hash G.flag device (start_in device_play) []
+        → device_play.play ≡ play_of (events_of script.now) steps
+        → Puts W.stands sink.old sink.new (T.outcome device_play).text result }
+    ensures whole { (device_play : DevicePlay)
+        → HeldStandsFor D.hash G.flag device (start_in device_play) []
+        → device_play.play ≡ play_of (events_of script.now) steps
+        → OnOk result (T.once_put (T.outcome device_play)) }
+    ensures counts { CountsFaults W.faults sink.old sink.new result }
+{
+    match play_before(device, script, steps, &T::watcher(), sink) {
+        Ok(_) => Ok(()),
+        Err(PutFault::Write) => Err(Failed),
+        Err(PutFault::Memory) => unreachable!(),
+    }
 }

@@ -1,31 +1,22 @@
 use crate::command::telling::Telling;
-use crate::trace_text::trace_on;
-use device_core::{Device, Held};
-use exec_automaton::TraceFlag;
-use hmac_core::Digest32;
-use outside_edge::{Failed, Sink};
-use play_script::Script;
+use device_play::TraceWatcher;
 
-/// The command `trace`: the trace file of the play.
-#[derive(Clone, Copy, Debug)]
-pub struct Trace;
-
-impl Telling for Trace {
+/// The command `trace`.
+impl Telling for TraceWatcher {
     ghost use Rattle.std.specs.Prelude.{refl};
-    ghost use Rattle.device_cli.specs.Trace.{trace_outcome};
+    ghost use Rattle.clean_trace.specs.TraceText.{trace_text};
+    ghost use Rattle.device_cli.specs.Play.{text_outcome};
+    ghost use Rattle.device_cli.specs.Trace.{ReadsBack};
 
-    ghost outcome = { trace_outcome };
+    ghost outcome = { text_outcome trace_text };
 
-    fn tell<D: Digest32, G: TraceFlag, W: Sink>(
-        device: Device<Held, D, G>,
-        script: &Script,
-        steps: u64,
-        sink: &mut W,
-    ) -> Result<(), Failed> {
-        trace_on(device, script, steps, sink)
+    ghost once_put = { ReadsBack };
+
+    fn watcher() -> TraceWatcher {
+        TraceWatcher
     }
 
-    ghost of_play = { λ device_play start play. refl };
+    ghost of_play = { λ device_play. refl };
 
-    ghost accepted = { λ device_play start play. refl };
+    ghost accepted = { λ device_play. refl };
 }

@@ -2,14 +2,14 @@ use crate::command_end::CommandEnd;
 use crate::ending::Ending;
 use crate::kind::key::Key;
 use crate::kind::reports::Reports;
-use crate::put_fault::PutFault;
 use crate::task::Task;
 use crate::verdict::verdict_text::print_verdicts;
-use crate::verdict::verifier::Verifier;
+use device_play::PutFault;
 use hmac_core::Sha256Digest;
 use input_files::{File, Image, Inputs, Policy, Refusal};
 use outside_edge::{Shelf, Sink};
 use report_text::Report;
+use report_verifier::Verifier;
 use std::alloc::Global;
 
 /// The command `verify IMAGE POLICY KEY REPORTS`. Its files are in the order in which they are
@@ -40,6 +40,8 @@ impl<'a> Task<'a> for Verify<'a> {
 
     ghost outcome = { λ verify values. verdicts_outcome
         (verdicts (judge_with values.0.0 (byte_in values.0.1) values.1.0) values.1.1.items) };
+
+    ghost once_put = { λ outcome. Unit {0} };
 
     fn from_arguments(arguments: &'a [String]) -> Option<Verify<'a>> {
         let [image, policy, key, reports] = arguments else {

@@ -1,6 +1,6 @@
 ghost use Rattle.std.specs.Prelude.{◌≡◌, IfOk, IfErr};
 ghost use Rattle.sha2.specs.Sha256.{sha256};
-ghost use Rattle.device_cli.specs.declared.put_fault.PutFault.TheVariants.{Memory};
+ghost use Rattle.device_play.specs.declared.put_fault.PutFault.TheVariants.{Memory};
 ghost use Rattle.device_cli.specs.Load.{load_text};
 ghost use Rattle.device_cli.specs.TextSummary.{counts_in};
 
@@ -10,10 +10,9 @@ use crate::load::line_tally::LineCounts;
 use crate::load::text_summary::TextSummary;
 use crate::load::work_line::print_work_line;
 use crate::load::{LOAD_STEPS, load_of};
-use crate::play_text::play_on;
-use crate::put_fault::PutFault;
 use crate::task::Task;
 use device_core::power_on;
+use device_play::{LineWatcher, PutFault, play_before};
 use hmac_core::Sha256Digest;
 use input_files::{Inputs, Refusal};
 use isr_flag::IsrFlag;
@@ -41,6 +40,8 @@ impl<'a> Task<'a> for Work {
     ghost command_row = { λ work. work_row work.seed };
 
     ghost outcome = { λ work values. plain_of (load_play work.seed) (work_line work.seed) };
+
+    ghost once_put = { λ outcome. Unit {0} };
 
     /// SEED is a decimal in 0..4,294,967,295.
     fn from_arguments(arguments: &'a [String]) -> Option<Work> {
@@ -71,7 +72,7 @@ fn play_load(alloc: Global, seed: u64) -> Result<(LineCounts, [u8; 32]), PutFaul
     let load = load_of(alloc, seed)?;
     let device = power_on::<Sha256Digest, IsrFlag>(alloc, &load.key, &load.image, IsrFlag::new())?;
     let mut summary = TextSummary::new();
-    let Ok(_) = play_on(device, &load.script, LOAD_STEPS, &mut summary) else {
+    let Ok(_) = play_before(device, &load.script, LOAD_STEPS, &LineWatcher, &mut summary) else {
         unreachable!()
     };
     Ok(summary.finish())

@@ -1,11 +1,10 @@
 //! A second flag that rises and falls within a call.
 
-use crate::play_text::play_on;
 use crate::tests::KEY;
 use crate::tests::attested_row::REQUEST;
-use bus_signals::{Bounds, BusRecord, Signals};
+use bus_signals::{Bounds, BusRecord, Signals, TraceFlag};
 use device_core::power_on;
-use exec_automaton::TraceFlag;
+use device_play::{LineWatcher, play_before};
 use hex_loader::read_hex;
 use hmac_core::Sha256Digest;
 use outside_edge::MemSink;
@@ -26,7 +25,7 @@ struct EntryFlag {
 impl TraceFlag for EntryFlag {
     ghost use Rattle.std.specs.Prelude.{◌≡◌, ◌==◌, false, option_map, unwrap_or};
     ghost use Rattle.std.proofs.Common.{◌∙◌, sym};
-    ghost use Rattle.part_definitions.specs.Flag.{last_pc};
+    ghost use Rattle.bus_signals.specs.ExecFlag.{last_pc};
 
     ghost flag = { record {
       value = λ records. unwrap_or (option_map (λ pc. pc == 0xA000) (last_pc records)) false;
@@ -76,7 +75,7 @@ fn memory_shows_the_flag_after_a_call(rt: HostRuntime) -> Result<(), Fail> {
     let device = power_on::<Sha256Digest, EntryFlag>(alloc, &key, &image, flag)?;
     let script = Script::new(alloc);
     let mut sink = MemSink::new(Vec::new(alloc), 1000, 100, Vec::new(alloc))?;
-    let live = play_on(device, &script, 142, &mut sink);
+    let live = play_before(device, &script, 142, &LineWatcher, &mut sink);
     assert!(rt; live.is_ok());
     assert_eq!(rt; sink.held(), TEXT);
     Ok(())

@@ -5,22 +5,20 @@ ghost use Rattle.mem_map.specs.Memory.{MemoryStandsFor};
 ghost use Rattle.outside_edge.specs.Sink.{Puts};
 ghost use Rattle.report_verifier.specs.Comparison.{OutputFits};
 ghost use Rattle.report_verifier.specs.Validity.{are_valid_for};
-ghost use Rattle.device_cli.specs.Cuts.{StopsOnlyAt};
-ghost use Rattle.device_cli.specs.Judgement.{judge_of, evidence_lines, evidence_cuts, judgement_lines, judgement_cuts, TellsOutput, tally_after};
-ghost use Rattle.report_verifier.specs.Judge.{verdict_at};
-ghost use Rattle.device_cli.specs.Limit.{most_steps};
+ghost use Rattle.device_play.specs.Cuts.{CountsWriteFaults, StopsOnlyAt};
+ghost use Rattle.device_cli.specs.Judgement.{evidence_lines, evidence_cuts, judgement_lines, judgement_cuts, TellsOutput, tally_after};
+ghost use Rattle.report_verifier.specs.Judge.{judge_of, verdict_at};
+ghost use Rattle.device_play.specs.Limit.{most_steps};
 ghost use Rattle.device_cli.specs.Verify.{is_accept};
-ghost use Rattle.device_cli.specs.RoundText.{CountsWriteFaults};
 
-use crate::put_fault::PutFault;
 use crate::verdict::verdict_text::is_accept;
-use crate::verdict::verifier::Verifier;
 use bus_signals::ReportView;
+use device_play::PutFault;
 use hmac_core::Digest32;
 use mem_map::Memory;
 use outside_edge::Sink;
 use report_text::{print_collision, print_verdict};
-use report_verifier::{Decision, Exhibit, Expect, compare};
+use report_verifier::{Decision, Exhibit, Expect, Verifier, compare};
 use std::alloc::Global;
 
 /// The verdicts so far: how many, and whether each of them is `accept`.

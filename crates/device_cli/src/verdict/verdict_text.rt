@@ -1,15 +1,13 @@
 ghost use Rattle.std.specs.Prelude.{◌≡◌, ◌<◌, IfOk, Some, length, option_map};
 ghost use Rattle.std.specs.List.{slice_get};
 ghost use Rattle.outside_edge.specs.Sink.{Puts, CountsFaults};
-ghost use Rattle.report_verifier.specs.Judge.{verdict_at};
-ghost use Rattle.device_cli.specs.Judgement.{judge_of};
+ghost use Rattle.report_verifier.specs.Judge.{verdict_at, judge_of};
 ghost use Rattle.device_cli.specs.Verify.{verdicts, lines_from, all_accept, is_accept};
 
-use crate::verdict::verifier::Verifier;
 use hmac_core::Digest32;
 use outside_edge::{Failed, Sink};
 use report_text::{Report, print_verdict};
-use report_verifier::Decision;
+use report_verifier::{Decision, Verifier};
 
 /// Puts a line for each report, and answers whether all of them were accepted.
 pub fn print_verdicts<D: Digest32, W: Sink>(

@@ -1,7 +1,9 @@
 //! Files in memory that can be opened once each, and fail as they are told.
 
-use crate::FileOpener;
+ghost use Rattle.std.specs.Prelude.{None};
+
 use crate::tests::error_of;
+use crate::{FileOpener, SystemFile};
 use std::io;
 use std::io::{Error, ErrorKind, Read, Seek, SeekFrom};
 
@@ -52,9 +54,11 @@ impl<'a> FakeFile<'a> {
 }
 
 impl<'a> FileOpener for FakeFiles<'a> {
-    type File = FakeFile<'a>;
+    type File = SystemFile<FakeFile<'a>>;
 
-    fn open(&mut self, name: &str) -> io::Result<FakeFile<'a>> {
+    ghost files = { λ _. None };
+
+    fn open(&mut self, name: &str) -> io::Result<SystemFile<FakeFile<'a>>> {
         let Some(index) = self
             .openings
             .iter()
@@ -62,7 +66,10 @@ impl<'a> FileOpener for FakeFiles<'a> {
         else {
             return Err(Error::from(ErrorKind::NotFound));
         };
-        self.openings.remove(index).file.map_err(error_of)
+        match self.openings.remove(index).file {
+            Ok(file) => Ok(SystemFile::new(file)),
+            Err(number) => Err(error_of(number)),
+        }
     }
 }
 

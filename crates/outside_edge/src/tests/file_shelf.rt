@@ -2,6 +2,7 @@
 
 use crate::tests::distinct_bytes;
 use crate::tests::fake_files::{FakeFile, FakeFiles, Opening};
+use crate::tests::told_files::ToldFiles;
 use crate::{FileFault, FileShelf, Shelf, ShelfError, SystemFiles, read_whole};
 use std::alloc::{AllocError, Global};
 use std::test::Fail;
@@ -189,6 +190,42 @@ fn pieces_come_from_the_file_and_the_place_that_are_asked_for(rt: HostRuntime) -
     for (name, at, bytes) in rows {
         let count = shelf.read(name, at, &mut piece)?;
         assert!(rt; &piece[..count] == bytes, "{name} at {at}");
+    }
+    Ok(())
+}
+
+// The same of files that their opener tells, so that each piece is what the shelf's clauses say.
+#[test]
+fn told_files_are_told_by_the_shelf(rt: HostRuntime) -> Result<(), Fail> {
+    let alloc = rt.alloc();
+    let mut files = Vec::new(alloc);
+    for (name, bytes) in [
+        ("key", b"0123456789"),
+        ("log", b"abcdefghij"),
+        ("key", b"----------"),
+    ] {
+        files.push((String::from_str(alloc, name)?, bytes.to_vec(alloc)?))?;
+    }
+    let mut shelf = FileShelf::new(ToldFiles::new(&files, 3));
+    let rows: [(&str, u64, &[u8]); 8] = [
+        ("key", 0, b"012"),
+        ("key", 3, b"345"),
+        ("log", 3, b"def"),
+        ("key", 6, b"678"),
+        ("log", 9, b"j"),
+        ("log", 10, b""),
+        ("log", 11, b""),
+        ("key", 1, b"123"),
+    ];
+    let mut piece = [0; 8];
+    for (name, at, bytes) in rows {
+        let count = shelf.read(name, at, &mut piece)?;
+        assert!(rt; &piece[..count] == bytes, "{name} at {at}");
+        // Another name while a file is open.
+        assert_eq!(rt; shelf.read("lock", at, &mut piece), Err(ShelfError::Absent));
+    }
+    for (name, bytes) in [("key", b"0123456789"), ("log", b"abcdefghij")] {
+        assert!(rt; read_whole(alloc, &mut shelf, name, 10)?.as_slice() == bytes.as_slice());
     }
     Ok(())
 }

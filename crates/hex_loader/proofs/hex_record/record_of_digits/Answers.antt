@@ -25,4 +25,4 @@ returns c =
           (take c.min.result c.args.room.now) c.hex_bytes.new.out c.hex_bytes.result
           c.in_ok-hex_bytes.was
           (rw room at c.hex_bytes.ensures),
-    ) c.record_of.ensures
+    ) c.record_of_bytes.ensures

@@ -5,7 +5,7 @@ use Rattle.msp_decode.specs.Head.{head_of}
 use Rattle.part_definitions.specs.FirstRule.{first_rule}
 use Rattle.part_definitions.specs.NextAccess.{next_access, entry_access}
 use Rattle.part_definitions.specs.MonitorRule.{key_rule, atomicity_rule}
-use Rattle.part_definitions.specs.Flag.{exec}
+use Rattle.bus_signals.specs.ExecFlag.{exec}
 use Rattle.device_trace.specs.Logs.{with_events, with_record}
 use Rattle.device_trace.specs.Signals.{signals_at}
 use Rattle.device_trace.specs.Step.{record_of, next_record}

@@ -3,8 +3,8 @@ use Rattle.std.proofs.lemmas.List.{append-nil}
 use Rattle.std.proofs.lemmas.Result.{err_from_is_err_and}
 use Rattle.mem_map.specs.Image.{byte_in}
 use Rattle.outside_edge.proofs.SinkLemmas.{takes_both}
-use Rattle.msp_disasm.specs.Listing.{items_below, lines_of, line_at}
-use Rattle.msp_disasm.proofs.NextLines.{item_there, lines_of-next, place_after-next, prefix_in_listing}
+use Rattle.msp_disasm.specs.Listing.{items_below, listing_lines, line_at}
+use Rattle.msp_disasm.proofs.NextLines.{item_there, listing_lines-next, place_after-next, prefix_in_listing}
 use Rattle.msp_disasm.proofs.listing_writer.write_listing.Goals as goal
 
 pub loop-place-init : goal.loop-place-init
@@ -33,9 +33,10 @@ loop-place-preserved g c =
     record {
       free = rw (place_after-next bytes at.place)
           (rw at.invariant.free at c.in_ok-free.ensures.free);
-      taken = rw (lines_of-next bytes at.place)
+      taken = rw (listing_lines-next bytes at.place)
           (takes_both g.W.Sink.stands c.args.sink.now at.sink c.write_item.new.sink
-          (lines_of (items_below bytes at.place)) (line_at at.place (item_there bytes at.place))
+          (listing_lines (items_below bytes at.place))
+          (line_at at.place (item_there bytes at.place))
           at.invariant.taken
           (rw at.invariant.free at c.in_ok-free.ensures.puts.all));
       quiet = c.in_ok-free.ensures.counts.quiet ∙ at.invariant.quiet;

@@ -1,9 +1,8 @@
 use Rattle.std.proofs.Common.{◌∙◌, ◌-◌, ◌++◌, List, ℕ, ap, arith, length}
 use Rattle.std.proofs.Math.Path.{subst}
 use Rattle.hmac_core.specs.Hmac.{HmacStandsFor}
-use Rattle.mem_map.specs.Image.{byte_in}
+use Rattle.mem_map.specs.Image.{byte_in, image_byte}
 use Rattle.part_definitions.specs.Memory.{bytes_from}
-use Rattle.report_verifier.specs.Expectation.{image_byte}
 use Rattle.report_verifier.proofs.expected_mac.take_piece.Goals as goal
 
 pub returns : goal.returns

@@ -1,7 +1,6 @@
 use Rattle.std.proofs.Common.{◌≡◌, ◌+◌, ◌-◌, ◌++◌, ◌≤◌, length}
-use Rattle.mem_map.specs.Image.{byte_in}
+use Rattle.mem_map.specs.Image.{byte_in, image_byte}
 use Rattle.part_definitions.specs.Memory.{bytes_from}
-use Rattle.report_verifier.specs.Expectation.{image_byte}
 use Rattle.report_verifier.proofs.image_code.push_code.Given as goal
 
 -- the bytes up to this place were put, where all of them fit

@@ -3,7 +3,7 @@ use Rattle.verifier_desk.proofs.session.answer_last.Goals as goal
 
 pub returns-clause-serves : goal.returns-clause-serves
 returns-clause-serves g c =
-    let answered = c.answer_line-answered in
+    let answered = c.serve_line-answered in
     last_put g.M.Memory g.W.Sink
     (record {
       desk = c.args.desk.now;

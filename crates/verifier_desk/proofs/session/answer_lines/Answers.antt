@@ -3,8 +3,8 @@ use Rattle.std.proofs.lemmas.List.{take_rest}
 use Rattle.verifier_desk.proofs.SessionPiece.{answered_more, piece_faulted, piece_answered, plain_front, split_at_end}
 use Rattle.verifier_desk.proofs.session.answer_lines.Goals as goal
 
-pub returns-in_default-answer_line : goal.returns-in_default-answer_line
-returns-in_default-answer_line g c =
+pub returns-in_default-serve_line : goal.returns-in_default-serve_line
+returns-in_default-serve_line g c =
     let rest : List ℕ = c.loop-end.rest.now in
     let end : ℕ = c.in-Some.end in
     record {
@@ -12,17 +12,17 @@ returns-in_default-answer_line g c =
           c.loop-end.invariant
           (split_at_end rest end c.in-Some.ensures.within c.in-Some.ensures.end)
           (plain_front rest end c.in-Some.ensures.before) c.push.ensures c.ended.ensures
-          c.in_default-answer_line.not-Done c.answer_line.ensures.reply;
-      honest = λ still. c.loop-end.invariant.honest (c.answer_line.ensures.honest still);
+          c.in_default-serve_line.not-Done c.serve_line.ensures.reply;
+      honest = λ still. c.loop-end.invariant.honest (c.serve_line.ensures.honest still);
       memory_faults = omega (
         arith,
         c.loop-end.invariant.memory_rises,
-        c.answer_line.ensures.memory_faults,
+        c.serve_line.ensures.memory_faults,
       );
       sink_faults = omega (
         arith,
         c.loop-end.invariant.sink_rises,
-        c.answer_line.ensures.sink_faults,
+        c.serve_line.ensures.sink_faults,
       );
     }
 

@@ -1,19 +1,17 @@
-use Rattle.std.proofs.Common.{[], ◌∙◌}
-use Rattle.mem_map.specs.Image.{power_on_of}
+use Rattle.std.proofs.Common.{◌∙◌}
 use Rattle.device_cli.specs.Load.{load_text}
 use Rattle.device_cli.specs.TextSummary.{SummaryStandsFor}
-use Rattle.device_cli.proofs.LoadText.{load_text-of, load_counts-fit}
+use Rattle.device_cli.proofs.LoadText.{load_text-of, load_counts-fit, never-fails, told-summary}
 use Rattle.device_cli.proofs.command.work.play_load.Goals as goal
 use Rattle.device_cli.proofs.command.work.play_load.Goals.{After-drop-load-4}
 
-summary : (c : After-drop-load-4) → SummaryStandsFor c.play_on.new.sink (load_text c.args.seed)
+summary : (c : After-drop-load-4) → SummaryStandsFor c.play_before.new.sink (load_text c.args.seed)
 summary c =
     let load = c.in_ok-load.load in
     let tells = c.in_ok-load.ensures in
     rw (← load_text-of load c.args.seed tells.key tells.image tells.script)
-    ((c.in-Ok.ensures.puts load.key (power_on_of load.key load.image).image
-    c.in_ok-device.ensures.stands).all
-    [] c.new-summary.ensures)
+    (told-summary _ _ c.new-summary.result c.play_before.new.sink _ _ _ c.new-summary.ensures
+    (c.in-Ok.ensures.watched _ c.in_ok-device.ensures.stands))
 
 pub returns-clause-counts : goal.returns-clause-counts
 returns-clause-counts c =
@@ -21,3 +19,8 @@ returns-clause-counts c =
 
 pub returns-clause-digest : goal.returns-clause-digest
 returns-clause-digest c = (c.finish.ensures (load_text c.args.seed) (summary c)).1
+
+pub unreachable-requires : goal.unreachable-requires
+unreachable-requires c =
+    never-fails _ _ c.new-summary.result c.play_before.new.sink _ _ c.in_default.field-0
+    (c.in_default.ensures.watched _ c.in_ok-device.ensures.stands) c.in_default.ensures.counts

@@ -2,8 +2,7 @@ use Rattle.std.proofs.Common.{Ok, Err}
 use Rattle.bus_signals.specs.Report.{fields_of}
 use Rattle.part_definitions.specs.Memory.{byte_at}
 use Rattle.outside_edge.proofs.SinkLemmas.{puts-failed}
-use Rattle.report_verifier.specs.Judge.{Judge}
-use Rattle.device_cli.specs.Judgement.{judge_of}
+use Rattle.report_verifier.specs.Judge.{Judge, judge_of}
 use Rattle.device_cli.proofs.IsJudged.{is-judged, evidence-fits, verdict-begun, evidence-put, stops-behind_verdict}
 use Rattle.device_cli.proofs.verdict.judgement.judge.Goals as goal
 

@@ -4,10 +4,10 @@ use Rattle.bus_signals.specs.Report.{fields_of}
 use Rattle.part_definitions.specs.Memory.{byte_at}
 use Rattle.outside_edge.specs.Sink.{Takes, TakesPrefix}
 use Rattle.outside_edge.proofs.SinkLemmas.{puts-failed}
-use Rattle.device_cli.specs.Judgement.{judge_of}
+use Rattle.report_verifier.specs.Judge.{judge_of}
 use Rattle.device_cli.proofs.IsJudged.{accepted-fits_expect, evidence-shown, no-evidence, no-pair, pair-shown_after}
-use Rattle.device_cli.proofs.Cuts.{stops-at_first}
-use Rattle.device_cli.proofs.WriteCounts.{counts-nothing, nothing-begun, nothing-put}
+use Rattle.device_play.proofs.Cuts.{stops-at_first}
+use Rattle.device_play.proofs.WriteCounts.{counts-nothing, nothing-begun, nothing-put}
 use Rattle.device_cli.proofs.verdict.judgement.print_evidence.Goals as goal
 
 pub returns-in_default : goal.returns-in_default

@@ -2,10 +2,10 @@ use Rattle.std.proofs.Common.{◌∙◌, ◌+◌, ◌++◌, [], refl, sym, arith
 use Rattle.std.proofs.lemmas.Result.{err_from_is_err_and}
 use Rattle.std.proofs.Math.Bool.{and-true}
 use Rattle.outside_edge.proofs.SinkLemmas.{takes_both, prefix_after, prefix_of_more}
-use Rattle.device_cli.specs.Judgement.{judge_of}
+use Rattle.report_verifier.specs.Judge.{judge_of}
 use Rattle.report_text.specs.VerdictLine.{verdict_line}
 use Rattle.device_cli.specs.Verify.{lines_from}
-use Rattle.device_cli.proofs.PutsLemmas.{takes-nothing}
+use Rattle.device_play.proofs.PutsLemmas.{takes-nothing}
 use Rattle.device_cli.proofs.Verdicts.{verdicts_ahead, ahead-next, ahead-end, lines-next, accept-next}
 use Rattle.device_cli.proofs.verdict.verdict_text.print_verdicts.Goals as goal
 

@@ -1,6 +1,6 @@
 use Rattle.std.proofs.Common.{◌≡◌, ◌+◌, ◌&&◌, ◌++◌, List, ℕ}
 use Rattle.outside_edge.specs.Sink.{Takes}
-use Rattle.device_cli.specs.Judgement.{judge_of}
+use Rattle.report_verifier.specs.Judge.{judge_of}
 use Rattle.device_cli.specs.Verify.{verdicts, lines_from, all_accept}
 use Rattle.device_cli.proofs.Verdicts.{verdicts_ahead}
 use Rattle.device_cli.proofs.verdict.verdict_text.print_verdicts.Given as goal

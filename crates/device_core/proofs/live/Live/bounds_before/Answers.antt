@@ -3,5 +3,4 @@ use Rattle.device_core.proofs.live.Live.bounds_before.Goals as goal
 
 pub returns : goal.returns
 returns g c = λ start play stands.
-    live-bounds g.D.Digest32.hash g.G.TraceFlag.flag c.args.self.now
-    start play c.last.result.now c.last.ensures stands
+    live-bounds c.last.ensures stands

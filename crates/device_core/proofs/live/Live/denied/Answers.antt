@@ -1,11 +1,10 @@
-use Rattle.std.proofs.Common.{◌∙◌, is_some, ap, sym}
-use Rattle.device_trace.specs.Start.{with_key}
+use Rattle.device_core.proofs.OneLine.{denial-decided}
 use Rattle.device_core.proofs.ReportLaws.{decided-covered}
 use Rattle.device_core.proofs.live.Live.denied.Goals as goal
 
-pub returns-in-Some-clause-covered : goal.returns-in-Some-clause-covered
-returns-in-Some-clause-covered g c = λ key image play device_key bytes stands.
-    let start =
-    with_key g.G.TraceFlag.flag.value g.D.Digest32.hash.digest_of key image in
-    decided-covered g.G.TraceFlag.flag.value g.D.Digest32.hash.digest_of key image play device_key
-    bytes (ap is_some (sym (c.decision.ensures start play stands) ∙ c.in-Some.is))
+pub returns-in-Some-Denied-clause-covered : goal.returns-in-Some-Denied-clause-covered
+returns-in-Some-Denied-clause-covered g c = λ key image device_key bytes play stands.
+    decided-covered _ _ key image play device_key bytes
+    (denial-decided c.in-Some-Denied.decision _
+    (rw (c.in-Some-Denied.is, c.in-Some-Denied.field-0-is) at
+    (c.line.ensures _ play stands).denied))

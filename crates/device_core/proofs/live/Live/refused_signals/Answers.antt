@@ -8,12 +8,10 @@ use Rattle.device_core.proofs.live.Live.refused_signals.Goals as goal
 pub returns-in-Some : goal.returns-in-Some
 returns-in-Some g c = λ start play stands.
     c.as_ref.ensures.value
-    ∙ live-refused g.D.Digest32.hash g.G.TraceFlag.flag c.args.self.now
-    start play c.in-Some.step (rw c.machine.ensures at c.in-Some.is) stands
+    ∙ live-refused (rw c.machine.ensures at c.in-Some.is) stands
 
 pub returns-in-None : goal.returns-in-None
 returns-in-None g c = λ start play stands.
     ap (λ rule. where_refused rule (last_signals start play))
     (sym (silent-parts start play
-    (live-unkept g.D.Digest32.hash g.G.TraceFlag.flag c.args.self.now
-    start play (rw c.machine.ensures at c.in-None.is) stands)).1)
+    (live-unkept (rw c.machine.ensures at c.in-None.is) stands)).1)

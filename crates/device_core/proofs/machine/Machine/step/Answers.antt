@@ -1,25 +1,19 @@
 use Rattle.device_trace.specs.Logs.{with_events}
-use Rattle.device_trace.specs.Start.{Start, with_key}
 use Rattle.device_trace.specs.Step.{next_record}
 use Rattle.device_trace.specs.Trace.{logs_after}
 use Rattle.device_core.proofs.machine.Machine.step.Goals as goal
 
 pub returns-clause-stands : goal.returns-clause-stands
 unfolding logs_after next_record with_events
-returns-clause-stands g c = λ key image play stands.
-    let start : Start =
-    with_key g.G.TraceFlag.flag.value g.D.Digest32.hash.digest_of key image in
+returns-clause-stands g c = λ start play stands.
     let logs = logs_after start play in
-    let bus = c.take_events-script_reset.ensures.stands start logs stands.same.same.same_bus in
-    let after = rw c.take_events-script_reset.ensures.reset at
-    (c.go_from.ensures.stands key image (with_events logs c.args.events.now)
+    let bus = c.take_events-script_reset.ensures.stands start logs stands.same.same_bus in
+    rw c.take_events-script_reset.ensures.reset at
+    (c.go_from.ensures.stands start (with_events logs c.args.events.now)
     (record {
       same_bus = bus;
-      same_progress = stands.same.same.same_progress;
-      same_decision = stands.same.same.same_decision;
+      same_progress = stands.same.same_progress;
+      same_decision = stands.same.same_decision;
+      same_word = stands.same.same_word;
     })
-    (stands.same.same_stage, c.dma_access-dma.ensures start _ bus)) in
-    record {
-      same = after.same;
-      same_signals = after.same_signals;
-    }
+    (stands.same_stage, c.dma_access-dma.ensures start _ bus))

@@ -1,12 +1,10 @@
 use Rattle.part_definitions.specs.CpuRegister.{sp_of}
 use Rattle.device_trace.specs.Progress.{last_registers}
-use Rattle.device_trace.specs.Start.{Start, with_key}
-use Rattle.device_core.proofs.Turns.{calling-turn, calling-within, stage-InRom, words_of}
+use Rattle.device_core.proofs.Turns.{calling-turn, calling-within, engine-turn, stage-InRom, words_of}
 use Rattle.device_core.proofs.machine.Machine.turn_in_call.Goals as goal
 
 pub returns : goal.returns
-returns g c = λ key image logs stands stage.
-    let start : Start = with_key g.G.TraceFlag.flag.value g.D.Digest32.hash.digest_of key image in
+returns g c = λ start logs stands stage.
     let regs = last_registers logs.progress in
     let words = words_of logs.progress in
     let calls = stage-InRom logs.progress stage in
@@ -18,6 +16,8 @@ returns g c = λ key image logs stands stage.
             c.of_call.ensures (sp_of regs) words parts.same_call,
             c.is_interrupted.ensures start logs stands,
           )
-          (calling-turn start logs regs words calls);
+          (engine-turn g.D.Digest32.hash.digest_of start logs regs words _ stands.same_word
+          (calling-turn start logs regs words calls));
       same_progress = rw (calling-within logs regs words calls) parts;
+      same_word = stands.same_word;
     }

@@ -1,13 +1,11 @@
 use Rattle.std.proofs.Common.{◌∙◌, [], sym}
 use Rattle.part_definitions.specs.CpuRegister.{sp_of}
 use Rattle.device_trace.specs.Progress.{last_registers}
-use Rattle.device_trace.specs.Start.{Start, with_key}
-use Rattle.device_core.proofs.Turns.{begun-turn, begun-within, boundary-step}
+use Rattle.device_core.proofs.Turns.{begun-turn, begun-within, boundary-step, engine-turn}
 use Rattle.device_core.proofs.machine.Machine.turn_of_new_call.Goals as goal
 
 pub returns : goal.returns
-returns g c = λ key image logs stands here irq rom.
-    let start : Start = with_key g.G.TraceFlag.flag.value g.D.Digest32.hash.digest_of key image in
+returns g c = λ start logs stands here irq rom.
     let regs = last_registers logs.progress in
     let parts = rw here at stands.same_progress in
     let begins = sym (boundary-step logs regs here) ∙ rom in
@@ -16,7 +14,9 @@ returns g c = λ key image logs stands here irq rom.
       same_bus = stands.same_bus;
       same_turn =
           rw (c.of_call.ensures (sp_of regs) [] call, irq)
-          (begun-turn start logs regs here begins);
+          (engine-turn g.D.Digest32.hash.digest_of start logs regs [] _ stands.same_word
+          (begun-turn start logs regs here begins));
       same_progress = rw (begun-within logs regs here begins)
           (record { same_processor = parts.same_processor; same_call = call });
+      same_word = stands.same_word;
     }

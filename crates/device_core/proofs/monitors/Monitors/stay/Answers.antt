@@ -3,7 +3,7 @@ use Rattle.bus_signals.specs.declared.access.Access.{Access}
 use Rattle.bus_signals.specs.declared.access.Access.TheVariants.{Fetch, Read, Write}
 use Rattle.bus_signals.specs.Access.{without_number}
 use Rattle.device_trace.specs.Blank.{blank_access, blank_record, blank_seen}
-use Rattle.exec_automaton.specs.Flag.{IsRecordOf}
+use Rattle.bus_signals.specs.TraceFlag.{IsRecordOf}
 use Rattle.trace_facts.proofs.BlankRecords.{last_pc-blank}
 use Rattle.device_core.proofs.monitors.Monitors.stay.Goals as goal
 

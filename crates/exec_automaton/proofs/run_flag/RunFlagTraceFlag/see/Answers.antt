@@ -1,6 +1,6 @@
 use Rattle.std.proofs.Common.{◌≡◌, ◌&&◌, ◌||◌, ◌∙◌, not, sym, ap}
 use Rattle.bus_signals.specs.SeenRecord.{SeenRecord}
-use Rattle.part_definitions.specs.Flag.{starts_run}
+use Rattle.bus_signals.specs.ExecFlag.{starts_run}
 use Rattle.exec_automaton.proofs.UnclearedRun.{flag-cons}
 use Rattle.exec_automaton.proofs.run_flag.RunFlagTraceFlag.see.Goals as goal
 use Rattle.exec_automaton.proofs.run_flag.RunFlagTraceFlag.see.Goals.{then-self, else-self, then-starts_run, else-starts_run}

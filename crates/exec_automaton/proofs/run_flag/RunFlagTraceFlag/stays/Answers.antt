@@ -1,7 +1,7 @@
 use Rattle.std.proofs.Common.{◌≡◌, ◌==◌, ◌∙◌, true, false, ap, sym}
 use Rattle.std.proofs.lemmas.Bool.{not-true}
 use Rattle.bus_signals.specs.SeenRecord.{SeenRecord}
-use Rattle.part_definitions.specs.Flag.{last_pc}
+use Rattle.bus_signals.specs.ExecFlag.{last_pc}
 use Rattle.exec_automaton.proofs.UnclearedRun.{flag-elsewhere, flag-spared}
 use Rattle.exec_automaton.proofs.run_flag.RunFlagTraceFlag.stays.Goals as goal
 

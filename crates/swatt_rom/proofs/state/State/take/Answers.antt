@@ -21,6 +21,6 @@ returns-in-Some g c = λ call stands.
 pub returns-in-Returns : goal.returns-in-Returns
 returns-in-Returns g c = λ call stands.
     after_value-leaves g.D.Digest32.hash c.in-Returns.sp
-    c.in-Returns.decision c.args.value _ _ (search rules) (search rules) call
+    c.in-Returns.decision c.args.value _ (search rules) call
     (subst (λ state. StateStandsFor g.D.Digest32.hash state call)
     c.in-Returns.is stands)

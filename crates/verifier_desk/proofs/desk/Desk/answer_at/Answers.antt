@@ -16,16 +16,16 @@ use Rattle.verifier_desk.proofs.NotedReply.{line_noted}
 use Rattle.verifier_desk.proofs.Standing.{kept_at_its_place, said_at_place, same_device}
 use Rattle.verifier_desk.proofs.desk.Desk.answer_at.Goals as goal
 
-pub returns-in_err-answer-clause-kept : goal.returns-in_err-answer-clause-kept
-returns-in_err-answer-clause-kept g c =
+pub returns-in_err-outcome-clause-kept : goal.returns-in_err-outcome-clause-kept
+returns-in_err-outcome-clause-kept g c =
     on_error c.from_residual.result (same_desk c.args.self.now _)
 
 pub returns-in_err-note_new-clause-kept : goal.returns-in_err-note_new-clause-kept
 returns-in_err-note_new-clause-kept g c =
     on_error c.from_residual-in_err-note_new.result (same_desk c.args.self.now _)
 
-pub returns-in_err-answer-clause-answers : goal.returns-in_err-answer-clause-answers
-returns-in_err-answer-clause-answers g c = λ fields lines device so at.
+pub returns-in_err-outcome-clause-answers : goal.returns-in_err-outcome-clause-answers
+returns-in_err-outcome-clause-answers g c = λ fields lines device so at.
     let within : c.args.place < length fields.devices = search (rules, sym so.devices) in
     let here : device ≡ c.device_at-device.result.now =
     sym (at device)
@@ -40,7 +40,7 @@ returns-in_err-answer-clause-answers g c = λ fields lines device so at.
     is_new_give state.last (line_in c.args.own.now)) fields c.args.self.now.states.items lines
     c.args.place device c.index.result.now c.index.result.now _ c.key.result.now _ _
     so.digest so.image so.policy same_key within at so.states (search rules))
-    ∙ c.in_err-answer.ensures.memory in
+    ∙ c.in_err-outcome.ensures.memory in
     let fault = err_from_is_err_and c.from_residual.result c.from_residual.ensures.1 in
     rw (fault.1, fault.2) (refl, gives)
 
@@ -60,12 +60,12 @@ returns-clause-answers g c = λ fields lines device so at.
     (answer_after (judge_at fields device) (state_at fields device (lines device.name)) line) =
     ap (λ (one : ReplyFields). one.text) c.new.ensures
     ∙ c.answer_line-line.ensures.text
-    ∙ ap (λ (owner : DeviceKey). answer_line sha256 owner line.number c.in_ok-answer.answer)
+    ∙ ap (λ (owner : DeviceKey). answer_line sha256 owner line.number c.in_ok-outcome.outcome.answer)
     (sym (same_device device c.name.result.now c.key-2.result.now
     (ap (λ (owner : DeviceKey). owner.name) here ∙ sym c.name.ensures.bytes)
     (ap (λ (owner : DeviceKey). owner.key) here ∙ sym c.key-2.ensures)))
     ∙ ap (answer_line sha256 device line.number)
-    (c.in_ok-answer.ensures.answer
+    (c.in_ok-outcome.ensures.answer
     ∙ said_at_place (λ (judge : Judge) (state : DeviceState). answer_after judge state line)
     fields states lines c.args.place device c.index.result.now c.index.result.now _
     c.key.result.now _ _ so.digest so.image so.policy same_key within at so.states (search rules))
@@ -73,21 +73,21 @@ returns-clause-answers g c = λ fields lines device so at.
     (answer_after (judge_at fields device) (state_at fields device (lines device.name)) line))
     (sym so.digest) in
     let after : c.answer_device.new.state ≡ state_at fields device (line ∷ lines device.name) =
-    c.in_ok-answer.ensures.state
+    c.in_ok-outcome.ensures.state
     ∙ said_at_place (λ (judge : Judge) (state : DeviceState). state_after judge state line)
     fields states lines c.args.place device c.index.result.now c.index.result.now _
     c.key.result.now _ _ so.digest so.image so.policy same_key within at so.states
     (search rules) in
-    let new : c.is_new-is_new.result
+    let new : c.in_ok-outcome.outcome.is_new
     ≡ is_new line.number (state_at fields device (lines device.name)).last =
-    c.is_new-is_new.ensures
+    c.in_ok-outcome.ensures.new
     ∙ said_at_place (λ (judge : Judge) (state : DeviceState). is_new line.number state.last)
     fields states lines c.args.place device c.index.result.now c.index.result.now _
     c.key.result.now _ _ so.digest so.image so.policy same_key within at so.states
     (search rules) in
-    let notes = line_noted g.M.Memory _ _ fields lines device line c.is_new-is_new.result sha256
-    c.device_at-device.result.now c.answer_device.new.state new so.digest here after
-    c.in_ok-note_new.ensures.notes in (
+    let notes = line_noted g.M.Memory _ _ fields lines device line
+    c.in_ok-outcome.outcome.is_new sha256 c.device_at-device.result.now
+    c.answer_device.new.state new so.digest here after c.in_ok-note_new.ensures.notes in (
       reply,
       record {
         digest = so.digest;

@@ -9,6 +9,6 @@ returns c =
       devices = refl;
       image = refl;
       policy = refl;
-      distinct = subst AreDistinct c.keys.view_is c.keys.invariant;
+      distinct = subst AreDistinct c.keys.view_is c.keys.invariant.0;
       states = λ i d s below. c.in_ok-states.ensures.states i d s below;
     }

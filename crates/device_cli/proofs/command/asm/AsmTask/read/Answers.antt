@@ -1,7 +1,8 @@
 use Rattle.hex_loader.specs.HexText.{hex_text}
 use Rattle.device_cli.specs.FileKind.{source_kind}
 use Rattle.device_cli.specs.Row.{plain, put}
-use Rattle.device_cli.proofs.LawfulRow.{read-lawful}
+use Rattle.device_cli.specs.LawfulPlay.{IsPutLawfully}
+use Rattle.device_cli.proofs.LawfulRow.{read-always}
 use Rattle.device_cli.proofs.command.asm.AsmTask.read.Goals as goal
 
 pub returns-clause-reads : goal.returns-clause-reads
@@ -12,4 +13,4 @@ returns-clause-reads g c =
 pub returns-clause-lawful : goal.returns-clause-lawful
 returns-clause-lawful g c =
     let self = c.args.self.now in
-    read-lawful source_kind self.source.name.now _ (λ value bytes is. tt)
+    read-always IsPutLawfully source_kind self.source.name.now _ (λ value bytes is. tt)

@@ -1,7 +1,8 @@
 use Rattle.device_cli.specs.Audit.{audit_outcome}
 use Rattle.device_cli.specs.FileKind.{trace_kind}
 use Rattle.device_cli.specs.Row.{put}
-use Rattle.device_cli.proofs.LawfulRow.{read-lawful}
+use Rattle.device_cli.specs.LawfulPlay.{IsPutLawfully}
+use Rattle.device_cli.proofs.LawfulRow.{read-always}
 use Rattle.device_cli.proofs.command.audit.AuditTask.read.Goals as goal
 
 pub returns-clause-reads : goal.returns-clause-reads
@@ -12,4 +13,4 @@ returns-clause-reads g c =
 pub returns-clause-lawful : goal.returns-clause-lawful
 returns-clause-lawful g c =
     let self = c.args.self.now in
-    read-lawful trace_kind self.trace.name.now _ (λ value bytes is. tt)
+    read-always IsPutLawfully trace_kind self.trace.name.now _ (λ value bytes is. tt)

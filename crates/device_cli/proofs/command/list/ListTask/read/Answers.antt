@@ -1,7 +1,8 @@
 use Rattle.msp_disasm.specs.Listing.{listing}
 use Rattle.input_files.specs.FileKind.{image_kind}
 use Rattle.device_cli.specs.Row.{plain, put}
-use Rattle.device_cli.proofs.LawfulRow.{read-lawful}
+use Rattle.device_cli.specs.LawfulPlay.{IsPutLawfully}
+use Rattle.device_cli.proofs.LawfulRow.{read-always}
 use Rattle.device_cli.proofs.command.list.ListTask.read.Goals as goal
 
 pub returns-clause-reads : goal.returns-clause-reads
@@ -12,4 +13,4 @@ returns-clause-reads g c =
 pub returns-clause-lawful : goal.returns-clause-lawful
 returns-clause-lawful g c =
     let self = c.args.self.now in
-    read-lawful image_kind self.image.name.now _ (λ value bytes is. tt)
+    read-always IsPutLawfully image_kind self.image.name.now _ (λ value bytes is. tt)

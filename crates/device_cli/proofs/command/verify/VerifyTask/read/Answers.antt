@@ -3,7 +3,8 @@ use Rattle.device_cli.specs.FileKind.{key_kind, reports_kind}
 use Rattle.report_verifier.specs.Judge.{judge_with}
 use Rattle.device_cli.specs.Row.{put}
 use Rattle.device_cli.specs.Verify.{verdicts, verdicts_outcome}
-use Rattle.device_cli.proofs.LawfulRow.{read-lawful}
+use Rattle.device_cli.specs.LawfulPlay.{IsPutLawfully}
+use Rattle.device_cli.proofs.LawfulRow.{read-always}
 use Rattle.device_cli.proofs.command.verify.VerifyTask.read.Goals as goal
 
 pub returns-clause-reads : goal.returns-clause-reads
@@ -14,7 +15,8 @@ returns-clause-reads g c =
 
 pub returns-clause-lawful : goal.returns-clause-lawful
 returns-clause-lawful g c =
-    read-lawful key_kind c.args.self.now.device.0.name.now _ (λ key bytes is.
-    read-lawful image_kind c.args.self.now.device.1.name.now _ (λ image bytes is.
-    read-lawful policy_kind c.args.self.now.evidence.0.name.now _ (λ policy bytes is.
-    read-lawful reports_kind c.args.self.now.evidence.1.name.now _ (λ reports bytes is. tt))))
+    read-always IsPutLawfully key_kind c.args.self.now.device.0.name.now _ (λ key bytes is.
+    read-always IsPutLawfully image_kind c.args.self.now.device.1.name.now _ (λ image bytes is.
+    read-always IsPutLawfully policy_kind c.args.self.now.evidence.0.name.now _ (λ policy bytes is.
+    read-always IsPutLawfully reports_kind c.args.self.now.evidence.1.name.now _
+    (λ reports bytes is. tt))))

@@ -1,0 +1,205 @@
+-- A round and a dump put the same of a play without its key.
+use Rattle.std.proofs.Common.{◌≡◌, ◌∙◌, ◌+◌, ◌++◌, ◌∷◌, [], ℕ, List, Option, Some, None, ap, sym, refl, length, lit≤}
+use Rattle.std.specs.Prelude.{if◌then◌else◌}
+use Rattle.std.proofs.lemmas.List.{append_cancel_left}
+use Rattle.bus_signals.specs.Address.{Bytes, Contents}
+use Rattle.bus_signals.specs.Bounds.{are_valid}
+use Rattle.bus_signals.specs.Map.{metadata_region}
+use Rattle.bus_signals.specs.Report.{ReportFields}
+use Rattle.bus_signals.specs.declared.bounds.Bounds.{Bounds}
+use Rattle.bus_signals.specs.declared.event.Event.{Event}
+use Rattle.bus_signals.proofs.ValidRange.{are_valid-ranges}
+use Rattle.part_definitions.specs.Memory.{is_image_place}
+use Rattle.part_definitions.specs.Metadata.{bounds_in}
+use Rattle.part_definitions.specs.Region.{bounded_bytes, bytes_between, metadata_bytes, output_bytes, rest_bytes}
+use Rattle.hex_loader.specs.HexText.{hex_text}
+use Rattle.device_trace.specs.Blank.{SameOutside}
+use Rattle.device_trace.specs.Logs.{Logs}
+use Rattle.device_trace.specs.Play.{Play}
+use Rattle.device_trace.specs.Start.{Start}
+use Rattle.device_trace.specs.Text.{end_line_after, last_report, lines_of, play_text, report_in, lines_of_step}
+use Rattle.device_trace.specs.Trace.{byte_after, logs_after, released_words}
+use Rattle.key_isolation.specs.Keyless.{keyless}
+use Rattle.key_isolation.proofs.Bytes.{same_if}
+use Rattle.key_isolation.proofs.Hiding.{open_start}
+use Rattle.key_isolation.proofs.Induction.{play_hides, releases_before}
+use Rattle.key_isolation.proofs.Numbers.{bounds_in-outside}
+use Rattle.key_isolation.proofs.OpenRecords.{image_place-open}
+use Rattle.key_isolation.proofs.TextBlank.{end_line_after-hide, lines_of-hide, play_text-hide, ram_bytes, report_where-hide, valid_bytes}
+use Rattle.key_isolation.proofs.TwoKeys.{byte-hide}
+use Rattle.report_text.specs.VerdictLine.{verdict_line}
+use Rattle.report_verifier.specs.Comparison.{expected_bytes, expected_key, own_bytes}
+use Rattle.report_verifier.specs.Judge.{Judge, verdict_at}
+use Rattle.report_verifier.specs.Policy.{expect_at}
+use Rattle.report_verifier.specs.declared.expect.Expect.{Expect}
+use Rattle.device_play.specs.Accounts.{end_line_of, memory_after}
+use Rattle.device_cli.specs.Dump.{dump_text}
+use Rattle.device_cli.specs.Judgement.{collision_lines, evidence_lines, judgement_lines}
+use Rattle.device_cli.specs.KeylessText.{HasKeylessTexts}
+use Rattle.device_cli.specs.RoundText.{remark_of_step, reports_in, round_lines, round_text, with_last}
+use Rattle.device_cli.specs.Verify.{is_accept}
+
+-- a device's own bytes are outside the secrets
+rest-outside : (left right : Contents) → SameOutside left right → (bounds : Bounds)
+    → bounded_bytes left bounds ≡ bounded_bytes right bounds
+rest-outside left right same bounds =
+    same_if (are_valid bounds) _ _ [] []
+    (λ valid.
+    let ranges = are_valid-ranges metadata_region bounds valid in
+    ap (λ (code : Bytes). code ++ output_bytes left bounds)
+    (valid_bytes left right same bounds.er_min bounds.er_max ranges.executable)
+    ∙ ap (λ (output : Bytes). bytes_between right bounds.er_min bounds.er_max ++ output)
+    (valid_bytes left right same bounds.or_min bounds.or_max ranges.output))
+    (λ invalid. refl)
+
+own-outside : (left right : Contents) → SameOutside left right
+    → own_bytes left ≡ own_bytes right
+own-outside left right same =
+    ap (λ (metadata : Bytes). metadata ++ rest_bytes left)
+    (ram_bytes left right same 0x240 80 (lit≤ tt) (lit≤ tt))
+    ∙ ap (λ (rest : Bytes). metadata_bytes right ++ rest)
+    (ap (bounded_bytes left) (bounds_in-outside left right same)
+    ∙ rest-outside left right same (bounds_in right))
+
+-- and nothing else of memory is looked at
+judgement-outside : (judge : Judge) (i : ℕ) (left right : Contents) (report : Option ReportFields)
+    → SameOutside left right
+    → judgement_lines judge i left report ≡ judgement_lines judge i right report
+judgement-outside judge i left right None same = refl
+judgement-outside judge i left right (Some report) same =
+    by-expect (expect_at judge.policy i)
+  where
+    by-expect : (expect : Option Expect)
+        → verdict_line (i + 1) (verdict_at judge i report)
+        ++ evidence_lines judge expect (verdict_at judge i report) report left
+        ≡ verdict_line (i + 1) (verdict_at judge i report)
+        ++ evidence_lines judge expect (verdict_at judge i report) report right
+    by-expect None = refl
+    by-expect (Some expect) =
+        ap (λ (own : Bytes). verdict_line (i + 1) (verdict_at judge i report)
+        ++ (if is_accept (verdict_at judge i report)
+        then collision_lines judge.digest (expected_key judge.digest judge.key expect)
+        (expected_bytes judge.digest judge.key judge.image expect report) own
+        else []))
+        (own-outside left right same)
+
+-- the report of the last step
+report-hide : (start : Start) (free : List ℕ) (play : Play) (more : List ℕ)
+    → free ≡ released_words start play ++ more
+    → last_report start play ≡ last_report (open_start free start) play
+report-hide start free [] more split = refl
+report-hide start free (events ∷ play) more split =
+    let logs : Logs = logs_after start (events ∷ play) in
+    sym (report_where-hide start free logs (length play) logs.decision)
+    ∙ ap (λ (ls : Logs). report_in (open_start free start) ls (length play))
+    (play_hides start free (events ∷ play) more split).logs
+
+-- the words that are released before the last step
+split-before : (start : Start) (free : List ℕ) (events : List Event) (play : Play) (more : List ℕ)
+    → free ≡ released_words start (events ∷ play) ++ more
+    → (rest : List ℕ) × (free ≡ released_words start play ++ rest)
+unfolding logs_after
+split-before start free events play more split =
+    releases_before start free more (logs_after start play) events split
+
+reports-hide : (start : Start) (free : List ℕ) (play : Play) (more : List ℕ)
+    → free ≡ released_words start play ++ more
+    → reports_in start play ≡ reports_in (open_start free start) play
+unfolding reports_in
+reports-hide start free [] more split = refl
+reports-hide start free (events ∷ play) more split =
+    let rest = split-before start free events play more split in
+    ap (λ (reports : List ReportFields). with_last reports (last_report start (events ∷ play)))
+    (reports-hide start free play rest.0 rest.1)
+    ∙ ap (with_last (reports_in (open_start free start) play))
+    (report-hide start free (events ∷ play) more split)
+
+remark-hide : (judge : Judge) (start : Start) (free : List ℕ) (events : List Event) (play : Play)
+    (more : List ℕ)
+    → free ≡ released_words start (events ∷ play) ++ more
+    → remark_of_step judge start events play
+    ≡ remark_of_step judge (open_start free start) events play
+remark-hide judge start free events play more split =
+    let rest = split-before start free events play more split in
+    let bare : Start = open_start free start in
+    ap (λ (reports : List ReportFields). judgement_lines judge (length reports)
+    (byte_after start (events ∷ play)) (last_report start (events ∷ play)))
+    (reports-hide start free play rest.0 rest.1)
+    ∙ judgement-outside judge (length (reports_in bare play)) (byte_after start (events ∷ play))
+    (byte_after bare (events ∷ play)) (last_report start (events ∷ play))
+    (byte-hide start free (events ∷ play) more split)
+    ∙ ap (judgement_lines judge (length (reports_in bare play)) (byte_after bare (events ∷ play)))
+    (report-hide start free (events ∷ play) more split)
+
+-- the device's lines of a step are what is more in those of the play
+step-hide : (start : Start) (free : List ℕ) (events : List Event) (play : Play) (more : List ℕ)
+    → free ≡ released_words start (events ∷ play) ++ more
+    → lines_of_step start events play ≡ lines_of_step (open_start free start) events play
+unfolding lines_of
+step-hide start free events play more split =
+    let rest = split-before start free events play more split in
+    let bare : Start = open_start free start in
+    append_cancel_left (lines_of bare play) (lines_of_step start events play)
+    (lines_of_step bare events play)
+    (ap (λ (lines : Bytes). lines ++ lines_of_step start events play)
+    (sym (lines_of-hide start free play rest.0 rest.1))
+    ∙ lines_of-hide start free (events ∷ play) more split)
+
+round_lines-hide : (judge : Judge) (start : Start) (free : List ℕ) (play : Play) (more : List ℕ)
+    → free ≡ released_words start play ++ more
+    → round_lines judge start play ≡ round_lines judge (open_start free start) play
+unfolding round_lines
+round_lines-hide judge start free [] more split = refl
+round_lines-hide judge start free (events ∷ play) more split =
+    let rest = split-before start free events play more split in
+    let bare : Start = open_start free start in
+    ap (λ (lines : Bytes). lines
+    ++ (lines_of_step start events play ++ remark_of_step judge start events play))
+    (round_lines-hide judge start free play rest.0 rest.1)
+    ∙ ap (λ (lines : Bytes). round_lines judge bare play
+    ++ (lines ++ remark_of_step judge start events play))
+    (step-hide start free events play more split)
+    ∙ ap (λ (remark : Bytes). round_lines judge bare play
+    ++ (lines_of_step bare events play ++ remark))
+    (remark-hide judge start free events play more split)
+
+end-hide : (start : Start) (free : List ℕ) (play : Play) (more : List ℕ)
+    → free ≡ released_words start play ++ more
+    → end_line_of start play ≡ end_line_of (open_start free start) play
+end-hide start free play more split =
+    sym (end_line_after-hide (length play) (logs_after start play))
+    ∙ ap (end_line_after (length play)) (play_hides start free play more split).logs
+
+round_text-hide : (judge : Judge) (start : Start) (free : List ℕ) (play : Play) (more : List ℕ)
+    → free ≡ released_words start play ++ more
+    → round_text judge start play ≡ round_text judge (open_start free start) play
+unfolding round_text
+round_text-hide judge start free play more split =
+    ap (λ (lines : Bytes). lines ++ end_line_of start play)
+    (round_lines-hide judge start free play more split)
+    ∙ ap (λ (end : Bytes). round_lines judge (open_start free start) play ++ end)
+    (end-hide start free play more split)
+
+-- memory as it is dumped has no place of a secret
+memory-hide : (start : Start) (free : List ℕ) (play : Play) (more : List ℕ)
+    → free ≡ released_words start play ++ more
+    → memory_after start play ≡ memory_after (open_start free start) play
+memory-hide start free play more split = λ i place.
+    same_if (is_image_place place) _ _ None None
+    (λ holds. ap (λ (byte : ℕ). Some byte)
+    (byte-hide start free play more split place (image_place-open place holds)))
+    (λ other. refl) i
+
+pub keyless_texts : (start : Start) (play : Play) → HasKeylessTexts start play
+keyless_texts start play =
+    record {
+      dump = λ more.
+          let free : List ℕ = released_words start play ++ more in
+          ap (λ (text : Bytes). text ++ hex_text (memory_after start play))
+          (play_text-hide start free play more refl)
+          ∙ ap (λ (memory : ℕ → Option ℕ). play_text (keyless start play more) play
+          ++ hex_text memory)
+          (memory-hide start free play more refl);
+      round = λ judge more.
+          round_text-hide judge start (released_words start play ++ more) play more refl;
+    }

@@ -1,0 +1,18 @@
+use Rattle.device_play.proofs.PutsLemmas.{takes-nothing}
+use Rattle.report_verifier.specs.Judge.{judge_of}
+use Rattle.device_cli.specs.RoundText.{round_lines}
+use Rattle.device_cli.proofs.RoundLines.{judge-goes_on}
+use Rattle.device_cli.proofs.Tallies.{tally-none}
+use Rattle.device_cli.proofs.verdict.judging.JudgingWatcher.begin.Goals as goal
+
+pub returns-clause-goes_on : goal.returns-clause-goes_on
+returns-clause-goes_on g c = λ digest.
+    judge-goes_on (judge_of digest c.args.self.now.verifier.now)
+
+pub returns-clause-tally : goal.returns-clause-tally
+returns-clause-tally g c = λ digest. tally-none (judge_of digest c.args.self.now.verifier.now)
+
+pub returns-clause-puts : goal.returns-clause-puts
+unfolding round_lines
+returns-clause-puts g c = λ digest start.
+    record { all = takes-nothing g.W.Sink.stands c.args._sink.now; prefix = tt }

@@ -1,0 +1,73 @@
+use Rattle.std.proofs.Common.{◌∷◌, arith}
+use Rattle.device_trace.specs.Logs.{flags_of}
+use Rattle.device_trace.specs.Trace.{logs_after}
+use Rattle.outside_edge.proofs.SinkLemmas.{prefix_of_more}
+use Rattle.report_verifier.specs.Judge.{Judge}
+use Rattle.device_trace.specs.Text.{lines_of_step}
+use Rattle.device_play.proofs.SeenStep.{seen-failed}
+use Rattle.device_play.proofs.WriteCounts.{counts-passed}
+use Rattle.report_verifier.specs.Judge.{judge_of}
+use Rattle.device_cli.specs.JudgedPlay.{judge_account}
+use Rattle.device_cli.proofs.JudgedStep.{judged-failed, judged-seen, remark}
+use Rattle.device_cli.proofs.RoundLines.{last_report-output}
+use Rattle.device_cli.proofs.Tallies.{verdicts-few}
+use Rattle.device_cli.proofs.verdict.judging.JudgingWatcher.see.Goals as goal
+
+pub judge_last-requires : goal.judge_last-requires
+judge_last-requires g c =
+    let (start, events, play, shown) = c.requires.shown in
+    omega (
+      arith,
+      verdicts-few (judge_of g.D.Digest32.hash.digest_of c.args.self.now.verifier.now) start play
+          c.args.tally.now shown.counted,
+      shown.number,
+      c.requires.few,
+    )
+
+pub returns-in_err-print_last_step-clause-seen : goal.returns-in_err-print_last_step-clause-seen
+returns-in_err-print_last_step-clause-seen g c = λ start events play shown.
+    let judge : Judge = judge_of g.D.Digest32.hash.digest_of c.args.self.now.verifier.now in
+    seen-failed {account = judge_account judge} c.from_residual.result c.from_residual.ensures.1
+    (prefix_of_more g.W.Sink.stands c.args.sink.now c.print_last_step.new.sink
+    (lines_of_step start events play) (remark judge start events play)
+    (c.in_err-print_last_step.ensures.puts start events play shown.device
+    shown.number).prefix)
+
+pub returns-in_err-tally-clause-seen : goal.returns-in_err-tally-clause-seen
+returns-in_err-tally-clause-seen g c = λ start events play shown.
+    let judge : Judge = judge_of g.D.Digest32.hash.digest_of c.args.self.now.verifier.now in
+    let logs = logs_after start (events ∷ play) in
+    let last = c.report-report.ensures.last start (events ∷ play) shown.device in
+    let memory = c.memory-memory.ensures start (events ∷ play) shown.device in
+    judged-failed g.W.Sink.stands c.args.sink.now c.print_last_step.new.sink c.judge_last.new.sink
+    judge start events play c.args.tally.now c.in_err-tally.field-0.0
+    c.from_residual-in_err-tally.result c.from_residual-in_err-tally.ensures.1
+    (c.in_ok-print_last_step.ensures.puts start events play shown.device
+    shown.number).all
+    (rw (last, shown.counted.verdicts) at (c.in_err-tally.ensures.puts start.power
+    (flags_of start logs) logs.memory memory
+    (rw last (last_report-output start (events ∷ play)))))
+    (rw (last, shown.counted.verdicts) at (c.in_err-tally.ensures.memory start.power
+    (flags_of start logs) logs.memory memory
+    (rw last (last_report-output start (events ∷ play)))))
+
+pub returns-clause-seen : goal.returns-clause-seen
+returns-clause-seen g c = λ start events play shown.
+    let judge : Judge = judge_of g.D.Digest32.hash.digest_of c.args.self.now.verifier.now in
+    let logs = logs_after start (events ∷ play) in
+    let last = c.report-report.ensures.last start (events ∷ play) shown.device in
+    judged-seen g.W.Sink.stands c.args.sink.now c.print_last_step.new.sink c.judge_last.new.sink
+    judge start events play c.args.tally.now _ _ shown.counted
+    (rw last at c.in_ok-tally.ensures.tally)
+    (c.in_ok-print_last_step.ensures.puts start events play shown.device
+    shown.number).all
+    (rw (last, shown.counted.verdicts) at (c.in_ok-tally.ensures.puts start.power
+    (flags_of start logs) logs.memory (c.memory-memory.ensures start (events ∷ play) shown.device)
+    (rw last (last_report-output start (events ∷ play)))).all)
+
+pub returns-in_err-tally-clause-counts : goal.returns-in_err-tally-clause-counts
+returns-in_err-tally-clause-counts g c =
+    counts-passed g.W.Sink.faults c.args.sink.now c.print_last_step.new.sink c.judge_last.new.sink
+    c.in_err-tally.field-0.0 c.from_residual-in_err-tally.result
+    c.from_residual-in_err-tally.ensures.1 c.in_ok-print_last_step.ensures.counts.quiet
+    c.in_err-tally.ensures.counts

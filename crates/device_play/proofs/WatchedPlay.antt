@@ -1,0 +1,288 @@
+-- A play before a watcher: what was said of the steps so far, and what is still to come.
+use Rattle.std.proofs.Common.{◌≡◌, ◌≤◌, ◌<◌, ◌+◌, ◌-◌, ◌++◌, ◌∙◌, [], ℕ, zero, suc, Bool, List, Result, Ok, Err, refl, sym, ap, subst, arith, append_assoc, append-nil}
+use Rattle.std.specs.Prelude.{Contains, IsErrAnd}
+use Rattle.bus_signals.specs.Address.{Bytes}
+use Rattle.bus_signals.specs.declared.event.Event.{Event}
+use Rattle.bus_signals.specs.TraceFlag.{Flag}
+use Rattle.hmac_core.specs.Hash.{Hash}
+use Rattle.outside_edge.specs.Sink.{Takes, TakesPrefix}
+use Rattle.outside_edge.proofs.SinkLemmas.{prefix_after, prefix_of_more, takes_both}
+use Rattle.device_trace.specs.Play.{Play}
+use Rattle.device_trace.specs.Start.{Start}
+use Rattle.device_trace.specs.Trace.{play_of}
+use Rattle.play_script.specs.declared.playback.Playback.{Playback}
+use Rattle.device_core.specs.Device.{LiveStandsFor, steps_made}
+use Rattle.device_core.specs.declared.live.Live.{Live}
+use Rattle.device_play.specs.Account.{Account, GoesOn, IsPassed, whole_text}
+use Rattle.device_play.specs.Cuts.{TakesOneOf}
+use Rattle.device_play.specs.Midway.{HasGoneOn, IsMidway}
+use Rattle.device_play.specs.Watching.{HasSeen, IsShown, IsWatched}
+use Rattle.device_play.proofs.IdlePlay.{length-play_of}
+use Rattle.device_play.proofs.PlayLaws.{keeps_key_hidden, obeys_laws_with}
+use Rattle.device_play.specs.declared.put_fault.PutFault.{PutFault}
+use Rattle.device_play.specs.declared.put_fault.PutFault.TheVariants.{Write, Memory}
+
+-- what a watcher says goes on from step to step
+abbrev pub AlwaysGoesOn : {T : Type 0} → Account T → Bool → Start → Type 0
+AlwaysGoesOn account every_step start =
+    (events : List Event) (play : Play) → GoesOn account every_step start events play
+
+-- a tally of the first steps, and a sink that took their text
+pub record IsUpTo {S T : Type 0} (stands : S → Bytes → Type 0) (account : Account T)
+    (start : Start) (events_at : ℕ → List Event) (old new : S) (tally : T) (step : ℕ)
+    : Type 0 where
+  pub counted : account.tallies start (play_of events_at step) tally
+  pub took : Takes stands old new (account.text start (play_of events_at step))
+
+-- what is said of a play begins with what is said of a shorter one
+record Extends {T : Type 0} (account : Account T) (start : Start) (shorter longer : Play)
+    : Type 0 where
+  rest : Bytes
+  same_text : account.text start longer ≡ account.text start shorter ++ rest
+  same_cuts : (cut : Bytes)
+      → Contains (account.cuts start shorter) cut
+      → Contains (account.cuts start longer) cut
+
+extends :
+    {T : Type 0} (account : Account T) (every_step : Bool) (start : Start)
+    (events_at : ℕ → List Event) (more fewer steps : ℕ)
+    → AlwaysGoesOn account every_step start
+    → steps ≡ more + fewer
+    → Extends account start (play_of events_at fewer) (play_of events_at steps)
+extends account every_step start events_at zero fewer steps goes_on sum =
+    let same : steps ≡ fewer = omega arith in
+    rw same (record {
+      rest = [];
+      same_text = sym (append-nil (account.text start (play_of events_at fewer)));
+      same_cuts = λ cut has. has;
+    })
+extends account every_step start events_at (suc more) fewer steps goes_on sum =
+    let same : steps ≡ suc (more + fewer) = omega arith in
+    let before : Play = play_of events_at (more + fewer) in
+    let shorter = extends account every_step start events_at more fewer (more + fewer) goes_on refl
+    in
+    let next = goes_on (events_at (more + fewer)) before in
+    let last : Bytes = account.step_text start (events_at (more + fewer)) before in
+    rw same (record {
+      rest = shorter.rest ++ last;
+      same_text = next.same_text
+          ∙ ap (λ (text : Bytes). text ++ last) shorter.same_text
+          ∙ append_assoc (account.text start (play_of events_at fewer)) shorter.rest last;
+      same_cuts = λ cut has. next.same_cuts cut (shorter.same_cuts cut has);
+    })
+
+-- after steps that are passed it is as before them
+up-to-passed :
+    {S T : Type 0} (stands : S → Bytes → Type 0) (account : Account T) (every_step : Bool)
+    (start : Start) (events_at : ℕ → List Event) (old new : S) (tally : T) (more step until : ℕ)
+    → AlwaysGoesOn account every_step start
+    → until ≡ more + step
+    → ((later : ℕ) → step ≤ later → later < until
+    → IsPassed every_step start (play_of events_at (suc later)))
+    → IsUpTo stands account start events_at old new tally step
+    → IsUpTo stands account start events_at old new tally until
+up-to-passed stands account every_step start events_at old new tally zero step until goes_on sum
+    passed is =
+    let same : until ≡ step = omega arith in rw same is
+up-to-passed stands account every_step start events_at old new tally (suc more) step until goes_on
+    sum passed is =
+    let same : until ≡ suc (more + step) = omega arith in
+    let before = up-to-passed stands account every_step start events_at old new tally more step
+    (more + step) goes_on refl (λ later from below. passed later from (omega arith)) is in
+    let play : Play = play_of events_at (more + step) in
+    let here = passed (more + step) (omega arith) (omega arith) in
+    let next = goes_on (events_at (more + step)) play in
+    rw same (record {
+      counted = next.same_tally tally here before.counted;
+      took = rw (next.same_text, next.no_text here, append-nil) before.took;
+    })
+
+-- the same number of steps
+pub at-count :
+    {D G : Type 0} {hash : Hash D} {flag : Flag G} {start : Start} {one other : ℕ} (live : Live D G)
+    (events_at : ℕ → List Event)
+    → one ≡ other → LiveStandsFor hash flag live start (play_of events_at one)
+    → LiveStandsFor hash flag live start (play_of events_at other)
+at-count {hash} {flag} {start} live events_at same stands =
+    subst (λ play. LiveStandsFor hash flag live start play)
+    (ap (play_of events_at) same) stands
+
+-- a device in the middle of a play, and a watcher that is up to it
+pub record IsUnderWay {D G S T : Type 0} (hash : Hash D) (flag : Flag G)
+    (stands : S → Bytes → Type 0) (account : Account T) (start : Start)
+    (events_at : ℕ → List Event) (old new : S) (live : Live D G) (playback : Playback) (tally : T)
+    : Type 0 where
+  pub midway : IsMidway hash flag start events_at live playback
+  pub up_to : IsUpTo stands account start events_at old new tally (steps_made live)
+
+-- a device after a step, and a watcher before that step
+pub record IsToSee {D G S T : Type 0} (hash : Hash D) (flag : Flag G)
+    (stands : S → Bytes → Type 0) (account : Account T) (start : Start)
+    (events_at : ℕ → List Event) (old new : S) (live : Live D G) (tally : T) (step : ℕ)
+    : Type 0 where
+  pub made : steps_made live ≡ suc step
+  pub shown : IsShown hash flag account live tally step start (events_at step)
+      (play_of events_at step)
+  pub up_to : IsUpTo stands account start events_at old new tally step
+
+-- so it is where the device has gone on from the steps that were seen
+pub gone-to-see :
+    {D G S T : Type 0} {hash : Hash D} {flag : Flag G} {stands : S → Bytes → Type 0}
+    {account : Account T} {every_step : Bool} {start : Start} {events_at : ℕ → List Event}
+    {old new : S} {before live : Live D G} {playback left : Playback} {tally : T} {step : ℕ}
+    → AlwaysGoesOn account every_step start
+    → steps_made live ≡ suc step → steps_made before ≤ step
+    → IsUnderWay hash flag stands account start events_at old new before playback tally
+    → HasGoneOn hash flag every_step start events_at (steps_made before) live left
+    → IsToSee hash flag stands account start events_at old new live tally step
+gone-to-see {stands} {account} {every_step} {start} {events_at} {old} {new} {before} {live} {tally}
+    {step} goes_on made within is gone =
+    let up_to = up-to-passed stands account every_step start events_at old new tally
+    (step - steps_made before) (steps_made before) step goes_on (omega arith)
+    (λ later from below. gone.passed later from (omega (arith, made))) is.up_to in
+    record {
+      made = made;
+      shown = record {
+        device = at-count live events_at made gone.midway.stands;
+        number = sym (length-play_of events_at step);
+        counted = up_to.counted;
+      };
+      up_to = up_to;
+    }
+
+-- one more step that was seen
+pub seen-under_way :
+    {D G S T V : Type 0} {hash : Hash D} {flag : Flag G} {stands : S → Bytes → Type 0}
+    {account : Account T} {every_step : Bool} {start : Start} {events_at : ℕ → List Event}
+    {old mid new : S} {live : Live D G} {playback : Playback} {tally more : T} {step : ℕ}
+    {value : V}
+    → AlwaysGoesOn account every_step start
+    → IsToSee hash flag stands account start events_at old mid live tally step
+    → HasSeen stands account mid new more start (events_at step) (play_of events_at step)
+    (Ok value)
+    → IsMidway hash flag start events_at live playback
+    → IsUnderWay hash flag stands account start events_at old new live playback more
+seen-under_way {stands} {account} {start} {events_at} {old} {mid} {new} {step} goes_on to seen
+    midway =
+    let play : Play = play_of events_at step in
+    record {
+      midway = midway;
+      up_to = rw to.made (record {
+        counted = seen.counted;
+        took = rw (goes_on (events_at step) play).same_text
+            (takes_both stands old mid new (account.text start play)
+            (account.step_text start (events_at step) play) to.up_to.took seen.puts.all);
+      });
+    }
+
+-- a play whose watcher stopped
+pub watched-failed :
+    {D G S T : Type 0} {hash : Hash D} {flag : Flag G} {stands : S → Bytes → Type 0}
+    {account : Account T} {old new : S} {start : Start} {play : Play} {fault : PutFault}
+    (result : Result (Live D G × T) PutFault)
+    → IsErrAnd result (λ error. error ≡ fault)
+    → TakesPrefix stands old new (whole_text account start play)
+    → (fault ≡ Memory → TakesOneOf stands old new (account.cuts start play))
+    → IsWatched hash flag stands account old new start play result
+watched-failed (Ok value) is prefix memory = absurd is
+watched-failed {hash} {flag} {start} {play} (Err error) is prefix memory =
+    record {
+      device = tt;
+      counted = tt;
+      puts = record { all = tt; prefix = prefix };
+      memory = λ here. memory (sym is ∙ here);
+      hides_key = keeps_key_hidden start play;
+      laws = obeys_laws_with flag.value hash.digest_of start play;
+    }
+
+-- and one that was made to its end
+pub watched-all :
+    {D G S T : Type 0} {hash : Hash D} {flag : Flag G} {stands : S → Bytes → Type 0}
+    {account : Account T} {old new : S} {start : Start} {play : Play} {live : Live D G} {tally : T}
+    (mid : S)
+    → LiveStandsFor hash flag live start play
+    → account.tallies start play tally
+    → Takes stands old mid (account.text start play)
+    → Takes stands mid new (account.end_text start play)
+    → IsWatched hash flag stands account old new start play (Ok (live, tally))
+watched-all {hash} {flag} {stands} {account} {old} {new} {start} {play} mid device counted took
+    end =
+    record {
+      device = device;
+      counted = counted;
+      puts = record {
+        all = takes_both stands old mid new (account.text start play)
+            (account.end_text start play) took end;
+        prefix = tt;
+      };
+      memory = tt;
+      hides_key = keeps_key_hidden start play;
+      laws = obeys_laws_with flag.value hash.digest_of start play;
+    }
+
+-- before its first step
+pub begin-failed :
+    {D G S T : Type 0} {hash : Hash D} {flag : Flag G} {stands : S → Bytes → Type 0}
+    {account : Account T} {every_step : Bool} {old new : S} {start : Start}
+    (events_at : ℕ → List Event) (steps : ℕ) (result : Result (Live D G × T) PutFault)
+    → AlwaysGoesOn account every_step start
+    → IsErrAnd result (λ error. error ≡ Write)
+    → TakesPrefix stands old new (account.text start [])
+    → IsWatched hash flag stands account old new start (play_of events_at steps) result
+begin-failed {stands} {account} {every_step} {old} {new} {start} events_at steps result goes_on is
+    prefix =
+    let longer = extends account every_step start events_at steps 0 steps goes_on (omega arith) in
+    let play : Play = play_of events_at steps in
+    watched-failed result is
+    (prefix_of_more stands old new (account.text start play) (account.end_text start play)
+    (rw longer.same_text
+    (prefix_of_more stands old new (account.text start []) longer.rest prefix)))
+    (λ memory. absurd (cc memory))
+
+-- at a step
+pub see-failed :
+    {D G S T V : Type 0} {hash : Hash D} {flag : Flag G} {stands : S → Bytes → Type 0}
+    {account : Account T} {every_step : Bool} {old mid new : S} {start : Start}
+    {events_at : ℕ → List Event} {tally more : T} {step steps : ℕ} {fault : PutFault}
+    (result : Result (Live D G × T) PutFault)
+    → AlwaysGoesOn account every_step start
+    → IsErrAnd result (λ error. error ≡ fault)
+    → step + 1 ≤ steps
+    → IsUpTo stands account start events_at old mid tally step
+    → HasSeen {V = V} stands account mid new more start (events_at step) (play_of events_at step)
+    (Err fault)
+    → IsWatched hash flag stands account old new start (play_of events_at steps) result
+see-failed {stands} {account} {every_step} {old} {mid} {new} {start} {events_at} {step} {steps}
+    result goes_on is within up_to seen =
+    let here : Play = play_of events_at step in
+    let play : Play = play_of events_at steps in
+    let longer = extends account every_step start events_at (steps - suc step) (suc step) steps
+    goes_on (omega (arith, within)) in
+    let next = goes_on (events_at step) here in
+    let last : Bytes = account.step_text start (events_at step) here in
+    watched-failed result is
+    (prefix_of_more stands old new (account.text start play) (account.end_text start play)
+    (rw (longer.same_text, next.same_text)
+    (prefix_of_more stands old new (account.text start here ++ last) longer.rest
+    (prefix_after stands old mid new (account.text start here) last up_to.took seen.puts.prefix))))
+    (λ memory.
+    let such = seen.memory memory in (
+      account.text start here ++ such.0,
+      longer.same_cuts (account.text start here ++ such.0) such.1,
+      takes_both stands old mid new (account.text start here) such.0 up_to.took such.2,
+    ))
+
+-- after its last step
+pub end-failed :
+    {D G S T : Type 0} {hash : Hash D} {flag : Flag G} {stands : S → Bytes → Type 0}
+    {account : Account T} {old new : S} {start : Start} {play : Play} (mid : S)
+    (result : Result (Live D G × T) PutFault)
+    → IsErrAnd result (λ error. error ≡ Write)
+    → Takes stands old mid (account.text start play)
+    → TakesPrefix stands mid new (account.end_text start play)
+    → IsWatched hash flag stands account old new start play result
+end-failed {stands} {account} {old} {new} {start} {play} mid result is took prefix =
+    watched-failed result is
+    (prefix_after stands old mid new (account.text start play) (account.end_text start play) took
+    prefix)
+    (λ memory. absurd (cc memory))

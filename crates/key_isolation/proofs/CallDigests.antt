@@ -1,0 +1,125 @@
+-- The digests of one call under SHA-256, computed once and looked up from then on.
+use Rattle.std.proofs.Common.{◌≡◌, ◌∙◌, ℕ, zero, suc, ◌/◌, ◌%◌, Bool, true, false, List, [], ◌∷◌, ◌++◌, map, replicate, refl, ap}
+use Rattle.std.specs.Prelude.{if◌then◌else◌}
+use Rattle.std.specs.Str.{bytes_eq}
+use Rattle.std.proofs.lemmas.Slice.Eq.{bytes_eq-Decides}
+use Rattle.sha2.specs.Sha256.{digest_bytes, first_words, rounds, sha256}
+use Rattle.bus_signals.specs.Address.{Bytes}
+use Rattle.part_definitions.specs.Attestation.{bytes_of_words}
+use Rattle.part_definitions.specs.Hmac.{Digest, block_of, with_mask}
+use Rattle.device_trace.specs.Example.{upwards}
+use Rattle.key_isolation.specs.AttestedPlay.{token_words}
+use Rattle.key_isolation.proofs.Sha256Computed.{computed, sha256-computed, state_after, words_of}
+
+-- a number's bytes, so many, the highest first, before these
+abbrev bytes_before : ℕ → ℕ → Bytes → Bytes
+bytes_before zero number bytes = bytes
+bytes_before (suc count) number bytes =
+    bytes_before count (number / 256) (number % 256 ∷ bytes)
+
+abbrev digest_of : ℕ → Bytes
+digest_of number = bytes_before 32 number []
+
+-- a message, and its digest
+abbrev pub Row : Type 0
+Row = Bytes × Bytes
+
+-- the digest of a message by these rows, and of any other by SHA-256
+unfoldable pub looked_up : List Row → Digest
+looked_up [] message = sha256 message
+looked_up (row ∷ rows) message =
+    if bytes_eq message row.0 then row.1 else looked_up rows message
+
+abbrev AreDigests : List Row → Type 0
+AreDigests rows = map (λ (row : Row). computed row.0) rows ≡ map (λ (row : Row). row.1) rows
+
+first_same : (first second : Bytes) (left right : List Bytes)
+    → first ∷ left ≡ second ∷ right → first ≡ second
+first_same first second left right same = cc same
+
+rest_same : (first second : Bytes) (left right : List Bytes)
+    → first ∷ left ≡ second ∷ right → left ≡ right
+rest_same first second left right same = cc same
+
+by_row : (test : Bool) (message : Bytes) (row : Row) (other : Bytes)
+    → (test ≡ true → message ≡ row.0) → sha256 row.0 ≡ row.1 → sha256 message ≡ other
+    → sha256 message ≡ (if test then row.1 else other)
+by_row true message row other same is rest = ap sha256 (same refl) ∙ is
+by_row false message row other same is rest = rest
+
+sha256-looked_up : (rows : List Row) → AreDigests rows → (message : Bytes)
+    → sha256 message ≡ looked_up rows message
+unfolding looked_up
+sha256-looked_up [] are message = refl
+sha256-looked_up (row ∷ rows) are message =
+    let digests : List Bytes = map (λ (row : Row). computed row.0) rows in
+    let others : List Bytes = map (λ (row : Row). row.1) rows in
+    by_row (bytes_eq message row.0) message row (looked_up rows message)
+    (bytes_eq-Decides message row.0).0
+    (sha256-computed row.0 ∙ first_same (computed row.0) row.1 digests others are)
+    (sha256-looked_up rows (rest_same (computed row.0) row.1 digests others are) message)
+
+-- of the token, of the key of the challenge and of the MAC, and of the token under another key: the
+-- inner input and the outer one
+abbrev key : Bytes
+key = upwards 0 64
+
+abbrev other_key : Bytes
+other_key = upwards 1 64
+
+abbrev challenge : Bytes
+challenge = replicate 32 0
+
+abbrev inner_token : Bytes
+inner_token = digest_of 0x10e0ec079eed97d102bdbbd8abd7e2b8b8b185b0c78392b292a82db4b76ce920
+
+abbrev token : Bytes
+token = digest_of 0xbdc9e628df034a9622b990040ebfef509cc4202a94fbefdb4c665ec913caa5e9
+
+abbrev inner_key : Bytes
+inner_key = digest_of 0x8a6d68bdb22601a88b6f4d219e16c2f37ae1107e5838edf0a2b5ee3d2125d3f6
+
+abbrev challenge_key : Bytes
+challenge_key = digest_of 0x491f583b05e23a721d116dc108a03f303798368a494c211d56a52af36828b769
+
+abbrev inner_mac : Bytes
+inner_mac = digest_of 0xf5f5193a5605c20d9c3531328cac0139b42d44ac0fdde616fa152ffe6b81650a
+
+abbrev mac : Bytes
+mac = digest_of 0x987ec8975bddd1c65d1f11a8047fd0f67e6397dad1f7e10becfdbb0ea64f6a66
+
+abbrev inner_other : Bytes
+inner_other = digest_of 0xe45961d1b00e2cdff88036e79e9ed41f306294075047a409cf2cebcae24bd2af
+
+abbrev other_token : Bytes
+other_token = digest_of 0x47e914071e750fc3f2c00aa0f76a9a66594afced894cdca90bcad8a65f38100d
+
+-- of the token
+abbrev request : Bytes
+request = 1 ∷ challenge ++ 1 ∷ 0 ∷ 0 ∷ 0 ∷ []
+
+-- metadata, code and output
+abbrev message : Bytes
+message =
+    challenge
+    ++ bytes_of_words (0xC000 ∷ 0xC00A ∷ 0x0300 ∷ 0x0300 ∷ 0 ∷ 0 ∷ 1 ∷ 0 ∷ token_words)
+    ++ bytes_of_words (0x4031 ∷ 0x2200 ∷ 0xC232 ∷ 0x12B0 ∷ 0xA000 ∷ 0x3FFF ∷ 0 ∷ [])
+
+abbrev pub call_rows : List Row
+call_rows =
+    (with_mask 0x36 key ++ request, inner_token)
+    ∷ (with_mask 0x5C key ++ inner_token, token)
+    ∷ (with_mask 0x36 key ++ challenge, inner_key)
+    ∷ (with_mask 0x5C key ++ inner_key, challenge_key)
+    ∷ (with_mask 0x36 (block_of challenge_key) ++ message, inner_mac)
+    ∷ (with_mask 0x5C (block_of challenge_key) ++ inner_mac, mac)
+    ∷ (with_mask 0x36 other_key ++ request, inner_other)
+    ∷ (with_mask 0x5C other_key ++ inner_other, other_token)
+    ∷ []
+
+are_digests : AreDigests call_rows
+unfolding computed digest_bytes first_words rounds state_after words_of
+are_digests = refl
+
+pub sha256-by_rows : sha256 ≡ looked_up call_rows
+sha256-by_rows = λ i message. sha256-looked_up call_rows are_digests message i

@@ -1,0 +1,72 @@
+use Rattle.std.proofs.Common.{◌≡◌, ◌∙◌, ℕ, List, [], ◌∷◌, ap, append-nil, refl}
+use Rattle.std.specs.Fmt.{digits}
+use Rattle.hex.specs.Hex.{encode_with}
+use Rattle.word_arith.specs.Op2.{alu_result}
+use Rattle.word_arith.specs.Op1.{shift_result}
+use Rattle.msp_decode.specs.Head.{head_of}
+use Rattle.part_definitions.specs.FirstRule.{first_rule}
+use Rattle.part_definitions.specs.Hmac.{Digest}
+use Rattle.part_definitions.specs.NextAccess.{next_access, entry_access}
+use Rattle.part_definitions.specs.MonitorRule.{key_rule, atomicity_rule}
+use Rattle.part_definitions.specs.TrustedFlag.{aux}
+use Rattle.bus_signals.specs.Address.{Bytes}
+use Rattle.bus_signals.specs.ExecFlag.{exec}
+use Rattle.device_trace.specs.Example.{upwards}
+use Rattle.device_trace.specs.Logs.{with_events, with_record}
+use Rattle.device_trace.specs.Signals.{signals_at}
+use Rattle.device_trace.specs.Start.{with_key, without_key}
+use Rattle.device_trace.specs.Step.{record_of, next_record}
+use Rattle.device_trace.specs.Text.{lines_of, play_text}
+use Rattle.device_trace.specs.Trace.{logs_after, released_words}
+use Rattle.key_isolation.specs.AttestedPlay.{attested_text, attested_words, attesting_start, requested}
+use Rattle.key_isolation.specs.Example.{whole_call}
+use Rattle.key_isolation.proofs.CallDigests.{call_rows, looked_up, sha256-by_rows}
+use Rattle.key_isolation.proofs.TwoKeys.{looks_keyless}
+use Rattle.key_isolation.proofs.example.attested_play_looks_keyless.Goals as goal
+
+-- what the calls release with this key
+releases_with : Bytes → List ℕ
+releases_with key = released_words (attesting_start key) whole_call
+
+by_rows : (key : Bytes)
+    → releases_with key
+    ≡ released_words (with_key aux (looked_up call_rows) key requested) whole_call
+unfolding releases_with
+by_rows key =
+    ap (λ (digest : Digest). released_words (with_key aux digest key requested) whole_call)
+    sha256-by_rows
+
+releases : releases_with (upwards 0 64) ≡ attested_words
+unfolding alu_result shift_result head_of next_access entry_access key_rule atomicity_rule exec
+    with_events with_record signals_at first_rule record_of next_record logs_after aux looked_up
+releases = by_rows (upwards 0 64) ∙ refl
+
+denies : releases_with (upwards 1 64) ≡ 3 ∷ []
+unfolding alu_result shift_result head_of next_access entry_access key_rule atomicity_rule exec
+    with_events with_record signals_at first_rule record_of next_record logs_after aux looked_up
+denies = by_rows (upwards 1 64) ∙ refl
+
+prints : play_text (without_key aux attested_words requested) whole_call ≡ attested_text
+unfolding digits encode_with alu_result shift_result head_of next_access entry_access key_rule
+    atomicity_rule exec with_events with_record signals_at first_rule record_of next_record
+    logs_after aux lines_of play_text
+prints = refl
+
+pub returns-clause-released : goal.returns-clause-released
+unfolding releases_with
+returns-clause-released c = releases
+
+pub returns-clause-printed : goal.returns-clause-printed
+unfolding releases_with
+returns-clause-printed c =
+    (looks_keyless (attesting_start (upwards 0 64)) whole_call []).same_text
+    ∙ ap (λ (words : List ℕ). play_text (without_key aux words requested) whole_call)
+    (append-nil (released_words (attesting_start (upwards 0 64)) whole_call) ∙ releases)
+    ∙ prints
+
+pub returns-clause-other : goal.returns-clause-other
+unfolding releases_with
+returns-clause-other c = denies
+
+pub returns-clause-keyless : goal.returns-clause-keyless
+returns-clause-keyless c = prints

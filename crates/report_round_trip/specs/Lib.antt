@@ -1,2 +1,0 @@
-pub mod PlayReports
-pub mod ReadBack

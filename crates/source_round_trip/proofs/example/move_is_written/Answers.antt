@@ -1,7 +1,0 @@
-use Rattle.std.proofs.Common.{refl}
-use Rattle.std.specs.Fmt.{digits}
-use Rattle.source_round_trip.proofs.example.move_is_written.Goals as goal
-
-pub returns : goal.returns
-unfolding digits
-returns c = record { text = refl; writable = refl }

@@ -1,5 +1,0 @@
-use Rattle.source_round_trip.proofs.Numerals.{decimal-number}
-use Rattle.source_round_trip.proofs.numeral.decimals_are_numerals.Goals as goal
-
-pub returns : goal.returns
-returns c = decimal-number

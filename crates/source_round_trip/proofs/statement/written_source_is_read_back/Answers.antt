@@ -1,5 +1,0 @@
-use Rattle.source_round_trip.proofs.WrittenSource.{source-read_back}
-use Rattle.source_round_trip.proofs.statement.written_source_is_read_back.Goals as goal
-
-pub returns : goal.returns
-returns c = source-read_back

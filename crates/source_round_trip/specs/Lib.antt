@@ -1,6 +1,0 @@
-pub mod LineSyntax
-pub mod SyntaxText
-pub mod Writable
-pub mod ReadBack
-pub mod Listing
-pub mod Example

@@ -1,0 +1,67 @@
+-- The words and bytes of a listing, and its returns from interrupts, read again.
+use Rattle.std.proofs.Common.{◌∙◌, ap, refl, ℕ, ◌<◌, arith, [], ◌∷◌, ◌++◌, ℤ, pos, None, Result}
+use Rattle.std.specs.Prelude.{codes}
+use Rattle.std.proofs.lemmas.Bool.{le-leb}
+use Rattle.std.proofs.Math.IntN.{+ℤ_idr}
+use Rattle.word_arith.specs.declared.size.Size.TheVariants as sizes
+use Rattle.msp_decode.specs.declared.instr.Instr.TheVariants.{Reti}
+use Rattle.printed_lines.specs.Line.{byte_digits}
+use Rattle.text_scan.specs.declared.fault_kind.FaultKind.{FaultKind}
+use Rattle.text_scan.specs.Reader.{◌>>=◌}
+use Rattle.asm_text.specs.declared.body.Body.{Body}
+use Rattle.asm_text.specs.declared.body.Body.TheVariants as bodies
+use Rattle.asm_text.specs.declared.mnemonic.Mnemonic.TheVariants.{Reti as RetiMnemonic}
+use Rattle.asm_text.specs.declared.operand.Operand.TheVariants.{Symbolic}
+use Rattle.asm_text.specs.declared.operation.Operation.TheVariants as operations
+use Rattle.asm_text.specs.Token.{word_token}
+use Rattle.asm_bytes.specs.Statement.{all_bytes}
+use Rattle.msp_disasm.specs.declared.item.Item.TheVariants as items
+use Rattle.text_round_trip.specs.Listing.{IsReadAs}
+use Rattle.text_round_trip.proofs.ListedOperand.{number_expr, word-falls}
+use Rattle.text_round_trip.proofs.Numerals.{number-falls, byte_text-number}
+use Rattle.text_round_trip.proofs.Operands.{one-read}
+use Rattle.text_round_trip.proofs.Words.{IsOperation, without_label, operation-falls, no_label, operation-read, line-read, statement-read}
+use Rattle.text_round_trip.proofs.ListedJump.{number-operand}
+
+reti-operation : IsOperation (codes "reti") (operations.Instr RetiMnemonic sizes.Word)
+reti-operation =
+    record { all = refl; some = omega arith; begins = refl; register = refl; names = refl }
+
+pub reti-again : (place : ℕ) → IsReadAs place (items.Instruction Reti)
+reti-again place =
+    let body : Body = bodies.Instr RetiMnemonic sizes.Word None None in
+    record {
+      body = body;
+      read = λ number start.
+          line-read number start (None, body) (operation-falls reti-operation)
+          (no_label (word_token start (codes "reti")) [] refl
+          ∙ ap (λ (answer : Result Body FaultKind). answer >>= without_label)
+          (operation-read start [] [] reti-operation refl refl refl));
+      bytes = λ text names. refl;
+    }
+
+pub word-again : (place word : ℕ) → word < 65536 → IsReadAs place (items.Word word)
+word-again place word below = record {
+  body = bodies.Word (number_expr word ∷ []);
+  read = λ number start.
+      statement-read {word = codes ".word"} number start (Symbolic (number_expr word) ∷ [])
+      (record { all = refl; some = omega arith; begins = refl; register = refl; names = refl }) refl
+      (word-falls word below) refl (one-read (number-operand word)) refl;
+  bytes = λ text names.
+      ap (λ (number : ℤ). all_bytes sizes.Word (number ∷ [])) (+ℤ_idr (pos word))
+      ∙ rw (le-leb word 65535 (omega arith)) refl;
+}
+
+pub byte-again : (place byte : ℕ) → byte < 256 → IsReadAs place (items.Byte byte)
+byte-again place byte below = record {
+  body = bodies.Byte (number_expr byte ∷ []);
+  read = λ number start.
+      statement-read {word = codes ".byte"} {text = codes "0x" ++ byte_digits byte} number start
+      (Symbolic (number_expr byte) ∷ [])
+      (record { all = refl; some = omega arith; begins = refl; register = refl; names = refl }) refl
+      (number-falls (codes "0x" ++ byte_digits byte) byte (byte_text-number byte below)) refl
+      (one-read (number-operand byte)) refl;
+  bytes = λ text names.
+      ap (λ (number : ℤ). all_bytes sizes.Byte (number ∷ [])) (+ℤ_idr (pos byte))
+      ∙ rw (le-leb byte 255 (omega arith)) refl;
+}

@@ -1,0 +1,160 @@
+-- The jumps of a listing, read again.
+use Rattle.std.proofs.Common.{◌≡◌, ◌∙◌, ap, refl, ℕ, suc, ◌+◌, ◌-◌, ◌*◌, ◌/◌, ◌%◌, ◌<◌, ◌≤◌, arith, Bool, true, false, [], ◌∷◌, ℤ, pos, negsuc, Some, None, Ok, Err}
+use Rattle.std.specs.Prelude.{if◌then◌else◌, neg_ℤ}
+use Rattle.std.proofs.lemmas.Bool.{le-leb, lt-leb, le-ltb, leb-true, leb-false, lt-ltb, ltb-true, ltb-false, eq-eqb}
+use Rattle.std.proofs.Math.IntN.{+ℤ_idr}
+use Rattle.word_arith.specs.declared.size.Size.TheVariants as sizes
+use Rattle.msp_decode.specs.declared.cond.Cond.{Cond}
+use Rattle.msp_decode.specs.declared.cond.Cond.TheVariants as conditions
+use Rattle.msp_decode.specs.declared.instr.Instr.TheVariants.{Jump}
+use Rattle.msp_decode.specs.Spelling.{has_range}
+use Rattle.part_definitions.specs.AddressSum.{plus}
+use Rattle.part_definitions.specs.Instruction.{jump_target}
+use Rattle.text_scan.specs.declared.fault_kind.FaultKind.TheVariants.{Range}
+use Rattle.text_scan.specs.Reader.{◌>>=◌}
+use Rattle.asm_text.specs.declared.body.Body.TheVariants as bodies
+use Rattle.asm_text.specs.declared.mnemonic.Mnemonic.{Mnemonic}
+use Rattle.asm_text.specs.declared.mnemonic.Mnemonic.TheVariants.{Jne, Jeq, Jnc, Jc, Jn, Jge, Jl, Jmp}
+use Rattle.asm_text.specs.declared.operand.Operand.TheVariants.{Symbolic}
+use Rattle.asm_text.specs.declared.operand_form.OperandForm.TheVariants as forms
+use Rattle.asm_text.specs.declared.operation.Operation.TheVariants as operations
+use Rattle.asm_text.specs.declared.token.Token.TheVariants.{Number}
+use Rattle.asm_text.specs.Operand.{terms_of}
+use Rattle.asm_text.specs.Statement.{form_of}
+use Rattle.asm_bytes.specs.declared.form.Form.TheVariants as shapes
+use Rattle.asm_bytes.specs.Form.{form_of as shape_of}
+use Rattle.asm_bytes.specs.Instruction.{instruction_of, half_way, jump_of}
+use Rattle.asm_bytes.specs.Value.{Scope, address_of}
+use Rattle.msp_disasm.specs.declared.item.Item.TheVariants as items
+use Rattle.msp_disasm.specs.ItemText.{jump_name}
+use Rattle.text_round_trip.specs.Listing.{IsReadAs, stays_within}
+use Rattle.text_round_trip.proofs.ListedOperand.{number_expr, word-falls}
+use Rattle.text_round_trip.proofs.Operands.{IsOperandOf, one-read}
+use Rattle.text_round_trip.proofs.Words.{IsOperation, statement-read}
+use Rattle.text_round_trip.proofs.ListedInstruction.{bytes_read}
+
+-- a lone number
+
+pub number-operand : (number : ℕ) → IsOperandOf (Number number ∷ []) (Symbolic (number_expr number))
+unfolding terms_of
+number-operand number =
+    record { some = omega arith; alone = refl; read = refl; begins = λ rest. refl }
+
+-- the conditions' mnemonics
+abbrev jump_mnemonic : Cond → Mnemonic
+jump_mnemonic conditions.Ne = Jne
+jump_mnemonic conditions.Eq = Jeq
+jump_mnemonic conditions.Nc = Jnc
+jump_mnemonic conditions.C = Jc
+jump_mnemonic conditions.N = Jn
+jump_mnemonic conditions.Ge = Jge
+jump_mnemonic conditions.L = Jl
+jump_mnemonic conditions.Always = Jmp
+
+jump-operation : (condition : Cond)
+    → IsOperation (jump_name condition) (operations.Instr (jump_mnemonic condition) sizes.Word)
+jump-operation conditions.Ne =
+    record { all = refl; some = omega arith; begins = refl; register = refl; names = refl }
+jump-operation condition =
+    record { all = refl; some = omega arith; begins = refl; register = refl; names = refl }
+
+jump-form : (condition : Cond) → form_of (jump_mnemonic condition) ≡ forms.Target
+jump-form conditions.Ne = refl
+jump-form condition = refl
+
+jump-shape : (condition : Cond) → shape_of (jump_mnemonic condition) ≡ shapes.Jump condition
+jump-shape conditions.Ne = refl
+jump-shape condition = refl
+
+half-forward : (from to n : ℕ) → from ≤ to → (to - from) / 2 ≡ n → half_way from to ≡ pos n
+half-forward from to n order same = rw (le-leb from to order) (ap pos same)
+
+half-back : (from to n : ℕ) → to < from → (from - to) / 2 ≡ suc n → half_way from to ≡ negsuc n
+half-back from to n order same =
+    rw (lt-leb from to order) (ap (λ (count : ℕ). neg_ℤ (pos count)) same)
+
+jump-within : (condition : Cond) (place target : ℕ) (offset : ℤ) → target % 2 ≡ 0
+    → half_way (place + 2) target ≡ offset → has_range offset ≡ true
+    → jump_of condition place target ≡ Ok (Jump condition offset)
+jump-within condition place target offset even half range =
+    rw (eq-eqb (target % 2) 0 even, half, range) refl
+
+jump-past : (condition : Cond) (place target : ℕ) (offset : ℤ) → target % 2 ≡ 0
+    → half_way (place + 2) target ≡ offset → has_range offset ≡ false
+    → jump_of condition place target ≡ Err Range
+jump-past condition place target offset even half range =
+    rw (eq-eqb (target % 2) 0 even, half, range) refl
+
+forward-again : (condition : Cond) (place n : ℕ) (within : Bool)
+    → stays_within place (pos n) ≡ within → n < 512 → place % 2 ≡ 0 → place < 0xFFE0
+    → jump_of condition place (jump_target (plus place 2) (pos n))
+    ≡ (if within then Ok (Jump condition (pos n)) else Err Range)
+forward-again condition place n true is few even below =
+    let less = ltb-true (place + 2 + 2 * n) 65536 is in
+    let target : ℕ = jump_target (plus place 2) (pos n) in
+    let there : target ≡ place + 2 + 2 * n = omega arith in
+    jump-within condition place target (pos n) (omega arith)
+    (half-forward (place + 2) target n (omega arith) (omega arith)) (lt-ltb n 512 few)
+forward-again condition place n false is few even below =
+    let most = ltb-false (place + 2 + 2 * n) 65536 is in
+    let target : ℕ = jump_target (plus place 2) (pos n) in
+    let there : target + 65536 ≡ place + 2 + 2 * n = omega arith in
+    jump-past condition place target (negsuc (32767 - n)) (omega arith)
+    (half-back (place + 2) target (32767 - n) (omega arith) (omega arith))
+    (le-ltb (32767 - n) 512 (omega arith))
+
+back-again : (condition : Cond) (place n : ℕ) (within : Bool)
+    → stays_within place (negsuc n) ≡ within → n < 512 → place % 2 ≡ 0 → place < 0xFFE0
+    → jump_of condition place (jump_target (plus place 2) (negsuc n))
+    ≡ (if within then Ok (Jump condition (negsuc n)) else Err Range)
+back-again condition place n true is few even below =
+    let less = leb-true (2 * (n + 1)) (place + 2) is in
+    let target : ℕ = jump_target (plus place 2) (negsuc n) in
+    let there : target + 2 * (n + 1) ≡ place + 2 = omega arith in
+    jump-within condition place target (negsuc n) (omega arith)
+    (half-back (place + 2) target n (omega arith) (omega arith)) (lt-ltb n 512 few)
+back-again condition place n false is few even below =
+    let most = leb-false (2 * (n + 1)) (place + 2) is in
+    let target : ℕ = jump_target (plus place 2) (negsuc n) in
+    let there : target + 2 * (n + 1) ≡ place + 2 + 65536 = omega arith in
+    jump-past condition place target (pos (32767 - n)) (omega arith)
+    (half-forward (place + 2) target (32767 - n) (omega arith) (omega arith))
+    (le-ltb (32767 - n) 512 (omega arith))
+
+target-again : (condition : Cond) (place : ℕ) (offset : ℤ) → has_range offset ≡ true
+    → place % 2 ≡ 0 → place < 0xFFE0
+    → jump_of condition place (jump_target (plus place 2) offset)
+    ≡ (if stays_within place offset then Ok (Jump condition offset) else Err Range)
+target-again condition place (pos n) range even below =
+    forward-again condition place n (stays_within place (pos n)) refl (ltb-true n 512 range) even
+    below
+target-again condition place (negsuc n) range even below =
+    back-again condition place n (stays_within place (negsuc n)) refl (ltb-true n 512 range) even
+    below
+
+jump-steps : (scope : Scope) (condition : Cond) (target : ℕ) → target < 65536
+    → instruction_of scope (shapes.Jump condition) sizes.Word
+    (record { first = Some (Symbolic (number_expr target)); second = None })
+    ≡ jump_of condition scope.here target
+jump-steps scope condition target below =
+    ap (λ (number : ℤ). address_of number >>= jump_of condition scope.here) (+ℤ_idr (pos target))
+    ∙ rw (le-leb target 65535 (omega arith)) refl
+
+pub jump-again : (place : ℕ) (condition : Cond) (offset : ℤ) → has_range offset ≡ true
+    → place % 2 ≡ 0 → place < 0xFFE0
+    → IsReadAs place (items.Instruction (Jump condition offset))
+jump-again place condition offset range even below =
+    let target : ℕ = jump_target (plus place 2) offset in
+    let fits : target < 65536 = omega arith in
+    record {
+      body = bodies.Instr (jump_mnemonic condition) sizes.Word
+          (Some (Symbolic (number_expr target))) None;
+      read = λ number start.
+          statement-read number start (Symbolic (number_expr target) ∷ [])
+          (jump-operation condition) refl (word-falls target fits) refl
+          (one-read (number-operand target)) (rw (jump-form condition) refl);
+      bytes = λ text names.
+          let scope : Scope = record { text = text; names = names; here = place } in
+          rw (jump-shape condition) (ap bytes_read (jump-steps scope condition target fits
+          ∙ target-again condition place offset range even below));
+    }

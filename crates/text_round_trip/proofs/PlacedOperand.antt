@@ -1,0 +1,222 @@
+-- The tokens of operands, and what they are read as.
+use Rattle.std.proofs.Common.{◌≡◌, ◌∙◌, ap, sym, refl, subst, ℕ, ◌+◌, ◌-◌, ◌<◌, arith, Bool, true, false, not, List, [], ◌∷◌, ◌++◌, append_assoc, append-nil, length, length-append, take, drop, Result, Ok}
+use Rattle.std.specs.Prelude.{◌==◌, ◌&&◌, codes}
+use Rattle.std.specs.Fmt.{digits}
+use Rattle.std.specs.Str.{bytes_eq}
+use Rattle.std.proofs.Math.Seq.{drop-append_seam, take-append_seam}
+use Rattle.std.proofs.lemmas.Bool.{and_parts, and_from, false≢true, ltb-true, eqb-true}
+use Rattle.std.proofs.lemmas.Slice.Eq.{bytes_eq-Decides}
+use Rattle.std.proofs.lemmas.List.{take-append-drop}
+use Rattle.std.proofs.lemmas.List.Folds.{list_all-append}
+use Rattle.msp_decode.specs.Field.{reg_of}
+use Rattle.msp_decode.specs.Table.{reg_number}
+use Rattle.msp_disasm.specs.ItemText.{reg_name}
+use Rattle.text_scan.specs.declared.fault_kind.FaultKind.{FaultKind}
+use Rattle.text_scan.specs.Reader.{◌>>=◌}
+use Rattle.asm_text.specs.declared.operand.Operand.{Operand}
+use Rattle.asm_text.specs.declared.operand.Operand.TheVariants as operands
+use Rattle.asm_text.specs.declared.token.Token.{Token}
+use Rattle.asm_text.specs.declared.token.Token.TheVariants as tokens
+use Rattle.asm_text.specs.Expr.{SignedTerm}
+use Rattle.asm_text.specs.Operand.{is_comma, expr_of, with_expr, place_operand, place_of, operand_of}
+use Rattle.text_round_trip.specs.ReadBack.{AreNumerals}
+use Rattle.text_round_trip.specs.LineSyntax.{OperandSyntax, Reg, Imm, Abs, Indexed, Symbolic, Indirect, IndirectInc}
+use Rattle.text_round_trip.specs.SyntaxText.{Numerals, expr_text, register_text, operand_text}
+use Rattle.text_round_trip.specs.Writable.{is_writable_expr, is_register, is_writable_operand}
+use Rattle.text_round_trip.proofs.Falls.{FallsInto, falls-then, falls-apart, falls-into, hash-falls, ampersand-falls, at-falls, plus-falls, open-falls, close-falls}
+use Rattle.text_round_trip.proofs.Numerals.{below-passes, all_below}
+use Rattle.text_round_trip.proofs.Operands.{IsOperandOf, has_no_comma}
+use Rattle.text_round_trip.proofs.Words.{register-falls, begins_with_colon}
+use Rattle.text_round_trip.proofs.PlacedExpr.{terms-are, placed_expr, expr_tokens, expr-falls, expr-read, is_expr_token, are_expr_tokens, expr-are, expr-some}
+
+abbrev pub placed_operand : Numerals → ℕ → OperandSyntax → Operand
+placed_operand numerals place (Reg register) = operands.Reg register
+placed_operand numerals place (Imm expr) = operands.Imm (placed_expr numerals (place + 1) expr)
+placed_operand numerals place (Abs expr) = operands.Abs (placed_expr numerals (place + 1) expr)
+placed_operand numerals place (Indexed expr register) =
+    operands.Indexed (placed_expr numerals place expr) register
+placed_operand numerals place (Symbolic expr) = operands.Symbolic (placed_expr numerals place expr)
+placed_operand numerals place (Indirect register) = operands.Indirect register
+placed_operand numerals place (IndirectInc register) = operands.IndirectInc register
+
+abbrev pub operand_tokens : Numerals → ℕ → OperandSyntax → List Token
+operand_tokens numerals place (Reg register) = tokens.Register register ∷ []
+operand_tokens numerals place (Imm expr) = tokens.Hash ∷ expr_tokens numerals (place + 1) expr
+operand_tokens numerals place (Abs expr) = tokens.Ampersand ∷ expr_tokens numerals (place + 1) expr
+operand_tokens numerals place (Indexed expr register) =
+    expr_tokens numerals place expr
+    ++ tokens.Open ∷ tokens.Register register ∷ tokens.Close ∷ []
+operand_tokens numerals place (Symbolic expr) = expr_tokens numerals place expr
+operand_tokens numerals place (Indirect register) = tokens.At ∷ tokens.Register register ∷ []
+operand_tokens numerals place (IndirectInc register) =
+    tokens.At ∷ tokens.Register register ∷ tokens.Plus ∷ []
+
+-- operands one behind the other
+abbrev pub placed_operands : Numerals → ℕ → List OperandSyntax → List Operand
+placed_operands numerals place [] = []
+placed_operands numerals place (first ∷ rest) =
+    placed_operand numerals place first
+    ∷ placed_operands numerals (place + length (operand_text numerals first) + 1) rest
+
+-- registers
+abbrev is_named : ℕ → Bool
+is_named number =
+    bytes_eq (reg_name (reg_of number)) (register_text number)
+    && (reg_number (reg_of number) == number)
+
+number-register-falls : (number : ℕ) → number < 16
+    → FallsInto (register_text number) (λ place. tokens.Register number ∷ [])
+unfolding all_below digits
+number-register-falls number below =
+    let parts = and_parts (bytes_eq (reg_name (reg_of number)) (register_text number))
+    (reg_number (reg_of number) == number) (below-passes is_named 16 refl number below) in
+    let text = (bytes_eq-Decides (reg_name (reg_of number)) (register_text number)).0 parts.0 in
+    let same = eqb-true (reg_number (reg_of number)) number parts.1 in
+    subst (λ (n : ℕ). FallsInto (register_text number) (λ place. tokens.Register n ∷ [])) same
+    (subst (λ (word : List ℕ). FallsInto word
+    (λ place. tokens.Register (reg_number (reg_of number)) ∷ [])) text
+    (register-falls (reg_of number)))
+
+pub operand-falls : (numerals : Numerals) → AreNumerals numerals → (operand : OperandSyntax)
+    → is_writable_operand operand ≡ true
+    → FallsInto (operand_text numerals operand) (λ place. operand_tokens numerals place operand)
+operand-falls numerals are (Reg register) is =
+    number-register-falls register (ltb-true register 16 is)
+operand-falls numerals are (Imm expr) is =
+    falls-then hash-falls (expr-falls numerals are expr (terms-are expr is))
+operand-falls numerals are (Abs expr) is =
+    falls-then ampersand-falls (expr-falls numerals are expr (terms-are expr is))
+operand-falls numerals are (Indexed expr register) is =
+    let parts = and_parts (is_writable_expr expr) (is_register register) is in
+    let text : expr_text numerals expr ++ (codes "(" ++ (register_text register ++ codes ")"))
+    ≡ expr_text numerals expr ++ codes "(" ++ register_text register ++ codes ")" =
+    sym (append_assoc (expr_text numerals expr ++ codes "(") (register_text register) (codes ")")
+    ∙ append_assoc (expr_text numerals expr) (codes "(") (register_text register ++ codes ")")) in
+    subst (λ (word : List ℕ). FallsInto word
+    (λ place. operand_tokens numerals place (Indexed expr register))) text
+    (falls-apart (expr-falls numerals are expr (terms-are expr parts.0)) refl
+    (falls-then open-falls
+    (falls-apart (number-register-falls register (ltb-true register 16 parts.1)) refl
+    (falls-into close-falls))))
+operand-falls numerals are (Symbolic expr) is =
+    expr-falls numerals are expr (terms-are expr is)
+operand-falls numerals are (Indirect register) is =
+    falls-then at-falls (number-register-falls register (ltb-true register 16 is))
+operand-falls numerals are (IndirectInc register) is =
+    falls-then at-falls
+    (falls-apart (number-register-falls register (ltb-true register 16 is)) refl
+    (falls-into plus-falls))
+
+no-comma : (token : Token) → is_expr_token token ≡ true → not (is_comma token) ≡ true
+no-comma tokens.Comma is = absurd (false≢true is)
+no-comma token is = refl
+
+none-comma : (all : List Token) → are_expr_tokens all ≡ true → has_no_comma all ≡ true
+none-comma [] are = refl
+none-comma (token ∷ all) are =
+    let parts = and_parts (is_expr_token token) (are_expr_tokens all) are in
+    and_from (not (is_comma token)) (has_no_comma all) (no-comma token parts.0)
+    (none-comma all parts.1)
+
+no-colon : (all rest : List Token) → are_expr_tokens all ≡ true → 0 < length all
+    → begins_with_colon (all ++ rest) ≡ false
+no-colon [] rest are some = absurd (omega arith)
+no-colon (tokens.Colon ∷ all) rest are some = absurd (false≢true are)
+no-colon (token ∷ all) rest are some = refl
+
+-- no other form begins with such a token
+place-form : (all rest : List Token) → are_expr_tokens all ≡ true → 0 < length all
+    → operand_of (all ++ rest) ≡ place_of (all ++ rest)
+place-form [] rest are some = absurd (omega arith)
+place-form (tokens.Hash ∷ all) rest are some = absurd (false≢true are)
+place-form (tokens.Ampersand ∷ all) rest are some = absurd (false≢true are)
+place-form (tokens.At ∷ all) rest are some = absurd (false≢true are)
+place-form (tokens.Register register ∷ all) rest are some = absurd (false≢true are)
+place-form (token ∷ all) rest are some = refl
+
+symbolic-form : (all prefix last : List Token) → are_expr_tokens last ≡ true
+    → place_operand all prefix last ≡ with_expr (λ expr. operands.Symbolic expr) all
+symbolic-form all prefix [] are = refl
+symbolic-form all prefix (tokens.Open ∷ last) are = absurd (false≢true are)
+symbolic-form all prefix (token ∷ last) are = refl
+
+drop-are : (count : ℕ) (all : List Token) → are_expr_tokens all ≡ true
+    → are_expr_tokens (drop count all) ≡ true
+drop-are count all are =
+    (and_parts (are_expr_tokens (take count all)) (are_expr_tokens (drop count all))
+    (sym (list_all-append is_expr_token (take count all) (drop count all))
+    ∙ ap are_expr_tokens (take-append-drop count all) ∙ are)).1
+
+symbolic-read : (all : List Token) (expr : List SignedTerm) → are_expr_tokens all ≡ true
+    → 0 < length all → expr_of all ≡ Ok expr → operand_of all ≡ Ok (operands.Symbolic expr)
+symbolic-read all expr are some outcome =
+    ap operand_of (sym (append-nil all)) ∙ place-form all [] are some
+    ∙ ap place_of (append-nil all)
+    ∙ symbolic-form all (take (length all - 3) all) (drop (length all - 3) all)
+    (drop-are (length all - 3) all are)
+    ∙ ap (λ (answer : Result (List SignedTerm) FaultKind).
+    answer >>= (λ outcome. Ok (operands.Symbolic outcome))) outcome
+
+indexed-read : (all : List Token) (expr : List SignedTerm) (register : ℕ)
+    → are_expr_tokens all ≡ true → 0 < length all → expr_of all ≡ Ok expr
+    → operand_of (all ++ tokens.Open ∷ tokens.Register register ∷ tokens.Close ∷ [])
+    ≡ Ok (operands.Indexed expr register)
+indexed-read all expr register are some outcome =
+    let last : List Token = tokens.Open ∷ tokens.Register register ∷ tokens.Close ∷ [] in
+    let whole : List Token = all ++ last in
+    let count : length whole - 3 ≡ length all = omega (arith, length-append all last) in
+    place-form all last are some
+    ∙ ap (λ (n : ℕ). place_operand whole (take n whole) (drop n whole)) count
+    ∙ ap (λ (back : List Token). place_operand whole (take (length all) whole) back)
+    (drop-append_seam all last)
+    ∙ ap (λ (prefix : List Token). with_expr (λ answer. operands.Indexed answer register) prefix)
+    (take-append_seam all last)
+    ∙ ap (λ (answer : Result (List SignedTerm) FaultKind).
+    answer >>= (λ outcome. Ok (operands.Indexed outcome register))) outcome
+
+-- operands are read back
+pub operand-read : (numerals : Numerals) (place : ℕ) (operand : OperandSyntax)
+    → is_writable_operand operand ≡ true
+    → IsOperandOf (operand_tokens numerals place operand) (placed_operand numerals place operand)
+operand-read numerals place (Reg register) is =
+    record { some = omega arith; alone = refl; read = refl; begins = λ rest. refl }
+operand-read numerals place (Imm expr) is = record {
+  some = omega arith;
+  alone = none-comma (expr_tokens numerals (place + 1) expr) (expr-are numerals (place + 1) expr);
+  read = rw (expr-read numerals (place + 1) expr is) refl;
+  begins = λ rest. refl;
+}
+operand-read numerals place (Abs expr) is = record {
+  some = omega arith;
+  alone = none-comma (expr_tokens numerals (place + 1) expr) (expr-are numerals (place + 1) expr);
+  read = rw (expr-read numerals (place + 1) expr is) refl;
+  begins = λ rest. refl;
+}
+operand-read numerals place (Indexed expr register) is =
+    let last : List Token = tokens.Open ∷ tokens.Register register ∷ tokens.Close ∷ [] in
+    let parts = and_parts (is_writable_expr expr) (is_register register) is in
+    let all : List Token = expr_tokens numerals place expr in
+    let are = expr-are numerals place expr in
+    let some = expr-some numerals place expr parts.0 in record {
+      some = omega (arith, some, length-append all last);
+      alone = list_all-append (λ token. not (is_comma token)) all last
+          ∙ rw (none-comma all are) refl;
+      read = indexed-read all (placed_expr numerals place expr) register are some
+          (expr-read numerals place expr parts.0);
+      begins = λ rest. ap begins_with_colon (append_assoc all last rest)
+          ∙ no-colon all (last ++ rest) are some;
+    }
+operand-read numerals place (Symbolic expr) is =
+    let all : List Token = expr_tokens numerals place expr in
+    let are = expr-are numerals place expr in
+    let some = expr-some numerals place expr is in record {
+      some = some;
+      alone = none-comma all are;
+      read = symbolic-read all (placed_expr numerals place expr) are some
+          (expr-read numerals place expr is);
+      begins = λ rest. no-colon all rest are some;
+    }
+operand-read numerals place (Indirect register) is =
+    record { some = omega arith; alone = refl; read = refl; begins = λ rest. refl }
+operand-read numerals place (IndirectInc register) is =
+    record { some = omega arith; alone = refl; read = refl; begins = λ rest. refl }

@@ -1,0 +1,136 @@
+-- The lines of a play, read one after another.
+use Rattle.std.proofs.Common.{◌∙◌, ℕ, ◌%◌, ◌<◌, Bool, true, false, List, [], ◌∷◌, ◌++◌, Option, Some, None, IfSome, Ok, length, append-nil, ap, subst, arith}
+use Rattle.std.specs.Prelude.{◌==◌, ◌^◌, if◌then◌else◌}
+use Rattle.std.specs.Option.{option_to_list}
+use Rattle.bus_signals.specs.declared.access.Access.{Access}
+use Rattle.bus_signals.specs.declared.access.Access.TheVariants.{Fetch, Read, Write}
+use Rattle.bus_signals.specs.declared.bus_record.BusRecord.{BusRecord}
+use Rattle.bus_signals.specs.declared.rule.Rule.{Rule}
+use Rattle.bus_signals.specs.Report.{ReportFields}
+use Rattle.bus_signals.specs.SeenRecord.{SeenHistory}
+use Rattle.part_definitions.specs.Request.{ATTESTS}
+use Rattle.part_definitions.specs.Serial.{SERIAL_SEND}
+use Rattle.part_definitions.specs.PeripheralRegister.{covers}
+use Rattle.bus_signals.specs.Address.{Bytes, Contents}
+use Rattle.part_definitions.specs.Hmac.{Digest}
+use Rattle.device_trace.specs.Play.{Play}
+use Rattle.device_trace.specs.Logs.{Logs, exec_of, logged_byte}
+use Rattle.device_trace.specs.Progress.{next_pc_of}
+use Rattle.device_trace.specs.Start.{Start, with_key}
+use Rattle.device_trace.specs.Step.{next_record}
+use Rattle.printed_lines.specs.Line.{sent_line, reset_line, report_line, denied_line}
+use Rattle.device_trace.specs.Text.{byte_sent_by, byte_sent_in, report_of, report_where, report_in, denial_in, some_line, step_lines, lines_of, play_text, end_line_after}
+use Rattle.device_trace.specs.Trace.{logs_after}
+use Rattle.mac_coverage.specs.Coverage.{IsDeviceKey, IsOfBytes}
+use Rattle.mac_coverage.proofs.MemoryBytes.{PowerOnBytes, byte_after-byte}
+use Rattle.mac_coverage.proofs.Words.{are_bytes}
+use Rattle.report_text.specs.ReadBack.{IsPrintable}
+use Rattle.report_text.proofs.ReadLines.{ReadsAs, reads-none, reads-both, reads-whole, reads-report, reads-sent, reads-reset, reads-denied, reads-end}
+use Rattle.text_round_trip.specs.PlayReports.{play_reports}
+use Rattle.text_round_trip.specs.PlayReadBack.{FitsItsLines, IsPlayReadBack}
+use Rattle.text_round_trip.proofs.Decision.{IsDenial, last_denial-is}
+use Rattle.text_round_trip.proofs.PrintableReport.{printable-report}
+
+-- what is sent is a byte
+sent_if : (test : Bool) (number : ℕ)
+    → IfSome (if test then Some (number % 256) else None) (λ byte. byte < 256)
+sent_if true number = omega arith
+sent_if false number = tt
+
+sent_byte : (rule : Option Rule) (access : Option Access)
+    → IfSome (byte_sent_by rule access) (λ byte. byte < 256)
+sent_byte None (Some (Write place size number)) = sent_if (covers place size SERIAL_SEND) number
+sent_byte None (Some (Fetch place)) = tt
+sent_byte None (Some (Read place size)) = tt
+sent_byte None None = tt
+sent_byte (Some rule) access = tt
+
+reads-sent_lines : (step : ℕ) (sent : Option ℕ) → step < 2 ^ 32
+    → IfSome sent (λ byte. byte < 256) → ReadsAs (some_line (sent_line step) sent) []
+reads-sent_lines step None within fits = reads-none
+reads-sent_lines step (Some byte) within fits = reads-sent step byte within fits
+
+reads-reset_lines : (step : ℕ) (rule : Option Rule) → step < 2 ^ 32
+    → ReadsAs (some_line (reset_line step) rule) []
+reads-reset_lines step None within = reads-none
+reads-reset_lines step (Some rule) within = reads-reset step rule within
+
+reads-report_lines : (made : Bool) (report : ReportFields) → IsPrintable report
+    → ReadsAs (some_line report_line (if made then Some report else None))
+    (option_to_list (if made then Some report else None))
+reads-report_lines true report printable = reads-report report printable
+reads-report_lines false report printable = reads-none
+
+reads-decision : (start : Start) (logs : Logs) (step : ℕ) (decision : Option ℕ)
+    → IsPrintable (report_of start logs step)
+    → ReadsAs (some_line report_line (report_where start logs step decision))
+    (option_to_list (report_where start logs step decision))
+reads-decision start logs step None printable = reads-none
+reads-decision start logs step (Some decision) printable =
+    reads-report_lines (decision == ATTESTS) (report_of start logs step) printable
+
+reads-denied_lines : (step : ℕ) (denial : Option ℕ) → step < 2 ^ 32 → IfSome denial IsDenial
+    → ReadsAs (some_line (denied_line step) denial) []
+reads-denied_lines step None within denies = reads-none
+reads-denied_lines step (Some decision) within denies = reads-denied step decision within denies
+
+reads-step : (start : Start) (step : ℕ) (entry : BusRecord) (logs : Logs) → step < 2 ^ 32
+    → ((place : ℕ) → logged_byte start logs place < 256)
+    → IfSome (denial_in logs) IsDenial
+    → ReadsAs (step_lines start step entry logs)
+    (option_to_list (report_in start logs step))
+reads-step start step entry logs within small denies =
+    let sent : List ℕ = some_line (sent_line step) (byte_sent_in entry) in
+    let reset : List ℕ = some_line (reset_line step) entry.reset in
+    let report : List ℕ = some_line report_line (report_in start logs step) in
+    let reports : List ReportFields = option_to_list (report_in start logs step) in
+    subst (λ (all : List ReportFields). ReadsAs (step_lines start step entry logs) all)
+    (append-nil reports)
+    (reads-both (sent ++ reset ++ report) (some_line (denied_line step) (denial_in logs)) reports []
+    (reads-both (sent ++ reset) report [] reports
+    (reads-both sent reset [] []
+    (reads-sent_lines step (byte_sent_in entry) within (sent_byte entry.reset entry.cpu))
+    (reads-reset_lines step entry.reset within))
+    (reads-decision start logs step logs.decision (printable-report start logs step small within)))
+    (reads-denied_lines step (denial_in logs) within denies))
+
+power-bytes : (flag : SeenHistory → Bool) (digest : Digest) (key : Bytes) (image : Contents)
+    → IsDeviceKey key → IsOfBytes image → PowerOnBytes (with_key flag digest key image).power
+power-bytes flag digest key image device_key bytes =
+    record { key = are_bytes key device_key.bytes; image = bytes }
+
+reads-lines : (flag : SeenHistory → Bool) (digest : Digest) (key : Bytes) (image : Contents)
+    (play : Play)
+    → IsDeviceKey key → IsOfBytes image → length play < 2 ^ 32
+    → ReadsAs (lines_of (with_key flag digest key image) play)
+    (play_reports (with_key flag digest key image) play)
+unfolding lines_of play_reports
+reads-lines flag digest key image [] device_key bytes within = reads-none
+reads-lines flag digest key image (events ∷ play) device_key bytes within =
+    let start : Start = with_key flag digest key image in
+    let entry : BusRecord = next_record start (logs_after start play) events in
+    let logs : Logs = logs_after start (events ∷ play) in
+    let before : length play < 2 ^ 32 = omega (arith, within) in
+    let power : PowerOnBytes start.power = power-bytes flag digest key image device_key bytes in
+    reads-both (lines_of start play) (step_lines start (length play) entry logs)
+    (play_reports start play) (option_to_list (report_in start logs (length play)))
+    (reads-lines flag digest key image play device_key bytes before)
+    (reads-step start (length play) entry logs before
+    (λ place. byte_after-byte start (events ∷ play) place power)
+    (last_denial-is flag digest key image (events ∷ play) device_key bytes))
+
+pub read_back : (flag : SeenHistory → Bool) (digest : Digest) (key : Bytes) (image : Contents)
+    (play : Play)
+    → IsDeviceKey key → IsOfBytes image
+    → FitsItsLines (with_key flag digest key image) play
+    → IsPlayReadBack (with_key flag digest key image) play
+unfolding play_text
+read_back flag digest key image play device_key bytes fits =
+    let start : Start = with_key flag digest key image in
+    let logs : Logs = logs_after start play in
+    let end : Bytes = end_line_after (length play) logs in
+    reads-whole (lines_of start play ++ end) (play_reports start play ++ [])
+    (reads-both (lines_of start play) end (play_reports start play) []
+    (reads-lines flag digest key image play device_key bytes fits.steps)
+    (reads-end (length play) (next_pc_of logs.progress) (exec_of logs) fits.steps fits.end))
+    ∙ ap (λ (reports : List ReportFields). Ok reports) (append-nil (play_reports start play))

@@ -1,0 +1,119 @@
+-- Words that are registers, and words that are operations.
+use Rattle.std.proofs.Common.{◌≡◌, ◌∙◌, ap, sym, refl, ℕ, ◌<◌, arith, Bool, true, false, List, [], ◌∷◌, ◌++◌, append_assoc, append-nil, length, Option, Some, None, Result, Ok}
+use Rattle.std.specs.Prelude.{codes, slice_index}
+use Rattle.std.specs.Char.{is_ascii_digit}
+use Rattle.std.specs.List.{list_all}
+use Rattle.std.proofs.lemmas.Bool.{false≢true}
+use Rattle.msp_decode.specs.declared.reg.Reg.{Reg}
+use Rattle.msp_decode.specs.declared.reg.Reg.TheVariants.{R0}
+use Rattle.msp_decode.specs.Table.{reg_number}
+use Rattle.text_scan.specs.declared.fault_kind.FaultKind.{FaultKind}
+use Rattle.text_scan.specs.Reader.{◌>>=◌}
+use Rattle.asm_text.specs.declared.body.Body.{Body}
+use Rattle.asm_text.specs.declared.operand.Operand.{Operand}
+use Rattle.asm_text.specs.declared.operation.Operation.{Operation}
+use Rattle.asm_text.specs.declared.span.Span.{Span}
+use Rattle.asm_text.specs.declared.token.Token.{Token}
+use Rattle.asm_text.specs.declared.token.Token.TheVariants.{Register, Name, Colon}
+use Rattle.asm_text.specs.Operand.{operands_of}
+use Rattle.asm_text.specs.Source.{line_statement, statement_in_line}
+use Rattle.asm_text.specs.Statement.{first_word, is_ascii_directive, statement_body, operation_body, body_of, labelled_body}
+use Rattle.asm_text.specs.Token.{name_token, span_at, word_token, word_piece, tokens_behind, tokens_of}
+use Rattle.asm_text.specs.Word.{is_word_character, is_name, lower_case, register_of, operation_of}
+use Rattle.msp_disasm.specs.ItemText.{reg_name}
+use Rattle.text_round_trip.proofs.Falls.{FallsInto, word-falls, falls-then, falls-apart, blank-falls}
+
+pub register-falls : (register : Reg)
+    → FallsInto (reg_name register) (λ place. Register (reg_number register) ∷ [])
+unfolding word_piece
+register-falls R0 =
+    word-falls (reg_name R0) (λ place. Register 0) refl (omega arith) (λ place. refl)
+register-falls register =
+    word-falls (reg_name register) (λ place. Register (reg_number register)) refl (omega arith)
+    (λ place. refl)
+
+-- a word that names an operation, and no register
+pub record IsOperation (word : List ℕ) (operation : Operation) : Type 0 where
+  pub all : list_all is_word_character word ≡ true
+  pub some : 0 < length word
+  pub begins : is_ascii_digit (slice_index word 0) ≡ false
+  pub register : register_of (lower_case word) ≡ None
+  pub names : operation_of (lower_case word) ≡ Some operation
+
+pub operation-falls : {word : List ℕ} {operation : Operation} → IsOperation word operation
+    → FallsInto word (λ place. word_token place word ∷ [])
+unfolding word_piece
+operation-falls {word = word} is =
+    word-falls word (λ place. word_token place word) is.all is.some (λ place. rw is.begins refl)
+
+first-name : (word : List ℕ) (operation : Option Operation) (span : Span) (is : Bool)
+    → is_name word ≡ is → first_word (name_token word operation span) ≡ Ok operation
+first-name word operation span true is = rw is refl
+first-name word operation span false is = rw is refl
+
+pub first-operation : (place : ℕ) {word : List ℕ} {operation : Operation}
+    → IsOperation word operation → first_word (word_token place word) ≡ Ok (Some operation)
+first-operation place {word = word} {operation = operation} is =
+    rw (is.register, is.names)
+    (first-name word (Some operation) (span_at place (length word)) (is_name word) refl)
+
+abbrev pub begins_with_colon : List Token → Bool
+begins_with_colon (Colon ∷ rest) = true
+begins_with_colon tokens = false
+
+-- what a statement says that has no label
+abbrev pub without_label : Body → Result (Option Span × Body) FaultKind
+without_label body = Ok (None, body)
+
+pub no_label : (token : Token) (rest : List Token) → begins_with_colon rest ≡ false
+    → labelled_body (token ∷ rest) ≡ (statement_body (token ∷ rest) >>= without_label)
+no_label (Name span operation) [] other = refl
+no_label (Name span operation) (Colon ∷ rest) other = absurd (false≢true (sym other))
+no_label (Name span operation) (token ∷ rest) other = refl
+no_label token rest other = refl
+
+-- a statement with its operands
+pub operation-read : (place : ℕ) {word : List ℕ} {operation : Operation} (rest : List Token)
+    (operands : List Operand) {body : Body} → IsOperation word operation
+    → is_ascii_directive (Some operation) ≡ false → operands_of rest ≡ Ok operands
+    → body_of (Some operation) operands ≡ Ok body
+    → statement_body (word_token place word ∷ rest) ≡ Ok body
+unfolding operation_body
+operation-read place {operation = operation} rest operands is other outcome gives =
+    rw (first-operation place is, other, outcome) gives
+
+whole-read : {text : List ℕ} {tokens : ℕ → List Token} → FallsInto text tokens → (start : ℕ)
+    → tokens_of start text ≡ Ok (tokens start)
+unfolding tokens_behind
+whole-read {text = text} {tokens = tokens} falls start =
+    ap (tokens_of start) (sym (append-nil text))
+    ∙ falls.cut start [] refl ∙ ap (λ all. Ok all) (append-nil (tokens start))
+
+-- a line is read by its tokens
+pub line-read : {text : List ℕ} {tokens : ℕ → List Token} (number start : ℕ)
+    (pair : Option Span × Body) → FallsInto text tokens
+    → labelled_body (tokens start) ≡ Ok pair
+    → line_statement number start text ≡ Ok (statement_in_line number pair)
+unfolding line_statement
+line-read {text = text} {tokens = tokens} number start pair falls is =
+    ap (λ (answer : Result (List Token) FaultKind). answer >>= (λ all. labelled_body all
+    >>= (λ both. Ok (statement_in_line number both)))) (whole-read falls start)
+    ∙ ap (λ (answer : Result (Option Span × Body) FaultKind).
+    answer >>= (λ both. Ok (statement_in_line number both))) is
+
+-- a line without a label
+pub statement-read : {word text : List ℕ} {operation : Operation} {tokens : List Token}
+    (number start : ℕ) (operands : List Operand) {body : Body} → IsOperation word operation
+    → is_ascii_directive (Some operation) ≡ false → FallsInto text (λ place. tokens)
+    → begins_with_colon tokens ≡ false → operands_of tokens ≡ Ok operands
+    → body_of (Some operation) operands ≡ Ok body
+    → line_statement number start (word ++ codes " " ++ text)
+    ≡ Ok (statement_in_line number (None, body))
+statement-read {word = word} {text = text} {tokens = tokens} number start operands {body = body}
+    is other falls prefix outcome gives =
+    ap (line_statement number start) (append_assoc word (codes " ") text)
+    ∙ line-read number start (None, body)
+    (falls-apart (operation-falls is) refl (falls-then blank-falls falls))
+    (no_label (word_token start word) tokens prefix
+    ∙ ap (λ (answer : Result Body FaultKind). answer >>= without_label)
+    (operation-read start tokens operands is other outcome gives))

@@ -1,0 +1,45 @@
+"""Trials of the must-fail edits without the prover: how many there are, and that each is one of
+code and applies.
+"""
+import glob
+import os
+import re
+
+from sample_files import read
+from trial import ROOT
+
+MOST_OF_A_CRATE, MOST = 5, 140
+
+
+def fault_of(crate, text):
+    """What is wrong with the text of an edit of a crate; None where nothing is."""
+    lines = [re.fullmatch("(file|old|new): ?(.*)", line) for line in text.splitlines()]
+    words = [line and line[1] for line in lines]
+    if len(lines) < 3 or words != ["file", *["old", "new"] * (len(lines) // 2)]:
+        return "it is no line `file:` with lines `old:` and `new:`"
+    name, *texts = (line[2] for line in lines)
+    if not name.startswith("src/") or not os.path.exists(f"{crate}/{name}"):
+        return f"there is no code {name}"
+    code = read(f"{crate}/{name}").decode()
+    for old, new in zip(texts[::2], texts[1::2]):
+        if code.count(old) != 1:
+            return f"{name} has {code.count(old)} times: {old}"
+        code = code.replace(old, new)
+    return None
+
+
+def edits(trial, files):
+    """No crate has more of them than CONTRIBUTING.md says, nor have all, and each applies."""
+    count = 0
+    for crate in sorted(glob.glob(f"{ROOT}/crates/*")):
+        names = sorted(glob.glob(f"{crate}/must-fail/*.edit"))
+        if len(names) > MOST_OF_A_CRATE:
+            trial.fault(f"{os.path.relpath(crate, ROOT)}: {len(names)} must-fail edits")
+        for name in names:
+            fault = fault_of(crate, read(name).decode())
+            if fault:
+                trial.fault(f"{os.path.relpath(name, ROOT)}: {fault}")
+        count += len(names)
+    trial.tries += count
+    if not 0 < count <= MOST:
+        trial.fault(f"{count} must-fail edits, where there may be {MOST}")
