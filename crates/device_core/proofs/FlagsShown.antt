@@ -1,5 +1,6 @@
 -- What memory shows of the flags after a step.
 use Rattle.std.proofs.Common.{◌≡◌, ◌∙◌, Bool, true, false, ◌∷◌, map, if◌then◌else◌, refl, sym, ap}
+use mathlib.Core.Bool.{beq}
 use Rattle.bus_signals.specs.TraceFlag.{Flag}
 use Rattle.bus_signals.specs.SeenRecord.{SeenRecord, SeenHistory}
 use Rattle.device_trace.specs.Blank.{blank_seen}
@@ -50,3 +51,10 @@ flags-kept flag start now before same shown leaves =
     (start.second_flag (map blank_seen (now ∷ before))) refl refl)
     ∙ either-same (goes_on_in_call now.entry) _ _ _ shown after in
     rw (aux, leaves.same_exec) refl
+
+-- two flags that compare as equal
+pub same_where_equal : (x y : Bool) → beq x y ≡ true → x ≡ y
+same_where_equal true true same = refl
+same_where_equal true false same = sym same
+same_where_equal false true same = same
+same_where_equal false false same = refl

@@ -1,5 +1,5 @@
 -- Steps without events, and those that have no line.
-use Rattle.std.proofs.Common.{◌≡◌, ◌∙◌, ◌-◌, ◌&&◌, ◌||◌, ℕ, Bool, true, false, not, [], ◌∷◌, Option, None, Some, is_none, is_some, option_map, refl, sym, arith, add-one, subst, length, ◌+◌, zero, suc}
+use Rattle.std.proofs.Common.{◌≡◌, ◌∙◌, ◌-◌, ◌&&◌, ◌||◌, ℕ, Bool, true, false, not, [], ◌∷◌, Option, None, Some, is_none, is_some, option_map, refl, sym, ap, arith, add-one, subst, length, ◌+◌, zero, suc}
 use Rattle.bus_signals.specs.declared.rule.Rule.{Rule}
 use Rattle.bus_signals.specs.SeenRecord.{SeenHistory}
 use Rattle.hmac_core.specs.Hash.{Hash}
@@ -117,6 +117,28 @@ pub silent-less :
     → AreSilent start steps play → AreSilent start (steps + 1 - 1) play
 silent-less start steps play all =
     let same : steps + 1 - 1 ≡ steps = omega arith in rw same all
+
+-- steps behind steps
+pub idle-after :
+    (more steps : ℕ) (play : Play)
+    → with_idle more (with_idle steps play) ≡ with_idle (steps + more) play
+idle-after zero steps play = let none : steps + 0 ≡ steps = omega arith in rw none refl
+idle-after (suc more) steps play =
+    let next : steps + suc more ≡ suc (steps + more) = omega arith in
+    rw next (ap (λ before. [] ∷ before) (idle-after more steps play))
+
+pub silent-after :
+    (start : Start) (more steps : ℕ) (play : Play)
+    → AreSilent start more (with_idle steps play) → AreSilent start steps play
+    → AreSilent start (steps + more) play
+silent-after start zero steps play later all =
+    let none : steps + 0 ≡ steps = omega arith in rw none all
+silent-after start (suc more) steps play later all =
+    let next : steps + suc more ≡ suc (steps + more) = omega arith in
+    let last : is_silent start (with_idle (suc (steps + more)) play) ≡ true =
+    subst (λ (before : Play). is_silent start ([] ∷ before) ≡ true)
+    (idle-after more steps play) later.0 in
+    rw next (last, silent-after start more steps play later.1 all)
 
 pub length-idle :
     (steps : ℕ) (play : Play) → length (with_idle steps play) ≡ length play + steps

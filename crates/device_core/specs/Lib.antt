@@ -13,4 +13,5 @@ pub mod FlagsKept
 pub mod Machine
 pub mod Monitors
 pub mod Peripherals
+pub mod Sleep
 pub mod Turn

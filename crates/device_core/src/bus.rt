@@ -1,4 +1,4 @@
-ghost use Rattle.std.specs.Prelude.{◌≡◌, ◌∷◌, [], ℕ, true, false, List, Option, IfOk, IsSome, None, Some, is_none, if◌then◌else◌};
+ghost use Rattle.std.specs.Prelude.{◌≡◌, ◌≤◌, ◌∷◌, [], ℕ, true, false, List, Option, IfOk, IsSome, None, Some, is_none, if◌then◌else◌};
 ghost use Rattle.bus_signals.specs.declared.event.Event.{Event};
 ghost use Rattle.bus_signals.specs.TraceFlag.{IsRecordOf};
 ghost use Rattle.bus_signals.specs.SeenRecord.{SeenHistory};
@@ -16,6 +16,7 @@ ghost use Rattle.device_trace.specs.Signals.{signals_of, word_fetched, value_rea
 ghost use Rattle.device_trace.specs.Step.{is_reset, asks_reset, record_from};
 ghost use Rattle.device_core.specs.Bus.{TurnStandsFor};
 ghost use Rattle.device_core.specs.Silence.{has_line};
+ghost use Rattle.device_core.specs.Sleep.{SleepsAt, idle_signals, logs_idle};
 
 use crate::access::{value_read, word_fetched};
 use crate::last_step::{LastStep, keep_none};
@@ -23,7 +24,7 @@ use crate::monitors::Monitors;
 use crate::peripherals::Peripherals;
 use crate::record::{goes_on_in_call, is_kept, record_of_refusal, record_of_step};
 use crate::turn::Turn;
-use bus_signals::{Access, BusMaster, BusRecord, CR, Event, Signals, TraceFlag};
+use bus_signals::{Access, BusMaster, BusRecord, CR, Event, Kind, Signals, TraceFlag};
 use mem_map::{Image, Memory, exchange};
 use std::alloc::{AllocError, Global};
 
@@ -100,11 +101,28 @@ fn signals(turn: &Turn, value: u16, dma: Option<Access>, script_reset: bool) -> 
     }
 }
 
+// What a step of sleep at this `pc` is about to do.
+fn idle_signals(pc: u16) -> Signals
+    ensures { result ≡ idle_signals pc }
+{
+    Signals {
+        kind: Kind::Idle,
+        pc,
+        cpu: None,
+        dma: None,
+        irq: false,
+        word: 0,
+        opcode: false,
+        script_reset: false,
+    }
+}
+
 impl<G: TraceFlag> Bus<G> {
     ghost use Rattle.device_trace.specs.Logs.{flags_shown};
     ghost use Rattle.device_core.specs.Bus.{BusStandsFor, KeepsSignals, AnswersTurn, MakesTurn, Performs, PerformsFrom, record_performed, seen_in};
     ghost use Rattle.device_core.specs.FlagsKept.{LeavesFlags, KeepsFlags};
     ghost use Rattle.device_core.specs.Monitors.{MonitorsStandFor};
+    ghost use Rattle.device_core.specs.Sleep.{Rests, Sleeps};
 
     /// The bus at power-on. The flag has seen no record.
     #[tactic(auto, unfolding(bus_signals::specs::ExecFlag::exec))]
@@ -146,6 +164,45 @@ impl<G: TraceFlag> Bus<G> {
             → result ≡ dma_access logs.peripherals.dma }
     {
         self.peripherals.dma.ask()
+    }
+
+    /// Makes steps of sleep at this `pc` without events, at most so many, all at once: those before
+    /// the timer's count comes to 0 again, where the step before them had that `pc` and was not
+    /// kept. How many.
+    pub fn rest(&mut self, pc: u16, most: u64) -> u64
+        requires { self.old.last ≡ None }
+        ensures few { result ≤ most }
+        ensures last { self.new.last ≡ None }
+        ensures stands { (start : Start) (logs : Logs)
+            → BusStandsFor G.flag self.old start logs
+            → SleepsAt pc logs
+            → BusStandsFor G.flag self.new start (logs_idle start result logs) }
+        ensures asleep { (start : Start) (logs : Logs) (steps : ℕ)
+            → BusStandsFor G.flag self.old start logs
+            → SleepsAt pc logs
+            → steps ≤ result
+            → Sleeps logs (logs_idle start steps logs) }
+    {
+        if self.rests(&idle_signals(pc)) {
+            self.peripherals.rest(most)
+        } else {
+            0
+        }
+    }
+
+    // Whether steps that are about to do this leave the bus as it is, but for the timer: the DMA asks
+    // for nothing, they break no rule, and leave both flags as they are and as they are shown.
+    fn rests(&self, now: &Signals) -> bool
+        ensures { (start : Start) (logs : Logs)
+            → BusStandsFor G.flag self.now start logs
+            → result ≡ true
+            → Rests G.flag self.now now.now start logs }
+    {
+        if self.dma_access().is_some() {
+            return false;
+        }
+        self.monitors.repeat(now, &self.memory.bounds())
+            && self.memory.shows_aux() == self.monitors.aux()
     }
 
     // The monitors see a step, memory shows the flags after it, and it is kept.

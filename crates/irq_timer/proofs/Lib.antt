@@ -1,2 +1,3 @@
 pub mod Remainder
 pub mod Tick
+pub mod Ticks

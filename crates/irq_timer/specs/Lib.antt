@@ -1,2 +1,3 @@
 pub mod Pins
+pub mod Ticks
 pub mod Timer

@@ -1,5 +1,5 @@
-ghost use Rattle.std.specs.Prelude.{◌≡◌, true, false, [], ◌∷◌, List};
-ghost use Rattle.part_definitions.specs.Part.{Takes, Answers};
+ghost use Rattle.std.specs.Prelude.{◌≡◌, ◌≤◌, ℕ, true, false, [], ◌∷◌, List};
+ghost use Rattle.part_definitions.specs.Part.{Takes, Answers, Becomes};
 ghost use Rattle.part_definitions.specs.Timer.{TimerEvent, Tick, Store, Acceptance, DeviceReset, timer_runs, timer_read, timer_word, timer_requests};
 
 use bus_signals::TIMER;
@@ -25,6 +25,7 @@ pub struct Timer {
 }
 
 impl Timer {
+    ghost use Rattle.irq_timer.specs.Ticks.{with_ticks, ticks_before_zero};
     ghost use Rattle.irq_timer.specs.Timer.{TimerStandsFor};
 
     /// A timer that is stopped, with all registers 0.
@@ -101,6 +102,47 @@ impl Timer {
             self.count = 0;
             self.flag = true;
         }
+    }
+
+    /// Ends the steps before the count comes to 0 again, at most so many: all at once. How many. In
+    /// none of them the timer's request comes or goes.
+    pub fn tick_before_zero(&mut self, most: u64) -> u64
+        ensures few { result ≤ most }
+        ensures steps { Answers TimerStandsFor self.old (ticks_before_zero most) result }
+        ensures stands { Becomes TimerStandsFor self.old (with_ticks result) self.new }
+        ensures requests { (events : List TimerEvent) (steps : ℕ)
+            → TimerStandsFor self.old events
+            → steps ≤ result
+            → timer_requests (with_ticks steps events) ≡ timer_requests events }
+    {
+        if self.runs() {
+            return self.count_on(most);
+        }
+        if most > 0 {
+            self.fresh = false;
+        }
+        most
+    }
+
+    // Likewise, of a timer that runs.
+    fn count_on(&mut self, most: u64) -> u64
+        ensures few { result ≤ most }
+        ensures steps { (events : List TimerEvent)
+            → TimerStandsFor self.old events
+            → timer_runs events ≡ true
+            → result ≡ ticks_before_zero most events }
+        ensures stands { (events : List TimerEvent)
+            → TimerStandsFor self.old events
+            → timer_runs events ≡ true
+            → TimerStandsFor self.new (with_ticks result events) }
+    {
+        let left = self.compare.word().saturating_sub(self.count);
+        let steps = most.min(u64::from(left));
+        if steps > 0 {
+            self.count += steps as u16 - u16::from(self.fresh);
+            self.fresh = false;
+        }
+        steps
     }
 
     fn runs(&self) -> bool

@@ -1,13 +1,7 @@
-use Rattle.std.proofs.Common.{◌≡◌, ◌∙◌, Bool, true, false, refl, sym}
-use mathlib.Core.Bool.{beq}
+use Rattle.std.proofs.Common.{◌∙◌, sym}
 use Rattle.device_trace.specs.Logs.{flags_of}
+use Rattle.device_core.proofs.FlagsShown.{same_where_equal}
 use Rattle.device_core.proofs.bus.Bus.keeps_flags.Goals as goal
-
-same_where_equal : (x y : Bool) → beq x y ≡ true → x ≡ y
-same_where_equal true true same = refl
-same_where_equal true false same = sym same
-same_where_equal false true same = same
-same_where_equal false false same = refl
 
 pub returns-then-leaves_flags : goal.returns-then-leaves_flags
 returns-then-leaves_flags g c = λ start logs stands same.

@@ -1,41 +1,48 @@
-use Rattle.std.proofs.Common.{◌≡◌, ◌∙◌, ◌+◌, sym, arith}
+use Rattle.std.proofs.Common.{◌∙◌, ◌+◌, sym, arith, subst}
+use Rattle.device_trace.specs.Play.{Play}
+use Rattle.device_core.specs.Machine.{PlaysAt}
 use Rattle.device_core.specs.Silence.{with_idle}
-use Rattle.device_core.proofs.Idle.{goes-idle, silent-unkept, silent-more, silent-less, fewer-silent}
+use Rattle.device_core.proofs.Idle.{goes-idle, idle-after, silent-after, silent-unkept, silent-more, silent-less, fewer-silent}
 use Rattle.device_core.proofs.machine.Machine.play_on.Goals as goal
 
 pub loop-made-init : goal.loop-made-init
-loop-made-init g c = λ start play stands. (stands, tt)
+loop-made-init g c = (omega arith, λ start play stands. (stands, tt))
 
 pub loop-made-preserved : goal.loop-made-preserved
-loop-made-preserved g c = λ start play stands.
-    let made = c.loop-made.made in
-    let (here, all) = c.loop-made.invariant start play stands in
-    let next = goes-idle made play
-    (c.go_undisturbed-stage.ensures start _ here.same here.same_stage) in (
-      next,
-      silent-more start made play
-          (silent-unkept start (with_idle (made + 1) play) _ next.same.same_bus.same_last
-          (sym c.is_some.ensures ∙ c.if-is_some.false))
-          all,
-    )
+loop-made-preserved g c = (
+  omega arith,
+  λ start play stands.
+      let made = c.loop-made.made in
+      let (here, all) = c.loop-made.invariant.1 start play stands in
+      let next = goes-idle made play
+      (c.go_undisturbed-stage.ensures start _ here.same here.same_stage) in
+      let silent = silent-more start made play
+      (silent-unkept start (with_idle (made + 1) play) _ next.same.same_bus.same_last
+      (sym c.is_some.ensures ∙ c.if-is_some.false))
+      all in (
+        subst
+            (λ (after : Play). PlaysAt g.D.Digest32.hash g.G.TraceFlag.flag
+            c.go_undisturbed-stage.result c.sleep-made.new.self start after)
+            (idle-after c.sleep-made.result (made + 1) play)
+            (c.sleep-made.ensures.stands start (with_idle (made + 1) play) next),
+        silent-after start c.sleep-made.result (made + 1) play
+            (c.sleep-made.ensures.silent start (with_idle (made + 1) play) next) silent,
+      ),
+)
 
 pub returns-then-is_some-clause-stands : goal.returns-then-is_some-clause-stands
 returns-then-is_some-clause-stands g c = λ start play stands.
-    let (here, all) = c.loop-made.invariant start play stands in
+    let (here, all) = c.loop-made.invariant.1 start play stands in
     goes-idle c.loop-made.made play
     (c.go_undisturbed-stage.ensures start _ here.same here.same_stage)
 
 pub returns-then-is_some-clause-silent : goal.returns-then-is_some-clause-silent
 returns-then-is_some-clause-silent g c = λ start play stands.
-    silent-less start c.loop-made.made play (c.loop-made.invariant start play stands).1
+    silent-less start c.loop-made.made play (c.loop-made.invariant.1 start play stands).1
 
 pub returns-clause-stands : goal.returns-clause-stands
-returns-clause-stands g c = λ start play stands.
-    let same : c.loop-made.made ≡ c.args.steps = omega arith in
-    rw (← same) (c.loop-made.invariant start play stands).0
+returns-clause-stands g c = λ start play stands. (c.loop-made.invariant.1 start play stands).0
 
 pub returns-clause-silent : goal.returns-clause-silent
 returns-clause-silent g c = λ start play stands.
-    let same : c.loop-made.made ≡ c.args.steps = omega arith in
-    rw (← same) (fewer-silent start c.loop-made.made play
-    (c.loop-made.invariant start play stands).1)
+    fewer-silent start c.loop-made.made play (c.loop-made.invariant.1 start play stands).1

@@ -1,0 +1,56 @@
+use Rattle.std.proofs.Common.{◌≡◌, ℕ, refl, sym, subst, arith}
+use Rattle.mem_map.specs.Memory.{MemoryStandsFor}
+use Rattle.part_definitions.specs.Memory.{ShownFlags}
+use Rattle.device_trace.specs.Logs.{flags_of}
+use Rattle.device_trace.specs.Peripherals.{Peripherals}
+use Rattle.device_core.specs.Bus.{LastStandsFor}
+use Rattle.device_core.specs.Peripherals.{PeripheralsStandFor}
+use Rattle.device_core.specs.Sleep.{Sleeps, logs_idle}
+use Rattle.device_core.proofs.Sleep.{sleeps-on, asleep}
+use Rattle.device_core.proofs.bus.Bus.rest.Goals as goal
+
+pub returns-then-rests-clause-stands : goal.returns-then-rests-clause-stands
+returns-then-rests-clause-stands g c = λ start logs stands sleeps.
+    let flag = g.G.TraceFlag.flag in
+    let bus = c.args.self.now in
+    let after = logs_idle start c.rest.result logs in
+    let rests = rw c.idle_signals.ensures at
+    (c.rests.ensures start logs stands c.if-rests.true) in
+    let on = sleeps-on flag bus start logs c.args.pc stands c.requires sleeps rests c.rest.result
+    (λ some few. c.rest.ensures.requests logs.peripherals some stands.same_peripherals few) in
+    record {
+      same_memory =
+          subst
+          (λ (flags : ShownFlags). MemoryStandsFor bus.memory start.power flags after.memory)
+          (sym on.same_flags)
+          (subst
+          (λ writes. MemoryStandsFor bus.memory start.power (flags_of start logs) writes)
+          (sym on.same_memory) stands.same_memory);
+      same_peripherals =
+          subst (λ (parts : Peripherals). PeripheralsStandFor c.rest.new.self parts)
+          (sym on.same_peripherals)
+          (c.rest.ensures.stands logs.peripherals stands.same_peripherals);
+      same_monitors = on.same_monitors;
+      same_flag = stands.same_flag;
+      same_last =
+          subst (λ last. LastStandsFor last after.records) (sym c.requires) on.same_last;
+    }
+
+pub returns-then-rests-clause-asleep : goal.returns-then-rests-clause-asleep
+returns-then-rests-clause-asleep g c = λ start logs steps stands sleeps few.
+    let rests = rw c.idle_signals.ensures at
+    (c.rests.ensures start logs stands c.if-rests.true) in
+    asleep g.G.TraceFlag.flag c.args.self.now start logs c.args.pc stands c.requires sleeps rests
+    steps
+    (λ some fewer. c.rest.ensures.requests logs.peripherals some stands.same_peripherals
+    (omega arith))
+
+pub returns-else-rests-clause-asleep : goal.returns-else-rests-clause-asleep
+returns-else-rests-clause-asleep g c = λ start logs steps stands sleeps few.
+    let none : steps ≡ 0 = omega arith in
+    subst (λ (some : ℕ). Sleeps logs (logs_idle start some logs)) (sym none)
+    (record {
+      same_progress = refl;
+      same_last = subst (λ last. LastStandsFor last logs.records) c.requires stands.same_last;
+      same_decision = λ decision same. same;
+    })
