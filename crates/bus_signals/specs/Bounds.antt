@@ -25,11 +25,9 @@ output_region bounds = words_region bounds.or_min bounds.or_max
 abbrev pub is_even : Address → Bool
 is_even place = place % 2 == 0
 
--- one region lies wholly in another
 abbrev pub is_part_of : Region → Region → Bool
 is_part_of inner outer = nat_le outer.first inner.first && nat_le inner.last outer.last
 
--- no address lies in both
 abbrev pub is_disjoint : Region → Region → Bool
 is_disjoint left right = nat_lt left.last right.first || nat_lt right.last left.first
 

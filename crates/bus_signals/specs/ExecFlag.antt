@@ -13,7 +13,6 @@ use Rattle.bus_signals.specs.Map.{lies_in, touches, some_touches, is_within, met
 use Rattle.bus_signals.specs.Bounds.{are_valid, executable_region, output_region}
 use Rattle.bus_signals.specs.Address.{Address}
 
--- the accesses of a record
 abbrev pub accesses_in : BusRecord → List Access
 accesses_in entry = option_to_list entry.cpu ++ option_to_list entry.dma
 
@@ -24,7 +23,6 @@ abbrev pub fetches_outside : Region → Access → Bool
 fetches_outside region (Fetch place) = not (is_within (Fetch place) region)
 fetches_outside region access = false
 
--- the record is in the executable region
 abbrev pub runs_inside : SeenRecord → Bool
 runs_inside now = lies_in (executable_region now.bounds) now.entry.pc
 
@@ -125,8 +123,7 @@ records_since clears [] = []
 records_since clears (now ∷ before) =
     if clears (last_pc before) now then [] else now ∷ records_since clears before
 
--- a flag of a run is set: there is a record that starts one, and neither it nor a later one clears
--- the flag
+-- a flag of a run is set: a record starts one, and neither it nor a later one clears the flag
 abbrev pub is_set : (Option Address → SeenRecord → Bool) → SeenHistory → Bool
 is_set clears records = list_any starts_run (records_since clears records)
 

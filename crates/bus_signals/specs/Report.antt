@@ -5,9 +5,8 @@ use Rattle.bus_signals.specs.declared.report_view.ReportView.{ReportView}
 use Rattle.bus_signals.specs.declared.version.Version.{Version}
 use Rattle.bus_signals.specs.Address.{Bytes}
 
--- the version, the step that finished the call, the EXEC flag, the second flag and the counter of
--- the request (false and 0 in version 1), the challenge, the bounds, the bytes of the output region
--- where the bounds are valid, and the MAC
+-- the step that finished the call, the EXEC flag, the second flag and the counter of the request
+-- (false and 0 in version 1), challenge and bounds, the bytes of OR where they are valid, the MAC
 pub record ReportFields : Type 0 where
   pub version : Version
   pub step : ℕ

@@ -7,7 +7,6 @@ use Rattle.device_cli.specs.Row.{Always, DevicePlay, Outcome, Row, start_in}
 
 -- a play under SHA-256, whose second flag is that of trusted interrupts
 pub record IsLawful (device_play : DevicePlay) : Type 0 where
-  -- which gives 32 bytes of every message
   pub gives : Gives32Bytes sha256
   pub hides_key : KeepsKeyHidden (start_in device_play) device_play.play
   pub laws : ObeysLaws sha256 device_play.key (start_in device_play) device_play.play

@@ -20,8 +20,7 @@ pub record KeepsCounter (digest : Digest) (key : Bytes) (start : Start) (play : 
       → play ≡ events ∷ before
       → (kept_counter start play ≡ kept_counter start before → ⊥)
       → IsRightlyRequested digest key start play
-  -- where a call has decided to attest a request, its counter is greater than that of each request
-  -- that a call before it has decided to attest
+  -- a request that a call has decided to attest has a greater counter than each attested before it
   pub attests_new : (later earlier : Play) (older counter : ℕ)
       → play ≡ later ++ earlier
       → BeganAfter start later earlier

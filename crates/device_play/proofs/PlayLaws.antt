@@ -1,23 +1,29 @@
 -- A play obeys the laws of the device.
-use Rattle.std.proofs.Common.{◌≡◌, ◌∙◌, ◌<◌, ℕ, Bool, Some, sym, arith}
+use Rattle.std.proofs.Common.{◌≡◌, ◌∙◌, [], ◌∷◌, length, Bool, Some, ap, subst, sym}
 use Rattle.std.proofs.lemmas.Bool.{false≢true}
 use Rattle.bus_signals.specs.Address.{Bytes, Contents}
 use Rattle.bus_signals.specs.Report.{ReportFields}
 use Rattle.bus_signals.specs.SeenRecord.{SeenHistory}
+use Rattle.bus_signals.specs.declared.bounds.Bounds.{Bounds}
 use Rattle.part_definitions.specs.Hmac.{Digest}
+use Rattle.part_definitions.specs.Request.{ATTESTS}
+use Rattle.device_trace.specs.Logs.{Logs}
 use Rattle.device_trace.specs.Play.{Play}
+use Rattle.device_trace.specs.RegionRun.{TrustedRun, WholeRun}
 use Rattle.device_trace.specs.Start.{Start, with_key}
 use Rattle.device_trace.specs.Text.{last_report}
+use Rattle.device_trace.specs.Trace.{logs_after, trace}
 use Rattle.trace_facts.proofs.NeverBroken.{trace-names_neither}
 use Rattle.trace_facts.proofs.RomCode.{trace-in_call}
 use Rattle.key_isolation.proofs.TwoKeys.{looks_keyless}
-use Rattle.mac_coverage.specs.Coverage.{IsDeviceKey, IsOfBytes, call_length, contents_before}
-use Rattle.mac_coverage.proofs.Plays.{last_report-finishes, mac_covers_call, report-covered}
-use Rattle.proof_of_execution.proofs.Plays.{decision-whole_run, report-whole_run}
+use Rattle.mac_coverage.specs.Coverage.{IsDeviceKey, IsOfBytes, MacCoversCall}
+use Rattle.mac_coverage.proofs.Plays.{last_report-finishes, mac_covers_call, some_same}
+use Rattle.proof_of_execution.proofs.Plays.{decision-whole_run, made_where}
 use Rattle.request_freshness.proofs.Reports.{report-new}
-use Rattle.trusted_execution.proofs.StillTime.{decision-trusted_run, report-trusted_run}
+use Rattle.trusted_execution.proofs.StillTime.{decision-trusted_run}
 use Rattle.device_core.proofs.Outside.{keeps-counter}
-use Rattle.device_play.specs.PlayLaws.{IsLawfulMoment, KeepsKeyHidden, MacIsOfRegion, ObeysLaws}
+use Rattle.device_play.specs.LawfulReport.{IsLawfulReport}
+use Rattle.device_play.specs.PlayLaws.{IsLawfulMoment, KeepsKeyHidden, ObeysLaws}
 
 pub keeps_key_hidden : (start : Start) (play : Play) → KeepsKeyHidden start play
 keeps_key_hidden start play = λ later earlier parts. looks_keyless start earlier
@@ -34,25 +40,37 @@ lawful_moment flag digest key image play device_key bytes =
       counter = keeps-counter flag digest key image play device_key bytes;
     }
 
--- a MAC that covers its call is of what stands in memory throughout it
-report-of_region : (flag : SeenHistory → Bool) (digest : Digest) (key : Bytes) (image : Contents)
-    (play : Play) (report : ReportFields) → IsDeviceKey key → IsOfBytes image
-    → last_report (with_key flag digest key image) play ≡ Some report
-    → MacIsOfRegion digest key (with_key flag digest key image) report play
-report-of_region flag digest key image play report device_key bytes is =
-    let start : Start = with_key flag digest key image in
-    let covers = report-covered flag digest key image play report device_key bytes is in
+-- a report at a lawful moment
+pub lawful_report : (digest : Digest) (key : Bytes) (start : Start) (play : Play)
+    (report : ReportFields) → IsLawfulMoment digest key start play
+    → last_report start play ≡ Some report
+    → IsLawfulReport digest key start report play
+lawful_report digest key start [] report moment is = absurd (cc)
+lawful_report digest key start (events ∷ before) report moment is =
+    let play : Play = events ∷ before in
+    let logs : Logs = logs_after start play in
     let made = last_report-finishes start play report is in
-    let stands : (steps : ℕ) → steps < call_length start play
-    → contents_before start play steps ≡ covers.0.contents =
-    λ steps within. covers.0.throughout steps (record {
-      begun = within;
-      unrefused = λ refuses. absurd (false≢true (sym made.refused ∙ refuses));
-    }) in
+    let same = (made_where start logs (length before) logs.decision report is).1 in
+    let covers : MacCoversCall digest key start play = moment.call made.in_call in
     record {
-      contents = contents_before start play 0;
-      throughout = λ steps within. stands steps within ∙ sym (stands 0 (omega (arith, within)));
-      tag = covers.1;
+      contents = covers.contents;
+      throughout = λ steps within. covers.throughout steps (record {
+        begun = within;
+        unrefused = λ refuses. absurd (false≢true (sym made.refused ∙ refuses));
+      });
+      tag = λ gives.
+          made.mac
+          ∙ covers.stored made.finished
+          (some_same (sym (covers.told made.finished) ∙ made.attests)) gives;
+      whole_run = λ set.
+          subst (λ (bounds : Bounds). WholeRun bounds (trace start play))
+          (ap (λ (r : ReportFields). r.bounds) same)
+          (moment.whole_run ATTESTS made.attests (ap (λ (r : ReportFields). r.exec) same ∙ set));
+      trusted_run = λ is_aux set.
+          subst (λ (bounds : Bounds). TrustedRun bounds (trace start play))
+          (ap (λ (r : ReportFields). r.bounds) same)
+          (moment.trusted_run is_aux ATTESTS made.attests
+          (ap (λ (r : ReportFields). r.aux) same ∙ set));
     }
 
 pub obeys_laws : (flag : SeenHistory → Bool) (digest : Digest) (key : Bytes) (image : Contents)
@@ -61,16 +79,10 @@ pub obeys_laws : (flag : SeenHistory → Bool) (digest : Digest) (key : Bytes) (
 obeys_laws flag digest key image play device_key bytes =
     let start : Start = with_key flag digest key image in
     record {
-      covered = λ later earlier parts report.
-          report-of_region flag digest key image earlier report device_key bytes;
-      whole_runs = λ later earlier parts report.
-          report-whole_run start earlier report;
-      trusted_runs = λ is_aux later earlier parts report.
-          report-trusted_run start earlier report is_aux;
-      fresh = λ later earlier parts report.
-          report-new flag digest key image earlier report device_key bytes;
       moments = λ later earlier parts.
           lawful_moment flag digest key image earlier device_key bytes;
+      fresh = λ later earlier parts report.
+          report-new flag digest key image earlier report device_key bytes;
       rules = trace-names_neither start play;
       rom = trace-in_call start play;
     }

@@ -14,7 +14,6 @@ behind before cuts = map (λ (cut : Bytes). before ++ cut) cuts
 abbrev pub TakesSuch : {S : Type 0} → (S → Bytes → Type 0) → S → S → (Bytes → Type 0) → Type 0
 TakesSuch stands old new is_so = (bytes : Bytes) × is_so bytes × Takes stands old new bytes
 
--- the sink took one of these texts
 abbrev pub TakesOneOf : {S : Type 0} → (S → Bytes → Type 0) → S → S → List Bytes → Type 0
 TakesOneOf stands old new texts = TakesSuch stands old new (Contains texts)
 

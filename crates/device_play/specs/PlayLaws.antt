@@ -1,27 +1,23 @@
 -- What the laws of the device say of a play.
-use Rattle.std.specs.Prelude.{◌≡◌, ◌<◌, ℕ, All}
+use Rattle.std.specs.Prelude.{◌≡◌, All}
 use Rattle.bus_signals.specs.Address.{Bytes}
-use Rattle.bus_signals.specs.Report.{ReportFields}
 use Rattle.part_definitions.specs.Hmac.{Digest}
 use Rattle.part_definitions.specs.TrustedFlag.{aux}
 use Rattle.device_trace.specs.Moment.{EachMoment}
 use Rattle.device_trace.specs.Play.{Play}
-use Rattle.device_trace.specs.Report.{EachReport, AuxMeansTrustedRun, ExecMeansWholeRun}
+use Rattle.device_trace.specs.Report.{EachReport}
 use Rattle.device_trace.specs.Start.{Start}
 use Rattle.device_trace.specs.Trace.{trace}
 use Rattle.trace_facts.specs.Naming.{NamesNeitherA1NorK3}
 use Rattle.trace_facts.specs.RomCode.{RunsRomInCall}
 use Rattle.key_isolation.specs.Keyless.{LooksKeyless}
-use Rattle.mac_coverage.specs.AttestedBytes.{AttestedBytes, tag_of}
-use Rattle.mac_coverage.specs.Coverage.{Gives32Bytes, call_length, contents_before}
 use Rattle.mac_coverage.specs.LastCall.{MacCoversLastCall}
 use Rattle.proof_of_execution.specs.WholeCall.{ExecAfterCallMeansWholeRun}
 use Rattle.trusted_execution.specs.TrustedCall.{AuxAfterCallMeansTrustedRun}
 use Rattle.request_freshness.specs.Freshness.{TellsNewCounter}
 use Rattle.device_core.specs.KeptCounter.{KeepsCounter}
 
--- the key acts through the words that the calls release alone: at each moment the play looks as it
--- does without the key
+-- at each moment the play looks as it does without the key, but for the words that calls release
 abbrev pub KeepsKeyHidden : Start → Play → Type 0
 KeepsKeyHidden start play = EachMoment play (LooksKeyless start)
 
@@ -36,28 +32,11 @@ pub record IsLawfulMoment (digest : Digest) (key : Bytes) (start : Start) (play 
   -- the kept counter never falls, and each request that is attested has a greater counter
   pub counter : KeepsCounter digest key start play
 
--- the MAC in a report, which the last step of a play makes, is the tag of what stands in memory
--- from the end of the first step of its call on, where the digest gives 32 bytes
-pub record MacIsOfRegion (digest : Digest) (key : Bytes) (start : Start) (report : ReportFields)
-    (play : Play) : Type 0 where
-  pub contents : AttestedBytes
-  pub throughout : (steps : ℕ)
-      → steps < call_length start play
-      → contents_before start play steps ≡ contents
-  pub tag : Gives32Bytes digest → report.mac ≡ tag_of digest key contents
-
 -- of a device with this key
 pub record ObeysLaws (digest : Digest) (key : Bytes) (start : Start) (play : Play) : Type 0 where
-  -- the MAC of each report is of its region throughout the call
-  pub covered : EachReport start play (MacIsOfRegion digest key start)
-  -- each EXEC 1 in a report comes with a whole run
-  pub whole_runs : EachReport start play (ExecMeansWholeRun start)
-  -- and each AUX 1 with a trusted run, where the second flag is that of trusted interrupts
-  pub trusted_runs : start.second_flag ≡ aux → EachReport start play (AuxMeansTrustedRun start)
+  pub moments : EachMoment play (IsLawfulMoment digest key start)
   -- each report tells a counter greater than that of each earlier report
   pub fresh : EachReport start play (TellsNewCounter start)
-  -- and what is said of each of its moments
-  pub moments : EachMoment play (IsLawfulMoment digest key start)
   -- no step is refused for A1 or K3, and each that is made in the ROM is one of a call
   pub rules : All NamesNeitherA1NorK3 (trace start play)
   pub rom : All RunsRomInCall (trace start play)

@@ -9,6 +9,7 @@
 mod driver;
 mod dump_watcher;
 mod last_trace_line;
+mod law;
 mod line_watcher;
 mod put_fault;
 mod trace_watcher;
@@ -17,6 +18,7 @@ mod wave_watcher;
 
 pub use driver::play_before;
 pub use dump_watcher::DumpWatcher;
+pub use law::reports_tell_of_their_moments;
 pub use line_watcher::{LineWatcher, print_end_of, print_last_step};
 pub use put_fault::PutFault;
 pub use trace_watcher::TraceWatcher;

@@ -33,11 +33,9 @@ blank_record entry =
 abbrev pub blank : List BusRecord → List BusRecord
 blank history = map blank_record history
 
--- a record that a flag sees, blanked
 abbrev pub blank_seen : SeenRecord → SeenRecord
 blank_seen now = record { entry = blank_record now.entry; bounds = now.bounds }
 
--- the places of the secrets
 abbrev pub is_secret : Address → Bool
 is_secret place = lies_in key_region place || lies_in stack_region place
 

@@ -45,7 +45,6 @@ power_on_logs =
       decision = None;
     }
 
--- the EXEC flag
 abbrev pub exec_of : Logs → Bool
 exec_of logs = exec logs.records
 
@@ -54,15 +53,13 @@ abbrev pub goes_on_in_call : BusRecord → Bool
 goes_on_in_call entry =
     is_rom entry.kind && not (entry.pc == ROM_ENTRY) && is_none entry.reset
 
--- the records but for the steps of a call that is under way, or has just been finished, after its
--- first step
+-- the records but for those of the last call, under way or just finished, after its first
 abbrev pub records_until_call : List SeenRecord → List SeenRecord
 records_until_call [] = []
 records_until_call (now ∷ before) =
     if goes_on_in_call now.entry then records_until_call before else now ∷ before
 
--- the second flag as the memory shows it: it sees no secret, and stays as it is from a call's first
--- step to its end
+-- the second flag as memory shows it: it sees no secret, and stays through all steps of a call
 abbrev pub aux_shown : Start → List SeenRecord → Bool
 aux_shown start records = start.second_flag (map blank_seen (records_until_call records))
 
@@ -75,7 +72,6 @@ aux_of start logs = aux_shown start logs.records
 abbrev pub flags_of : Start → Logs → ShownFlags
 flags_of start logs = flags_shown start logs.records
 
--- the byte at a place of the memory
 abbrev pub logged_byte : Start → Logs → ℕ → ℕ
 logged_byte start logs place = byte_at start.power (flags_of start logs) logs.memory place
 
@@ -88,7 +84,6 @@ vector_of logs =
     if allows_interrupts (last_registers logs.progress)
     then first_vector (requests logs.peripherals) else None
 
--- within a step of this kind
 abbrev pub step_progress : Logs → Kind → Progress
 step_progress logs kind = progress_within logs.progress kind (vector_of logs)
 
@@ -122,7 +117,6 @@ released_words_after rule kind access words = words
 abbrev pub finishes_call : BusRecord → Bool
 finishes_call entry = is_rom entry.kind && (entry.pc == ROM_EXIT) && is_none entry.reset
 
--- the decision of the call that is under way
 abbrev pub call_decision : Progress → Option ℕ
 call_decision (InCall regs words) = Some (decision_read words)
 call_decision progress = None
@@ -135,7 +129,6 @@ peripherals_after logs entry =
     with_step entry.reset (vector_taken logs.progress entry.kind (vector_of logs)) entry.cpu
     entry.dma entry.dma_value logs.peripherals
 
--- the events of a step come
 unfoldable pub with_events : Logs → List Event → Logs
 with_events logs events = record logs { peripherals = with_all_events logs.peripherals events }
 

@@ -1,5 +1,5 @@
 -- What happened to each peripheral: what the events of a step and its record add to the lists.
-use Rattle.std.specs.Prelude.{◌==◌, ◌++◌, ℕ, Bool, List, [], ◌∷◌, Option, Some, None, if◌then◌else◌}
+use Rattle.std.specs.Prelude.{◌==◌, ◌++◌, ℕ, List, [], ◌∷◌, Option, Some, None, if◌then◌else◌}
 use Rattle.word_arith.specs.declared.size.Size.{Size}
 use Rattle.word_arith.specs.declared.size.Size.TheVariants.{Word}
 use Rattle.word_arith.specs.Word16.{Word16}
@@ -27,7 +27,6 @@ pub record Peripherals : Type 0 where
 abbrev pub power_on_peripherals : Peripherals
 power_on_peripherals = record { timer = []; serial = []; dma = []; pins = [] }
 
--- an event from outside
 abbrev pub with_event : Peripherals → Event → Peripherals
 with_event parts (Rx byte) = record parts { serial = Arrival byte ∷ parts.serial }
 with_event parts (Pins word) = record parts { pins = word ∷ parts.pins }
@@ -35,7 +34,6 @@ with_event parts (Dma source destination words) =
     record parts { dma = TransferStart source destination words ∷ parts.dma }
 with_event parts Reset = parts
 
--- the events of a step, in their order
 abbrev pub with_all_events : Peripherals → List Event → Peripherals
 with_all_events parts [] = parts
 with_all_events parts (event ∷ events) = with_all_events (with_event parts event) events
@@ -49,15 +47,11 @@ peripheral_read parts place size =
     else if lies_in pins_region place then pins_read parts.pins place size
     else 0
 
--- the request of the part with this vector, where it asks for an interrupt
-abbrev pub request_at : ℕ → Bool → List ℕ
-request_at vector asks = if asks then vector ∷ [] else []
-
 -- the vectors of the interrupts that parts ask for; the greatest is accepted first (SLAU049)
 abbrev pub requests : Peripherals → List ℕ
 requests parts =
-    request_at SERIAL_VECTOR (serial_requests parts.serial)
-    ++ request_at TIMER_VECTOR (timer_requests parts.timer)
+    (if serial_requests parts.serial then SERIAL_VECTOR ∷ [] else [])
+    ++ (if timer_requests parts.timer then TIMER_VECTOR ∷ [] else [])
 
 -- the processor's access, where it is the timer's: a write to one of its registers
 abbrev pub with_timer_access : Option Access → List TimerEvent → List TimerEvent
@@ -107,8 +101,7 @@ abbrev pub dma_after :
 dma_after None cpu dma value events = with_dma_value dma value (with_dma_access cpu events)
 dma_after (Some rule) cpu dma value events = DmaEngine.DeviceReset ∷ events
 
--- a step ends: whether it is refused, the interrupt whose entry begins in it, the accesses of the
--- processor and of the DMA engine, and the value that the engine takes
+-- a step ends: the rule that refuses it, the interrupt that it takes, its accesses, the DMA's value
 abbrev pub with_step :
     Option Rule → Option ℕ → Option Access → Option Access → Word16 → Peripherals → Peripherals
 with_step reset acceptance cpu dma value parts =

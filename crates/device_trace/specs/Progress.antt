@@ -23,13 +23,11 @@ pub data Progress : Type 0 where
   -- in a call of the ROM: the registers at its start, and the words that passed in it, oldest first
   InCall : Registers → List Word16 → Progress
 
--- the registers at the last boundary
 abbrev pub last_registers : Progress → Registers
 last_registers Held = clear_registers
 last_registers (Runs cpu) = registers_of cpu
 last_registers (InCall regs words) = regs
 
--- the `pc` of the next step
 abbrev pub next_pc_of : Progress → Address
 next_pc_of Held = 0
 next_pc_of (Runs cpu) = cpu_pc cpu

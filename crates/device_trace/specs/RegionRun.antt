@@ -56,24 +56,19 @@ begins_run bounds [] = false
 begins_run bounds (entry ∷ []) = fetches_first bounds entry
 begins_run bounds (entry ∷ older ∷ oldest) = begins_run bounds (older ∷ oldest)
 
--- a record at ERmax, and no interrupt entry
-abbrev pub leaves_with : Interrupts → Bounds → BusRecord → Bool
-leaves_with NoInterrupts bounds entry = entry.pc == bounds.er_max
-leaves_with TrustedInterrupts bounds entry =
-    (entry.pc == bounds.er_max) && not (is_irq entry.kind)
-
--- the newest is such
+-- the newest is at ERmax, and no interrupt entry
 abbrev pub ends_run : Interrupts → Bounds → List BusRecord → Bool
 ends_run allowed bounds [] = false
-ends_run allowed bounds (entry ∷ older) = leaves_with allowed bounds entry
+ends_run NoInterrupts bounds (entry ∷ older) = entry.pc == bounds.er_max
+ends_run TrustedInterrupts bounds (entry ∷ older) =
+    (entry.pc == bounds.er_max) && not (is_irq entry.kind)
 
 -- there are records, and all are outside ER
 abbrev pub has_left : Bounds → List BusRecord → Bool
 has_left bounds [] = false
 has_left bounds (entry ∷ older) = list_all (λ one. not (is_inside bounds one)) (entry ∷ older)
 
--- a history, the newest record first, ends with a run of ER, whose bounds are valid, and what came
--- after it
+-- a history, newest first, ends with a run of ER, whose bounds are valid, and what came after it
 pub record RegionRun (allowed : Interrupts) (bounds : Bounds) (history : List BusRecord)
     : Type 0 where
   pub valid : IsTrue (are_valid bounds)

@@ -18,8 +18,7 @@ EachReport start play holds =
 abbrev pub ExecMeansWholeRun : Start → ReportFields → Play → Type 0
 ExecMeansWholeRun start report play = IsTrue report.exec → WholeRun report.bounds (trace start play)
 
--- and one whose AUX is 1 after a trusted run of it, where the second flag is that of trusted
--- interrupts
+-- and one whose AUX is 1 after a trusted run, where the second flag is that of trusted interrupts
 abbrev pub AuxMeansTrustedRun : Start → ReportFields → Play → Type 0
 AuxMeansTrustedRun start report play =
     IsTrue report.aux → TrustedRun report.bounds (trace start play)

@@ -28,12 +28,10 @@ value_read start logs (Some (Fetch place)) = number_read start logs place Word
 value_read start logs (Some (Read place size)) = number_read start logs place size
 value_read start logs access = 0
 
--- what a fetch would read
 abbrev pub word_fetched : Start → Logs → Option Access → Word16
 word_fetched start logs (Some (Fetch place)) = number_read start logs place Word
 word_fetched start logs access = 0
 
--- whose step comes next
 abbrev pub step_kind : Logs → Kind
 step_kind logs = kind_of logs.progress (vector_of logs)
 

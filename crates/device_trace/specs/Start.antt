@@ -12,8 +12,7 @@ pub record Start : Type 0 where
   pub power : PowerOn
   -- what the second flag is after these records, which are blanked
   pub second_flag : SeenHistory → Bool
-  -- what a call writes as an item, after so many words that the play released and these words that
-  -- passed in the call
+  -- what a call writes as an item, after so many released words of the play and these of the call
   pub call_word : ℕ → CallItem → List Word16 → Word16
 
 -- what the calls write by this digest, with the key that is read in them
@@ -29,8 +28,7 @@ with_key flag digest key image =
       call_word = word_by digest;
     }
 
--- the next of these words at each write of the decision or the MAC, 0 past their end; 0 is written
--- to the stack
+-- the next of these words at each write of the decision or the MAC, 0 past their end and elsewhere
 abbrev pub mac_word : List Word16 → ℕ → CallItem → Word16
 mac_word words releases DecisionWrite = slice_index words releases
 mac_word words releases (MacWrite i) = slice_index words releases

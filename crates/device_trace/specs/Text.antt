@@ -36,7 +36,6 @@ abbrev pub last_byte_sent : List BusRecord → Option ℕ
 last_byte_sent [] = None
 last_byte_sent (entry ∷ history) = byte_sent_in entry
 
--- the bytes of OR, where the bounds are valid
 abbrev pub reported_output : Contents → Bounds → Option Bytes
 reported_output bytes bounds =
     if are_valid bounds then Some (output_bytes bytes bounds) else None
@@ -73,7 +72,6 @@ report_in start logs step = report_where start logs step logs.decision
 abbrev pub denial_in : Logs → Option ℕ
 denial_in logs = denial_where logs.decision
 
--- of the last step of a play
 abbrev pub last_report : Start → Play → Option ReportFields
 last_report start [] = None
 last_report start (events ∷ play) =
@@ -111,6 +109,5 @@ lines_of start (events ∷ play) = lines_of start play ++ lines_of_step start ev
 abbrev pub end_line_after : ℕ → Logs → Bytes
 end_line_after steps logs = end_line steps (next_pc_of logs.progress) (exec_of logs)
 
--- the whole text of a play
 unfoldable pub play_text : Start → Play → Bytes
 play_text start play = lines_of start play ++ end_line_after (length play) (logs_after start play)

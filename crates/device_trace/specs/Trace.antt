@@ -12,7 +12,6 @@ use Rattle.device_trace.specs.Start.{Start, without_key}
 use Rattle.device_trace.specs.Step.{next_record, next_signals}
 use Rattle.device_trace.specs.Play.{Play}
 
--- the logs after a step with these events
 abbrev pub next_logs : Start → Logs → List Event → Logs
 next_logs start logs events =
     with_record start (with_events logs events) (next_record start logs events)
@@ -37,7 +36,6 @@ open_trace flag words image play = trace (without_key flag words image) play
 abbrev pub released_words : Start → Play → List Word16
 released_words start play = (logs_after start play).released_words
 
--- the byte at a place of the memory after a play
 abbrev pub byte_after : Start → Play → Contents
 byte_after start play place = logged_byte start (logs_after start play) place
 

@@ -10,12 +10,10 @@ use Rattle.part_definitions.specs.Memory.{is_image_place}
 use Rattle.mem_map.specs.ByteAmong.{byte_among}
 use Rattle.hex_loader.specs.HexRecord.{Meaning, Places, EndOfFile, SetsBase, record_in}
 
--- the base that a record sets
 abbrev pub base_of : Result Meaning FaultKind → Option ℕ
 base_of (Ok (SetsBase base)) = Some base
 base_of _ = None
 
--- it is the end record
 abbrev pub is_end : Result Meaning FaultKind → Bool
 is_end (Ok EndOfFile) = true
 is_end _ = false
@@ -25,7 +23,6 @@ abbrev pub base_after : List (List ℕ) → ℕ
 base_after [] = 0
 base_after (line ∷ earlier) = unwrap_or (base_of (record_in line)) (base_after earlier)
 
--- there was an end record
 abbrev pub has_ended : List (List ℕ) → Bool
 has_ended [] = false
 has_ended (line ∷ earlier) = is_end (record_in line) || has_ended earlier
@@ -47,7 +44,6 @@ last_byte_placed (line ∷ earlier) place =
     option_or (byte_placed (base_after earlier) (record_in line) place)
     (last_byte_placed earlier place)
 
--- the fault of a record, over this base
 abbrev pub record_fault : ℕ → Result Meaning FaultKind → Option FaultKind
 record_fault base (Ok (Places address bytes)) =
     if are_image_places (base + address) bytes then None else Some Place
@@ -61,12 +57,10 @@ line_fault earlier (first ∷ rest) =
     if has_ended earlier then Some AfterEnd
     else record_fault (base_after earlier) (record_in (first ∷ rest))
 
--- a fault with its line
 abbrev pub fault_with_line : ℕ → Option FaultKind → Option FaultAt
 fault_with_line line (Some kind) = Some (record { line = line; kind = kind })
 fault_with_line line None = None
 
--- the fault of the first line that has one
 abbrev pub first_fault : List (List ℕ) → Option FaultAt
 first_fault [] = None
 first_fault (line ∷ earlier) =
@@ -77,14 +71,12 @@ abbrev pub end_fault : List (List ℕ) → Option FaultAt
 end_fault lines =
     if has_ended lines then None else Some (record { line = length lines; kind = NoEnd })
 
--- the first fault of a text
 abbrev pub hex_fault : List ℕ → Option FaultAt
 hex_fault text = option_or (first_fault (reverse (lines text))) (end_fault (reverse (lines text)))
 
--- the byte of its image at a place
 abbrev pub hex_byte : List ℕ → ℕ → Option ℕ
 hex_byte text = last_byte_placed (reverse (lines text))
 
--- its bytes by their places, or its first fault
+-- the bytes of its image by their places, or its first fault
 abbrev pub image_of : List ℕ → Result (ℕ → Option ℕ) FaultAt
 image_of text = value_or_fault (hex_fault text) (hex_byte text)

@@ -6,8 +6,7 @@ use Rattle.text_scan.specs.Hexadecimal.{hex_bytes_of}
 use Rattle.hex_loader.specs.declared.hex_record.HexRecord.{HexRecord}
 use Rattle.hex_loader.specs.declared.hex_record.HexRecord.TheVariants as variants
 
--- what a record says: bytes from an address on, the end, a base, or a start address, which is
--- passed over
+-- what a record says: bytes from an address on, the end, a base, or a start address, passed over
 pub data Meaning : Type 0 where
   Places : ℕ → List ℕ → Meaning
   EndOfFile : Meaning
@@ -22,7 +21,6 @@ big_endian bytes = slice_index bytes 0 * 256 + slice_index bytes 1
 abbrev pub with_count : ℕ → List ℕ → Meaning → Result Meaning FaultKind
 with_count count bytes meaning = if length bytes == count then Ok meaning else Err Count
 
--- the record of a type
 abbrev pub record_of_type : ℕ → ℕ → List ℕ → Result Meaning FaultKind
 record_of_type kind address bytes =
     if kind == 0 then Ok (Places address bytes)

@@ -2,6 +2,5 @@
 use Rattle.std.specs.Prelude.{List, ℕ, String, string_bytes, map}
 use Rattle.std.specs.declared.alloc.Global.{Global}
 
--- as texts
 abbrev pub texts : List (String Global) → List (List ℕ)
 texts arguments = map string_bytes arguments

@@ -26,7 +26,6 @@ Reaches files (Ends reached) end = reached ≡ end
 Reaches files (Reading name onward) end =
     (bytes : List ℕ) × Finds files name (Some bytes) × Reaches files (onward bytes) end
 
--- the counts of a shelf before and after
 pub record ShelfCounts : Type 0 where
   pub faults_before : ℕ
   pub faults_after : ℕ
@@ -47,8 +46,7 @@ abbrev pub NamesFirstFault : {Outcome : Type 0} → Files → RowOf Outcome → 
 NamesFirstFault files row status =
     (fault : BadFile) × (status ≡ Bad fault) × Reaches files row (Err fault)
 
--- why nothing was put: a miss or a fault of reading was counted, memory ran out, or a file has its
--- fault
+-- why nothing was put: a miss or a read fault was counted, memory ran out, or a file has its fault
 abbrev pub IsRefusal :
     {Outcome : Type 0} → Files → ShelfCounts → RowOf Outcome → Status → Type 0
 IsRefusal files counts row status =
@@ -66,7 +64,6 @@ first_refusal (Reading name onward) contents =
     unwrap_or (option_map (λ bytes. first_refusal (onward bytes) contents) (file_of contents name))
     (Some Absent)
 
--- reading failed, or memory ran out
 abbrev pub IsFailure : Status → Type 0
 IsFailure status = (status ≡ ReadFault) ⊎ (status ≡ Memory)
 

@@ -4,14 +4,12 @@ use Rattle.text_scan.specs.declared.fault_at.FaultAt.{FaultAt}
 use Rattle.text_scan.specs.declared.fault_kind.FaultKind.TheVariants.{TooLong}
 use Rattle.input_files.specs.declared.bad_file.BadFile.{BadFile}
 
--- a row ends with its outcome, or with the first fault of a file; or it reads the file of a name,
--- and the file's bytes say how it goes on
+-- a row ends with an outcome or a file's first fault, or reads a file and goes on with its bytes
 pub data RowOf (Outcome : Type 0) : Type 0 where
   Ends : Result Outcome BadFile → RowOf Outcome
   Reads : List ℕ → (List ℕ → RowOf Outcome) → RowOf Outcome
 
--- a kind of file: its longest length, the value or the first fault of its bytes, and the answer
--- that names a fault
+-- a kind of file: its longest length, its value or first fault, and the answer that names a fault
 pub record FileKind (Value : Type 0) : Type 0 where
   pub limit : ℕ
   pub grammar : List ℕ → Result Value FaultAt

@@ -7,14 +7,12 @@ use Rattle.device_trace.specs.Start.{Start, without_key}
 use Rattle.device_trace.specs.Text.{play_text}
 use Rattle.device_trace.specs.Trace.{byte_after, released_words, trace}
 
--- what is left of a start without its key: image and second flag. The calls release the words that
--- they release in this play, and then these
+-- a start without its key, whose calls release the words that they release in this play, then these
 abbrev pub keyless : Start → Play → List Word16 → Start
 keyless start play more =
     without_key start.second_flag (released_words start play ++ more) start.power.image
 
--- a play from two starts has the same text, and but for the secrets the same history and the same
--- memory
+-- a play from two starts has the same text, and but for secrets the same history and memory
 pub record LooksAlike (start other : Start) (play : Play) : Type 0 where
   pub same_text : play_text start play ≡ play_text other play
   pub same_history : blank (trace start play) ≡ blank (trace other play)

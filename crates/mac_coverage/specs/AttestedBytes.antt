@@ -15,7 +15,6 @@ pub record AttestedBytes : Type 0 where
   pub metadata : Bytes
   pub rest : Bytes
 
--- as they stand in this memory
 abbrev pub attested_bytes_in : Contents → AttestedBytes
 attested_bytes_in bytes = record { metadata = metadata_bytes bytes; rest = rest_bytes bytes }
 
@@ -28,7 +27,6 @@ without_flag_words contents =
           ++ drop (COUNTER - metadata_region.first) contents.metadata;
     }
 
--- the tag of these bytes under a key
 abbrev pub tag_of : Digest → Bytes → AttestedBytes → Bytes
 tag_of digest key contents = attestation_tag digest key contents.metadata contents.rest
 

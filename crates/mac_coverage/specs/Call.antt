@@ -26,12 +26,10 @@ abbrev pub ends_in_call : List BusRecord → Bool
 ends_in_call [] = false
 ends_in_call (entry ∷ history) = is_rom entry.kind
 
--- it was refused
 abbrev pub ends_refused : List BusRecord → Bool
 ends_refused [] = false
 ends_refused (entry ∷ history) = is_some entry.reset
 
--- it finished a call
 abbrev pub ends_finished : List BusRecord → Bool
 ends_finished [] = false
 ends_finished (entry ∷ history) = finishes_call entry

@@ -24,7 +24,6 @@ pub record IsDeviceKey (key : Bytes) : Type 0 where
 abbrev pub IsOfBytes : Contents → Type 0
 IsOfBytes image = (place : Address) → image place < 256
 
--- 32 bytes of every message
 pub record Gives32Bytes (digest : Digest) : Type 0 where
   pub size : (message : Bytes) → length (digest message) ≡ 32
   pub bytes : (message : Bytes) → All (λ byte. byte < 256) (digest message)
@@ -33,7 +32,6 @@ pub record Gives32Bytes (digest : Digest) : Type 0 where
 abbrev pub contents_before : Start → Play → ℕ → AttestedBytes
 contents_before start play steps = attested_bytes_in (byte_after start (drop steps play))
 
--- the bytes of the kept counter then
 abbrev pub kept_before : Start → Play → ℕ → Bytes
 kept_before start play steps = kept_bytes (byte_after start (drop steps play))
 
@@ -41,8 +39,7 @@ kept_before start play steps = kept_bytes (byte_after start (drop steps play))
 abbrev pub call_length : Start → Play → ℕ
 call_length start play = length (last_call (trace start play))
 
--- so many steps before the end of a play, its last call has made its first step, and not come to a
--- step that is refused
+-- so many steps before the end of a play its last call has begun, and met no step that is refused
 pub record IsInCall (start : Start) (play : Play) (steps : ℕ) : Type 0 where
   pub begun : steps < call_length start play
   pub unrefused : IsTrue (ends_refused (trace start play)) → 1 ≤ steps
@@ -52,8 +49,7 @@ pub record IsAtCall (start : Start) (play : Play) (steps : ℕ) : Type 0 where
   pub within : steps ≤ call_length start play
   pub unrefused : IsTrue (ends_refused (trace start play)) → 1 ≤ steps
 
--- the kept counter when a call has made so many steps, where one counter stands before the call and
--- the other is left: the call writes the high word first
+-- the kept counter after so many steps of a call, which replaces one by the other, high word first
 abbrev pub kept_within : Bytes → Bytes → ℕ → Bytes
 kept_within kept left steps =
     if nat_lt steps (BEFORE_KEPT_WRITE + 1) then kept
@@ -76,8 +72,7 @@ pub record MacCoversCall (digest : Digest) (key : Bytes) (start : Start) (play :
   pub counter : (steps : ℕ) → IsAtCall start play steps
       → kept_before start play steps
       ≡ kept_within kept (counter_left digest key contents kept) (call_length start play - steps)
-  -- the words that the call wrote to the MAC, and those that it has not written, are its decision
-  -- and, where it attests, the tag
+  -- what the call wrote to the MAC and has yet to write: its decision and, if it attests, the tag
   pub later : List Word16
   pub words :
       mac_written (last_call (trace start play)) ++ later ≡ call_words digest key contents kept

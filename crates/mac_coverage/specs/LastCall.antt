@@ -8,8 +8,7 @@ use Rattle.device_trace.specs.Trace.{trace}
 use Rattle.mac_coverage.specs.Call.{ends_in_call}
 use Rattle.mac_coverage.specs.Coverage.{MacCoversCall}
 
--- where the last step of a play is one of a call, the MAC covers that call: it is under way,
--- finished or broken off, and attests or denies
+-- where a play ends in a call, under way, finished or broken off, the MAC covers that call
 abbrev pub MacCoversLastCall : Digest → Bytes → Start → Play → Type 0
 MacCoversLastCall digest key start play =
     IsTrue (ends_in_call (trace start play)) → MacCoversCall digest key start play

@@ -9,14 +9,12 @@ use Rattle.msp_decode.specs.declared.head.Head.TheVariants.{Two, One as OneOpera
 use Rattle.msp_decode.specs.Spelling.{has_size, takes_result, writes_operand}
 use Rattle.msp_decode.specs.Field.{op2_of, one_of, cond_of, size_of_bit, source_of, dest_of, offset_of}
 
--- a word of two operands
 abbrev pub two_head : Word16 → Head
 two_head word =
     Two (op2_of (word / 0x1000)) (size_of_bit (word / 0x40 % 2))
     (source_of (word / 0x10 % 4) (word / 0x100 % 16)) (dest_of (word / 0x80 % 2) (word % 16))
 
--- a word of one operand, where there is the operation in this size, and the source takes what is
--- written back
+-- a word of one operand: the operation has this size, and a source that is written takes a result
 abbrev pub one_head : Word16 → Option Head
 one_head word =
     let op : One = one_of (word / 0x80 % 8) in
@@ -25,7 +23,6 @@ one_head word =
     if has_size op size && (takes_result source || not (writes_operand op))
     then Some (OneOperand op size source) else None
 
--- the word of a jump
 abbrev pub jump_head : Word16 → Head
 jump_head word = Jump (cond_of (word / 0x400 % 8)) (offset_of (word % 0x400))
 

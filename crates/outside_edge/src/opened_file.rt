@@ -1,4 +1,4 @@
-ghost use Rattle.std.specs.Prelude.{◌≡◌, ◌≢◌, ◌≤◌, ◌↔◌, ℕ, List, Some, IsTrue, length, IfErr, IfOk};
+ghost use Rattle.std.specs.Prelude.{◌≡◌, ◌≢◌, ◌<◌, ◌≤◌, ◌↔◌, ℕ, List, Some, IsTrue, length, IfErr, IfOk, OnErr};
 ghost use Rattle.std.specs.IoError.{error_kind};
 ghost use Rattle.outside_edge.specs.File.{Copies};
 ghost use Rattle.outside_edge.specs.OpenFile.{IsOpen};
@@ -25,6 +25,7 @@ impl<F: OpenFile + Drop> OpenedFile<F> {
         ensures opened { IfOk result (λ opened. (opened.name.bytes ≡ name.now)
             × (opened.file ≡ file) × (opened.place ≡ Some 0)) }
         ensures refused { IfErr result (λ error. error_kind error ≡ ErrorKind.InvalidFilename) }
+        ensures long { OnErr result (4095 < length name.now) }
     {
         match ArrayString::from(name) {
             Ok(name) => Ok(OpenedFile {

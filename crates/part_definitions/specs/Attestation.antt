@@ -28,13 +28,10 @@ pub data CallItem : Type 0 where
   MacWrite : ℕ → CallItem
   ReturnRead : CallItem
 
--- how many words the metadata has
 abbrev pub METADATA_WORDS : ℕ
 METADATA_WORDS = 40
 
--- how many words pass before the metadata is read: 32 of the key; before the kept counter is read:
--- with those of the metadata; before it is written: with its two words; before the decision is
--- written: with the same two
+-- how many words pass before each part of a call: 32 of the key, and then those of each part before
 abbrev pub BEFORE_METADATA : ℕ
 BEFORE_METADATA = 32
 
@@ -47,24 +44,21 @@ BEFORE_KEPT_WRITE = BEFORE_KEPT + 2
 abbrev pub BEFORE_DECISION : ℕ
 BEFORE_DECISION = BEFORE_KEPT_WRITE + 2
 
--- in a call that attests, before the derived key is written: with the decision; before the region
--- is read: with 16 of the derived key
+-- in a call that attests: the derived key, the inner digest and the MAC have 16 words each
 abbrev pub BEFORE_DERIVED_KEY : ℕ
 BEFORE_DERIVED_KEY = BEFORE_DECISION + 1
 
 abbrev pub BEFORE_REGION : ℕ
 BEFORE_REGION = BEFORE_DERIVED_KEY + 16
 
--- and beside those of the region before the MAC is written: with 16 of the inner digest; before the
--- return read: with 16 of the MAC
+-- and those of the region pass beside these
 abbrev pub BEFORE_MAC : ℕ
 BEFORE_MAC = BEFORE_REGION + 16
 
 abbrev pub BEFORE_RETURN : ℕ
 BEFORE_RETURN = BEFORE_MAC + 16
 
--- a word of the metadata; the bounds are words 16 to 19 of it, behind the challenge, and the
--- counter is words 22 and 23, behind the flags
+-- a word of the metadata: the bounds are words 16 to 19, and the counter is words 22 and 23
 abbrev pub metadata_word : List Word16 → ℕ → Word16
 metadata_word words i = slice_index words (BEFORE_METADATA + i)
 
@@ -77,7 +71,6 @@ bounds_read words =
       or_max = metadata_word words 19;
     }
 
--- how many words there are from one place to another
 abbrev pub words_between : Address → Address → ℕ
 words_between first last = (last - first) / 2 + 1
 
@@ -95,8 +88,7 @@ region_words bounds =
 abbrev pub decision_read : List Word16 → Word16
 decision_read words = slice_index words BEFORE_DECISION
 
--- the accesses of a call in order, the high word of the kept counter written first: the one after
--- so many words that passed, up to the decision
+-- the access after so many words of a call, up to the decision; the high word is written first
 abbrev pub item_until_decision : ℕ → CallItem
 item_until_decision count =
     if nat_lt count BEFORE_METADATA then KeyRead count
@@ -202,8 +194,7 @@ abbrev pub decision_in : Digest → List Word16 → Word16
 decision_in digest words =
     request_decision digest (key_read words) (metadata_read words) (kept_read words)
 
--- a word of the counter that is kept from now on: the request's where the call attests, else the
--- one that was kept
+-- a word of the counter that is kept from now on: the request's, where the call attests
 abbrev pub counter_word : List Word16 → Word16 → ℕ → Word16
 counter_word words decision i =
     if decision == ATTESTS then metadata_word words (22 + i)
@@ -218,8 +209,7 @@ written_word digest words (InnerDigestWrite i) = word_of_bytes (inner_in digest 
 written_word digest words (MacWrite i) = word_of_bytes (tag_in digest words) i
 written_word digest words item = 0
 
--- the word that passes in a step of a call, whose access read this value: what it reads, or the
--- word that it releases; not what it writes to the stack, which it does not read again
+-- the word that passes in a step: the one read, or the one released; of a write to the stack 0
 abbrev pub word_passed : Option Access → Word16 → Word16
 word_passed (Some (Write place size number)) value =
     if lies_in mac_region place then number else 0

@@ -7,8 +7,7 @@ use Rattle.device_trace.specs.Text.{last_decision}
 use Rattle.device_trace.specs.Trace.{logs_after, trace}
 use Rattle.device_trace.specs.RegionRun.{WholeRun}
 
--- where the last step of a play finishes a call, whatever it decides, and EXEC is 1 after it, the
--- play has a whole run of the executable region
+-- where the last step finishes a call, whatever it decides, EXEC 1 after it means a whole run
 abbrev pub ExecAfterCallMeansWholeRun : Start → Play → Type 0
 ExecAfterCallMeansWholeRun start play =
     (decision : ℕ) → last_decision start play ≡ Some decision

@@ -8,3 +8,4 @@ pub mod Acceptance
 pub mod PolicyBounds
 pub mod Regions
 pub mod Pushes
+pub mod WideNumbers

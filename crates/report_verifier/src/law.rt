@@ -1,4 +1,4 @@
-ghost use Rattle.std.specs.Prelude.{◌≡◌, ◌<◌, ◌⊎◌, ℕ, List, Option, Ok, IfOk, IsTrue};
+ghost use Rattle.std.specs.Prelude.{◌≡◌, ◌<◌, ◌⊎◌, ℕ, List, [], ◌∷◌, Option, Ok, IfOk, IsTrue};
 ghost use Rattle.std.specs.declared.alloc.AllocError.{AllocError};
 ghost use Rattle.bus_signals.specs.Report.{ReportFields};
 ghost use Rattle.part_definitions.specs.Hmac.{hmac};
@@ -8,6 +8,7 @@ ghost use Rattle.report_verifier.specs.Acceptance.{IsAccepted, StandsAsExpected}
 ghost use Rattle.report_verifier.specs.Collision.{AreBytes, Collides, Exhibits, GivesBytes, HaveOneMac, colliding_pair};
 ghost use Rattle.report_verifier.specs.Comparison.{expected_bytes, expected_key, own_bytes};
 ghost use Rattle.mem_map.specs.Image.{image_byte};
+ghost use Rattle.sha2.specs.Sha256.{sha256};
 ghost use Rattle.report_verifier.specs.PolicyGrammar.{policy_of};
 ghost use Rattle.report_verifier.specs.Validity.{are_valid_for};
 
@@ -55,4 +56,11 @@ pub fn accept_is_of_expected_bytes()
         → Exhibits {Fault = AllocError} digest (expected_key digest key expect)
         (expected_bytes digest key image expect report) (own_bytes bytes) (Ok MacsDiffer)
         → ⊥ }
+{}
+
+/// SHA-256 is of bytes, and its definition, which is of numbers, gives these two lists one digest:
+/// a pair with a number past 255 is no collision.
+pub fn bytes_alone_collide()
+    ensures one_digest { sha256 (1 ∷ 0 ∷ []) ≡ sha256 (0 ∷ 256 ∷ []) }
+    ensures no_collision { ¬ Collides sha256 (1 ∷ 0 ∷ [], 0 ∷ 256 ∷ []) }
 {}

@@ -37,7 +37,10 @@ pub use decision::{Decision, decide, decide_by};
 pub use evidence::Exhibit;
 pub use expect::Expect;
 pub use flag_kind::FlagKind;
-pub use law::{accept_is_of_expected_bytes, one_mac_gives_collision, policies_have_valid_bounds};
+pub use law::{
+    accept_is_of_expected_bytes, bytes_alone_collide, one_mac_gives_collision,
+    policies_have_valid_bounds,
+};
 pub use policy::Policy;
 pub use policy_reader::read_policy;
 pub use request_token::token;

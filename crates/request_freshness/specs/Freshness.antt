@@ -61,8 +61,7 @@ TellsNewCounter start report play =
     → play ≡ later ++ earlier → 1 ≤ length later → last_report start earlier ≡ Some older
     → older.count < report.count
 
--- the last step of a play is one of a call on a request with the right token, and the high word of
--- the kept counter is not above that of the request
+-- a play ends in a call on a request with the right token, and a high word not below the kept one
 pub record IsRightlyRequested (digest : Digest) (key : Bytes) (start : Start) (play : Play)
     : Type 0 where
   pub in_call : IsTrue (ends_in_call (trace start play))

@@ -3,8 +3,7 @@ use Rattle.std.specs.Prelude.{◌≢◌, Some}
 use Rattle.bus_signals.specs.declared.bus_record.BusRecord.{BusRecord}
 use Rattle.bus_signals.specs.declared.rule.Rule.TheVariants.{A1, K3}
 
--- the step was refused for neither of these two: the ROM was left from another place than its exit
--- (A1), and it wrote outside the exclusive stack and the MAC (K3)
+-- the step was refused neither for leaving the ROM early (A1), nor for a write of the ROM (K3)
 pub record NamesNeitherA1NorK3 (entry : BusRecord) : Type 0 where
   pub a1 : entry.reset ≢ Some A1
   pub k3 : entry.reset ≢ Some K3

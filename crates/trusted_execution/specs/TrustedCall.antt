@@ -7,8 +7,7 @@ use Rattle.device_trace.specs.Text.{last_decision}
 use Rattle.device_trace.specs.Trace.{logs_after, trace}
 use Rattle.device_trace.specs.RegionRun.{TrustedRun}
 
--- where the last step of a play finishes a call, whatever it decides, and AUX is 1 after it, the
--- play has a trusted run of the executable region
+-- where the last step finishes a call, whatever it decides, AUX 1 after it means a trusted run
 abbrev pub AuxAfterCallMeansTrustedRun : Start → Play → Type 0
 AuxAfterCallMeansTrustedRun start play =
     (decision : ℕ) → last_decision start play ≡ Some decision

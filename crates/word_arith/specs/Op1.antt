@@ -30,8 +30,7 @@ shifted_size Swpb size = Word
 shifted_size Rra size = size
 shifted_size Sxt size = Word
 
--- RRC shifts the carry in, RRA keeps the top bit, SWPB exchanges the bytes, SXT extends the low
--- byte
+-- RRC shifts the carry in, RRA keeps the top bit, SWPB swaps the bytes, SXT extends the low byte
 unfoldable pub shift_result : Op1 → Size → Word16 → Flags → ℕ × Flags
 shift_result Rrc size dst flags = shift_of size dst flags.c
 shift_result Swpb size dst flags = (dst % 256 * 256 + dst / 256, flags)

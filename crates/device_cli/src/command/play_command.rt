@@ -22,7 +22,7 @@ pub struct PlayCommand<'a, T> {
 
 impl<'a, T: Telling> Task<'a> for PlayCommand<'a, T> {
     ghost use Rattle.mem_map.specs.Image.{byte_in};
-    ghost use Rattle.device_cli.specs.Play.{steps_outcome, steps_row, steps_row_of};
+    ghost use Rattle.device_cli.specs.Play.{play_with, steps_row, steps_row_of};
 
     type Values = PlayValues;
 
@@ -32,8 +32,8 @@ impl<'a, T: Telling> Task<'a> for PlayCommand<'a, T> {
         command.arguments.files.0.1.name.now command.arguments.files.1.name.now
         command.arguments.files.0.0.name.now command.arguments.steps };
 
-    ghost outcome = { λ command values. steps_outcome T.outcome command.arguments.steps values.0.0
-        (byte_in values.0.1) values.1 };
+    ghost outcome = { λ command values. T.outcome (play_with command.arguments.steps values.0.0
+        (byte_in values.0.1) values.1) };
 
     ghost once_put = { T.once_put };
 

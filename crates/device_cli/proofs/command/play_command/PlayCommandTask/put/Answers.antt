@@ -1,6 +1,6 @@
 use Rattle.std.proofs.Common.{ap, sym, refl}
 use Rattle.mem_map.specs.Image.{byte_in}
-use Rattle.device_cli.specs.Play.{play_with, steps_outcome}
+use Rattle.device_cli.specs.Play.{play_with}
 use Rattle.device_cli.specs.Row.{DevicePlay, ending_of}
 use Rattle.device_cli.proofs.Putting.{fails, stops}
 use Rattle.device_cli.proofs.command.play_command.PlayCommandTask.put.Goals as goal
@@ -9,8 +9,8 @@ pub returns-in_err-device-clause-puts : goal.returns-in_err-device-clause-puts
 returns-in_err-device-clause-puts g c =
     let values = c.args.values.now in
     stops g.W.Sink.stands g.W.Sink.faults c.args.sink.now
-    (steps_outcome g.T.Telling.outcome c.args.self.now.arguments.steps values.0.0
-    (byte_in values.0.1) values.1)
+    (g.T.Telling.outcome (play_with c.args.self.now.arguments.steps values.0.0
+    (byte_in values.0.1) values.1))
     c.from_residual.result c.from_residual.ensures.1
 
 pub returns-in_err-tell-clause-puts : goal.returns-in_err-tell-clause-puts

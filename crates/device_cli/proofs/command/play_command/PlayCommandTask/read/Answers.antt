@@ -1,4 +1,4 @@
-use Rattle.device_cli.specs.Play.{steps_outcome}
+use Rattle.device_cli.specs.Play.{play_with}
 use Rattle.device_cli.specs.Row.{put}
 use Rattle.device_cli.proofs.LawfulRow.{steps_row_lawful}
 use Rattle.device_cli.proofs.command.play_command.PlayCommandTask.read.Goals as goal
@@ -7,7 +7,7 @@ pub returns-clause-reads : goal.returns-clause-reads
 returns-clause-reads g c =
     let self = c.args.self.now in
     c.read.ensures (λ values.
-    put (steps_outcome g.T.Telling.outcome self.arguments.steps values.0.0 values.0.1 values.1))
+    put (g.T.Telling.outcome (play_with self.arguments.steps values.0.0 values.0.1 values.1)))
 
 pub returns-clause-lawful : goal.returns-clause-lawful
 returns-clause-lawful g c =
