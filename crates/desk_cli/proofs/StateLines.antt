@@ -12,16 +12,17 @@ use Rattle.text_scan.specs.LineFold.{state_after, text_fold}
 use Rattle.text_scan.specs.Line.{numbered_lines}
 use Rattle.text_scan.specs.Word.{is_passed_over, says_nothing}
 use Rattle.text_scan.proofs.FirstLine.{lines-line}
-use Rattle.text_scan.proofs.PlainWords.{ArePlain, IsPlainWord, is_plain, words_of-join, printed-join, printed_bounds, printed-ascii, plain-decimal, plain-encoded}
+use Rattle.named_value.specs.PlainWord.{IsPlainWord, is_plain}
+use Rattle.text_scan.proofs.PlainWords.{ArePlain, words_of-join, printed-join, printed_bounds, printed-ascii, plain-decimal, plain-encoded}
 use Rattle.text_scan.proofs.TextUtf8.{utf8_of-whole}
 use Rattle.text_scan.specs.declared.fault_kind.FaultKind.{FaultKind}
 use Rattle.text_scan.specs.declared.fault_kind.FaultKind.TheVariants.{Digit}
-use Rattle.report_text.specs.VerdictName.{verdict_name}
+use Rattle.report_verifier.specs.VerdictName.{verdict_name}
 use Rattle.report_verifier.specs.declared.decision.Decision.{Decision}
 use Rattle.desk_memory.specs.declared.answer.Answer.{Answer}
 use Rattle.desk_memory.specs.declared.answer.Answer.TheVariants.{Stale, Bad, Spent, Requested, Judged}
 use Rattle.desk_memory.specs.Entry.{Entry}
-use Rattle.desk_memory.specs.FaultName.{fault_name}
+use Rattle.text_scan.specs.FaultName.{fault_name}
 use Rattle.desk_memory.specs.SizedEntry.{is_short, is_short_answer, is_short_line, is_short_number}
 use Rattle.verifier_desk.specs.DeviceKey.{is_name_character, name_fault}
 use Rattle.desk_cli.specs.ReadBack.{IsWritable, StatesReadBack}

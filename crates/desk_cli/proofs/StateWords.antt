@@ -10,16 +10,18 @@ use Rattle.hex.specs.Hex.{encode_lower}
 use Rattle.text_scan.specs.declared.fault_kind.FaultKind.{FaultKind}
 use Rattle.text_scan.specs.Decimal.{decimal_of}
 use Rattle.text_scan.specs.WordValue.{block_of, number_of}
+use Rattle.named_value.specs.Names.{value_named}
+use Rattle.text_scan.proofs.NamedWord.{value_of-name}
 use Rattle.text_scan.proofs.PlainWords.{decimal_of-decimal, hex_bytes_of-digits}
-use Rattle.report_text.specs.VerdictName.{verdict_name}
+use Rattle.report_verifier.specs.VerdictName.{verdict_name, verdict_names}
 use Rattle.report_verifier.specs.declared.decision.Decision.{Decision}
 use Rattle.desk_memory.specs.declared.answer.Answer.{Answer}
 use Rattle.desk_memory.specs.declared.answer.Answer.TheVariants.{Stale, Bad, Spent, Requested, Judged}
 use Rattle.desk_memory.specs.declared.device_state.DeviceState.{DeviceState}
-use Rattle.desk_memory.specs.AnswerRead.{answer_of, answer_with, kind_named, verdict_named, most_number}
+use Rattle.desk_memory.specs.AnswerRead.{answer_of, answer_with, most_number}
 use Rattle.desk_memory.specs.AnswerText.{answer_text}
 use Rattle.desk_memory.specs.Entry.{Entry}
-use Rattle.desk_memory.specs.FaultName.{fault_name}
+use Rattle.text_scan.specs.FaultName.{fault_name, fault_names}
 use Rattle.desk_memory.specs.SizedEntry.{is_short, is_short_answer, is_short_line, is_short_number, is_sized}
 use Rattle.desk_cli.specs.ReadBack.{IsWritable, is_made}
 use Rattle.desk_cli.specs.StateFile.{entry_of, last_of, last_with, number_in, outstanding_of, state_of}
@@ -188,20 +190,22 @@ unfolding number_of
 count-read number rest is =
     rw (decimal_of-decimal 4294967295 number (short number is) (omega arith)) refl
 
-kind-read : (kind : FaultKind) → kind_named (fault_name kind) ≡ Some kind
-kind-read = search rules
+kind-told : (kind : FaultKind) → value_named fault_names (fault_name kind) ≡ Some kind
+kind-told = search rules
 
-verdict-read : (verdict : Decision) → verdict_named (verdict_name verdict) ≡ Some verdict
-verdict-read = search rules
+verdict-told :
+    (verdict : Decision) → value_named verdict_names (verdict_name verdict) ≡ Some verdict
+verdict-told = search rules
 
 answer-read : (answer : Answer) → is_short_answer answer ≡ true
     → answer_of (answer_words answer) ≡ Ok (answer, [])
 unfolding answer_of answer_with
 answer-read Stale few = refl
-answer-read (Bad kind) few = rw (kind-read kind) refl
+answer-read (Bad kind) few = rw (value_of-name fault_names kind [] (kind-told kind)) refl
 answer-read Spent few = refl
 answer-read (Requested count) few = rw (count-read count [] few) refl
-answer-read (Judged verdict) few = rw (verdict-read verdict) refl
+answer-read (Judged verdict) few =
+    rw (value_of-name verdict_names verdict [] (verdict-told verdict)) refl
 
 last-read : (last : Option (ℕ × Answer)) → is_short_line last ≡ true
     → last_of (codes "last" ∷ last_fields last) ≡ Ok (last, [])

@@ -5,7 +5,6 @@ ghost use Rattle.desk_memory.specs.AnswerRead.{answer_of, answer_with};
 ghost use Rattle.desk_cli.specs.StateFile.{entry_of, last_of, last_with, number_in, outstanding_of, state_of};
 
 use desk_memory::{Answer, DeviceState, Entry, MARK};
-use state_table::{fault_named, verdict_named};
 use std::alloc::Global;
 use text_scan::{FaultKind, WordFault, Words, decimal};
 use verifier_desk::check_name;
@@ -90,11 +89,9 @@ fn read_answer_of(verb: &[u8], words: &mut Words<'_>) -> Result<Answer, FaultKin
     } else if verb == b"spent".as_slice() {
         Ok(Answer::Spent)
     } else if verb == b"bad".as_slice() {
-        let kind = fault_named(words.word()?).ok_or(FaultKind::Word)?;
-        Ok(Answer::Bad(kind))
+        Ok(Answer::Bad(words.value()?))
     } else if verb == b"verdict".as_slice() {
-        let verdict = verdict_named(words.word()?).ok_or(FaultKind::Word)?;
-        Ok(Answer::Judged(verdict))
+        Ok(Answer::Judged(words.value()?))
     } else if verb == b"request".as_slice() {
         Ok(Answer::Requested(words.number(0, u64::from(u32::MAX))? as u32))
     } else {

@@ -3,7 +3,6 @@ pub mod AnswerText
 pub mod DeviceState
 pub mod Entry
 pub mod EntryPlace
-pub mod FaultName
 pub mod Kept
 pub mod KeyMark
 pub mod Law

@@ -19,7 +19,8 @@ breaks_i1 now = now.opcode && is_illegal now.word
 abbrev pub rule_where : Bool → Rule → Option Rule
 rule_where holds rule = if holds then Some rule else None
 
--- X0, then A3, A2, A1, A4, then K1 to K6, then I1; of the record before, its `pc` is given
+-- X0, then those of a call of the ROM, then those of its secrets, then I1; of the record before,
+-- its `pc` is given
 unfoldable pub first_rule : Option Address → Signals → Option Rule
 first_rule last now =
     option_or (rule_where (breaks_x0 now) X0)

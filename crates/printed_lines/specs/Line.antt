@@ -3,12 +3,12 @@ use Rattle.std.specs.Prelude.{◌/◌, ◌%◌, ◌++◌, ℕ, Bool, true, false
 use Rattle.std.specs.Fmt.{decimal}
 use Rattle.hex.specs.Hex.{encode_lower}
 use Rattle.bus_signals.specs.declared.rule.Rule.{Rule}
-use Rattle.bus_signals.specs.declared.rule.Rule.TheVariants.{X0, A1, A2, A3, A4, K1, K2, K3, K4, K5, K6, I1}
 use Rattle.bus_signals.specs.declared.bounds.Bounds.{Bounds}
 use Rattle.bus_signals.specs.declared.version.Version.{Version}
 use Rattle.bus_signals.specs.declared.version.Version.TheVariants.{One, Two}
 use Rattle.bus_signals.specs.Report.{ReportFields}
 use Rattle.bus_signals.specs.Address.{Bytes, Address}
+use Rattle.bus_signals.specs.Rule.{rule_name}
 
 -- a word as four digits, a byte as two
 abbrev pub word_digits : ℕ → Bytes
@@ -20,20 +20,6 @@ byte_digits byte = encode_lower (byte ∷ [])
 abbrev pub flag_digit : Bool → Bytes
 flag_digit true = codes "1"
 flag_digit false = codes "0"
-
-abbrev pub rule_name : Rule → Bytes
-rule_name X0 = codes "X0"
-rule_name A1 = codes "A1"
-rule_name A2 = codes "A2"
-rule_name A3 = codes "A3"
-rule_name A4 = codes "A4"
-rule_name K1 = codes "K1"
-rule_name K2 = codes "K2"
-rule_name K3 = codes "K3"
-rule_name K4 = codes "K4"
-rule_name K5 = codes "K5"
-rule_name K6 = codes "K6"
-rule_name I1 = codes "I1"
 
 -- in this step a byte was sent
 abbrev pub sent_line : ℕ → ℕ → Bytes

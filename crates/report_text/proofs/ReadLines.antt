@@ -1,5 +1,5 @@
 -- Texts of printed lines, and the reports that are read of them.
-use Rattle.std.proofs.Common.{◌≡◌, ◌∙◌, ℕ, ◌+◌, ◌<◌, ◌≤◌, Bool, false, List, [], ◌∷◌, ◌++◌, ◌⊎◌, inl, inr, Option, Some, None, Ok, length, length-append, append_assoc, append-nil, add-zero, drop, refl, ap, sym, arith}
+use Rattle.std.proofs.Common.{◌≡◌, ◌∙◌, ℕ, ◌+◌, ◌<◌, ◌≤◌, Bool, false, List, [], ◌∷◌, ◌++◌, ◌⊎◌, inl, inr, Option, Some, None, Ok, length, length-append, append_assoc, append-nil, add-zero, drop, refl, ap, sym, arith, rules}
 use Rattle.std.specs.Prelude.{◌^◌, codes, IsUtf8}
 use Rattle.std.specs.Fmt.{decimal, digits}
 use Rattle.std.specs.List.{join_with_byte}
@@ -8,23 +8,24 @@ use Rattle.std.proofs.lemmas.Str.{IsUtf8-nil, IsUtf8-append, IsUtf8-from_ascii}
 use Rattle.std.proofs.lemmas.Str.Ascii.{IsAscii-nil, IsAscii-cons}
 use Rattle.bus_signals.specs.Report.{ReportFields}
 use Rattle.bus_signals.specs.declared.rule.Rule.{Rule}
-use Rattle.bus_signals.specs.declared.rule.Rule.TheVariants.{X0, A1, A2, A3, A4, K1, K2, K3, K4, K5, K6, I1}
-use Rattle.printed_lines.specs.Line.{byte_digits, word_digits, flag_digit, rule_name, sent_line, reset_line, report_line, denied_line, end_line}
+use Rattle.bus_signals.specs.Rule.{rule_name, rule_names}
+use Rattle.printed_lines.specs.Line.{byte_digits, word_digits, flag_digit, sent_line, reset_line, report_line, denied_line, end_line}
 use Rattle.text_scan.specs.LineFold.{state_after, text_fold}
 use Rattle.text_scan.specs.Line.{numbered_lines}
 use Rattle.text_scan.specs.Word.{says_nothing, is_passed_over}
 use Rattle.text_scan.specs.WordValue.{number_of, place_of, block_of}
 use Rattle.text_scan.proofs.FirstLine.{lines-line}
-use Rattle.text_scan.proofs.PlainWords.{ArePlain, IsPlainWord, hex_bytes_of-digits, hex_word_of-digits, words_of-join, printed-join, printed_bounds, printed-ascii, plain-decimal, plain-encoded, one_byte}
+use Rattle.named_value.specs.Names.{value_named}
+use Rattle.named_value.specs.PlainWord.{IsPlainWord}
+use Rattle.text_scan.proofs.PlainWords.{ArePlain, hex_bytes_of-digits, hex_word_of-digits, words_of-join, printed-join, printed_bounds, printed-ascii, plain-decimal, plain-encoded, one_byte}
+use Rattle.text_scan.proofs.NamedWord.{value_of-name}
 use Rattle.text_scan.proofs.TextUtf8.{utf8_of-whole}
 use Rattle.report_verifier.specs.declared.decision.Decision.{Decision}
-use Rattle.report_verifier.specs.declared.decision.Decision.TheVariants.{Accept, NoChallenge, VersionDiffers, ChalDiffers, CountDiffers, BoundsDiffer, ExecZero, AuxZero, MacDiffers}
+use Rattle.report_verifier.specs.VerdictName.{verdict_name, verdict_names}
 use Rattle.report_text.specs.ReadBack.{IsPrintable, IsReadBack, IsPassedOver}
 use Rattle.report_text.specs.ReportFile.{with_report, with_line, reports_of}
-use Rattle.report_text.specs.ReportLine.{name_of, tx_line_of, reset_of, denied_of, end_line_of, verdict_of, no_report_of, report_line_of}
-use Rattle.report_text.specs.RuleName.{is_rule_name}
+use Rattle.report_text.specs.ReportLine.{tx_line_of, reset_of, denied_of, end_line_of, verdict_of, no_report_of, report_line_of}
 use Rattle.report_text.specs.VerdictLine.{verdict_line}
-use Rattle.report_text.specs.VerdictName.{verdict_name, is_verdict_name}
 use Rattle.report_text.proofs.ReportWords.{report_words, report_fields, report_line-words, line-some, line-shown, report_line_of-words, count_of-decimal, flag_of-digit, plain-words, plain-flag, plain-place}
 
 -- What a text says, whatever stands before and behind it: these lines, and these reports of them.
@@ -179,40 +180,20 @@ reads-sent step byte within fits =
     )
     (report_line_of-sent step byte (omega (arith, within)) fits)
 
-name_of-rule : (rule : Rule) → name_of is_rule_name (rule_name rule ∷ []) ≡ Ok (tt, [])
-unfolding name_of
-name_of-rule X0 = refl
-name_of-rule A1 = refl
-name_of-rule A2 = refl
-name_of-rule A3 = refl
-name_of-rule A4 = refl
-name_of-rule K1 = refl
-name_of-rule K2 = refl
-name_of-rule K3 = refl
-name_of-rule K4 = refl
-name_of-rule K5 = refl
-name_of-rule K6 = refl
-name_of-rule I1 = refl
+rule_told : (rule : Rule) → value_named rule_names (rule_name rule) ≡ Some rule
+rule_told = search rules
 
 plain-rule : (rule : Rule) → IsPlainWord (rule_name rule)
-plain-rule X0 = (omega arith, refl)
-plain-rule A1 = (omega arith, refl)
-plain-rule A2 = (omega arith, refl)
-plain-rule A3 = (omega arith, refl)
-plain-rule A4 = (omega arith, refl)
-plain-rule K1 = (omega arith, refl)
-plain-rule K2 = (omega arith, refl)
-plain-rule K3 = (omega arith, refl)
-plain-rule K4 = (omega arith, refl)
-plain-rule K5 = (omega arith, refl)
-plain-rule K6 = (omega arith, refl)
-plain-rule I1 = (omega arith, refl)
+plain-rule = search rules
 
 report_line_of-reset : (step : ℕ) (rule : Rule) → step ≤ 4294967295
     → report_line_of (codes "reset" ∷ decimal step ∷ rule_name rule ∷ []) ≡ Ok None
 unfolding report_line_of no_report_of reset_of
 report_line_of-reset step rule within =
-    rw (count_of-decimal step (rule_name rule ∷ []) within, name_of-rule rule) refl
+    rw (
+      count_of-decimal step (rule_name rule ∷ []) within,
+      value_of-name rule_names rule [] (rule_told rule),
+    ) refl
 
 pub reads-reset : (step : ℕ) (rule : Rule) → step < 2 ^ 32 → ReadsAs (reset_line step rule) []
 reads-reset step rule within =
@@ -254,35 +235,21 @@ reads-denied step decision within denies =
     )
     (report_line_of-denied step decision (omega (arith, within)) denies)
 
-name_of-verdict : (verdict : Decision)
-    → name_of is_verdict_name (verdict_name verdict ∷ []) ≡ Ok (tt, [])
-unfolding name_of
-name_of-verdict Accept = refl
-name_of-verdict NoChallenge = refl
-name_of-verdict VersionDiffers = refl
-name_of-verdict ChalDiffers = refl
-name_of-verdict CountDiffers = refl
-name_of-verdict BoundsDiffer = refl
-name_of-verdict ExecZero = refl
-name_of-verdict AuxZero = refl
-name_of-verdict MacDiffers = refl
+verdict_told :
+    (verdict : Decision) → value_named verdict_names (verdict_name verdict) ≡ Some verdict
+verdict_told = search rules
 
 plain-verdict : (verdict : Decision) → IsPlainWord (verdict_name verdict)
-plain-verdict Accept = (omega arith, refl)
-plain-verdict NoChallenge = (omega arith, refl)
-plain-verdict VersionDiffers = (omega arith, refl)
-plain-verdict ChalDiffers = (omega arith, refl)
-plain-verdict CountDiffers = (omega arith, refl)
-plain-verdict BoundsDiffer = (omega arith, refl)
-plain-verdict ExecZero = (omega arith, refl)
-plain-verdict AuxZero = (omega arith, refl)
-plain-verdict MacDiffers = (omega arith, refl)
+plain-verdict = search rules
 
 report_line_of-verdict : (number : ℕ) (verdict : Decision) → number ≤ 4294967295
     → report_line_of (codes "verdict" ∷ decimal number ∷ verdict_name verdict ∷ []) ≡ Ok None
 unfolding report_line_of no_report_of verdict_of
 report_line_of-verdict number verdict within =
-    rw (count_of-decimal number (verdict_name verdict ∷ []) within, name_of-verdict verdict) refl
+    rw (
+      count_of-decimal number (verdict_name verdict ∷ []) within,
+      value_of-name verdict_names verdict [] (verdict_told verdict),
+    ) refl
 
 reads-verdict : (number : ℕ) (verdict : Decision) → number < 2 ^ 32
     → ReadsAs (verdict_line number verdict) []

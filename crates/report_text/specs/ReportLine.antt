@@ -5,15 +5,15 @@ use Rattle.bus_signals.specs.declared.bounds.Bounds.{Bounds}
 use Rattle.bus_signals.specs.declared.version.Version.{Version}
 use Rattle.bus_signals.specs.declared.version.Version.TheVariants.{One, Two}
 use Rattle.bus_signals.specs.Report.{ReportFields}
+use Rattle.bus_signals.specs.Rule.{rule_names}
 use Rattle.text_scan.specs.declared.fault_kind.FaultKind.{FaultKind}
 use Rattle.text_scan.specs.declared.fault_kind.FaultKind.TheVariants.{Word}
 use Rattle.text_scan.specs.Ends.{ends_of}
 use Rattle.text_scan.specs.Hexadecimal.{even_bytes_of}
 use Rattle.text_scan.specs.Reader.{◌>>=◌}
 use Rattle.text_scan.specs.Word.{word_of, keyword_of, end_of}
-use Rattle.text_scan.specs.WordValue.{number_of, place_of, block_of}
-use Rattle.report_text.specs.RuleName.{is_rule_name}
-use Rattle.report_text.specs.VerdictName.{is_verdict_name}
+use Rattle.text_scan.specs.WordValue.{number_of, place_of, block_of, value_of}
+use Rattle.report_verifier.specs.VerdictName.{verdict_names}
 
 -- a number of a step, of steps, of a report or of a request
 abbrev pub count_of : List (List ℕ) → Result (ℕ × List (List ℕ)) FaultKind
@@ -110,17 +110,12 @@ tx_line_of words = do
   byte ← block_of 1 step.1
   Ok (tt, byte.1)
 
--- a word that is one of some names
-unfoldable pub name_of : (List ℕ → Bool) → List (List ℕ) → Result (Unit × List (List ℕ)) FaultKind
-name_of is_name words = do
-  word ← word_of words
-  if is_name word.0 then Ok (tt, word.1) else Err Word
-
 -- `reset S R`
 unfoldable pub reset_of : List (List ℕ) → Result (Unit × List (List ℕ)) FaultKind
 reset_of words = do
   step ← count_of words
-  name_of is_rule_name step.1
+  rule ← value_of rule_names step.1
+  Ok (tt, rule.1)
 
 -- `denied S D`: another decision than to attest is 2 or 3
 unfoldable pub denied_of : List (List ℕ) → Result (Unit × List (List ℕ)) FaultKind
@@ -133,7 +128,8 @@ denied_of words = do
 unfoldable pub verdict_of : List (List ℕ) → Result (Unit × List (List ℕ)) FaultKind
 verdict_of words = do
   number ← count_of words
-  name_of is_verdict_name number.1
+  verdict ← value_of verdict_names number.1
+  Ok (tt, verdict.1)
 
 -- the bytes of one word
 unfoldable pub bytes_of : List (List ℕ) → Result (List ℕ × List (List ℕ)) FaultKind

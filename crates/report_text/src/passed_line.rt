@@ -1,9 +1,9 @@
 ghost use Rattle.text_scan.specs.Reader.{ReadsOn, ReadsWordOn};
 ghost use Rattle.report_text.specs.ReportLine.{tx_line_of, reset_of, denied_of, verdict_of, bytes_of, collision_of, end_line_of, other_line_of, other_or_collision_of};
 
-use crate::printed_verdict::is_verdict_name;
 use crate::report_entry::{read_count, read_flag};
-use crate::rule_name::is_rule_name;
+use bus_signals::Rule;
+use report_verifier::Decision;
 use std::alloc::Global;
 use text_scan::{Bytes, FaultKind, WordFault, Words};
 
@@ -47,16 +47,13 @@ fn pass_sent(words: &mut Words<'_>) -> Result<(), FaultKind>
     Ok(())
 }
 
-#[tactic(auto, unfolding(crate::specs::ReportLine::reset_of, crate::specs::ReportLine::name_of))]
+#[tactic(auto, unfolding(crate::specs::ReportLine::reset_of))]
 fn pass_reset(words: &mut Words<'_>) -> Result<(), FaultKind>
     ensures { ReadsOn result words.new (reset_of words.old) }
 {
     read_count(words)?;
-    if is_rule_name(words.word()?) {
-        Ok(())
-    } else {
-        Err(FaultKind::Word)
-    }
+    words.value::<Rule>()?;
+    Ok(())
 }
 
 #[tactic(auto, unfolding(crate::specs::ReportLine::denied_of))]
@@ -68,16 +65,13 @@ fn pass_denied(words: &mut Words<'_>) -> Result<(), FaultKind>
     Ok(())
 }
 
-#[tactic(auto, unfolding(crate::specs::ReportLine::verdict_of, crate::specs::ReportLine::name_of))]
+#[tactic(auto, unfolding(crate::specs::ReportLine::verdict_of))]
 fn pass_verdict(words: &mut Words<'_>) -> Result<(), FaultKind>
     ensures { ReadsOn result words.new (verdict_of words.old) }
 {
     read_count(words)?;
-    if is_verdict_name(words.word()?) {
-        Ok(())
-    } else {
-        Err(FaultKind::Word)
-    }
+    words.value::<Decision>()?;
+    Ok(())
 }
 
 #[tactic(auto, unfolding(crate::specs::ReportLine::collision_of))]

@@ -1,8 +1,8 @@
 ghost use Rattle.outside_edge.specs.Sink.{Puts, CountsFaults};
 ghost use Rattle.report_text.specs.VerdictLine.{verdict_line};
 
-use crate::printed_verdict::verdict_name;
 use line_buffer::LineBuffer;
+use named_value::Named;
 use outside_edge::{Failed, Sink, put_all};
 use report_verifier::Decision;
 
@@ -15,7 +15,7 @@ pub fn print_verdict<W: Sink>(number: u64, decision: Decision, sink: &mut W) -> 
     line.push(b"verdict ");
     line.push_decimal(number);
     line.push(b" ");
-    line.push(verdict_name(decision));
+    line.push(decision.name().as_bytes());
     line.push(b"\n");
     put_all(sink, line.as_slice())
 }

@@ -1,9 +1,11 @@
 ghost use Rattle.std.specs.Prelude.{◌≡◌, IsTrue, option_map};
 ghost use Rattle.std.specs.Option.{ForSome};
+ghost use Rattle.std.proofs.Common.{rules};
 ghost use Rattle.sha2.specs.Sha256.{sha256};
 ghost use Rattle.bus_signals.specs.Report.{fields_of};
 ghost use Rattle.mem_map.specs.Image.{byte_in};
 ghost use Rattle.report_verifier.specs.Validity.{are_valid_for};
+ghost use Rattle.report_verifier.specs.VerdictName.{verdict_names};
 ghost use Rattle.report_verifier.specs.Verdict.{lacks_exec, lacks_aux, verdict_on, verdict};
 
 use crate::expect::Expect;
@@ -12,6 +14,7 @@ use crate::flag_kind::FlagKind;
 use bus_signals::ReportView;
 use hmac_core::{Digest32, Sha256Digest, same_bytes};
 use mem_map::Image;
+use named_value::Named;
 
 /// The verdict on a report.
 #[derive(Clone, Copy, Debug, PartialEq, Eq)]
@@ -35,6 +38,42 @@ pub enum Decision {
     AuxZero,
     /// It was not made by this device's key over this code and output.
     MacDiffers,
+}
+
+impl Named for Decision {
+    ghost names = { verdict_names };
+
+    fn values() -> &'static [Decision] {
+        &[
+            Decision::Accept,
+            Decision::NoChallenge,
+            Decision::VersionDiffers,
+            Decision::ChalDiffers,
+            Decision::CountDiffers,
+            Decision::BoundsDiffer,
+            Decision::ExecZero,
+            Decision::AuxZero,
+            Decision::MacDiffers,
+        ]
+    }
+
+    fn name(self) -> &'static str {
+        match self {
+            Decision::Accept => "accept",
+            Decision::NoChallenge => "no-challenge",
+            Decision::VersionDiffers => "version-differs",
+            Decision::ChalDiffers => "chal-differs",
+            Decision::CountDiffers => "count-differs",
+            Decision::BoundsDiffer => "bounds-differ",
+            Decision::ExecZero => "exec-zero",
+            Decision::AuxZero => "aux-zero",
+            Decision::MacDiffers => "mac-differs",
+        }
+    }
+
+    ghost apart = { Prim.search rules };
+
+    ghost words = { Prim.search rules };
 }
 
 fn decide_on<D: Digest32>(

@@ -5,22 +5,22 @@ use Rattle.std.specs.Fmt.{decimal}
 use Rattle.std.specs.Str.Parse.{digits_value}
 use Rattle.std.proofs.lemmas.Bool.{ltb-true}
 use Rattle.std.proofs.lemmas.Fmt.{decimal_is_IsNumeral}
+use Rattle.named_value.specs.Names.{value_named}
 use Rattle.text_scan.specs.declared.fault_kind.FaultKind.{FaultKind}
 use Rattle.report_verifier.specs.declared.decision.Decision.{Decision}
-use Rattle.report_text.specs.VerdictName.{verdict_name}
+use Rattle.report_verifier.specs.VerdictName.{verdict_name, verdict_names}
 use Rattle.desk_memory.specs.declared.answer.Answer.{Answer}
 use Rattle.desk_memory.specs.declared.answer.Answer.TheVariants.{Stale, Bad, Spent, Requested, Judged}
-use Rattle.desk_memory.specs.AnswerRead.{kind_named, verdict_named}
 use Rattle.desk_memory.specs.AnswerText.{answer_text}
-use Rattle.desk_memory.specs.FaultName.{fault_name}
+use Rattle.text_scan.specs.FaultName.{fault_name, fault_names}
 use Rattle.desk_memory.specs.SizedEntry.{is_short_answer}
 
-kind_found : (kind : FaultKind) (name : List ℕ) → name ≡ fault_name kind
-    → kind_named name ≡ Some kind
+pub kind_found : (kind : FaultKind) (name : List ℕ) → name ≡ fault_name kind
+    → value_named fault_names name ≡ Some kind
 kind_found = search rules
 
-verdict_found : (verdict : Decision) (name : List ℕ) → name ≡ verdict_name verdict
-    → verdict_named name ≡ Some verdict
+pub verdict_found : (verdict : Decision) (name : List ℕ) → name ≡ verdict_name verdict
+    → value_named verdict_names name ≡ Some verdict
 verdict_found = search rules
 
 fault_name-injective : (a b : FaultKind) → fault_name a ≡ fault_name b → a ≡ b

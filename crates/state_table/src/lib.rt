@@ -9,8 +9,6 @@
 mod entry_row;
 mod law;
 mod logged;
-mod named_fault;
-mod named_verdict;
 mod open_fault;
 mod printed_answer;
 mod read_answer;
@@ -23,8 +21,6 @@ mod whole_commit;
 pub use entry_row::row_of;
 pub use law::table_is_of_one_list;
 pub use logged::Logged;
-pub use named_fault::fault_named;
-pub use named_verdict::verdict_named;
 pub use open_fault::OpenFault;
 pub use printed_answer::answer_text;
 pub use read_answer::answer_of_text;

@@ -1,9 +1,9 @@
 ghost use Rattle.std.specs.Prelude.{◌≡◌, ◌≤◌, length};
 ghost use Rattle.desk_memory.specs.AnswerText.{answer_text};
 
-use desk_memory::{Answer, fault_name};
+use desk_memory::Answer;
 use line_buffer::LineBuffer;
-use report_text::verdict_name;
+use named_value::Named;
 
 /// An answer in words.
 pub fn answer_text(answer: Answer) -> LineBuffer
@@ -15,7 +15,7 @@ pub fn answer_text(answer: Answer) -> LineBuffer
         Answer::Stale => text.push(b"stale"),
         Answer::Bad(kind) => {
             text.push(b"bad ");
-            text.push(fault_name(kind));
+            text.push(kind.name().as_bytes());
         }
         Answer::Spent => text.push(b"spent"),
         Answer::Requested(count) => {
@@ -24,7 +24,7 @@ pub fn answer_text(answer: Answer) -> LineBuffer
         }
         Answer::Judged(decision) => {
             text.push(b"verdict ");
-            text.push(verdict_name(decision));
+            text.push(decision.name().as_bytes());
         }
     }
     text

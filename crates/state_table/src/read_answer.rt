@@ -4,11 +4,11 @@ ghost use Rattle.desk_memory.specs.SizedEntry.{is_short, is_short_answer};
 ghost use Rattle.desk_memory.specs.declared.answer.Answer.{Answer as Said};
 ghost use Rattle.desk_memory.specs.declared.answer.Answer.TheVariants.{Requested};
 
-use crate::named_fault::fault_named;
-use crate::named_verdict::verdict_named;
 use crate::printed_answer::answer_text;
 use desk_memory::Answer;
-use text_scan::decimal;
+use named_value::Named;
+use report_verifier::Decision;
+use text_scan::{FaultKind, decimal};
 
 /// The answer that a text says.
 pub fn answer_of_text(text: &[u8]) -> Option<Answer>
@@ -25,6 +25,7 @@ pub fn answer_of_text(text: &[u8]) -> Option<Answer>
 }
 
 // The one answer that a text may say.
+#[tactic(auto, using(crate::proofs::AnswerNames::kind_found, crate::proofs::AnswerNames::verdict_found))]
 fn answer_like(text: &[u8]) -> Option<Answer>
     ensures { (answer : Said) → IsTrue (is_short_answer answer)
         → text.now ≡ answer_text answer → result ≡ Some answer }
@@ -36,10 +37,10 @@ fn answer_like(text: &[u8]) -> Option<Answer>
         return Some(Answer::Spent);
     }
     if let Some(name) = text.strip_prefix(b"bad ") {
-        return Some(Answer::Bad(fault_named(name)?));
+        return Some(Answer::Bad(FaultKind::named(name)?));
     }
     if let Some(name) = text.strip_prefix(b"verdict ") {
-        return Some(Answer::Judged(verdict_named(name)?));
+        return Some(Answer::Judged(Decision::named(name)?));
     }
     request_like(text.strip_prefix(b"request ")?)
 }

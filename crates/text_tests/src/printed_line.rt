@@ -10,7 +10,7 @@ fn each_line_has_its_form(rt: HostRuntime) -> Result<(), Fail> {
     for (step, byte) in [(4, 0x41), (17, 0x5A), (9_999_999, 0x0B)] {
         print_sent(step, byte, &mut sink)?;
     }
-    // the twelve rules of docs/monitors.md
+    // the rules of docs/monitors.md
     for (step, rule) in [
         (0, Rule::X0),
         (21, Rule::A3),

@@ -3,31 +3,15 @@ use Rattle.std.proofs.Common.{◌≡◌, ◌↔◌, ◌∙◌, ℕ, Bool, true, 
 use Rattle.std.specs.Prelude.{if◌then◌else◌}
 use Rattle.std.proofs.lemmas.Slice.Eq.{bytes_eq-Decides}
 use Rattle.bus_signals.specs.declared.rule.Rule.{Rule}
-use Rattle.bus_signals.specs.declared.rule.Rule.TheVariants.{X0, A1, A2, A3, A4, K1, K2, K3, K4, K5, K6, I1}
 use Rattle.std.specs.Prelude.{Ok}
 use Rattle.trace_line.specs.LineText.{rule_word}
 use Rattle.trace_line.specs.LineGrammar.{rule_in}
+use Rattle.trace_line.proofs.ReadBack.{rule_in-word}
 use Rattle.trace_line.specs.declared.trace_line.TraceLine.{TraceLine}
 use Rattle.trace_audit.specs.declared.offence.Offence.{Offence}
 use Rattle.trace_audit.specs.declared.offence.Offence.TheVariants.{RuleIs, ExecIs}
 use Rattle.trace_audit.specs.Clean.{right_rule, right_exec, IsRight, IsClean}
 use Rattle.trace_audit.specs.Offence.{is_same_rule, is_same_flag, offence_of, or_first, first_offence, CleanHasNoOffence}
-
--- the name of a rule tells it
-rule_in-word : (rule : Option Rule) → rule_in (rule_word rule) ≡ Ok rule
-rule_in-word None = refl
-rule_in-word (Some X0) = refl
-rule_in-word (Some A1) = refl
-rule_in-word (Some A2) = refl
-rule_in-word (Some A3) = refl
-rule_in-word (Some A4) = refl
-rule_in-word (Some K1) = refl
-rule_in-word (Some K2) = refl
-rule_in-word (Some K3) = refl
-rule_in-word (Some K4) = refl
-rule_in-word (Some K5) = refl
-rule_in-word (Some K6) = refl
-rule_in-word (Some I1) = refl
 
 same_rule : (left right : Option Rule) → is_same_rule left right ≡ true → left ≡ right
 same_rule left right same =

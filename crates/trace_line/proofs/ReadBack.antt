@@ -1,5 +1,5 @@
 -- The text of a line is read as that line.
-use Rattle.std.proofs.Common.{◌≡◌, ◌∙◌, ℕ, ◌/◌, ◌%◌, ◌^◌, ◌<◌, Bool, true, false, List, [], ◌∷◌, ◌++◌, Option, Some, None, IfSome, Ok, refl, ap, arith}
+use Rattle.std.proofs.Common.{◌≡◌, ◌∙◌, ℕ, ◌/◌, ◌%◌, ◌^◌, ◌<◌, Bool, true, false, List, [], ◌∷◌, ◌++◌, Option, Some, None, IfSome, Ok, refl, ap, arith, rules}
 use Rattle.std.specs.Prelude.{◌==◌}
 use Rattle.std.specs.Fmt.{decimal}
 use Rattle.std.specs.List.{list_all}
@@ -11,15 +11,17 @@ use Rattle.bus_signals.specs.declared.access.Access.{Access}
 use Rattle.bus_signals.specs.declared.access.Access.TheVariants.{Fetch, Read, Write}
 use Rattle.bus_signals.specs.declared.bounds.Bounds.{Bounds}
 use Rattle.bus_signals.specs.declared.kind.Kind.{Kind}
-use Rattle.bus_signals.specs.declared.kind.Kind.TheVariants.{Boot, Cpu, Idle, Irq, Rom}
 use Rattle.bus_signals.specs.declared.rule.Rule.{Rule}
-use Rattle.bus_signals.specs.declared.rule.Rule.TheVariants.{X0, A1, A2, A3, A4, K1, K2, K3, K4, K5, K6, I1}
+use Rattle.bus_signals.specs.Kind.{kind_name, kind_names}
 use Rattle.printed_lines.specs.Line.{byte_digits, word_digits, flag_digit}
-use Rattle.text_scan.specs.WordValue.{number_of, place_of}
-use Rattle.text_scan.proofs.PlainWords.{ArePlain, IsPlainWord, is_plain, one_byte, two_bytes, decimal_of-decimal, hex_bytes_of-digits, hex_word_of-digits, words_of-join, plain-decimal, plain-encoded}
+use Rattle.text_scan.specs.WordValue.{number_of, place_of, value_of}
+use Rattle.named_value.specs.Names.{value_named}
+use Rattle.named_value.specs.PlainWord.{IsPlainWord, is_plain}
+use Rattle.text_scan.proofs.NamedWord.{value_of-name}
+use Rattle.text_scan.proofs.PlainWords.{ArePlain, one_byte, two_bytes, decimal_of-decimal, hex_bytes_of-digits, hex_word_of-digits, words_of-join, plain-decimal, plain-encoded}
 use Rattle.trace_line.specs.declared.trace_line.TraceLine.{TraceLine}
-use Rattle.trace_line.specs.LineText.{kind_name, access_word, rule_word, line_words}
-use Rattle.trace_line.specs.LineGrammar.{LAST_TRACED_STEP, fetch_in, read_in, write_in, access_in, kind_in, rule_in, named_of, flag_of, bounds_of, fields_of, trace_line_of}
+use Rattle.trace_line.specs.LineText.{access_word, rule_word, line_words}
+use Rattle.trace_line.specs.LineGrammar.{LAST_TRACED_STEP, fetch_in, read_in, write_in, access_in, rule_in, named_of, flag_of, bounds_of, fields_of, trace_line_of}
 use Rattle.bus_signals.specs.Bounds.{AreWords}
 use Rattle.trace_line.specs.ReadBack.{IsAllowed, IsPrintable, LinesReadBack}
 
@@ -42,31 +44,20 @@ unfolding flag_of number_of
 flag_of-digit true rest = refl
 flag_of-digit false rest = refl
 
+kind_told : (kind : Kind) → value_named kind_names (kind_name kind) ≡ Some kind
+kind_told = search rules
+
 kind_of-name : (kind : Kind) (rest : List (List ℕ))
-    → named_of kind_in (kind_name kind ∷ rest) ≡ Ok (kind, rest)
-unfolding named_of
-kind_of-name Boot rest = refl
-kind_of-name Cpu rest = refl
-kind_of-name Idle rest = refl
-kind_of-name Irq rest = refl
-kind_of-name Rom rest = refl
+    → value_of kind_names (kind_name kind ∷ rest) ≡ Ok (kind, rest)
+kind_of-name kind rest = value_of-name kind_names kind rest (kind_told kind)
+
+pub rule_in-word : (rule : Option Rule) → rule_in (rule_word rule) ≡ Ok rule
+rule_in-word = search rules
 
 rule_of-word : (rule : Option Rule) (rest : List (List ℕ))
     → named_of rule_in (rule_word rule ∷ rest) ≡ Ok (rule, rest)
 unfolding named_of
-rule_of-word None rest = refl
-rule_of-word (Some X0) rest = refl
-rule_of-word (Some A1) rest = refl
-rule_of-word (Some A2) rest = refl
-rule_of-word (Some A3) rest = refl
-rule_of-word (Some A4) rest = refl
-rule_of-word (Some K1) rest = refl
-rule_of-word (Some K2) rest = refl
-rule_of-word (Some K3) rest = refl
-rule_of-word (Some K4) rest = refl
-rule_of-word (Some K5) rest = refl
-rule_of-word (Some K6) rest = refl
-rule_of-word (Some I1) rest = refl
+rule_of-word rule rest = rw (rule_in-word rule) refl
 
 even-test : (place : ℕ) → place % 2 ≡ 0 → (place % 2 == 0) ≡ true
 even-test place even = eq-eqb (place % 2) 0 even
@@ -173,26 +164,10 @@ plain-place place small =
     plain-encoded (place / 256 ∷ place % 256 ∷ []) (two_bytes place small) (omega arith)
 
 plain-kind : (kind : Kind) → IsPlainWord (kind_name kind)
-plain-kind Boot = (omega arith, refl)
-plain-kind Cpu = (omega arith, refl)
-plain-kind Idle = (omega arith, refl)
-plain-kind Irq = (omega arith, refl)
-plain-kind Rom = (omega arith, refl)
+plain-kind = search rules
 
 plain-rule : (rule : Option Rule) → IsPlainWord (rule_word rule)
-plain-rule None = (omega arith, refl)
-plain-rule (Some X0) = (omega arith, refl)
-plain-rule (Some A1) = (omega arith, refl)
-plain-rule (Some A2) = (omega arith, refl)
-plain-rule (Some A3) = (omega arith, refl)
-plain-rule (Some A4) = (omega arith, refl)
-plain-rule (Some K1) = (omega arith, refl)
-plain-rule (Some K2) = (omega arith, refl)
-plain-rule (Some K3) = (omega arith, refl)
-plain-rule (Some K4) = (omega arith, refl)
-plain-rule (Some K5) = (omega arith, refl)
-plain-rule (Some K6) = (omega arith, refl)
-plain-rule (Some I1) = (omega arith, refl)
+plain-rule = search rules
 
 -- a letter before digits, and a sign between two numbers
 plain-pair : (place number : List ℕ) → IsPlainWord place → IsPlainWord number

@@ -3,9 +3,10 @@ use Rattle.std.proofs.Common.{◌≡◌, ◌∙◌, ℕ, List, [], ◌∷◌, �
 use Rattle.std.specs.Prelude.{codes}
 use Rattle.std.specs.Fmt.{decimal}
 use Rattle.std.specs.List.{join_with_byte}
+use Rattle.bus_signals.specs.Kind.{kind_name}
 use Rattle.printed_lines.specs.Line.{word_digits, flag_digit}
 use Rattle.trace_line.specs.declared.trace_line.TraceLine.{TraceLine}
-use Rattle.trace_line.specs.LineText.{access_word, kind_name, rule_word, trace_line}
+use Rattle.trace_line.specs.LineText.{access_word, rule_word, trace_line}
 use Rattle.trace_line.specs.Spaced.{spaced}
 
 join-spaced : (word : List ℕ) (words : List (List ℕ))

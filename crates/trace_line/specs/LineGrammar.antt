@@ -6,16 +6,16 @@ use Rattle.word_arith.specs.declared.size.Size.TheVariants.{Byte, Word}
 use Rattle.bus_signals.specs.declared.access.Access.{Access}
 use Rattle.bus_signals.specs.declared.access.Access.TheVariants.{Fetch, Read, Write}
 use Rattle.bus_signals.specs.declared.bounds.Bounds.{Bounds}
-use Rattle.bus_signals.specs.declared.kind.Kind.{Kind}
-use Rattle.bus_signals.specs.declared.kind.Kind.TheVariants.{Boot, Cpu, Idle, Irq, Rom}
 use Rattle.bus_signals.specs.declared.rule.Rule.{Rule}
-use Rattle.bus_signals.specs.declared.rule.Rule.TheVariants.{X0, A1, A2, A3, A4, K1, K2, K3, K4, K5, K6, I1}
+use Rattle.bus_signals.specs.Kind.{kind_names}
+use Rattle.bus_signals.specs.Rule.{rule_names}
+use Rattle.named_value.specs.Names.{value_named}
 use Rattle.text_scan.specs.declared.fault_kind.FaultKind.{FaultKind}
 use Rattle.text_scan.specs.declared.fault_kind.FaultKind.TheVariants as faults
 use Rattle.text_scan.specs.Hexadecimal.{hex_bytes_of, hex_word_of}
 use Rattle.text_scan.specs.Reader.{◌>>=◌}
 use Rattle.text_scan.specs.Word.{word_of, keyword_of, end_of}
-use Rattle.text_scan.specs.WordValue.{number_of, place_of}
+use Rattle.text_scan.specs.WordValue.{number_of, place_of, or_word, value_of}
 use Rattle.trace_line.specs.declared.trace_line.TraceLine.{TraceLine}
 
 -- the last number that a step can have in a trace file
@@ -81,31 +81,11 @@ abbrev pub access_in : List ℕ → Result (Option Access) FaultKind
 access_in word =
     if bytes_eq word (codes "-") then Ok None else access_by (take 1 word) (drop 1 word)
 
-abbrev pub kind_in : List ℕ → Result Kind FaultKind
-kind_in word =
-    if bytes_eq word (codes "boot") then Ok Boot
-    else if bytes_eq word (codes "cpu") then Ok Cpu
-    else if bytes_eq word (codes "idle") then Ok Idle
-    else if bytes_eq word (codes "irq") then Ok Irq
-    else if bytes_eq word (codes "rom") then Ok Rom
-    else Err faults.Word
-
+-- the rule that a word names, `-` for none
 abbrev pub rule_in : List ℕ → Result (Option Rule) FaultKind
 rule_in word =
     if bytes_eq word (codes "-") then Ok None
-    else if bytes_eq word (codes "X0") then Ok (Some X0)
-    else if bytes_eq word (codes "A1") then Ok (Some A1)
-    else if bytes_eq word (codes "A2") then Ok (Some A2)
-    else if bytes_eq word (codes "A3") then Ok (Some A3)
-    else if bytes_eq word (codes "A4") then Ok (Some A4)
-    else if bytes_eq word (codes "K1") then Ok (Some K1)
-    else if bytes_eq word (codes "K2") then Ok (Some K2)
-    else if bytes_eq word (codes "K3") then Ok (Some K3)
-    else if bytes_eq word (codes "K4") then Ok (Some K4)
-    else if bytes_eq word (codes "K5") then Ok (Some K5)
-    else if bytes_eq word (codes "K6") then Ok (Some K6)
-    else if bytes_eq word (codes "I1") then Ok (Some I1)
-    else Err faults.Word
+    else (or_word (value_named rule_names word) >>= (λ rule. Ok (Some rule)))
 
 -- the next word, by what it says
 unfoldable pub named_of : {A : Type 0}
@@ -136,7 +116,7 @@ bounds_of words = do
 -- what stands after the step's number
 unfoldable pub fields_of : List (List ℕ) → Result (TraceLine × List (List ℕ)) FaultKind
 fields_of words = do
-  kind ← named_of kind_in words
+  kind ← value_of kind_names words
   pc ← place_of kind.1
   cpu ← named_of access_in pc.1
   dma ← named_of access_in cpu.1

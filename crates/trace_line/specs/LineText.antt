@@ -5,18 +5,11 @@ use Rattle.std.specs.List.{join_with_byte}
 use Rattle.word_arith.specs.declared.size.Size.TheVariants.{Byte, Word}
 use Rattle.bus_signals.specs.declared.access.Access.{Access}
 use Rattle.bus_signals.specs.declared.access.Access.TheVariants.{Fetch, Read, Write}
-use Rattle.bus_signals.specs.declared.kind.Kind.{Kind}
-use Rattle.bus_signals.specs.declared.kind.Kind.TheVariants.{Boot, Cpu, Idle, Irq, Rom}
 use Rattle.bus_signals.specs.declared.rule.Rule.{Rule}
-use Rattle.printed_lines.specs.Line.{byte_digits, word_digits, flag_digit, rule_name}
+use Rattle.bus_signals.specs.Kind.{kind_name}
+use Rattle.bus_signals.specs.Rule.{rule_name}
+use Rattle.printed_lines.specs.Line.{byte_digits, word_digits, flag_digit}
 use Rattle.trace_line.specs.declared.trace_line.TraceLine.{TraceLine}
-
-abbrev pub kind_name : Kind → List ℕ
-kind_name Boot = codes "boot"
-kind_name Cpu = codes "cpu"
-kind_name Idle = codes "idle"
-kind_name Irq = codes "irq"
-kind_name Rom = codes "rom"
 
 -- a fetch, a read of a word and of a byte, a write of a word and of a byte; `-` for none
 abbrev pub access_word : Option Access → List ℕ

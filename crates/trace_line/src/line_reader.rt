@@ -4,10 +4,11 @@ ghost use Rattle.word_arith.specs.declared.size.Size.TheVariants.{Byte};
 ghost use Rattle.text_scan.specs.Hexadecimal.{hex_bytes_of};
 ghost use Rattle.text_scan.specs.Reader.{ReadsOn};
 ghost use Rattle.text_scan.specs.Word.{words_of};
-ghost use Rattle.trace_line.specs.LineGrammar.{number_of_bytes, is_even_if, fetch_in, read_in, written_in, write_in, access_by, access_in, kind_in, rule_in, named_of, flag_of, bounds_of, fields_of, trace_line_of};
+ghost use Rattle.trace_line.specs.LineGrammar.{number_of_bytes, is_even_if, fetch_in, read_in, written_in, write_in, access_by, access_in, rule_in, named_of, flag_of, bounds_of, fields_of, trace_line_of};
 
 use crate::trace_line::TraceLine;
-use bus_signals::{Access, Bounds, Kind, Rule};
+use bus_signals::{Access, Bounds, Rule};
+use named_value::Named;
 use text_scan::{FaultKind, Words, hex_bytes, hex_word};
 use word_arith::Size;
 
@@ -42,7 +43,7 @@ fn read_fields(words: &mut Words<'_>) -> Result<TraceLine, FaultKind>
     ensures cpu { IfOk result (λ line. IfSome line.cpu IsFormed) }
     ensures dma { IfOk result (λ line. IfSome line.dma IsFormed) }
 {
-    let kind = read_kind(words)?;
+    let kind = words.value()?;
     let pc = words.place()?;
     let cpu = read_access(words)?;
     let dma = read_access(words)?;
@@ -94,13 +95,6 @@ fn read_flag(words: &mut Words<'_>) -> Result<bool, FaultKind>
 }
 
 #[tactic(auto, unfolding(crate::specs::LineGrammar::named_of))]
-fn read_kind(words: &mut Words<'_>) -> Result<Kind, FaultKind>
-    ensures { ReadsOn result words.new (named_of kind_in words.old) }
-{
-    kind_in(words.word()?)
-}
-
-#[tactic(auto, unfolding(crate::specs::LineGrammar::named_of))]
 fn read_rule(words: &mut Words<'_>) -> Result<Option<Rule>, FaultKind>
     ensures { ReadsOn result words.new (named_of rule_in words.old) }
 {
@@ -115,38 +109,13 @@ fn read_access(words: &mut Words<'_>) -> Result<Option<Access>, FaultKind>
     access_in(words.word()?)
 }
 
-fn kind_in(word: &[u8]) -> Result<Kind, FaultKind>
-    ensures { result ≡ kind_in word.now }
-{
-    match word {
-        b"boot" => Ok(Kind::Boot),
-        b"cpu" => Ok(Kind::Cpu),
-        b"idle" => Ok(Kind::Idle),
-        b"irq" => Ok(Kind::Irq),
-        b"rom" => Ok(Kind::Rom),
-        _ => Err(FaultKind::Word),
-    }
-}
-
 // The rule of a name, none for `-`.
 fn rule_in(word: &[u8]) -> Result<Option<Rule>, FaultKind>
     ensures { result ≡ rule_in word.now }
 {
     match word {
         b"-" => Ok(None),
-        b"X0" => Ok(Some(Rule::X0)),
-        b"A1" => Ok(Some(Rule::A1)),
-        b"A2" => Ok(Some(Rule::A2)),
-        b"A3" => Ok(Some(Rule::A3)),
-        b"A4" => Ok(Some(Rule::A4)),
-        b"K1" => Ok(Some(Rule::K1)),
-        b"K2" => Ok(Some(Rule::K2)),
-        b"K3" => Ok(Some(Rule::K3)),
-        b"K4" => Ok(Some(Rule::K4)),
-        b"K5" => Ok(Some(Rule::K5)),
-        b"K6" => Ok(Some(Rule::K6)),
-        b"I1" => Ok(Some(Rule::I1)),
-        _ => Err(FaultKind::Word),
+        _ => Ok(Some(Rule::named(word).ok_or(FaultKind::Word)?)),
     }
 }
 
@@ -154,11 +123,13 @@ fn access_in(word: &[u8]) -> Result<Option<Access>, FaultKind>
     ensures value { result ≡ access_in word.now }
     ensures formed { IfOk result (λ access. IfSome access IsFormed) }
 {
-    if word == b"-".as_slice() {
-        return Ok(None);
+    match word {
+        b"-" => Ok(None),
+        _ => {
+            let (letter, digits) = cut(word, 1);
+            access_by(letter, digits)
+        }
     }
-    let (letter, digits) = cut(word, 1);
-    access_by(letter, digits)
 }
 
 fn access_by(letter: &[u8], digits: &[u8]) -> Result<Option<Access>, FaultKind>

@@ -1,14 +1,16 @@
 ghost use Rattle.std.specs.Prelude.{◌≡◌, ◌≤◌, ◌+◌, ◌++◌, ◌∷◌, [], length, codes, IfSome};
 ghost use Rattle.bus_signals.specs.Access.{IsFormed};
+ghost use Rattle.bus_signals.specs.Kind.{kind_name};
 ghost use Rattle.outside_edge.specs.Sink.{Puts, CountsFaults};
 ghost use Rattle.printed_lines.specs.Line.{word_digits, flag_digit};
-ghost use Rattle.trace_line.specs.LineText.{access_word, kind_name, rule_word, trace_line};
+ghost use Rattle.trace_line.specs.LineText.{access_word, rule_word, trace_line};
 ghost use Rattle.std.specs.Fmt.{decimal};
 ghost use Rattle.trace_line.specs.Spaced.{spaced};
 
 use crate::trace_line::TraceLine;
-use bus_signals::{Access, Bounds, Kind, Rule};
+use bus_signals::{Access, Bounds, Rule};
 use line_buffer::{LineBuffer, flag_digit};
+use named_value::Named;
 use outside_edge::{Failed, Sink, put_all};
 use word_arith::Size;
 
@@ -38,7 +40,7 @@ fn push_head(text: &mut LineBuffer, step: u64, line: &TraceLine)
     text.push(b"t");
     text.push(b" ");
     text.push_decimal(step);
-    push_name(text, kind_name(line.kind));
+    push_name(text, line.kind.name().as_bytes());
     text.push_spaced_word(line.pc);
 }
 
@@ -144,19 +146,6 @@ fn push_place(text: &mut LineBuffer, letter: &[u8], place: u16)
     text.push_word(place);
 }
 
-fn kind_name(kind: Kind) -> &'static [u8]
-    ensures name { result.now ≡ kind_name kind }
-    ensures len { length result.now ≤ 4 }
-{
-    match kind {
-        Kind::Boot => b"boot",
-        Kind::Cpu => b"cpu",
-        Kind::Idle => b"idle",
-        Kind::Irq => b"irq",
-        Kind::Rom => b"rom",
-    }
-}
-
 /// The name of a rule, `-` for none.
 pub fn rule_word(rule: Option<Rule>) -> &'static [u8]
     ensures word { result.now ≡ rule_word rule }
@@ -164,17 +153,6 @@ pub fn rule_word(rule: Option<Rule>) -> &'static [u8]
 {
     match rule {
         None => b"-",
-        Some(Rule::X0) => b"X0",
-        Some(Rule::A1) => b"A1",
-        Some(Rule::A2) => b"A2",
-        Some(Rule::A3) => b"A3",
-        Some(Rule::A4) => b"A4",
-        Some(Rule::K1) => b"K1",
-        Some(Rule::K2) => b"K2",
-        Some(Rule::K3) => b"K3",
-        Some(Rule::K4) => b"K4",
-        Some(Rule::K5) => b"K5",
-        Some(Rule::K6) => b"K6",
-        Some(Rule::I1) => b"I1",
+        Some(rule) => rule.name().as_bytes(),
     }
 }

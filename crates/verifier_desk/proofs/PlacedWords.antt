@@ -164,8 +164,8 @@ pub missed_there : (word : DeviceKey → List ℕ) (devices : List DeviceKey)
     → there ≡ slice_index_or devices place there → bytes_eq (word there) one ≡ false
     → place < length devices → HasNone word devices one
 missed_there word devices places one place there are at is other inside i d within same =
-    let here = one_place i place (sym (is_at_place word devices places one i d are within same) ∙ at)
-    in
+    let here =
+    one_place i place (sym (is_at_place word devices places one i d are within same) ∙ at) in
     let first = is_at_place word devices places (word there) place there are inside
     (ap word (sym is)) in
     absurd (false≢true (sym other ∙ (bytes_eq-Decides (word there) one).1

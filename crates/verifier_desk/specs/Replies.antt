@@ -4,7 +4,7 @@ use Rattle.std.specs.Fmt.{decimal}
 use Rattle.std.specs.Str.{bytes_eq}
 use Rattle.part_definitions.specs.Request.{request_token}
 use Rattle.report_text.specs.RequestLine.{request_fields}
-use Rattle.report_text.specs.VerdictName.{verdict_name}
+use Rattle.report_verifier.specs.VerdictName.{verdict_name}
 use Rattle.report_verifier.specs.Expectation.{count_bytes}
 use Rattle.report_verifier.specs.Judge.{Judge}
 use Rattle.report_verifier.specs.Policy.{PolicyFields}
@@ -12,7 +12,7 @@ use Rattle.desk_memory.specs.declared.answer.Answer.{Answer}
 use Rattle.desk_memory.specs.declared.answer.Answer.TheVariants.{Stale, Bad, Spent, Requested, Judged}
 use Rattle.desk_memory.specs.declared.device_state.DeviceState.{DeviceState}
 use Rattle.desk_memory.specs.Entry.{Entry, state_named}
-use Rattle.desk_memory.specs.FaultName.{fault_name}
+use Rattle.text_scan.specs.FaultName.{fault_name}
 use Rattle.verifier_desk.specs.DeskLine.{DeskLine, TooLong, Silent, Foreign, Own, desk_line_of}
 use Rattle.verifier_desk.specs.DeviceKey.{DeviceKey}
 use Rattle.verifier_desk.specs.DeviceLine.{DeviceLine}

@@ -1,13 +1,14 @@
 ghost use Rattle.std.specs.Prelude.{◌≡◌, ◌≤◌, ◌+◌, ◌++◌, length, codes};
 ghost use Rattle.sha2.specs.Sha256.{sha256};
-ghost use Rattle.report_text.specs.VerdictName.{verdict_name};
-ghost use Rattle.desk_memory.specs.FaultName.{fault_name};
+ghost use Rattle.report_verifier.specs.VerdictName.{verdict_name};
+ghost use Rattle.text_scan.specs.FaultName.{fault_name};
 ghost use Rattle.verifier_desk.specs.Replies.{answer_line, answer_verb, answer_words};
 
 use crate::challenge::desk_challenge;
-use desk_memory::{Answer, fault_name};
+use desk_memory::Answer;
 use line_buffer::LineBuffer;
-use report_text::{push_request_fields, verdict_name};
+use named_value::Named;
+use report_text::push_request_fields;
 use report_verifier::token;
 
 /// The line of an answer: its verb, the device's name, the number of the device's line, and what
@@ -50,13 +51,13 @@ fn push_words(line: &mut LineBuffer, key: &[u8; 64], answer: Answer)
 {
     match answer {
         Answer::Stale | Answer::Spent => {}
-        Answer::Bad(kind) => push_name(line, fault_name(kind)),
+        Answer::Bad(kind) => push_name(line, kind.name().as_bytes()),
         Answer::Requested(count) => {
             let chal = desk_challenge(key, count);
             line.push(b" ");
             push_request_fields(line, &chal, count, &token(key, &chal, count));
         }
-        Answer::Judged(decision) => push_name(line, verdict_name(decision)),
+        Answer::Judged(decision) => push_name(line, decision.name().as_bytes()),
     }
 }
 

@@ -4,7 +4,7 @@ use Rattle.std.specs.Prelude.{◌==◌, ◌&&◌, codes, if◌then◌else◌}
 use Rattle.std.specs.Bool.{MatchBool}
 use Rattle.std.specs.Fmt.{digits}
 use Rattle.std.proofs.lemmas.Bool.{and_parts}
-use Rattle.text_scan.proofs.PlainWords.{is_plain}
+use Rattle.named_value.specs.PlainWord.{is_plain}
 use Rattle.wave_dump.specs.declared.wire.Wire.{Wire}
 use Rattle.wave_dump.specs.declared.wire.Wire.TheVariants.{Pc, StepKind, Irq, Asked, BrokenRule, CpuOp, CpuAddress, CpuData, FetchWord, DmaOp, DmaAddress, DmaData, ErMin, ErMax, OrMin, OrMax, Exec}
 use Rattle.wave_dump.specs.Wire.{wires, wire_code}

@@ -1,15 +1,13 @@
 -- What a wire of a printable line shows has as many bits as a reader takes.
-use Rattle.std.proofs.Common.{◌≡◌, ℕ, ◌^◌, ◌<◌, Bool, Option, Some, None, IfSome, refl, arith}
+use Rattle.std.proofs.Common.{◌≡◌, ℕ, ◌^◌, ◌<◌, Bool, Option, Some, None, IfSome, refl, arith, rules}
 use Rattle.std.specs.Bool.{MatchBool}
 use Rattle.word_arith.specs.declared.size.Size.TheVariants.{Byte, Word}
 use Rattle.bus_signals.specs.declared.access.Access.{Access}
 use Rattle.bus_signals.specs.declared.access.Access.TheVariants.{Fetch, Read, Write}
 use Rattle.bus_signals.specs.declared.kind.Kind.{Kind}
-use Rattle.bus_signals.specs.declared.kind.Kind.TheVariants.{Boot, Cpu, Idle, Irq as IrqStep, Rom}
 use Rattle.bus_signals.specs.declared.rule.Rule.{Rule}
-use Rattle.bus_signals.specs.declared.rule.Rule.TheVariants.{X0, A1, A2, A3, A4, K1, K2, K3, K4, K5, K6, I1}
+use Rattle.bus_signals.specs.Kind.{kind_name}
 use Rattle.trace_line.specs.declared.trace_line.TraceLine.{TraceLine}
-use Rattle.trace_line.specs.LineText.{kind_name}
 use Rattle.trace_line.specs.ReadBack.{IsAllowed, IsPrintable}
 use Rattle.wave_dump.specs.declared.wire.Wire.{Wire}
 use Rattle.wave_dump.specs.declared.wire.Wire.TheVariants.{Pc, StepKind, Irq, Asked, BrokenRule, CpuOp, CpuAddress, CpuData, FetchWord, DmaOp, DmaAddress, DmaData, ErMin, ErMax, OrMin, OrMax, Exec}
@@ -27,26 +25,10 @@ Suits wire value =
     MatchBool (is_bit wire) ((bit : Bool) × (value ≡ Some (bit_of bit))) (IsShort value)
 
 short-kind : (kind : Kind) → text_number (kind_name kind) < 2 ^ 32
-short-kind Boot = omega arith
-short-kind Cpu = omega arith
-short-kind Idle = omega arith
-short-kind IrqStep = omega arith
-short-kind Rom = omega arith
+short-kind = search rules
 
 short-rule : (rule : Option Rule) → rule_number rule < 2 ^ 32
-short-rule None = omega arith
-short-rule (Some X0) = omega arith
-short-rule (Some A1) = omega arith
-short-rule (Some A2) = omega arith
-short-rule (Some A3) = omega arith
-short-rule (Some A4) = omega arith
-short-rule (Some K1) = omega arith
-short-rule (Some K2) = omega arith
-short-rule (Some K3) = omega arith
-short-rule (Some K4) = omega arith
-short-rule (Some K5) = omega arith
-short-rule (Some K6) = omega arith
-short-rule (Some I1) = omega arith
+short-rule = search rules
 
 short-letter : (access : Option Access) → IsShort (of_access access_letter access)
 short-letter None = tt

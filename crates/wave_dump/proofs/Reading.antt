@@ -14,7 +14,8 @@ use Rattle.std.proofs.lemmas.Str.{digit_value_digit}
 use Rattle.std.proofs.lemmas.Str.Parse.{digit_from_value}
 use Rattle.text_scan.specs.declared.fault_kind.FaultKind.{FaultKind}
 use Rattle.text_scan.proofs.FirstLine.{lines-line}
-use Rattle.text_scan.proofs.PlainWords.{ArePlain, is_plain, decimal_of-decimal, plain-decimal, printed-join, printed_bounds, words_of-join}
+use Rattle.named_value.specs.PlainWord.{is_plain}
+use Rattle.text_scan.proofs.PlainWords.{ArePlain, decimal_of-decimal, plain-decimal, printed-join, printed_bounds, words_of-join}
 use Rattle.wave_dump.specs.WaveText.{digits_text, time_text}
 use Rattle.wave_dump.proofs.Fitting.{IsShort}
 use Rattle.wave_dump.specs.WaveReader.{WavePoint, after_words, and_then, last_values, number_after, points_after, value_in, with_time}

@@ -5,9 +5,9 @@ use Rattle.word_arith.specs.Number.{bit_of}
 use Rattle.bus_signals.specs.declared.access.Access.{Access}
 use Rattle.bus_signals.specs.declared.access.Access.TheVariants.{Fetch, Read, Write}
 use Rattle.bus_signals.specs.declared.rule.Rule.{Rule}
-use Rattle.printed_lines.specs.Line.{rule_name}
+use Rattle.bus_signals.specs.Kind.{kind_name}
+use Rattle.bus_signals.specs.Rule.{rule_name}
 use Rattle.trace_line.specs.declared.trace_line.TraceLine.{TraceLine}
-use Rattle.trace_line.specs.LineText.{kind_name}
 use Rattle.wave_dump.specs.declared.wire.Wire.{Wire}
 use Rattle.wave_dump.specs.declared.wire.Wire.TheVariants.{Pc, StepKind, Irq, Asked, BrokenRule, CpuOp, CpuAddress, CpuData, FetchWord, DmaOp, DmaAddress, DmaData, ErMin, ErMax, OrMin, OrMax, Exec}
 

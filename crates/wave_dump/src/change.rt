@@ -1,4 +1,4 @@
-ghost use Rattle.std.specs.Prelude.{◌≡◌, ◌≤◌, ◌+◌, ◌++◌, false, length, None, Some};
+ghost use Rattle.std.specs.Prelude.{◌≡◌, ◌≤◌, ◌+◌, ◌++◌, false, length, None, Some, option_copied};
 ghost use Rattle.std.specs.Fmt.{digits};
 ghost use Rattle.std.specs.List.{list_any};
 ghost use Rattle.outside_edge.specs.Sink.{Puts, CountsFaults};
@@ -15,11 +15,12 @@ use trace_line::TraceLine;
 /// Puts what a step changes, after the line of the step before, if there is one.
 pub fn print_step<W: Sink>(
     step: u64,
-    last: Option<TraceLine>,
+    last: Option<&TraceLine>,
     now: &TraceLine,
     sink: &mut W,
 ) -> Result<(), Failed>
-    ensures puts { Puts W.stands sink.old sink.new (step_text step last now.now) result }
+    ensures puts { Puts W.stands sink.old sink.new
+        (step_text step (option_copied last.entry) now.now) result }
     ensures counts { CountsFaults W.faults sink.old sink.new result }
 {
     match last {
@@ -31,11 +32,12 @@ pub fn print_step<W: Sink>(
 /// Puts a time, and the values that are told.
 pub fn print_told<W: Sink>(
     step: u64,
-    last: Option<TraceLine>,
+    last: Option<&TraceLine>,
     now: &TraceLine,
     sink: &mut W,
 ) -> Result<(), Failed>
-    ensures puts { Puts W.stands sink.old sink.new (told_text step last now.now) result }
+    ensures puts { Puts W.stands sink.old sink.new
+        (told_text step (option_copied last.entry) now.now) result }
     ensures counts { CountsFaults W.faults sink.old sink.new result }
 {
     print_time(step, sink)?;
@@ -63,11 +65,11 @@ fn print_dump<W: Sink>(now: &TraceLine, sink: &mut W) -> Result<(), Failed>
 // Puts what a step after another one changes, if it changes anything.
 fn print_next<W: Sink>(
     step: u64,
-    last: TraceLine,
+    last: &TraceLine,
     now: &TraceLine,
     sink: &mut W,
 ) -> Result<(), Failed>
-    ensures puts { Puts W.stands sink.old sink.new (next_text step last now.now) result }
+    ensures puts { Puts W.stands sink.old sink.new (next_text step last.now now.now) result }
     ensures counts { CountsFaults W.faults sink.old sink.new result }
 {
     if has_change(Some(last), now) {
@@ -90,11 +92,12 @@ fn print_time<W: Sink>(step: u64, sink: &mut W) -> Result<(), Failed>
 
 // Puts the values that are others than those of the line before; all, where there is none.
 fn print_changes<W: Sink>(
-    last: Option<TraceLine>,
+    last: Option<&TraceLine>,
     now: &TraceLine,
     sink: &mut W,
 ) -> Result<(), Failed>
-    ensures puts { Puts W.stands sink.old sink.new (changes_text last now.now) result }
+    ensures puts { Puts W.stands sink.old sink.new
+        (changes_text (option_copied last.entry) now.now) result }
     ensures counts { CountsFaults W.faults sink.old sink.new result }
 {
     for wire in WIRES {
@@ -105,11 +108,12 @@ fn print_changes<W: Sink>(
 
 fn print_if_told<W: Sink>(
     wire: Wire,
-    last: Option<TraceLine>,
+    last: Option<&TraceLine>,
     now: &TraceLine,
     sink: &mut W,
 ) -> Result<(), Failed>
-    ensures puts { Puts W.stands sink.old sink.new (change_of last now.now wire) result }
+    ensures puts { Puts W.stands sink.old sink.new
+        (change_of (option_copied last.entry) now.now wire) result }
     ensures counts { CountsFaults W.faults sink.old sink.new result }
 {
     if is_told(last, now, wire) {
@@ -119,18 +123,18 @@ fn print_if_told<W: Sink>(
     }
 }
 
-fn has_change(last: Option<TraceLine>, now: &TraceLine) -> bool
-    ensures { result ≡ list_any (is_told last now.now) wires }
+fn has_change(last: Option<&TraceLine>, now: &TraceLine) -> bool
+    ensures { result ≡ list_any (is_told (option_copied last.entry) now.now) wires }
 {
     WIRES.iter().any(|wire| is_told(last, now, *wire))
 }
 
-fn is_told(last: Option<TraceLine>, now: &TraceLine, wire: Wire) -> bool
-    ensures { result ≡ is_told last now.now wire }
+fn is_told(last: Option<&TraceLine>, now: &TraceLine, wire: Wire) -> bool
+    ensures { result ≡ is_told (option_copied last.entry) now.now wire }
 {
     match last {
         None => true,
-        Some(last) => wire_value(wire, &last) != wire_value(wire, now),
+        Some(last) => wire_value(wire, last) != wire_value(wire, now),
     }
 }
 

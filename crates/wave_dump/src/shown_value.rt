@@ -1,10 +1,10 @@
-ghost use Rattle.std.specs.Prelude.{◌≡◌};
-ghost use Rattle.trace_line.specs.LineText.{kind_name};
+ghost use Rattle.std.specs.Prelude.{◌≡◌, ◌≤◌, length};
 ghost use Rattle.word_arith.specs.Number.{bit_of};
 ghost use Rattle.wave_dump.specs.WireValue.{access_data, access_letter, access_place, of_access, rule_number, text_number, wire_value};
 
 use crate::wire::Wire;
-use bus_signals::{Access, Kind, Rule};
+use bus_signals::{Access, Rule};
+use named_value::Named;
 use trace_line::TraceLine;
 use word_arith::Size;
 
@@ -14,10 +14,10 @@ pub fn wire_value(wire: Wire, line: &TraceLine) -> Option<u32>
 {
     match wire {
         Wire::Pc => Some(u32::from(line.pc)),
-        Wire::StepKind => Some(kind_number(line.kind)),
+        Wire::StepKind => Some(text_number(line.kind.name().as_bytes())),
         Wire::Irq => Some(u32::from(line.irq)),
         Wire::Asked => Some(u32::from(line.asked)),
-        Wire::BrokenRule => Some(u32::from(rule_number(line.rule))),
+        Wire::BrokenRule => Some(rule_number(line.rule)),
         Wire::CpuOp => letter(line.cpu),
         Wire::CpuAddress => place(line.cpu),
         Wire::CpuData => data(line.value, line.cpu),
@@ -33,37 +33,27 @@ pub fn wire_value(wire: Wire, line: &TraceLine) -> Option<u32>
     }
 }
 
-// The characters of a kind's name.
-fn kind_number(kind: Kind) -> u32
-    ensures { result ≡ text_number (kind_name kind) }
+// The characters of a word as one number, 8 bits each.
+fn text_number(word: &[u8]) -> u32
+    requires { length word.now ≤ 4 }
+    ensures { result ≡ text_number word.now }
 {
-    match kind {
-        Kind::Boot => 0x626F_6F74,
-        Kind::Cpu => 0x63_7075,
-        Kind::Idle => 0x6964_6C65,
-        Kind::Irq => 0x69_7271,
-        Kind::Rom => 0x72_6F6D,
+    match word {
+        [] => 0,
+        [a] => u32::from(*a),
+        [a, b] => u32::from_be_bytes([0, 0, *a, *b]),
+        [a, b, c] => u32::from_be_bytes([0, *a, *b, *c]),
+        [a, b, c, d] => u32::from_be_bytes([*a, *b, *c, *d]),
+        _ => unreachable!(),
     }
 }
 
-// The characters of a rule's name.
-fn rule_number(rule: Option<Rule>) -> u16
+fn rule_number(rule: Option<Rule>) -> u32
     ensures { result ≡ rule_number rule }
 {
     match rule {
         None => 0,
-        Some(Rule::X0) => 0x5830,
-        Some(Rule::A1) => 0x4131,
-        Some(Rule::A2) => 0x4132,
-        Some(Rule::A3) => 0x4133,
-        Some(Rule::A4) => 0x4134,
-        Some(Rule::K1) => 0x4B31,
-        Some(Rule::K2) => 0x4B32,
-        Some(Rule::K3) => 0x4B33,
-        Some(Rule::K4) => 0x4B34,
-        Some(Rule::K5) => 0x4B35,
-        Some(Rule::K6) => 0x4B36,
-        Some(Rule::I1) => 0x4931,
+        Some(rule) => text_number(rule.name().as_bytes()),
     }
 }
 

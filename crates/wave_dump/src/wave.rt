@@ -63,7 +63,7 @@ impl Wave {
             last: Some(now),
             exec: line.exec,
         };
-        print_step(step, last, &now, sink)
+        print_step(step, last.as_ref(), &now, sink)
     }
 
     /// Puts the time after the last step, and EXEC if that step changed it.
@@ -80,6 +80,6 @@ impl Wave {
             exec: self.exec,
             ..last
         };
-        print_told(self.steps, self.last, &after, sink)
+        print_told(self.steps, self.last.as_ref(), &after, sink)
     }
 }

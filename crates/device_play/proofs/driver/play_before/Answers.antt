@@ -72,7 +72,8 @@ pub returns-in_err-tally-clause-watched : goal.returns-in_err-tally-clause-watch
 returns-in_err-tally-clause-watched g c = λ start holds.
     let digest = g.D.Digest32.hash.digest_of in
     begin-failed (events_of c.args.script.now) c.args.steps c.from_residual.result
-    (c.in_err-tally.ensures.goes_on digest start) c.from_residual.ensures.1 (c.in_err-tally.ensures.puts digest start).prefix
+    (c.in_err-tally.ensures.goes_on digest start) c.from_residual.ensures.1
+    (c.in_err-tally.ensures.puts digest start).prefix
 
 pub returns-in_err-see-clause-watched : goal.returns-in_err-see-clause-watched
 returns-in_err-see-clause-watched g c = λ start holds.
@@ -115,7 +116,8 @@ returns-clause-watched g c = λ start holds.
     let under_way = c.loop-playback.invariant.under_way start holds in
     rw (← same)
     (watched-all c.loop-playback.sink under_way.midway.stands under_way.up_to.counted
-    under_way.up_to.took (c.in_ok-end.ensures.puts start _ under_way.midway.stands under_way.up_to.counted).all)
+    under_way.up_to.took
+    (c.in_ok-end.ensures.puts start _ under_way.midway.stands under_way.up_to.counted).all)
 
 pub returns-clause-counts : goal.returns-clause-counts
 returns-clause-counts g c = record {

@@ -1,4 +1,5 @@
 use Rattle.std.proofs.Common.{◌≡◌, ◌∙◌, ◌++◌, ℕ, List, suc, flat_map, take, drop, get_or, subst, sym, arith}
+use Rattle.std.specs.Prelude.{option_copied}
 use Rattle.outside_edge.specs.Sink.{Takes, TakesPrefix}
 use Rattle.outside_edge.proofs.SinkLemmas.{prefix_after, prefix_of_more, puts-failed, takes_both}
 use Rattle.wave_dump.specs.declared.wire.Wire.TheVariants.{Pc}
@@ -9,7 +10,7 @@ use Rattle.wave_dump.proofs.change.print_changes.Goals as goal
 
 pub loop-wire-preserved : goal.loop-wire-preserved
 loop-wire-preserved g c =
-    let text = change_of c.args.last c.args.now.now in
+    let text = change_of (option_copied c.args.last) c.args.now.now in
     let at = c.loop-wire.wire-index in
     record {
       taken = subst (λ (all : List ℕ). Takes g.W.Sink.stands c.args.sink.now
@@ -24,7 +25,7 @@ loop-wire-preserved g c =
 pub returns-in_err-print_if_told-clause-puts : goal.returns-in_err-print_if_told-clause-puts
 unfolding changes_text
 returns-in_err-print_if_told-clause-puts g c =
-    let text = change_of c.args.last c.args.now.now in
+    let text = change_of (option_copied c.args.last) c.args.now.now in
     let at = c.loop-wire.wire-index in
     let later = flat_map text (drop (suc at) wires) in
     puts-failed g.W.Sink.stands _ _ _ c.from_residual.result c.from_residual.ensures.0
@@ -40,7 +41,7 @@ returns-in_err-print_if_told-clause-puts g c =
 pub returns-clause-puts : goal.returns-clause-puts
 unfolding changes_text
 returns-clause-puts g c =
-    let text = change_of c.args.last c.args.now.now in
+    let text = change_of (option_copied c.args.last) c.args.now.now in
     let all_wires : c.loop-wire.wire-index ≡ 17 =
     omega (arith, c.loop-wire-test.false, c.loop-wire.auto) in
     record {

@@ -1,4 +1,5 @@
 use Rattle.std.proofs.Common.{◌≡◌, flat_map, take}
+use Rattle.std.specs.Prelude.{option_copied}
 use Rattle.outside_edge.specs.Sink.{Takes}
 use Rattle.wave_dump.specs.Wire.{wires}
 use Rattle.wave_dump.specs.WaveText.{change_of}
@@ -8,6 +9,6 @@ use Rattle.wave_dump.proofs.change.print_changes.Given as goal
 abbrev pub invariant-loop-wire : goal.invariant-loop-wire
 invariant-loop-wire g l = record {
   taken : Takes g.W.Sink.stands l.initial.sink l.sink
-      (flat_map (change_of l.last l.now) (take l.wire-index wires));
+      (flat_map (change_of (option_copied l.last) l.now) (take l.wire-index wires));
   quiet : g.W.Sink.faults l.sink ≡ g.W.Sink.faults l.initial.sink;
 }

@@ -60,7 +60,8 @@ returns-clause-answers g c = λ fields lines device so at.
     (answer_after (judge_at fields device) (state_at fields device (lines device.name)) line) =
     ap (λ (one : ReplyFields). one.text) c.new.ensures
     ∙ c.answer_line-line.ensures.text
-    ∙ ap (λ (owner : DeviceKey). answer_line sha256 owner line.number c.in_ok-outcome.outcome.answer)
+    ∙ ap (λ (owner : DeviceKey).
+    answer_line sha256 owner line.number c.in_ok-outcome.outcome.answer)
     (sym (same_device device c.name.result.now c.key-2.result.now
     (ap (λ (owner : DeviceKey). owner.name) here ∙ sym c.name.ensures.bytes)
     (ap (λ (owner : DeviceKey). owner.key) here ∙ sym c.key-2.ensures)))

@@ -48,10 +48,12 @@ invariant_of-self-2 c = rw c.in_ok-push.ensures.items (
       c.name.ensures.bytes
       (new_name c.args.device.name c.self.inside.devices.items
       (ap (key_named c.args.device.name) c.self.view_is ∙ c.requires.name))
-      c.in_ok-insert.ensures.placed (c.len-place.ensures ∙ c.self.inside.devices.ok.0) c.self.invariant.1,
+      c.in_ok-insert.ensures.placed (c.len-place.ensures ∙ c.self.inside.devices.ok.0)
+      c.self.invariant.1,
   places_with (λ device. device.key) c.self.inside.devices.items _ _ c.args.device _ _
       c.key.ensures
       (new_key c.args.device.key c.self.inside.devices.items
       (ap (has_key c.args.device.key) c.self.view_is ∙ c.requires.key))
-      c.in_ok-insert-2.ensures.placed (c.len-place.ensures ∙ c.self.inside.devices.ok.0) c.self.invariant.2,
+      c.in_ok-insert-2.ensures.placed (c.len-place.ensures ∙ c.self.inside.devices.ok.0)
+      c.self.invariant.2,
 )

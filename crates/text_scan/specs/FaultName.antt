@@ -1,7 +1,8 @@
--- The names of faults, as a desk prints them.
-use Rattle.std.specs.Prelude.{ℕ, List, codes}
+-- The names of faults.
+use Rattle.std.specs.Prelude.{ℕ, List, [], ◌∷◌, codes}
 use Rattle.text_scan.specs.declared.fault_kind.FaultKind.{FaultKind}
 use Rattle.text_scan.specs.declared.fault_kind.FaultKind.TheVariants.{TooLong, Utf8, Word, Digit, Count, Range, Extra, Missing, Order, Bounds, Output, NoColon, Check, RecordType, Place, AfterEnd, NoEnd, Syntax, Mnemonic, Operand, Undefined, Twice, Overlap}
+use Rattle.named_value.specs.Names.{Names}
 
 abbrev pub fault_name : FaultKind → List ℕ
 fault_name TooLong = codes "TooLong"
@@ -27,3 +28,12 @@ fault_name Operand = codes "Operand"
 fault_name Undefined = codes "Undefined"
 fault_name Twice = codes "Twice"
 fault_name Overlap = codes "Overlap"
+
+abbrev pub fault_names : Names FaultKind
+fault_names = record {
+  values =
+      TooLong ∷ Utf8 ∷ Word ∷ Digit ∷ Count ∷ Range ∷ Extra ∷ Missing ∷ Order ∷ Bounds ∷ Output
+      ∷ NoColon ∷ Check ∷ RecordType ∷ Place ∷ AfterEnd ∷ NoEnd ∷ Syntax ∷ Mnemonic ∷ Operand
+      ∷ Undefined ∷ Twice ∷ Overlap ∷ [];
+  name = fault_name;
+}

@@ -1,0 +1,2 @@
+pub mod PlainWord
+pub mod Names
