@@ -61,7 +61,7 @@ fewer-silent start (suc steps) play all =
     let same : suc steps - 1 ≡ steps = omega arith in rw same all.1
 
 -- one such step more
-idle-more :
+pub idle-more :
     (steps : ℕ) (play : Play)
     → with_idle (steps + 1) play ≡ [] ∷ with_idle steps play
 idle-more steps play = rw add-one refl

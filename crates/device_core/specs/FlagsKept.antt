@@ -1,13 +1,26 @@
 -- Steps that leave both flags as they are.
-use Rattle.std.specs.Prelude.{◌≡◌, ◌∷◌, map}
+use Rattle.std.specs.Prelude.{◌≡◌, ◌||◌, ◌∷◌, Bool, Option, map, true}
+use Rattle.bus_signals.specs.declared.bounds.Bounds.{Bounds}
 use Rattle.bus_signals.specs.declared.bus_record.BusRecord.{BusRecord}
 use Rattle.bus_signals.specs.declared.signals.Signals.{Signals}
-use Rattle.bus_signals.specs.TraceFlag.{Flag, IsRecordOf}
+use Rattle.bus_signals.specs.Address.{Address}
+use Rattle.bus_signals.specs.TraceFlag.{Flag, IsRecordOf, is_quiet}
 use Rattle.bus_signals.specs.SeenRecord.{SeenHistory, SeenRecord}
 use Rattle.bus_signals.specs.ExecFlag.{exec}
 use Rattle.device_trace.specs.Blank.{blank_seen}
 use Rattle.device_trace.specs.Logs.{Logs, aux_of, logged_bounds}
 use Rattle.device_trace.specs.Start.{Start}
+
+-- one of the flags is set
+abbrev pub has_flag : {G : Type 0} → Flag G → SeenHistory → Bool
+has_flag flag records = exec records || flag.value (map blank_seen records)
+
+-- a step that is about to do this, after a record with this `pc`, is quiet, unless it is refused
+abbrev pub IsQuietStep : Option Address → Signals → Bounds → Type 0
+IsQuietStep last now bounds =
+    (entry : BusRecord)
+    → IsRecordOf now entry
+    → is_quiet last (record { entry = entry; bounds = bounds }) ≡ true
 
 -- a record of such a step, behind these
 pub record LeavesFlags {G : Type 0} (flag : Flag G) (now : SeenRecord)

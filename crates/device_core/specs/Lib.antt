@@ -9,6 +9,7 @@ pub mod ForEachKey
 pub mod Outside
 -- What the parts within stand for, and how they make a step.
 pub mod Bus
+pub mod Calm
 pub mod FlagsKept
 pub mod Machine
 pub mod Monitors

@@ -1,9 +1,10 @@
-ghost use Rattle.std.specs.Prelude.{◌≡◌, ◌≤◌, ◌∷◌, [], ℕ, true, false, List, Option, IfOk, IsSome, None, Some, is_none, if◌then◌else◌};
+ghost use Rattle.std.specs.Prelude.{◌≡◌, ◌≤◌, ◌∷◌, [], ℕ, true, false, List, Option, IfOk, IfSome, IsSome, None, Some, is_none, map, if◌then◌else◌};
 ghost use Rattle.bus_signals.specs.declared.event.Event.{Event};
+ghost use Rattle.bus_signals.specs.Bounds.{executable_region};
 ghost use Rattle.bus_signals.specs.TraceFlag.{IsRecordOf};
 ghost use Rattle.bus_signals.specs.SeenRecord.{SeenHistory};
 ghost use Rattle.part_definitions.specs.Dma.{dma_access};
-ghost use Rattle.part_definitions.specs.FirstRule.{first_rule};
+ghost use Rattle.part_definitions.specs.FirstRule.{breaks_i1, first_rule};
 ghost use Rattle.bus_signals.specs.ExecFlag.{exec, last_pc};
 ghost use Rattle.part_definitions.specs.Memory.{PowerOn, ShownFlags, MemoryWrite};
 ghost use Rattle.part_definitions.specs.Part.{Takes};
@@ -11,20 +12,22 @@ ghost use Rattle.mem_map.specs.Memory.{MemoryStandsFor};
 ghost use Rattle.mem_map.specs.Image.{power_on_of};
 ghost use Rattle.part_definitions.specs.CpuRegister.{Registers};
 ghost use Rattle.device_trace.specs.Start.{Start};
-ghost use Rattle.device_trace.specs.Logs.{Logs, power_on_logs, goes_on_in_call, logged_bounds, memory_after, with_events, with_record};
+ghost use Rattle.device_trace.specs.Blank.{blank_seen};
+ghost use Rattle.device_trace.specs.Logs.{Logs, aux_of, power_on_logs, goes_on_in_call, logged_bounds, memory_after, with_events, with_record};
 ghost use Rattle.device_trace.specs.Signals.{signals_of, word_fetched, value_read};
 ghost use Rattle.device_trace.specs.Step.{is_reset, asks_reset, record_from};
-ghost use Rattle.device_core.specs.Bus.{TurnStandsFor};
+ghost use Rattle.device_core.specs.Bus.{TurnStandsFor, logs_after_step};
 ghost use Rattle.device_core.specs.Silence.{has_line};
 ghost use Rattle.device_core.specs.Sleep.{SleepsAt, idle_signals, logs_idle};
 
 use crate::access::{value_read, word_fetched};
+use crate::calm::{ABOVE_ROM, is_above_rom, is_calm};
 use crate::last_step::{LastStep, keep_none};
 use crate::monitors::Monitors;
 use crate::peripherals::Peripherals;
 use crate::record::{goes_on_in_call, is_kept, record_of_refusal, record_of_step};
 use crate::turn::Turn;
-use bus_signals::{Access, BusMaster, BusRecord, CR, Event, Kind, Signals, TraceFlag};
+use bus_signals::{Access, BusMaster, BusRecord, CR, Event, Kind, Region, Signals, TraceFlag};
 use mem_map::{Image, Memory, exchange};
 use std::alloc::{AllocError, Global};
 
@@ -120,7 +123,8 @@ fn idle_signals(pc: u16) -> Signals
 impl<G: TraceFlag> Bus<G> {
     ghost use Rattle.device_trace.specs.Logs.{flags_shown};
     ghost use Rattle.device_core.specs.Bus.{BusStandsFor, KeepsSignals, AnswersTurn, MakesTurn, Performs, PerformsFrom, record_performed, seen_in};
-    ghost use Rattle.device_core.specs.FlagsKept.{LeavesFlags, KeepsFlags};
+    ghost use Rattle.device_core.specs.Calm.{IsCalmRegion, ReadsCalmly};
+    ghost use Rattle.device_core.specs.FlagsKept.{LeavesFlags, KeepsFlags, has_flag};
     ghost use Rattle.device_core.specs.Monitors.{MonitorsStandFor};
     ghost use Rattle.device_core.specs.Sleep.{Rests, Sleeps};
 
@@ -190,8 +194,8 @@ impl<G: TraceFlag> Bus<G> {
         }
     }
 
-    // Whether steps that are about to do this leave the bus as it is, but for the timer: the DMA asks
-    // for nothing, they break no rule, and leave both flags as they are and as they are shown.
+    // Whether steps that are about to do this leave the bus as it is, but for the timer: the DMA
+    // asks for nothing, they break no rule, and leave both flags as they are and as they are shown.
     fn rests(&self, now: &Signals) -> bool
         ensures { (start : Start) (logs : Logs)
             → BusStandsFor G.flag self.now start logs
@@ -201,8 +205,7 @@ impl<G: TraceFlag> Bus<G> {
         if self.dma_access().is_some() {
             return false;
         }
-        self.monitors.repeat(now, &self.memory.bounds())
-            && self.memory.shows_aux() == self.monitors.aux()
+        self.monitors.repeat(now, &self.memory.bounds()) && self.shows_second_flag()
     }
 
     // The monitors see a step, memory shows the flags after it, and it is kept.
@@ -278,7 +281,18 @@ impl<G: TraceFlag> Bus<G> {
             → result ≡ true
             → KeepsFlags G.flag start logs now.now }
     {
-        self.leaves_flags(now) && self.memory.shows_aux() == self.monitors.aux()
+        self.leaves_flags(now) && self.shows_second_flag()
+    }
+
+    // Whether memory shows the second flag as it is.
+    #[inline(always)]
+    fn shows_second_flag(&self) -> bool
+        ensures { (start : Start) (logs : Logs)
+            → BusStandsFor G.flag self.now start logs
+            → result ≡ true
+            → aux_of start logs ≡ G.flag.value (map blank_seen logs.records) }
+    {
+        self.memory.shows_aux() == self.monitors.aux()
     }
 
     // Whether a step that is about to do this leaves both flags as they are. Where neither is set
@@ -315,7 +329,7 @@ impl<G: TraceFlag> Bus<G> {
     {
         let entry = self.make(regs, now, value);
         self.peripherals.finish_step(&entry, acceptance);
-        self.monitors.pass(&entry);
+        self.monitors.pass(entry.pc);
         keep_none(&mut self.last);
     }
 
@@ -389,6 +403,81 @@ impl<G: TraceFlag> Bus<G> {
         } else {
             self.act_anywhere(regs, turn, dma, script_reset, keeps)
         }
+    }
+
+    /// The region of calm steps from here on: above the ROM, and ER where a flag is set. `None`
+    /// where there are none.
+    #[inline(always)]
+    pub fn calm_region(&self) -> Option<Region>
+        ensures { (start : Start) (logs : Logs)
+            → BusStandsFor G.flag self.now start logs
+            → IfSome result (λ code. IsCalmRegion G.flag code start logs) }
+    {
+        if self.dma_access().is_some() {
+            return None;
+        }
+        let code = self.watched_region();
+        if is_above_rom(code) && self.monitors.ran_inside(code) && self.shows_second_flag() {
+            Some(code)
+        } else {
+            None
+        }
+    }
+
+    // ER where a flag is set, else all that is above the ROM.
+    fn watched_region(&self) -> Region
+        ensures { (start : Start) (logs : Logs)
+            → BusStandsFor G.flag self.now start logs
+            → has_flag G.flag logs.records ≡ true
+            → result ≡ executable_region (logged_bounds start logs) }
+    {
+        if self.monitors.has_flag() {
+            self.memory.bounds().executable_region()
+        } else {
+            ABOVE_ROM
+        }
+    }
+
+    /// What the access of this turn reads, where its step is calm with code in this region and
+    /// leaves both flags as they are. An opcode fetch may still read an illegal word.
+    #[inline(always)]
+    pub fn read_calmly(&self, turn: &Turn, code: Region) -> Option<u16>
+        ensures { (start : Start) (logs : Logs) (regs : Registers)
+            → BusStandsFor G.flag self.now start logs
+            → TurnStandsFor regs turn.now start logs
+            → IsCalmRegion G.flag code start logs
+            → IfSome result (λ value. ReadsCalmly G.flag code start logs value) }
+    {
+        if !is_calm(code, turn) {
+            return None;
+        }
+        let value = value_read(&self.memory, &self.peripherals, turn.access);
+        let now = signals(turn, value, None, false);
+        if self.monitors.stay_where_quiet(&now, &self.memory.bounds()) {
+            Some(value)
+        } else {
+            None
+        }
+    }
+
+    /// Makes the calm step of this turn.
+    #[inline(always)]
+    #[tactic(auto, unfolding(device_trace::specs::Logs::with_record))]
+    pub fn act_calmly(&mut self, turn: &Turn)
+        requires { self.old.last ≡ None }
+        ensures last { self.new.last ≡ None }
+        ensures stands { (start : Start) (logs : Logs)
+            (regs : Registers) (code : Region) (value : ℕ)
+            → BusStandsFor G.flag self.old start logs
+            → TurnStandsFor regs turn.now start logs
+            → IsCalmRegion G.flag code start logs
+            → ReadsCalmly G.flag code start logs value
+            → breaks_i1 (signals_of start logs false) ≡ false
+            → BusStandsFor G.flag self.new start (logs_after_step start logs false) }
+    {
+        let _ = exchange(&mut self.memory, turn.access, None);
+        self.peripherals.timer.tick();
+        self.monitors.pass(turn.pc);
     }
 
     // A step in the ROM, apart from the other steps, which are shorter by that.

@@ -254,11 +254,23 @@ impl Cpu {
 
     /// At a boundary: takes the word that was fetched, and begins its instruction. An illegal word
     /// is not taken: then the answer is false, and nothing changes.
-    ///
-    /// The compiler makes one for two operands and one for jumps, which is shorter than one for
-    /// all.
     #[inline(never)]
     pub fn begin(&mut self, word: u16) -> bool
+        ensures taken { result ≡ not (is_illegal word) }
+        ensures follows { result ≡ true → Begins self.old self.new word }
+        ensures stands { (regs : List ℕ)
+            → CpuStandsFor self.old (Boundary regs)
+            → result ≡ true
+            → CpuStandsFor self.new (cpu_after (Boundary regs) word) }
+        ensures refused { result ≡ false → self.new ≡ self.old }
+    {
+        self.begin_here(word)
+    }
+
+    /// Likewise, put into its caller. The compiler makes one for two operands and one for jumps,
+    /// which is shorter than one for all.
+    #[inline(always)]
+    pub fn begin_here(&mut self, word: u16) -> bool
         ensures taken { result ≡ not (is_illegal word) }
         ensures follows { result ≡ true → Begins self.old self.new word }
         ensures stands { (regs : List ℕ)

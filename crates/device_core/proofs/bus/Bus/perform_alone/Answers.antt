@@ -1,4 +1,4 @@
-use Rattle.std.proofs.Common.{◌≡◌, ◌∷◌, None}
+use Rattle.std.proofs.Common.{◌≡◌, ◌∷◌, None, refl}
 use Rattle.bus_signals.specs.SeenRecord.{SeenRecord}
 use Rattle.mem_map.specs.Memory.{MemoryStandsFor}
 use Rattle.device_trace.specs.Logs.{flags_of, flags_shown, logged_bounds, memory_after, with_record}
@@ -30,8 +30,8 @@ returns-clause-stands g c = λ start logs line keeps stands value same_dma same_
           (rw c.make-entry.ensures.peripherals stands.same_peripherals));
       same_monitors =
           rw entry at
-          (c.pass.ensures (logged_bounds start logs) logs.records
-          (rw c.make-entry.ensures.monitors stands.same_monitors) leaves);
+          (c.pass.ensures now logs.records
+          (rw c.make-entry.ensures.monitors stands.same_monitors) leaves refl);
       same_flag = stands.same_flag;
       same_last = rw c.keep_none.ensures line;
     }

@@ -19,14 +19,15 @@ loop-made-preserved g c = (
       let silent = silent-more start made play
       (silent-unkept start (with_idle (made + 1) play) _ next.same.same_bus.same_last
       (sym c.is_some.ensures ∙ c.if-is_some.false))
-      all in (
+      all in
+      let (after, later) =
+      c.go_on-made.ensures.plays start (with_idle (made + 1) play) next in (
         subst
-            (λ (after : Play). PlaysAt g.D.Digest32.hash g.G.TraceFlag.flag
-            c.go_undisturbed-stage.result c.sleep-made.new.self start after)
-            (idle-after c.sleep-made.result (made + 1) play)
-            (c.sleep-made.ensures.stands start (with_idle (made + 1) play) next),
-        silent-after start c.sleep-made.result (made + 1) play
-            (c.sleep-made.ensures.silent start (with_idle (made + 1) play) next) silent,
+            (λ (behind : Play). PlaysAt g.D.Digest32.hash g.G.TraceFlag.flag
+            c.go_undisturbed-stage.result c.go_on-made.new.self start behind)
+            (idle-after c.go_on-made.result (made + 1) play)
+            after,
+        silent-after start c.go_on-made.result (made + 1) play later silent,
       ),
 )
 

@@ -3,18 +3,14 @@ use Rattle.device_trace.specs.Trace.{logs_after}
 use Rattle.device_core.proofs.Sleep.{plays-asleep, silent-asleep}
 use Rattle.device_core.proofs.machine.Machine.rest.Goals as goal
 
-pub returns-in-Some-clause-stands : goal.returns-in-Some-clause-stands
-returns-in-Some-clause-stands g c = λ start play stands.
+pub returns-in-Some-clause-plays : goal.returns-in-Some-clause-plays
+returns-in-Some-clause-plays g c = λ start play stands.
     let logs = logs_after start play in
     let sleeps = c.in-Some.ensures start logs stands.same stands.same_stage in
-    let bus = c.rest.ensures in
-    plays-asleep c.args.self.now c.rest.new.self start play c.rest.result stands bus.last
-    (bus.stands start logs stands.same.same_bus sleeps)
-    (bus.asleep start logs c.rest.result stands.same.same_bus sleeps (omega arith))
-
-pub returns-in-Some-clause-silent : goal.returns-in-Some-clause-silent
-returns-in-Some-clause-silent g c = λ start play stands.
-    let logs = logs_after start play in
-    let sleeps = c.in-Some.ensures start logs stands.same stands.same_stage in
-    silent-asleep start play c.rest.result
-    (λ some few. c.rest.ensures.asleep start logs some stands.same.same_bus sleeps few)
+    let bus = c.rest.ensures in (
+      plays-asleep c.args.self.now c.rest.new.self start play c.rest.result stands bus.last
+          (bus.stands start logs stands.same.same_bus sleeps)
+          (bus.asleep start logs c.rest.result stands.same.same_bus sleeps (omega arith)),
+      silent-asleep start play c.rest.result
+          (λ some few. bus.asleep start logs some stands.same.same_bus sleeps few),
+    )

@@ -1,30 +1,12 @@
-use Rattle.std.proofs.Common.{◌≡◌, ◌∙◌, Option, Some, None, map, refl, sym}
-use Rattle.bus_signals.specs.declared.access.Access.{Access}
-use Rattle.bus_signals.specs.declared.access.Access.TheVariants.{Fetch, Read, Write}
-use Rattle.bus_signals.specs.Access.{without_number}
-use Rattle.device_trace.specs.Blank.{blank_access, blank_record, blank_seen}
-use Rattle.bus_signals.specs.TraceFlag.{IsRecordOf}
+use Rattle.std.proofs.Common.{◌∙◌, map, sym}
+use Rattle.device_trace.specs.Blank.{blank_record, blank_seen}
 use Rattle.trace_facts.proofs.BlankRecords.{last_pc-blank}
+use Rattle.device_core.proofs.BlankStep.{blank-step}
 use Rattle.device_core.proofs.monitors.Monitors.stay.Goals as goal
-
-number_alone : (access : Option Access)
-    → without_number (blank_access access) ≡ without_number access
-number_alone None = refl
-number_alone (Some (Fetch place)) = refl
-number_alone (Some (Read place size)) = refl
-number_alone (Some (Write place size number)) = refl
 
 pub returns-then-stays : goal.returns-then-stays
 returns-then-stays g c = λ entry records stands is same.
-    let blank : IsRecordOf c.args.now.now (blank_record entry) =
-    record {
-      same_kind = is.same_kind;
-      same_pc = is.same_pc;
-      same_cpu = number_alone entry.cpu ∙ is.same_cpu;
-      same_dma = number_alone entry.dma ∙ is.same_dma;
-      same_irq = is.same_irq;
-      unrefused = is.unrefused;
-    } in
+    let blank = blank-step c.args.now.now entry is in
     record {
       same_exec =
           c.stays.ensures entry records stands.same_exec is

@@ -1,0 +1,141 @@
+-- A processor that runs, after a calm step.
+use Rattle.std.proofs.Common.{◌≡◌, ◌∙◌, ◌+◌, ℕ, true, false, Some, None, inl, refl, sym, subst}
+use Rattle.bus_signals.specs.declared.access.Access.TheVariants.{Fetch}
+use Rattle.bus_signals.specs.declared.kind.Kind.TheVariants.{Cpu}
+use Rattle.bus_signals.specs.declared.region.Region.{Region}
+use Rattle.bus_signals.specs.TraceFlag.{Flag}
+use Rattle.part_definitions.specs.CpuRegister.{Registers}
+use Rattle.part_definitions.specs.CpuState.{CpuState, Boundary, Executing, Entering, cpu_after, is_at_boundary}
+use Rattle.part_definitions.specs.FirstRule.{breaks_i1}
+use Rattle.part_definitions.specs.NextAccess.{is_illegal}
+use Rattle.hmac_core.specs.Hash.{Hash}
+use Rattle.msp_exec.specs.Course.{CpuStandsFor}
+use Rattle.swatt_rom.specs.RomCall.{NoCall}
+use Rattle.swatt_rom.specs.Rom.{RomStandsFor}
+use Rattle.device_trace.specs.Logs.{Logs, step_progress}
+use Rattle.device_trace.specs.Play.{Play}
+use Rattle.device_trace.specs.Progress.{Progress, Held, InCall, Runs, fetches_opcode}
+use Rattle.device_trace.specs.Signals.{proposed_access, signals_at, signals_of, step_kind, value_read}
+use Rattle.device_trace.specs.Start.{Start}
+use Rattle.device_trace.specs.Step.{record_of}
+use Rattle.device_trace.specs.Trace.{logs_after}
+use Rattle.device_core.specs.Bus.{BusStandsFor, answer_in, logs_after_step}
+use Rattle.device_core.specs.Calm.{IsCalmRegion, ReadsCalmly}
+use Rattle.device_core.specs.Machine.{EndsAt, StandsAfter, WritesBy, cpu_of}
+use Rattle.device_core.specs.Silence.{with_idle}
+use Rattle.device_core.specs.declared.machine.Machine.{Machine}
+use Rattle.device_core.specs.declared.stage.Stage.TheVariants.{Running}
+use Rattle.device_core.proofs.Calls.{ended}
+use Rattle.device_core.proofs.CalmRegion.{calm-after, calm-answer}
+use Rattle.device_core.proofs.CalmStep.{and-false}
+use Rattle.device_core.proofs.Decisions.{decision-none, other-decision}
+use Rattle.device_core.proofs.Idle.{idle-logs, idle-more}
+use Rattle.device_core.proofs.NextProgress.{progress-performed}
+use Rattle.device_core.proofs.Turns.{next-runs}
+
+signals-cpu : (start : Start) (logs : Logs) → (signals_of start logs false).kind ≡ step_kind logs
+unfolding signals_at
+signals-cpu start logs = refl
+
+-- what a calm step is of
+pub calm-kind :
+    {G : Type 0} {flag : Flag G} {code : Region} (start : Start) (logs : Logs) {value : ℕ}
+    → ReadsCalmly flag code start logs value → step_kind logs ≡ Cpu
+calm-kind start logs reads = sym (signals-cpu start logs) ∙ reads.calm.by_processor
+
+opcode-middle :
+    (progress : Progress)
+    → is_at_boundary (cpu_of progress) ≡ false → fetches_opcode Cpu progress ≡ false
+opcode-middle Held middle = absurd cc
+opcode-middle (Runs (Boundary regs)) middle = absurd cc
+opcode-middle (Runs (Executing regs values)) middle = refl
+opcode-middle (Runs (Entering regs other values)) middle = refl
+opcode-middle (InCall regs words) middle = absurd cc
+
+pub middle-opcode :
+    (logs : Logs)
+    → step_kind logs ≡ Cpu → is_at_boundary (cpu_of logs.progress) ≡ false
+    → fetches_opcode (step_kind logs) logs.progress ≡ is_at_boundary (cpu_of logs.progress)
+middle-opcode logs is middle = rw is (opcode-middle logs.progress middle) ∙ sym middle
+
+-- in the middle of an instruction no opcode is fetched
+pub middle-legal :
+    (start : Start) (logs : Logs)
+    → step_kind logs ≡ Cpu → is_at_boundary (cpu_of logs.progress) ≡ false
+    → breaks_i1 (signals_of start logs false) ≡ false
+unfolding signals_at
+middle-legal start logs is middle = rw (is, opcode-middle logs.progress middle) refl
+
+pub opcode-fetched :
+    (logs : Logs) (regs : Registers)
+    → logs.progress ≡ Runs (Boundary regs) → step_kind logs ≡ Cpu
+    → fetches_opcode (step_kind logs) logs.progress ≡ true
+opcode-fetched logs regs runs is = rw (is, runs) refl
+
+-- nor an illegal one where the word that was read is legal
+pub fetched-legal :
+    (start : Start) (logs : Logs) (value place : ℕ)
+    → proposed_access start logs (step_kind logs) ≡ Some (Fetch place)
+    → value ≡ value_read start logs (signals_of start logs false).cpu
+    → is_illegal value ≡ false
+    → breaks_i1 (signals_of start logs false) ≡ false
+unfolding signals_at
+fetched-legal start logs value place access reads legal =
+    let word = rw access at reads in
+    let same = rw word at legal in
+    rw (access, same) (and-false (fetches_opcode (step_kind logs) logs.progress))
+
+pub runs-on :
+    {D G : Type 0} (hash : Hash D) (machine : Machine D G) (start : Start) (logs : Logs)
+    (value : ℕ) (state : CpuState)
+    → step_kind logs ≡ Cpu → step_progress logs (step_kind logs) ≡ Runs state
+    → answer_in (record_of start logs false) ≡ Some value
+    → CpuStandsFor machine.processor (cpu_after state value)
+    → RomStandsFor hash machine.call NoCall
+    → EndsAt hash Running machine (logs_after_step start logs false)
+runs-on hash machine start logs value state is within answer processor call =
+    let kind = step_kind logs in
+    let next : (logs_after_step start logs false).progress ≡ Runs (cpu_after state value) =
+    progress-performed start logs false value answer
+    ∙ next-runs kind (step_progress logs kind) state (proposed_access start logs kind) value within
+    (inl is) in
+    record {
+      same_progress = rw next (record { same_processor = processor; same_call = call });
+      same_stage = rw next refl;
+      same_decision = decision-none _ _ (other-decision start logs false (rw is refl));
+    }
+
+-- after a calm step
+pub goes-calmly :
+    {D G : Type 0} (hash : Hash D) (flag : Flag G) (machine : Machine D G) (code : Region)
+    (start : Start) (logs : Logs) (value : ℕ) (state : CpuState)
+    → IsCalmRegion flag code start logs → ReadsCalmly flag code start logs value
+    → breaks_i1 (signals_of start logs false) ≡ false
+    → step_progress logs (step_kind logs) ≡ Runs state
+    → machine.bus.last ≡ None
+    → BusStandsFor flag machine.bus start (logs_after_step start logs false)
+    → WritesBy hash start
+    → CpuStandsFor machine.processor (cpu_after state value)
+    → RomStandsFor hash machine.call NoCall
+    → StandsAfter hash flag Running machine start logs false
+    × IsCalmRegion flag code start (logs_after_step start logs false)
+goes-calmly hash flag machine code start logs value state region reads legal within last bus writes
+    processor call = (
+      ended refl
+          (runs-on hash machine start logs value state (calm-kind start logs reads) within
+          (calm-answer flag code start logs value region reads legal) processor call)
+          writes (record { same = bus; same_signals = rw last tt }),
+      calm-after flag code start logs value region reads legal bus.same_flag,
+    )
+
+-- in the words of a play
+pub region-idle :
+    {G : Type 0} (flag : Flag G) (code : Region) (start : Start) (steps : ℕ) (play : Play)
+    → IsCalmRegion flag code start
+    (logs_after_step start (logs_after start (with_idle steps play)) false)
+    → IsCalmRegion flag code start (logs_after start (with_idle (steps + 1) play))
+region-idle flag code start steps play region =
+    let before = with_idle steps play in
+    subst (λ here. IsCalmRegion flag code start (logs_after start here))
+    (sym (idle-more steps play))
+    (subst (λ logs. IsCalmRegion flag code start logs) (sym (idle-logs start before)) region)

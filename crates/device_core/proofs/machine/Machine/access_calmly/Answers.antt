@@ -1,0 +1,32 @@
+use Rattle.std.proofs.Common.{◌∙◌, false}
+use Rattle.device_trace.specs.Progress.{last_registers}
+use Rattle.device_core.specs.Machine.{cpu_of}
+use Rattle.device_core.proofs.CalmRegion.{calm-answer}
+use Rattle.device_core.proofs.CalmRuns.{calm-kind, goes-calmly, middle-legal, middle-opcode}
+use Rattle.device_core.proofs.Turns.{middle-within, runs-middle, takes-value}
+use Rattle.device_core.proofs.machine.Machine.access_calmly.Goals as goal
+
+pub returns-in-Some-clause-made : goal.returns-in-Some-clause-made
+returns-in-Some-clause-made g c = λ made start logs stands middle region.
+    let hash = g.D.Digest32.hash in
+    let flag = g.G.TraceFlag.flag in
+    let code = c.args.code in
+    let value = c.in-Some.value in
+    let regs = last_registers logs.progress in
+    let state = cpu_of logs.progress in
+    let turn = c.turn_in_the_middle-turn.ensures start logs stands middle in
+    let reads = c.in-Some.ensures start logs regs turn.same_bus turn.same_turn region in
+    let kind = calm-kind start logs reads in
+    let legal = middle-legal start logs kind middle in
+    let within = middle-within logs state (runs-middle logs.progress middle) middle in
+    let answer = calm-answer flag code start logs value region reads legal in
+    let processor = rw within at turn.same_progress.same_processor in
+    goes-calmly hash flag _ code start logs value state region reads legal within
+    c.act_calmly.ensures.last
+    (c.act_calmly.ensures.stands start logs regs code value turn.same_bus turn.same_turn region
+    reads legal)
+    stands.same_word
+    (c.try_take.ensures.stands state processor
+    (c.try_take.ensures.taken state processor
+    ∙ takes-value start logs false state value within (middle-opcode logs kind middle) answer))
+    (rw within at turn.same_progress.same_call)

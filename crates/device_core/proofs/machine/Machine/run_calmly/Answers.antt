@@ -1,0 +1,7 @@
+use Rattle.device_trace.specs.Trace.{logs_after}
+use Rattle.device_core.proofs.machine.Machine.run_calmly.Goals as goal
+
+pub returns-in-Some-clause-plays : goal.returns-in-Some-clause-plays
+returns-in-Some-clause-plays g c = λ start play stands.
+    c.go_calmly.ensures.plays start play stands
+    (c.in-Some.ensures start (logs_after start play) stands.same.same_bus)
