@@ -34,6 +34,7 @@ with_event parts (Dma source destination words) =
     record parts { dma = TransferStart source destination words ∷ parts.dma }
 with_event parts Reset = parts
 
+-- the events of a step, in their order
 abbrev pub with_all_events : Peripherals → List Event → Peripherals
 with_all_events parts [] = parts
 with_all_events parts (event ∷ events) = with_all_events (with_event parts event) events

@@ -23,6 +23,7 @@ pub data Progress : Type 0 where
   -- in a call of the ROM: the registers at its start, and the words that passed in it, oldest first
   InCall : Registers → List Word16 → Progress
 
+-- the registers at the last boundary
 abbrev pub last_registers : Progress → Registers
 last_registers Held = clear_registers
 last_registers (Runs cpu) = registers_of cpu

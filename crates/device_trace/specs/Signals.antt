@@ -28,6 +28,7 @@ value_read start logs (Some (Fetch place)) = number_read start logs place Word
 value_read start logs (Some (Read place size)) = number_read start logs place size
 value_read start logs access = 0
 
+-- what a fetch would read
 abbrev pub word_fetched : Start → Logs → Option Access → Word16
 word_fetched start logs (Some (Fetch place)) = number_read start logs place Word
 word_fetched start logs access = 0

@@ -36,6 +36,7 @@ abbrev pub last_byte_sent : List BusRecord → Option ℕ
 last_byte_sent [] = None
 last_byte_sent (entry ∷ history) = byte_sent_in entry
 
+-- the bytes of OR, where the bounds are valid
 abbrev pub reported_output : Contents → Bounds → Option Bytes
 reported_output bytes bounds =
     if are_valid bounds then Some (output_bytes bytes bounds) else None

@@ -9,9 +9,10 @@ pub returns-clause-puts : goal.returns-clause-puts
 returns-clause-puts g c = λ lines stands.
     let wave = c.args.self.now in
     let last = c.in-Some.last in
+    let ended : TraceLine = record last { exec = wave.exec } in
     subst (λ (text : List ℕ). Puts g.W.Sink.stands c.args.sink.now c.print_told.new.sink text
     c.print_told.result)
-    (ap (λ (before : Option TraceLine). told_text wave.steps before (record last { exec = wave.exec }))
+    (ap (λ (before : Option TraceLine). told_text wave.steps before ended)
     c.as_ref.ensures.value
     ∙ sym (end_told wave lines last stands c.in-Some.is))
     c.print_told.ensures.puts
