@@ -3,13 +3,15 @@ use Rattle.std.proofs.Common.{◌≡◌, ℕ, zero, suc, ◌+◌, ◌<◌, ◌�
 use Rattle.std.specs.Prelude.{◌||◌, ◌&&◌, nat_le, nat_lt, slice_index, if◌then◌else◌}
 use Rattle.std.proofs.lemmas.Bool.Decides.{nat_tests}
 use Rattle.bus_signals.specs.declared.bounds.Bounds.{Bounds}
-use Rattle.part_definitions.specs.Attestation.{BEFORE_METADATA, BEFORE_KEPT, BEFORE_KEPT_WRITE, bounds_read, region_words, decision_read, item_after, call_item}
+use Rattle.part_definitions.specs.Attestation.{KEY_WORDS, METADATA_WORDS, REQUEST_WORDS, bounds_read, region_words, decision_read, call_item}
+use Rattle.part_definitions.proofs.CallItems.{item_after}
 use Rattle.key_isolation.proofs.Bytes.{zero_either}
 
 -- which words are hidden
 abbrev pub hides_word : ℕ → Bool
 hides_word place =
-    nat_lt place BEFORE_METADATA || (nat_le BEFORE_KEPT place && nat_lt place BEFORE_KEPT_WRITE)
+    nat_lt place KEY_WORDS
+    || (nat_le (KEY_WORDS + METADATA_WORDS) place && nat_lt place REQUEST_WORDS)
 
 abbrev pub hidden_word : ℕ → ℕ → ℕ
 hidden_word place word = if hides_word place then 0 else word

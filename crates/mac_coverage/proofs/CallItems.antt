@@ -1,32 +1,39 @@
 -- The access of a call after so many words that passed, and its number.
-use Rattle.std.proofs.Common.{◌≡◌, ℕ, ◌+◌, ◌<◌, ◌≤◌, true, false, refl, ap, arith}
+use Rattle.std.proofs.Common.{◌≡◌, ℕ, ◌+◌, ◌<◌, ◌≤◌, true, false, refl, ap, ◌∙◌, arith}
 use Rattle.std.specs.Prelude.{◌==◌}
 use Rattle.std.proofs.lemmas.Bool.{cond_both, cond-false, ne_eqb}
 use Rattle.std.proofs.lemmas.Bool.Decides.{nat_tests}
 use Rattle.bus_signals.specs.Map.{ROM_ENTRY, ROM_BODY, ROM_EXIT}
-use Rattle.part_definitions.specs.Attestation.{CallItem, KeyRead, MetadataRead, KeptRead, KeptWrite, DecisionWrite, DerivedKeyWrite, RegionRead, InnerDigestWrite, MacWrite, ReturnRead, item_after, item_pc, is_return}
+use Rattle.part_definitions.specs.Attestation.{CallItem, KeyRead, MetadataRead, KeptRead, KeptWrite, DecisionWrite, DerivedKeyWrite, RegionRead, InnerDigestWrite, MacWrite, ReturnRead, item_pc, is_return}
 use Rattle.part_definitions.specs.Request.{ATTESTS}
+use Rattle.part_definitions.proofs.CallItems.{item_after, item_after-is}
 use Rattle.trace_facts.proofs.ItemNumbers.{IsItemAt, item_after-at}
 
--- the reads, from their numbers
+-- items from their numbers
 pub key_item : (region decision i : ℕ) → i < 32 → item_after region decision i ≡ KeyRead i
-key_item region decision i within = grind (arith, nat_tests)
+key_item region decision i within = grind (arith, nat_tests, item_after-is)
 
 pub metadata_item : (region decision i : ℕ) → i < 40
     → item_after region decision (32 + i) ≡ MetadataRead i
-metadata_item region decision i within = grind (arith, nat_tests)
+metadata_item region decision i within = grind (arith, nat_tests, item_after-is)
 
 pub kept_item : (region decision i : ℕ) → i < 2
     → item_after region decision (72 + i) ≡ KeptRead i
-kept_item region decision i within = grind (arith, nat_tests)
+kept_item region decision i within = grind (arith, nat_tests, item_after-is)
+
+pub high_word_item : (region decision : ℕ) → item_after region decision 74 ≡ KeptWrite 1
+high_word_item region decision = item_after-is region decision 74
+
+pub decision_item : (region decision : ℕ) → item_after region decision 76 ≡ DecisionWrite
+decision_item region decision = item_after-is region decision 76
 
 pub region_item : (region i : ℕ) → i < region → item_after region ATTESTS (93 + i) ≡ RegionRead i
-region_item region i within = grind (arith, nat_tests)
+region_item region i within = grind (arith, nat_tests, item_after-is)
 
 -- before the decision is written neither it nor the size of the region matters
 pub item_after-early : (region other decision second count : ℕ) → count < 77
     → item_after region decision count ≡ item_after other second count
-item_after-early region other decision second count early = grind (arith, nat_tests)
+item_after-early region other decision second count early = grind (arith, nat_tests, item_after-is)
 
 -- the ROM is entered with the first word alone, and left with the return read alone
 pub only_first_enters : (region decision count : ℕ) → 1 ≤ count

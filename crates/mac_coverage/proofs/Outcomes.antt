@@ -9,8 +9,9 @@ use Rattle.bus_signals.specs.declared.kind.Kind.TheVariants.{Rom}
 use Rattle.bus_signals.specs.declared.rule.Rule.{Rule}
 use Rattle.bus_signals.specs.Kind.{is_rom}
 use Rattle.bus_signals.specs.Map.{ROM_ENTRY, ROM_EXIT}
-use Rattle.part_definitions.specs.Attestation.{CallItem, KeptWrite, bounds_read, call_item, decision_read, is_return, item_access, item_after, region_words, word_passed}
+use Rattle.part_definitions.specs.Attestation.{CallItem, KeptWrite, bounds_read, call_item, decision_read, is_return, item_access, region_words, word_passed}
 use Rattle.part_definitions.specs.CpuRegister.{sp_of}
+use Rattle.part_definitions.proofs.CallItems.{first_pc, item_after}
 use Rattle.bus_signals.specs.Address.{Bytes}
 use Rattle.part_definitions.specs.Hmac.{Digest}
 use Rattle.device_trace.specs.Play.{Play}
@@ -23,7 +24,7 @@ use Rattle.trace_facts.proofs.Choices.{none_there}
 use Rattle.mac_coverage.specs.AttestedBytes.{AttestedBytes, decision_of}
 use Rattle.mac_coverage.specs.Call.{begins_call, last_call, mac_written}
 use Rattle.mac_coverage.specs.Coverage.{MacCoversCall, contents_before, kept_before}
-use Rattle.mac_coverage.proofs.CallItems.{exit_returns, only_first_enters}
+use Rattle.mac_coverage.proofs.CallItems.{exit_returns, high_word_item, only_first_enters}
 use Rattle.mac_coverage.proofs.Calls.{CallGoes, CallSoFar, call-goes_on, call-returns, return-is_last}
 use Rattle.mac_coverage.proofs.Covers.{covers_refused, covers_so_far, released-refused}
 use Rattle.mac_coverage.proofs.Device.{Device, start_of}
@@ -110,8 +111,9 @@ high_item : (device : Device) (contents : AttestedBytes) (kept words : List ℕ)
     → call_item words ≡ KeptWrite 1
 high_item device contents kept words by_plan count =
     call_item-planned device.digest device.key contents kept words by_plan
-    ∙ ap (item_after (attested_words contents) (decision_of device.digest device.key contents kept))
+    ∙ (ap (item_after (attested_words contents) (decision_of device.digest device.key contents kept))
     count
+    ∙ high_word_item (attested_words contents) (decision_of device.digest device.key contents kept))
 
 wrote_high : (device : Device) (play : Play) (events : List Event)
     (regs words : List ℕ) (contents : AttestedBytes) (kept : List ℕ)
@@ -279,7 +281,7 @@ first_outcome device play events regs turn =
     let begins : begins_call entry ≡ true =
     and_from (is_rom entry.kind) (entry.pc == ROM_ENTRY)
     (ap is_rom (entry-kind device play events ∙ turn.kind))
-    (ap (λ (pc : ℕ). pc == ROM_ENTRY) (entry-pc device play events regs [] turn)) in
+    (ap (λ (pc : ℕ). pc == ROM_ENTRY) (entry-pc device play events regs [] turn ∙ first_pc)) in
     elim (cases_Bool (is_some entry.reset)) [
       | inl refuses ↦
           record {

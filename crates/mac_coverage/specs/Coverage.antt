@@ -4,7 +4,7 @@ use Rattle.std.specs.Prelude.{◌≡◌, ◌<◌, ◌≤◌, ◌+◌, ◌-◌, �
 use Rattle.word_arith.specs.Word16.{Word16}
 use Rattle.bus_signals.specs.Report.{ReportFields}
 use Rattle.bus_signals.specs.Address.{Contents, Bytes, Address}
-use Rattle.part_definitions.specs.Attestation.{BEFORE_DECISION, BEFORE_KEPT_WRITE}
+use Rattle.part_definitions.specs.Attestation.{REQUEST_WORDS}
 use Rattle.part_definitions.specs.Metadata.{kept_bytes}
 use Rattle.part_definitions.specs.Region.{mac_bytes}
 use Rattle.part_definitions.specs.Request.{ATTESTS}
@@ -52,8 +52,8 @@ pub record IsAtCall (start : Start) (play : Play) (steps : ℕ) : Type 0 where
 -- the kept counter after so many steps of a call, which replaces one by the other, high word first
 abbrev pub kept_within : Bytes → Bytes → ℕ → Bytes
 kept_within kept left steps =
-    if nat_lt steps (BEFORE_KEPT_WRITE + 1) then kept
-    else if nat_lt steps BEFORE_DECISION then take 2 kept ++ drop 2 left
+    if nat_lt steps (REQUEST_WORDS + 1) then kept
+    else if nat_lt steps (REQUEST_WORDS + 2) then take 2 kept ++ drop 2 left
     else left
 
 -- what the MAC of the last call of a play covers

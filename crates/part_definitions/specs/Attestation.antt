@@ -1,6 +1,7 @@
 -- A call of the attestation ROM: its accesses, by the words that passed in it so far, those that it
 -- read and those that it wrote to the MAC. (VRASED.)
-use Rattle.std.specs.Prelude.{◌==◌, ◌++◌, ◌+◌, ◌-◌, ◌*◌, ◌/◌, ◌%◌, ℕ, Bool, true, false, List, [], ◌∷◌, length, take, drop, slice_index, nat_lt, if◌then◌else◌, Option, Some}
+use Rattle.std.specs.Prelude.{◌==◌, ◌++◌, ◌+◌, ◌-◌, ◌*◌, ◌/◌, ◌%◌, ℕ, Bool, true, false, List, [], ◌∷◌, length, take, drop, slice_index, map, get_or, nat_lt, if◌then◌else◌, Option, Some}
+use Rattle.std.specs.List.{range_with_len}
 use Rattle.word_arith.specs.declared.size.Size.TheVariants.{Word}
 use Rattle.word_arith.specs.Word16.{Word16}
 use Rattle.bus_signals.specs.declared.access.Access.{Access}
@@ -28,39 +29,30 @@ pub data CallItem : Type 0 where
   MacWrite : ℕ → CallItem
   ReturnRead : CallItem
 
+-- how many words a call reads of the key, and of the metadata
+abbrev pub KEY_WORDS : ℕ
+KEY_WORDS = 32
+
 abbrev pub METADATA_WORDS : ℕ
 METADATA_WORDS = 40
 
--- how many words pass before each part of a call: 32 of the key, and then those of each part before
-abbrev pub BEFORE_METADATA : ℕ
-BEFORE_METADATA = 32
+-- how many it reads before it decides: also the two of the kept counter
+abbrev pub REQUEST_WORDS : ℕ
+REQUEST_WORDS = KEY_WORDS + METADATA_WORDS + 2
 
-abbrev pub BEFORE_KEPT : ℕ
-BEFORE_KEPT = BEFORE_METADATA + METADATA_WORDS
+-- those of the derived key, of the inner digest and of the MAC
+abbrev pub DIGEST_WORDS : ℕ
+DIGEST_WORDS = 16
 
-abbrev pub BEFORE_KEPT_WRITE : ℕ
-BEFORE_KEPT_WRITE = BEFORE_KEPT + 2
-
-abbrev pub BEFORE_DECISION : ℕ
-BEFORE_DECISION = BEFORE_KEPT_WRITE + 2
-
--- in a call that attests: the derived key, the inner digest and the MAC have 16 words each
-abbrev pub BEFORE_DERIVED_KEY : ℕ
-BEFORE_DERIVED_KEY = BEFORE_DECISION + 1
-
+-- how many pass before ER and OR are read: also those written of the counter, the decision and the
+-- derived key
 abbrev pub BEFORE_REGION : ℕ
-BEFORE_REGION = BEFORE_DERIVED_KEY + 16
+BEFORE_REGION = REQUEST_WORDS + 2 + 1 + DIGEST_WORDS
 
--- and those of the region pass beside these
-abbrev pub BEFORE_MAC : ℕ
-BEFORE_MAC = BEFORE_REGION + 16
-
-abbrev pub BEFORE_RETURN : ℕ
-BEFORE_RETURN = BEFORE_MAC + 16
-
--- a word of the metadata: the bounds are words 16 to 19, and the counter is words 22 and 23
+-- a word of the metadata: the bounds are words 16 to 19, behind the challenge, and the counter is
+-- words 22 and 23, behind the flags
 abbrev pub metadata_word : List Word16 → ℕ → Word16
-metadata_word words i = slice_index words (BEFORE_METADATA + i)
+metadata_word words i = slice_index words (KEY_WORDS + i)
 
 abbrev pub bounds_read : List Word16 → Bounds
 bounds_read words =
@@ -71,6 +63,7 @@ bounds_read words =
       or_max = metadata_word words 19;
     }
 
+-- how many words there are from one place to another
 abbrev pub words_between : Address → Address → ℕ
 words_between first last = (last - first) / 2 + 1
 
@@ -84,39 +77,37 @@ region_words bounds =
     then executable_words bounds + words_between bounds.or_min bounds.or_max
     else 0
 
--- the decision that was written
+-- the decision, which is written behind the two words of the counter
 abbrev pub decision_read : List Word16 → Word16
-decision_read words = slice_index words BEFORE_DECISION
+decision_read words = slice_index words (REQUEST_WORDS + 2)
 
--- the access after so many words of a call, up to the decision; the high word is written first
-abbrev pub item_until_decision : ℕ → CallItem
-item_until_decision count =
-    if nat_lt count BEFORE_METADATA then KeyRead count
-    else if nat_lt count BEFORE_KEPT then MetadataRead (count - BEFORE_METADATA)
-    else if nat_lt count BEFORE_KEPT_WRITE then KeptRead (count - BEFORE_KEPT)
-    else if nat_lt count BEFORE_DECISION then KeptWrite (BEFORE_DECISION - 1 - count)
-    else DecisionWrite
+-- so many items of one sort, numbered from 0
+abbrev pub series : (ℕ → CallItem) → ℕ → List CallItem
+series item count = map item (range_with_len 0 count)
 
--- and after it in a call that attests, where it reads so many words of ER and OR
-abbrev pub item_of_attestation : ℕ → ℕ → CallItem
-item_of_attestation region count =
-    if nat_lt count BEFORE_REGION then DerivedKeyWrite (count - BEFORE_DERIVED_KEY)
-    else if nat_lt count (BEFORE_REGION + region) then RegionRead (count - BEFORE_REGION)
-    else if nat_lt count (BEFORE_MAC + region) then
-    InnerDigestWrite (count - (BEFORE_REGION + region))
-    else if nat_lt count (BEFORE_RETURN + region) then MacWrite (count - (BEFORE_MAC + region))
-    else ReturnRead
+-- what a call that attests does behind its decision, where it reads so many words of ER and OR
+abbrev pub attestation_items : ℕ → List CallItem
+attestation_items region =
+    series DerivedKeyWrite DIGEST_WORDS
+    ++ series RegionRead region
+    ++ series InnerDigestWrite DIGEST_WORDS
+    ++ series MacWrite DIGEST_WORDS
 
--- another decision ends the call
-abbrev pub item_after : ℕ → Word16 → ℕ → CallItem
-item_after region decision count =
-    if nat_lt count BEFORE_DERIVED_KEY then item_until_decision count
-    else if decision == ATTESTS then item_of_attestation region count
-    else ReturnRead
+-- a call up to its return read, with so many words of ER and OR and this decision; the high word of
+-- the counter is written first
+unfoldable pub call_items : ℕ → Word16 → List CallItem
+call_items region decision =
+    series KeyRead KEY_WORDS
+    ++ series MetadataRead METADATA_WORDS
+    ++ series KeptRead 2
+    ++ KeptWrite 1 ∷ KeptWrite 0 ∷ DecisionWrite ∷ []
+    ++ (if decision == ATTESTS then attestation_items region else [])
 
+-- the access after these words, which is the return read where nothing else is left
 abbrev pub call_item : List Word16 → CallItem
 call_item words =
-    item_after (region_words (bounds_read words)) (decision_read words) (length words)
+    get_or (call_items (region_words (bounds_read words)) (decision_read words)) (length words)
+    ReturnRead
 
 -- word i of ER and then of OR
 abbrev pub region_place : Bounds → ℕ → Address
@@ -157,13 +148,13 @@ word_of_bytes bytes i = slice_index bytes (2 * i) + 256 * slice_index bytes (2 *
 
 -- what a call read, as bytes
 abbrev pub key_read : List Word16 → Bytes
-key_read words = bytes_of_words (take BEFORE_METADATA words)
+key_read words = bytes_of_words (take KEY_WORDS words)
 
 abbrev pub metadata_read : List Word16 → Bytes
-metadata_read words = bytes_of_words (take METADATA_WORDS (drop BEFORE_METADATA words))
+metadata_read words = bytes_of_words (take METADATA_WORDS (drop KEY_WORDS words))
 
 abbrev pub kept_read : List Word16 → Bytes
-kept_read words = bytes_of_words (take 2 (drop BEFORE_KEPT words))
+kept_read words = bytes_of_words (take 2 (drop (KEY_WORDS + METADATA_WORDS) words))
 
 abbrev pub region_read : List Word16 → Bytes
 region_read words =
@@ -194,11 +185,12 @@ abbrev pub decision_in : Digest → List Word16 → Word16
 decision_in digest words =
     request_decision digest (key_read words) (metadata_read words) (kept_read words)
 
--- a word of the counter that is kept from now on: the request's, where the call attests
+-- a word of the counter that is kept from now on: the request's where the call attests, else the
+-- one that was kept
 abbrev pub counter_word : List Word16 → Word16 → ℕ → Word16
 counter_word words decision i =
     if decision == ATTESTS then metadata_word words (22 + i)
-    else slice_index words (BEFORE_KEPT + i)
+    else slice_index words (KEY_WORDS + METADATA_WORDS + i)
 
 -- the word that a call writes there, 0 where it reads
 abbrev pub written_word : Digest → List Word16 → CallItem → Word16
@@ -209,7 +201,8 @@ written_word digest words (InnerDigestWrite i) = word_of_bytes (inner_in digest 
 written_word digest words (MacWrite i) = word_of_bytes (tag_in digest words) i
 written_word digest words item = 0
 
--- the word that passes in a step: the one read, or the one released; of a write to the stack 0
+-- the word that passes in a step: the one read, or the one released; of a write to the stack, which
+-- a call does not read again, 0
 abbrev pub word_passed : Option Access → Word16 → Word16
 word_passed (Some (Write place size number)) value =
     if lies_in mac_region place then number else 0

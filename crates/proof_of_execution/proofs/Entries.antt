@@ -1,5 +1,5 @@
 -- How the executable region is entered: by an opcode fetch, or asleep, and then sleep lasts.
-use Rattle.std.proofs.Common.{◌≡◌, ℕ, ◌*◌, ◌/◌, ◌<◌, true, false, List, ◌⊎◌, inl, inr, Option, Some, None, refl, ap, sym, ◌∙◌, arith, subst}
+use Rattle.std.proofs.Common.{◌≡◌, ℕ, ◌*◌, ◌/◌, ◌<◌, true, false, List, [], ◌⊎◌, inl, inr, Option, Some, None, refl, ap, sym, ◌∙◌, arith, subst}
 use Rattle.std.specs.Prelude.{◌==◌, ◌&&◌, is_some}
 use Rattle.std.proofs.lemmas.Bool.{cond_both, cond-true, cond-false, eqb-true, false_from_ne_true}
 use Rattle.bus_signals.specs.declared.access.Access.{Access}
@@ -59,7 +59,8 @@ boundary_enters start releases bounds regs valid =
     → (next_pc_of (progress_from_boundary regs kind None) == bounds.er_min) ≡ true
     → Enters start releases bounds kind (progress_from_boundary regs kind None) in
     cond_both (pc_of regs == ROM_ENTRY) Rom _ Claim
-    (λ entry within place. rom_apart bounds ROM_ENTRY valid within refl)
+    (λ entry within place.
+    rom_apart bounds (item_pc (call_item [])) valid within (item_pc-in_rom (call_item [])))
     (λ other.
     cond_both (in_rom (pc_of regs)) Cpu _ Claim
     (λ rom within place. rom_apart bounds (pc_of regs) valid within rom)

@@ -19,6 +19,7 @@ use Rattle.part_definitions.specs.CpuState.{CpuState, Boundary, Executing, Enter
 use Rattle.part_definitions.specs.FirstRule.{first_rule}
 use Rattle.part_definitions.specs.MonitorRule.{in_rom}
 use Rattle.part_definitions.specs.NextAccess.{Next, Asks, Completes, handler_registers, entry_access}
+use Rattle.part_definitions.proofs.CallItems.{first_pc}
 use Rattle.device_trace.specs.Play.{Play}
 use Rattle.device_trace.specs.Logs.{Logs, step_progress, progress_after, with_events, with_record}
 use Rattle.device_trace.specs.Progress.{access_of, kind_of, Progress, Held, Runs, InCall, next_pc_of, boundary_kind, progress_from_boundary, progress_within, after_return, call_after, cpu_state_after, next_progress}
@@ -131,14 +132,14 @@ boundary-pc regs None =
     let Claim : Kind → Type 0 =
     λ kind. next_pc_of (progress_from_boundary regs kind None) ≡ pc_of regs in
     cond_both (pc_of regs == ROM_ENTRY) Rom _ Claim
-    (λ entry. sym (eqb-true (pc_of regs) ROM_ENTRY entry))
+    (λ entry. first_pc ∙ sym (eqb-true (pc_of regs) ROM_ENTRY entry))
     (λ other. cond_both (in_rom (pc_of regs)) Cpu _ Claim (λ rom. refl)
     (λ outside. cond_both (is_asleep regs) Idle Cpu Claim (λ asleep. refl) (λ awake. refl)))
 boundary-pc regs (Some vector) =
     let Claim : Kind → Type 0 =
     λ kind. next_pc_of (progress_from_boundary regs kind (Some vector)) ≡ pc_of regs in
     cond_both (pc_of regs == ROM_ENTRY) Rom _ Claim
-    (λ entry. sym (eqb-true (pc_of regs) ROM_ENTRY entry))
+    (λ entry. first_pc ∙ sym (eqb-true (pc_of regs) ROM_ENTRY entry))
     (λ other. cond_both (in_rom (pc_of regs)) Cpu Irq Claim (λ rom. refl) (λ outside. refl))
 
 -- the handler's registers have its PC

@@ -12,6 +12,7 @@ use Rattle.part_definitions.specs.Metadata.{counter_in, kept_bytes, little_endia
 use Rattle.part_definitions.specs.Request.{ATTESTS, request_decision, right_token}
 use Rattle.bus_signals.specs.Address.{Bytes}
 use Rattle.part_definitions.specs.Hmac.{Digest}
+use Rattle.part_definitions.proofs.CallItems.{first_pc}
 use Rattle.device_trace.specs.Play.{Play}
 use Rattle.device_trace.specs.Logs.{Logs, step_progress, vector_of, with_events}
 use Rattle.device_trace.specs.Progress.{InCall}
@@ -232,7 +233,8 @@ later_or_first device play events rom =
                 (ap is_rom (entry-kind device play events ∙ rom))
                 (ap (λ (pc : ℕ). pc == ROM_ENTRY)
                 (entry-pc device play events call.regs []
-                (record { kind = rom; progress = call.is ∙ ap (InCall call.regs) none }))) in
+                (record { kind = rom; progress = call.is ∙ ap (InCall call.regs) none })
+                ∙ first_pc)) in
                 let wrong : true ≡ false = sym first ∙ goes_on in
                 absurd (cc)
           ]

@@ -1,13 +1,14 @@
 -- What the phases of a call ask for.
-use Rattle.std.proofs.Common.{◌≡◌, ◌<◌, ◌∙◌, ℕ, List, Some, false, length, inl, inr, refl, ap, sym, subst, arith}
+use Rattle.std.proofs.Common.{◌≡◌, ◌<◌, ◌∙◌, ℕ, List, Some, true, false, length, inl, inr, refl, ap, sym, subst, arith}
 use Rattle.std.proofs.lemmas.Bool.{cases_Bool, lt-ltb}
 use Rattle.std.proofs.lemmas.Bool.Decides.{nat_tests}
 use Rattle.word_arith.specs.declared.size.Size.TheVariants.{Word}
-use Rattle.std.specs.Prelude.{◌+◌, ◌*◌, nat_lt, slice_index}
+use Rattle.std.specs.Prelude.{◌==◌, ◌+◌, ◌*◌, nat_lt, slice_index}
 use Rattle.bus_signals.specs.declared.access.Access.{Access}
 use Rattle.bus_signals.specs.Map.{mac_region, DERIVED_KEY, INNER_DIGEST, KEPT_COUNTER}
 use Rattle.part_definitions.specs.BusAccess.{read_at, write_at}
-use Rattle.part_definitions.specs.Attestation.{CallItem, KeptWrite, DecisionWrite, DerivedKeyWrite, RegionRead, InnerDigestWrite, MacWrite, item_until_decision, call_item, item_access, item_pc, bounds_read, decision_read, region_words, region_place, written_word, word_of_bytes, is_return, word_passed}
+use Rattle.part_definitions.specs.Attestation.{CallItem, KeptWrite, DecisionWrite, DerivedKeyWrite, RegionRead, InnerDigestWrite, MacWrite, call_item, item_access, item_pc, bounds_read, decision_read, region_words, region_place, written_word, word_of_bytes, is_return, word_passed}
+use Rattle.part_definitions.proofs.CallItems.{item_until_decision}
 use Rattle.bus_signals.specs.declared.bounds.Bounds.{Bounds}
 use Rattle.swatt_rom.specs.RomCall.{call_access, next_word}
 use Rattle.swatt_rom.specs.RequestWords.{read_place}
@@ -54,6 +55,13 @@ is_return-until count = grind (arith, nat_tests)
 
 is_return-item_of : {D : Type 0} (phase : Phase D) → is_return (item_of phase) ≡ false
 is_return-item_of phase = grind (arith, is_return-until)
+
+-- the first word of the key is read at the entry
+pub item_pc-first : (count : ℕ) → (count == 0) ≡ true → 0xA000 ≡ item_pc (item_until_decision count)
+item_pc-first count first = grind (arith, nat_tests)
+
+pub item_pc-later : (count : ℕ) → (count == 0) ≡ false → 0xA002 ≡ item_pc (item_until_decision count)
+item_pc-later count later = grind (arith, nat_tests)
 
 pub item_pc-item_of :
     {D : Type 0} (phase : Phase D)

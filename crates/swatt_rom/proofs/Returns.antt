@@ -1,12 +1,15 @@
 -- The return read of a call.
-use Rattle.std.proofs.Common.{◌≡◌, ◌+◌, ◌∙◌, ◌++◌, ◌∷◌, [], ℕ, false, List, length, inl, inr, ap, refl, sym, subst, arith}
+use Rattle.std.proofs.Common.{◌≡◌, ◌+◌, ◌∙◌, ◌++◌, ◌∷◌, [], ℕ, false, List, Some, length, inl, inr, ap, refl, sym, subst, arith}
 use Rattle.std.specs.Prelude.{◌==◌, if◌then◌else◌}
 use Rattle.std.proofs.lemmas.Bool.{cases_Bool, eqb-true, cond-true, cond-false}
 use Rattle.std.proofs.lemmas.Bool.Decides.{nat_tests}
-use Rattle.part_definitions.specs.Attestation.{ReturnRead, item_after, item_pc, is_return, call_item, decision_read}
+use Rattle.word_arith.specs.declared.size.Size.TheVariants.{Word}
+use Rattle.part_definitions.specs.BusAccess.{read_at}
+use Rattle.part_definitions.specs.Attestation.{ReturnRead, item_access, item_pc, is_return, call_item, bounds_read, decision_read, written_word}
 use Rattle.part_definitions.specs.Request.{ATTESTS}
+use Rattle.part_definitions.proofs.CallItems.{item_after, item_after-is}
 use Rattle.hmac_core.specs.Hash.{Hash}
-use Rattle.swatt_rom.specs.RomCall.{RomCall, NoCall, InCall, AfterCall, end_of_call, next_word, after_value, rom_pc}
+use Rattle.swatt_rom.specs.RomCall.{RomCall, NoCall, InCall, AfterCall, end_of_call, next_word, after_value, rom_access, rom_pc}
 use Rattle.swatt_rom.specs.Phase.{IsBeforeReturn}
 use Rattle.swatt_rom.specs.State.{StateStandsFor}
 use Rattle.swatt_rom.specs.declared.call_end.CallEnd.{CallEnd}
@@ -15,11 +18,11 @@ use Rattle.swatt_rom.proofs.WordsPassed.{region_in}
 
 attests-return : (region decision count : ℕ) → decision ≡ ATTESTS → count ≡ 125 + region
     → item_after region decision count ≡ ReturnRead
-attests-return region decision count attests at = grind (arith, nat_tests)
+attests-return region decision count attests at = grind (arith, nat_tests, item_after-is)
 
 denies-return : (region decision count : ℕ) → (decision == ATTESTS) ≡ false → count ≡ 77
     → item_after region decision count ≡ ReturnRead
-denies-return region decision count denies at = grind (arith, nat_tests)
+denies-return region decision count denies at = grind (arith, nat_tests, item_after-is)
 
 pub return-item : (decision : ℕ) (words : List ℕ) → IsBeforeReturn decision words
     → call_item words ≡ ReturnRead
@@ -44,6 +47,18 @@ module _ {D : Type 0} (hash : Hash D) where
   pc-returns sp decision (InCall start words) stands =
       sym (ap item_pc (return-item decision words stands.1))
   pc-returns sp decision (AfterCall end) stands = absurd stands
+
+  pub access-returns : (sp decision : ℕ) (call : RomCall)
+      → StateStandsFor {D = D} hash (Returns sp decision) call
+      → Some (read_at Word sp) ≡ rom_access hash.digest_of call
+  access-returns sp decision NoCall stands = absurd stands
+  access-returns sp decision (InCall start words) stands =
+      ap (λ place. Some (read_at Word place)) stands.0
+      ∙ sym
+      (ap (λ item. Some
+      (item_access start (bounds_read words) item (written_word hash.digest_of words item)))
+      (return-item decision words stands.1))
+  access-returns sp decision (AfterCall end) stands = absurd stands
 
   pub after_value-leaves : (sp decision value : ℕ) (end : CallEnd)
       → end ≡ end_of_call sp value decision

@@ -1,11 +1,11 @@
 -- After which words a call is in a phase. `hash` is the digest: its function, and the bytes that a
 -- running one has taken.
-use Rattle.std.specs.Prelude.{◌≡◌, ◌==◌, ◌++◌, ◌+◌, ℕ, List, length, slice_index, if◌then◌else◌, Option, None, Some}
+use Rattle.std.specs.Prelude.{◌≡◌, ◌==◌, ◌++◌, ◌+◌, ◌*◌, ℕ, List, length, slice_index, if◌then◌else◌, Option, None, Some}
 use Rattle.bus_signals.specs.declared.bounds.Bounds.{Bounds}
 use Rattle.hmac_core.specs.Hash.{Hash}
 use Rattle.hmac_core.specs.Hmac.{HmacStandsFor}
 use Rattle.hmac_core.specs.declared.running_hmac.Hmac.{Hmac}
-use Rattle.part_definitions.specs.Attestation.{BEFORE_KEPT_WRITE, BEFORE_DERIVED_KEY, BEFORE_REGION, BEFORE_MAC, BEFORE_RETURN, bounds_read, decision_read, region_words, metadata_read, region_read, call_key, decision_in, counter_word, inner_in, tag_in}
+use Rattle.part_definitions.specs.Attestation.{REQUEST_WORDS, DIGEST_WORDS, BEFORE_REGION, bounds_read, decision_read, region_words, metadata_read, region_read, call_key, decision_in, counter_word, inner_in, tag_in}
 use Rattle.part_definitions.specs.Hmac.{Digest}
 use Rattle.part_definitions.specs.Request.{ATTESTS}
 use Rattle.swatt_rom.specs.DigestWords.{WritesDigest}
@@ -15,17 +15,22 @@ use Rattle.swatt_rom.specs.declared.region_words.RegionWords.{RegionWords}
 use Rattle.swatt_rom.specs.declared.phase.Phase.{Phase}
 use Rattle.swatt_rom.specs.declared.phase.Phase.TheVariants.{ReadsRequest, WritesHighWord, WritesLowWord, WritesDecision, WritesDerivedKey, ReadsRegion, WritesInnerDigest, WritesMac}
 
--- how many words pass before the phases that come after the region
+-- how many words pass before the derived key is written: also the counter and the decision
+abbrev pub BEFORE_DERIVED_KEY : ℕ
+BEFORE_DERIVED_KEY = REQUEST_WORDS + 2 + 1
+
+-- and before the phases that come after the region
 abbrev pub before_inner_digest : List ℕ → ℕ
 before_inner_digest words = BEFORE_REGION + region_words (bounds_read words)
 
 abbrev pub before_mac : List ℕ → ℕ
-before_mac words = BEFORE_MAC + region_words (bounds_read words)
+before_mac words = BEFORE_REGION + DIGEST_WORDS + region_words (bounds_read words)
 
 -- and before the return read, which comes at once where the call does not attest
 abbrev pub before_return : List ℕ → ℕ
 before_return words =
-    if decision_read words == ATTESTS then BEFORE_RETURN + region_words (bounds_read words)
+    if decision_read words == ATTESTS
+    then BEFORE_REGION + 2 * DIGEST_WORDS + region_words (bounds_read words)
     else BEFORE_DERIVED_KEY
 
 -- the call has decided, and so many of the words that come of it have passed
@@ -33,8 +38,8 @@ pub record HasDecided
     (digest : Digest) (decided : Decided) (passed : ℕ) (words : List ℕ) : Type 0 where
   pub rest : List ℕ
   pub begins : words ≡ decided.words ++ rest
-  pub size : length decided.words ≡ BEFORE_KEPT_WRITE
-  pub count : length words ≡ BEFORE_KEPT_WRITE + passed
+  pub size : length decided.words ≡ REQUEST_WORDS
+  pub count : length words ≡ REQUEST_WORDS + passed
   pub same_decision : decided.decision ≡ decision_in digest words
   pub same_low : slice_index decided.counter 0 ≡ counter_word words (decision_in digest words) 0
   pub same_high : slice_index decided.counter 1 ≡ counter_word words (decision_in digest words) 1

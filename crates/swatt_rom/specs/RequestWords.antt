@@ -1,11 +1,12 @@
 -- Where a call reads before it decides.
 use Rattle.std.specs.Prelude.{◌+◌, ◌-◌, ◌*◌, ℕ, nat_lt, if◌then◌else◌}
 use Rattle.bus_signals.specs.Map.{key_region, metadata_region, KEPT_COUNTER}
-use Rattle.part_definitions.specs.Attestation.{BEFORE_METADATA, BEFORE_KEPT}
+use Rattle.part_definitions.specs.Attestation.{KEY_WORDS, METADATA_WORDS}
 
 -- the place of the word that it reads after so many words
 abbrev pub read_place : ℕ → ℕ
 read_place count =
-    if nat_lt count BEFORE_METADATA then key_region.first + 2 * count
-    else if nat_lt count BEFORE_KEPT then metadata_region.first + 2 * (count - BEFORE_METADATA)
-    else KEPT_COUNTER + 2 * (count - BEFORE_KEPT)
+    if nat_lt count KEY_WORDS then key_region.first + 2 * count
+    else if nat_lt count (KEY_WORDS + METADATA_WORDS)
+    then metadata_region.first + 2 * (count - KEY_WORDS)
+    else KEPT_COUNTER + 2 * (count - (KEY_WORDS + METADATA_WORDS))

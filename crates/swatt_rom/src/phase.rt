@@ -2,7 +2,7 @@ ghost use Rattle.std.specs.Prelude.{◌≡◌, ◌≤◌, ◌++◌, ◌∷◌, [
 ghost use Rattle.part_definitions.specs.Request.{ATTESTS};
 ghost use Rattle.bus_signals.specs.Access.{IsFormed};
 ghost use Rattle.part_definitions.specs.Part.{Answers};
-ghost use Rattle.part_definitions.specs.Attestation.{BEFORE_DERIVED_KEY, BEFORE_REGION, call_item, item_pc, bounds_read, decision_read, derived_key, call_key, metadata_read};
+ghost use Rattle.part_definitions.specs.Attestation.{BEFORE_REGION, call_item, item_pc, bounds_read, decision_read, derived_key, call_key, metadata_read};
 ghost use Rattle.hmac_core.specs.Hmac.{HmacStandsFor};
 ghost use Rattle.swatt_rom.specs.RomCall.{call_access, next_word};
 
@@ -82,7 +82,7 @@ fn mac_of<D: Digest32>(key: &[u8], message: &[u8]) -> Hmac<D>
 }
 
 impl<D: Digest32> Phase<D> {
-    ghost use Rattle.swatt_rom.specs.Phase.{PhaseStandsFor, NextStandsFor, HasReadRegion, HashesRegion, before_inner_digest};
+    ghost use Rattle.swatt_rom.specs.Phase.{PhaseStandsFor, NextStandsFor, HasReadRegion, HashesRegion, BEFORE_DERIVED_KEY, before_inner_digest};
 
     /// The beginning of a call.
     pub fn new() -> Phase<D>

@@ -9,8 +9,9 @@ use Rattle.bus_signals.specs.declared.bounds.Bounds.{Bounds}
 use Rattle.bus_signals.specs.Bounds.{are_valid}
 use Rattle.bus_signals.specs.Map.{lies_in, mac_region, metadata_region}
 use Rattle.bus_signals.proofs.ValidRange.{IsValidRange, are_valid-ranges}
-use Rattle.part_definitions.specs.Attestation.{CallItem, KeyRead, MetadataRead, KeptRead, KeptWrite, DecisionWrite, DerivedKeyWrite, RegionRead, InnerDigestWrite, MacWrite, ReturnRead, words_between, executable_words, region_words, region_place, item_after}
+use Rattle.part_definitions.specs.Attestation.{CallItem, KeyRead, MetadataRead, KeptRead, KeptWrite, DecisionWrite, DerivedKeyWrite, RegionRead, InnerDigestWrite, MacWrite, ReturnRead, words_between, executable_words, region_words, region_place}
 use Rattle.device_trace.specs.Blank.{touches_secrets}
+use Rattle.part_definitions.proofs.CallItems.{item_after}
 use Rattle.trace_facts.proofs.ItemNumbers.{IsItemAt, item_after-at}
 
 -- the item after so many words that passed, and its number

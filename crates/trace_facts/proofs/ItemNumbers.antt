@@ -1,9 +1,10 @@
 -- The item of a call after so many words, and its number.
-use Rattle.std.proofs.Common.{◌≡◌, ℕ, ◌+◌, ◌-◌, ◌<◌, ◌≤◌, refl, arith}
+use Rattle.std.proofs.Common.{◌≡◌, ℕ, ◌+◌, ◌-◌, ◌<◌, ◌≤◌, refl, subst, sym, arith}
 use Rattle.std.specs.Prelude.{◌==◌, nat_lt, if◌then◌else◌}
 use Rattle.std.proofs.lemmas.Bool.{cond_both, ltb-true, ltb-false, eqb-true, eqb-false}
-use Rattle.part_definitions.specs.Attestation.{CallItem, KeyRead, MetadataRead, KeptRead, KeptWrite, DecisionWrite, DerivedKeyWrite, RegionRead, InnerDigestWrite, MacWrite, ReturnRead, item_until_decision, item_of_attestation, item_after}
+use Rattle.part_definitions.specs.Attestation.{CallItem, KeyRead, MetadataRead, KeptRead, KeptWrite, DecisionWrite, DerivedKeyWrite, RegionRead, InnerDigestWrite, MacWrite, ReturnRead}
 use Rattle.part_definitions.specs.Request.{ATTESTS}
+use Rattle.part_definitions.proofs.CallItems.{item_after, item_after-is, item_until_decision, item_of_attestation}
 
 -- the item and its number after so many words, where a call reads so many words of the region and
 -- wrote this decision
@@ -71,10 +72,11 @@ pub item_after-at : (region decision count : ℕ)
     → IsItemAt region decision count (item_after region decision count)
 item_after-at region decision count =
     let At : CallItem → Type 0 = IsItemAt region decision count in
-    by_limit At count 77 (item_until_decision count) _
+    subst At (sym (item_after-is region decision count))
+    (by_limit At count 77 (item_until_decision count) _
     (until_decision-at region decision count)
     (λ after.
     cond_both (decision == ATTESTS) (item_of_attestation region count) ReturnRead At
     (λ attests.
     attestation-at region decision count after (eqb-true decision ATTESTS attests))
-    (λ denies. (after, λ attests. absurd (eqb-false decision ATTESTS denies attests))))
+    (λ denies. (after, λ attests. absurd (eqb-false decision ATTESTS denies attests)))))

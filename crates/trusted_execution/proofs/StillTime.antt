@@ -18,6 +18,7 @@ use Rattle.bus_signals.specs.SeenRecord.{SeenRecord, SeenHistory}
 use Rattle.bus_signals.specs.ExecFlag.{last_pc, ran_inside}
 use Rattle.part_definitions.specs.MonitorRule.{in_rom, leaves_stack_and_mac}
 use Rattle.part_definitions.specs.TrustedFlag.{aux}
+use Rattle.part_definitions.proofs.CallItems.{first_pc}
 use Rattle.device_trace.specs.Play.{Play}
 use Rattle.device_trace.specs.Blank.{blank_access, blank_record, blank_seen}
 use Rattle.device_trace.specs.Logs.{Logs, aux_of, goes_on_in_call, records_until_call, logged_bounds, vector_of, step_progress, progress_after, with_events, with_record}
@@ -83,7 +84,7 @@ first-begins : (entry : BusRecord) (progress : Progress) (regs : List ℕ)
     → goes_on_in_call entry ≡ false
 first-begins entry progress regs rom pc is =
     and_left _ (is_none entry.reset) (and_right (is_rom entry.kind) (not (entry.pc == ROM_ENTRY))
-    (ap not (eq-eqb entry.pc ROM_ENTRY (pc ∙ ap next_pc_of is))))
+    (ap not (eq-eqb entry.pc ROM_ENTRY (pc ∙ (ap next_pc_of is ∙ first_pc)))))
 
 record_flag : (start : Start) (logs : Logs) (reset : Bool)
     → (aux_seen logs ≡ true → are_valid (logged_bounds start logs) ≡ true)

@@ -4,6 +4,7 @@ use Rattle.hex.specs.Hex.{encode_with}
 use Rattle.word_arith.specs.Op2.{alu_result}
 use Rattle.word_arith.specs.Op1.{shift_result}
 use Rattle.msp_decode.specs.Head.{head_of}
+use Rattle.part_definitions.specs.Attestation.{call_items}
 use Rattle.part_definitions.specs.FirstRule.{first_rule}
 use Rattle.part_definitions.specs.NextAccess.{next_access, entry_access}
 use Rattle.part_definitions.specs.MonitorRule.{key_rule, atomicity_rule}
@@ -16,7 +17,7 @@ use Rattle.device_trace.specs.Text.{lines_of, play_text}
 use Rattle.device_trace.proofs.example.attested_plays_print_their_texts.Goals as goal
 
 pub returns : goal.returns
-unfolding digits encode_with alu_result shift_result head_of next_access entry_access key_rule
-    atomicity_rule exec with_events with_record signals_at first_rule record_of next_record
+unfolding digits encode_with alu_result shift_result head_of call_items next_access entry_access
+    key_rule atomicity_rule exec with_events with_record signals_at first_rule record_of next_record
     logs_after lines_of play_text
 returns c = refl

@@ -4,6 +4,7 @@ use Rattle.hex.specs.Hex.{encode_with}
 use Rattle.word_arith.specs.Op2.{alu_result}
 use Rattle.word_arith.specs.Op1.{shift_result}
 use Rattle.msp_decode.specs.Head.{head_of}
+use Rattle.part_definitions.specs.Attestation.{call_items}
 use Rattle.part_definitions.specs.FirstRule.{first_rule}
 use Rattle.part_definitions.specs.Hmac.{Digest}
 use Rattle.part_definitions.specs.NextAccess.{next_access, entry_access}
@@ -37,18 +38,20 @@ by_rows key =
     sha256-by_rows
 
 releases : releases_with (upwards 0 64) ≡ attested_words
-unfolding alu_result shift_result head_of next_access entry_access key_rule atomicity_rule exec
-    with_events with_record signals_at first_rule record_of next_record logs_after aux looked_up
+unfolding alu_result shift_result head_of call_items next_access entry_access key_rule
+    atomicity_rule exec with_events with_record signals_at first_rule record_of next_record
+    logs_after aux looked_up
 releases = by_rows (upwards 0 64) ∙ refl
 
 denies : releases_with (upwards 1 64) ≡ 3 ∷ []
-unfolding alu_result shift_result head_of next_access entry_access key_rule atomicity_rule exec
-    with_events with_record signals_at first_rule record_of next_record logs_after aux looked_up
+unfolding alu_result shift_result head_of call_items next_access entry_access key_rule
+    atomicity_rule exec with_events with_record signals_at first_rule record_of next_record
+    logs_after aux looked_up
 denies = by_rows (upwards 1 64) ∙ refl
 
 prints : play_text (without_key aux attested_words requested) whole_call ≡ attested_text
-unfolding digits encode_with alu_result shift_result head_of next_access entry_access key_rule
-    atomicity_rule exec with_events with_record signals_at first_rule record_of next_record
+unfolding digits encode_with alu_result shift_result head_of call_items next_access entry_access
+    key_rule atomicity_rule exec with_events with_record signals_at first_rule record_of next_record
     logs_after aux lines_of play_text
 prints = refl
 

@@ -2,6 +2,7 @@ use Rattle.std.proofs.Common.{refl}
 use Rattle.word_arith.specs.Op2.{alu_result}
 use Rattle.word_arith.specs.Op1.{shift_result}
 use Rattle.msp_decode.specs.Head.{head_of}
+use Rattle.part_definitions.specs.Attestation.{call_items}
 use Rattle.part_definitions.specs.FirstRule.{first_rule}
 use Rattle.part_definitions.specs.NextAccess.{next_access, entry_access}
 use Rattle.part_definitions.specs.MonitorRule.{key_rule, atomicity_rule}
@@ -14,11 +15,13 @@ use Rattle.device_trace.specs.Trace.{logs_after}
 use Rattle.trusted_execution.proofs.example.flags_are_computed.Goals as goal
 
 pub returns-clause-one_region : goal.returns-clause-one_region
-unfolding alu_result shift_result head_of next_access entry_access key_rule atomicity_rule exec aux
-    with_events with_record signals_at first_rule record_of next_record logs_after
+unfolding alu_result shift_result head_of call_items next_access entry_access key_rule
+    atomicity_rule exec aux with_events with_record signals_at first_rule record_of next_record
+    logs_after
 returns-clause-one_region c = refl
 
 pub returns-clause-other_regions : goal.returns-clause-other_regions
-unfolding alu_result shift_result head_of next_access entry_access key_rule atomicity_rule exec aux
-    with_events with_record signals_at first_rule record_of next_record logs_after
+unfolding alu_result shift_result head_of call_items next_access entry_access key_rule
+    atomicity_rule exec aux with_events with_record signals_at first_rule record_of next_record
+    logs_after
 returns-clause-other_regions c = refl

@@ -2,6 +2,26 @@ use Rattle.std.proofs.Common.{◌∙◌, ap, sym}
 use Rattle.swatt_rom.proofs.Accesses.{access_of, access_of-phase}
 use Rattle.swatt_rom.proofs.phase.Phase.access.Goals as goal
 
+pub returns-in-ReadsRequest-clause-access : goal.returns-in-ReadsRequest-clause-access
+returns-in-ReadsRequest-clause-access g c = λ sp words stands.
+    c.access.ensures.access ∙ sym (ap access_of c.in-ReadsRequest.is)
+    ∙ access_of-phase g.D.Digest32.hash sp c.args.self.now words stands
+
+pub returns-in-WritesHighWord-clause-access : goal.returns-in-WritesHighWord-clause-access
+returns-in-WritesHighWord-clause-access g c = λ sp words stands.
+    sym (ap access_of c.in-WritesHighWord.is)
+    ∙ access_of-phase g.D.Digest32.hash sp c.args.self.now words stands
+
+pub returns-in-WritesLowWord-clause-access : goal.returns-in-WritesLowWord-clause-access
+returns-in-WritesLowWord-clause-access g c = λ sp words stands.
+    sym (ap access_of c.in-WritesLowWord.is)
+    ∙ access_of-phase g.D.Digest32.hash sp c.args.self.now words stands
+
+pub returns-in-WritesDecision-clause-access : goal.returns-in-WritesDecision-clause-access
+returns-in-WritesDecision-clause-access g c = λ sp words stands.
+    sym (ap access_of c.in-WritesDecision.is)
+    ∙ access_of-phase g.D.Digest32.hash sp c.args.self.now words stands
+
 pub returns-in-WritesDerivedKey-clause-access : goal.returns-in-WritesDerivedKey-clause-access
 returns-in-WritesDerivedKey-clause-access g c = λ sp words stands.
     c.access-in-WritesDerivedKey.ensures.access ∙ sym (ap access_of c.in-WritesDerivedKey.is)

@@ -3,11 +3,24 @@ use Rattle.part_definitions.specs.Attestation.{region_words}
 use Rattle.part_definitions.specs.Request.{ATTESTS}
 use Rattle.swatt_rom.specs.RomCall.{next_word}
 use Rattle.swatt_rom.specs.Phase.{PhaseStandsFor, HasDecided, IsBeforeReturn}
-use Rattle.swatt_rom.specs.declared.phase.Phase.TheVariants.{WritesDerivedKey, ReadsRegion, WritesInnerDigest, WritesMac}
+use Rattle.swatt_rom.specs.declared.phase.Phase.TheVariants.{ReadsRequest, WritesDerivedKey, ReadsRegion, WritesInnerDigest, WritesMac}
 use Rattle.swatt_rom.proofs.WordsPassed.{bounds_read-append, call_key-append, metadata_read-append, decision_read-append}
 use Rattle.swatt_rom.proofs.Accesses.{next_word-request, next_word-decision, next_word-region}
 use Rattle.swatt_rom.proofs.Steps.{goes_on, ends_with, decided-first, decided-more, decided-denies, decided-attests, derived_key-more, region-more, region-last, inner_digest-more, inner_digest-last, mac-last, mac-more}
 use Rattle.swatt_rom.proofs.phase.Phase.take.Goals as goal
+
+pub returns-in_err-take-in-ReadsRequest : goal.returns-in_err-take-in-ReadsRequest
+returns-in_err-take-in-ReadsRequest g c = λ sp words stands.
+    let hash = g.D.Digest32.hash in
+    let request = c.in-ReadsRequest.words in
+    let has = subst (λ phase. PhaseStandsFor hash phase words) c.in-ReadsRequest.is stands in
+    let more : c.take.new.self.words.items ≡ request.words.items ++ c.args.value ∷ [] =
+    search rules in
+    goes_on hash (ReadsRequest c.take.new.self) _
+    (words ++ next_word hash.digest_of sp words c.args.value ∷ []) (search rules)
+    (ap (λ word. words ++ word ∷ []) (next_word-request hash request sp c.args.value words has)
+    ∙ ap (λ before. before ++ c.args.value ∷ []) has
+    ∙ sym more)
 
 pub returns-in_ok-take-in-ReadsRequest : goal.returns-in_ok-take-in-ReadsRequest
 returns-in_ok-take-in-ReadsRequest g c = λ sp words stands.
