@@ -21,14 +21,14 @@ use Rattle.text_scan.specs.declared.fault_kind.FaultKind.TheVariants as fault
 use Rattle.text_scan.specs.Reader.{◌>>=◌}
 use Rattle.asm_text.specs.declared.body.Body.{Body}
 use Rattle.asm_text.specs.declared.body.Body.TheVariants.{Empty, Instr as Instruction, Org, Word, Byte, Ascii, Equ}
-use Rattle.asm_bytes.specs.declared.form.Form.{Form}
-use Rattle.asm_bytes.specs.declared.form.Form.TheVariants.{Two, One, Reti, Jump}
-use Rattle.asm_bytes.specs.declared.form.SourceRole.{SourceRole}
-use Rattle.asm_bytes.specs.declared.form.SourceRole.TheVariants.{First, Constant, StackTop}
-use Rattle.asm_bytes.specs.declared.form.DestRole.{DestRole}
-use Rattle.asm_bytes.specs.declared.form.DestRole.TheVariants.{First as OnlyDest, Second, Register}
+use Rattle.asm_text.specs.declared.form.Form.{Form}
+use Rattle.asm_text.specs.declared.form.Form.TheVariants.{Two, One, Reti, Jump}
+use Rattle.asm_text.specs.declared.form.SourceRole.{SourceRole}
+use Rattle.asm_text.specs.declared.form.SourceRole.TheVariants.{First, Constant, StackTop}
+use Rattle.asm_text.specs.declared.form.DestRole.{DestRole}
+use Rattle.asm_text.specs.declared.form.DestRole.TheVariants.{First as OnlyDest, Second, Register}
 use Rattle.asm_bytes.specs.Value.{Scope, value, known_value, address_of}
-use Rattle.asm_bytes.specs.Form.{form_of}
+use Rattle.asm_text.specs.Form.{form_of}
 use Rattle.asm_bytes.specs.Operand.{expr_in, operand_words, source_of}
 use Rattle.asm_bytes.specs.Instruction.{Operands, written_source, written_dest, source_words, dest_words, source_at, dest_at, takes_source, one_of, half_way, jump_of, form_size, instruction_of}
 use Rattle.asm_bytes.specs.Statement.{IsNamed, named_instruction}

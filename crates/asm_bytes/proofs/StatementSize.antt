@@ -10,7 +10,7 @@ use Rattle.asm_text.specs.declared.body.Body.{Body}
 use Rattle.asm_text.specs.declared.body.Body.TheVariants.{Empty, Instr as Instruction, Org, Word, Byte, Ascii, Equ}
 use Rattle.asm_text.specs.Expr.{SignedTerm}
 use Rattle.asm_bytes.specs.Value.{Scope, value, known_value, each, word_of, byte_of}
-use Rattle.asm_bytes.specs.Form.{form_of}
+use Rattle.asm_text.specs.Form.{form_of}
 use Rattle.asm_bytes.specs.Instruction.{Operands, form_size}
 use Rattle.asm_bytes.specs.Statement.{size_of, bytes_of, named_instruction, word_bytes, value_bytes, all_bytes, values_of}
 use Rattle.asm_bytes.proofs.OperandWords.{read_next, read_then}

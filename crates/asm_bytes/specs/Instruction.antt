@@ -17,12 +17,12 @@ use Rattle.text_scan.specs.declared.fault_kind.FaultKind.{FaultKind}
 use Rattle.text_scan.specs.declared.fault_kind.FaultKind.TheVariants as fault
 use Rattle.text_scan.specs.Reader.{◌>>=◌}
 use Rattle.asm_text.specs.declared.operand.Operand.{Operand}
-use Rattle.asm_bytes.specs.declared.form.Form.{Form}
-use Rattle.asm_bytes.specs.declared.form.Form.TheVariants.{Two, One, Reti, Jump}
-use Rattle.asm_bytes.specs.declared.form.SourceRole.{SourceRole}
-use Rattle.asm_bytes.specs.declared.form.SourceRole.TheVariants.{First, Constant, StackTop}
-use Rattle.asm_bytes.specs.declared.form.DestRole.{DestRole}
-use Rattle.asm_bytes.specs.declared.form.DestRole.TheVariants.{First as OnlyDest, Second, Register}
+use Rattle.asm_text.specs.declared.form.Form.{Form}
+use Rattle.asm_text.specs.declared.form.Form.TheVariants.{Two, One, Reti, Jump}
+use Rattle.asm_text.specs.declared.form.SourceRole.{SourceRole}
+use Rattle.asm_text.specs.declared.form.SourceRole.TheVariants.{First, Constant, StackTop}
+use Rattle.asm_text.specs.declared.form.DestRole.{DestRole}
+use Rattle.asm_text.specs.declared.form.DestRole.TheVariants.{First as OnlyDest, Second, Register}
 use Rattle.asm_bytes.specs.Value.{Scope, value, known_value, address_of}
 use Rattle.asm_bytes.specs.Operand.{expr_in, operand_words, source_of, dest_of}
 

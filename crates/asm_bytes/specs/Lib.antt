@@ -1,7 +1,6 @@
 pub mod Value
 pub mod Names
 pub mod Scope
-pub mod Form
 pub mod Operand
 pub mod Instruction
 pub mod Operands

@@ -1,15 +1,16 @@
 -- Operands, as they are written and as an instruction has them.
-use Rattle.std.specs.Prelude.{◌==◌, ◌||◌, ℕ, ℤ, pos, negsuc, Bool, List, [], ◌∷◌, if◌then◌else◌, Option, Some, None, is_some, Result, Ok, Err}
+use Rattle.std.specs.Prelude.{◌==◌, ℕ, ℤ, pos, negsuc, Bool, List, [], ◌∷◌, if◌then◌else◌, Option, Some, None, is_some, Result, Ok, Err}
 use Rattle.word_arith.specs.declared.size.Size.{Size}
 use Rattle.word_arith.specs.declared.size.Size.TheVariants.{Byte, Word}
-use Rattle.msp_decode.specs.declared.reg.Reg.TheVariants.{R0, R2}
+use Rattle.msp_decode.specs.declared.reg.Reg.TheVariants.{R0, R2, R3}
 use Rattle.msp_decode.specs.declared.constant.Gen.{Gen}
 use Rattle.msp_decode.specs.declared.constant.Gen.TheVariants as gen
 use Rattle.msp_decode.specs.declared.source.Source.{Source}
 use Rattle.msp_decode.specs.declared.source.Source.TheVariants as source
 use Rattle.msp_decode.specs.declared.dest.Dest.{Dest}
 use Rattle.msp_decode.specs.declared.dest.Dest.TheVariants as dest
-use Rattle.msp_decode.specs.Field.{reg_of}
+use Rattle.msp_decode.specs.Completion.{source_form}
+use Rattle.msp_decode.specs.Spelling.{has_form}
 use Rattle.text_scan.specs.declared.fault_kind.FaultKind.{FaultKind}
 use Rattle.text_scan.specs.declared.fault_kind.FaultKind.TheVariants as fault
 use Rattle.text_scan.specs.Reader.{◌>>=◌}
@@ -24,13 +25,13 @@ use Rattle.asm_bytes.specs.Value.{with_sign, address_of, word_of, byte_immediate
 -- the expression of an operand; the empty one where it has none
 abbrev pub expr_in : Option Operand → List SignedTerm
 expr_in None = []
-expr_in (Some (Reg n)) = []
+expr_in (Some (Reg register)) = []
 expr_in (Some (Imm expr)) = expr
 expr_in (Some (Abs expr)) = expr
-expr_in (Some (Indexed expr n)) = expr
+expr_in (Some (Indexed expr register)) = expr
 expr_in (Some (Symbolic expr)) = expr
-expr_in (Some (Indirect n)) = []
-expr_in (Some (IndirectInc n)) = []
+expr_in (Some (Indirect register)) = []
+expr_in (Some (IndirectInc register)) = []
 
 -- all ones in an instruction of this size
 abbrev pub all_ones : Size → ℕ
@@ -63,13 +64,13 @@ generated_constant size (term ∷ next ∷ terms) = None
 -- how many extension words an operand has
 abbrev pub operand_words : Size → Option Operand → ℕ
 operand_words size None = 0
-operand_words size (Some (Reg n)) = 0
+operand_words size (Some (Reg register)) = 0
 operand_words size (Some (Imm expr)) = if is_some (generated_constant size expr) then 0 else 1
 operand_words size (Some (Abs expr)) = 1
-operand_words size (Some (Indexed expr n)) = 1
+operand_words size (Some (Indexed expr register)) = 1
 operand_words size (Some (Symbolic expr)) = 1
-operand_words size (Some (Indirect n)) = 0
-operand_words size (Some (IndirectInc n)) = 0
+operand_words size (Some (Indirect register)) = 0
+operand_words size (Some (IndirectInc register)) = 0
 
 -- the word of an immediate of this size
 abbrev pub immediate_word : Size → ℤ → Result ℕ FaultKind
@@ -82,54 +83,43 @@ immediate size None value = do
   word ← immediate_word size value
   Ok (source.Immediate word)
 
--- indexed, but not by R3
-abbrev pub indexed_source : ℕ → ℤ → Result Source FaultKind
-indexed_source n value =
-    if n == 3 then Err fault.Operand
-    else (do
-      word ← word_of value
-      Ok (source.Indexed (reg_of n) word))
-
--- indirect, but not by R2 and R3, where the mode means a constant
-abbrev pub indirect : ℕ → Result Source FaultKind
-indirect n = if (n == 2) || (n == 3) then Err fault.Operand else Ok (source.Indirect (reg_of n))
-
--- likewise, and not by R0, where the mode means an immediate
-abbrev pub indirect_inc : ℕ → Result Source FaultKind
-indirect_inc n =
-    if (n == 0) || (n == 2) || (n == 3) then Err fault.Operand
-    else Ok (source.IndirectInc (reg_of n))
+-- a source, if it is written in its mode: there R2 and R3 give no constant, and R0 no immediate
+abbrev pub written : Source → Result Source FaultKind
+written operand = if has_form (source_form operand) then Ok operand else Err fault.Operand
 
 -- an operand as a source, where its extension word is at this address and its expression has this
 -- value: R3 is the constant 0, and indexed R3 is none
 abbrev pub source_of : Size → ℕ → Option Operand → ℤ → Result Source FaultKind
 source_of size at None value = Err fault.Operand
-source_of size at (Some (Reg n)) value =
-    Ok (if n == 3 then source.Constant gen.Zero else source.Reg (reg_of n))
+source_of size at (Some (Reg R3)) value = Ok (source.Constant gen.Zero)
+source_of size at (Some (Reg register)) value = Ok (source.Reg register)
 source_of size at (Some (Imm expr)) value = immediate size (generated_constant size expr) value
 source_of size at (Some (Abs expr)) value = do
   address ← address_of value
   Ok (source.Indexed R2 address)
-source_of size at (Some (Indexed expr n)) value = indexed_source n value
+source_of size at (Some (Indexed expr R3)) value = Err fault.Operand
+source_of size at (Some (Indexed expr register)) value = do
+  word ← word_of value
+  Ok (source.Indexed register word)
 source_of size at (Some (Symbolic expr)) value = do
   address ← address_of value
   Ok (source.Indexed R0 (minus address at))
-source_of size at (Some (Indirect n)) value = indirect n
-source_of size at (Some (IndirectInc n)) value = indirect_inc n
+source_of size at (Some (Indirect register)) value = written (source.Indirect register)
+source_of size at (Some (IndirectInc register)) value = written (source.IndirectInc register)
 
 -- an operand as a destination, likewise
 abbrev pub dest_of : ℕ → Option Operand → ℤ → Result Dest FaultKind
 dest_of at None value = Err fault.Operand
-dest_of at (Some (Reg n)) value = Ok (dest.Reg (reg_of n))
+dest_of at (Some (Reg register)) value = Ok (dest.Reg register)
 dest_of at (Some (Imm expr)) value = Err fault.Operand
 dest_of at (Some (Abs expr)) value = do
   address ← address_of value
   Ok (dest.Indexed R2 address)
-dest_of at (Some (Indexed expr n)) value = do
+dest_of at (Some (Indexed expr register)) value = do
   word ← word_of value
-  Ok (dest.Indexed (reg_of n) word)
+  Ok (dest.Indexed register word)
 dest_of at (Some (Symbolic expr)) value = do
   address ← address_of value
   Ok (dest.Indexed R0 (minus address at))
-dest_of at (Some (Indirect n)) value = Err fault.Operand
-dest_of at (Some (IndirectInc n)) value = Err fault.Operand
+dest_of at (Some (Indirect register)) value = Err fault.Operand
+dest_of at (Some (IndirectInc register)) value = Err fault.Operand

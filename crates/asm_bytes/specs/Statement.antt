@@ -14,7 +14,7 @@ use Rattle.asm_text.specs.declared.body.Body.{Body}
 use Rattle.asm_text.specs.declared.body.Body.TheVariants.{Empty, Instr as Instruction, Org, Word, Byte, Ascii, Equ}
 use Rattle.asm_text.specs.Expr.{SignedTerm}
 use Rattle.asm_bytes.specs.Value.{Scope, characters, value, known_value, each, word_of, byte_of}
-use Rattle.asm_bytes.specs.Form.{form_of}
+use Rattle.asm_text.specs.Form.{form_of}
 use Rattle.asm_bytes.specs.Instruction.{form_size, instruction_of}
 
 -- how many bytes a statement places

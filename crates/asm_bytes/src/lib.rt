@@ -6,7 +6,6 @@
 //! stands for, and the words of an instruction are read as that instruction.
 #![tactic(auto)]
 
-mod form;
 mod instruction;
 mod law;
 mod names;

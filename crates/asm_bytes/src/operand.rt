@@ -1,6 +1,5 @@
 ghost use Rattle.std.specs.Prelude.{◌≡◌, ◌≤◌, [], pos, IfOk, IsTrue, option_map};
 ghost use Rattle.std.specs.Option.{option_map_or};
-ghost use Rattle.msp_decode.specs.Field.{reg_of};
 ghost use Rattle.msp_decode.specs.Completion.{source_form};
 ghost use Rattle.msp_decode.specs.Spelling.{has_form};
 ghost use Rattle.asm_bytes.specs.Value.{with_sign};
@@ -74,12 +73,6 @@ pub fn operand_words(size: Size, operand: Option<&Operand>) -> u16
     }
 }
 
-fn register(number: u8) -> Reg
-    ensures { result ≡ reg_of number }
-{
-    Reg::from_number(u16::from(number.min(15)))
-}
-
 // An immediate, or the constant in its place.
 fn immediate(size: Size, expr: &Expr, value: i128) -> Result<Source, FaultKind>
     ensures { result ≡ immediate size (generated_constant size expr.now) value }
@@ -106,21 +99,20 @@ pub fn source_of(
     ensures form { IfOk result (λ source. IsTrue (has_form (source_form source))) }
 {
     match operand {
-        Some(Operand::Reg(3)) => Ok(Source::Constant(Gen::Zero)),
-        Some(Operand::Reg(n)) => Ok(Source::Reg(register(*n))),
+        Some(Operand::Reg(Reg::R3)) => Ok(Source::Constant(Gen::Zero)),
+        Some(Operand::Reg(register)) => Ok(Source::Reg(*register)),
         Some(Operand::Imm(expr)) => immediate(size, expr, value),
         Some(Operand::Abs(_)) => Ok(Source::Indexed(Reg::R2, address_of(value)?)),
-        Some(Operand::Indexed(_, n)) if *n != 3 => {
-            Ok(Source::Indexed(register(*n), word_of(value)?))
-        }
         Some(Operand::Symbolic(_)) => {
             Ok(Source::Indexed(Reg::R0, address_of(value)?.wrapping_sub(at)))
         }
-        Some(Operand::Indirect(n)) if !matches!(*n, 2 | 3) => Ok(Source::Indirect(register(*n))),
-        Some(Operand::IndirectInc(n)) if !matches!(*n, 0 | 2 | 3) => {
-            Ok(Source::IndirectInc(register(*n)))
-        }
-        _ => Err(FaultKind::Operand),
+        None
+        | Some(Operand::Indexed(_, Reg::R3))
+        | Some(Operand::Indirect(Reg::R2 | Reg::R3))
+        | Some(Operand::IndirectInc(Reg::R0 | Reg::R2 | Reg::R3)) => Err(FaultKind::Operand),
+        Some(Operand::Indexed(_, register)) => Ok(Source::Indexed(*register, word_of(value)?)),
+        Some(Operand::Indirect(register)) => Ok(Source::Indirect(*register)),
+        Some(Operand::IndirectInc(register)) => Ok(Source::IndirectInc(*register)),
     }
 }
 
@@ -129,9 +121,9 @@ pub fn dest_of(at: u16, operand: Option<&Operand>, value: i128) -> Result<Dest, 
     ensures { result ≡ dest_of at (option_map (λ o. o.now) operand.entry) value }
 {
     match operand {
-        Some(Operand::Reg(n)) => Ok(Dest::Reg(register(*n))),
+        Some(Operand::Reg(register)) => Ok(Dest::Reg(*register)),
         Some(Operand::Abs(_)) => Ok(Dest::Indexed(Reg::R2, address_of(value)?)),
-        Some(Operand::Indexed(_, n)) => Ok(Dest::Indexed(register(*n), word_of(value)?)),
+        Some(Operand::Indexed(_, register)) => Ok(Dest::Indexed(*register, word_of(value)?)),
         Some(Operand::Symbolic(_)) => {
             Ok(Dest::Indexed(Reg::R0, address_of(value)?.wrapping_sub(at)))
         }

@@ -6,12 +6,11 @@ ghost use Rattle.text_scan.specs.Reader.{ReadsWord};
 ghost use Rattle.asm_bytes.specs.Statement.{size_of, is_of_words, word_bytes, value_bytes, all_bytes};
 ghost use Rattle.asm_bytes.specs.StatementBytes.{AddsBytes};
 
-use crate::form::Form;
 use crate::instruction::{Operands, form_size};
 use crate::law::named_instructions_are_read;
 use crate::number::{byte_of, word_of};
 use crate::scope::{Scope, characters};
-use asm_text::{Body, Expr};
+use asm_text::{Body, Expr, Form};
 use msp_decode::{Instr, encode};
 use std::alloc::{AllocError, Global};
 use text_scan::{Bytes, WordFault};

@@ -1,4 +1,6 @@
 pub mod Expr
+pub mod Name
+pub mod Form
 pub mod Word
 pub mod Token
 pub mod Operand

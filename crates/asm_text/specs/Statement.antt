@@ -1,13 +1,16 @@
 -- Statements: operations with operands of the forms that they take.
-use Rattle.std.specs.Prelude.{ℕ, ◌==◌, ◌&&◌, Bool, true, false, not, List, [], ◌∷◌, Option, Some, None, map, if◌then◌else◌, Result, Ok, Err}
+use Rattle.std.specs.Prelude.{◌&&◌, Bool, true, false, not, List, [], ◌∷◌, Option, Some, None, map, if◌then◌else◌, Result, Ok, Err}
 use Rattle.text_scan.specs.declared.fault_kind.FaultKind.{FaultKind}
 use Rattle.text_scan.specs.declared.fault_kind.FaultKind.TheVariants as faults
 use Rattle.text_scan.specs.Reader.{◌>>=◌}
 use Rattle.word_arith.specs.declared.size.Size.{Size}
+use Rattle.msp_decode.specs.declared.reg.Reg.{Reg as Register}
+use Rattle.msp_decode.specs.declared.reg.Reg.TheVariants.{R2, R3}
+use Rattle.msp_decode.specs.declared.source_form.SourceForm.TheVariants as forms
+use Rattle.msp_decode.specs.Spelling.{has_form}
 use Rattle.asm_text.specs.declared.body.Body.{Body}
 use Rattle.asm_text.specs.declared.body.Body.TheVariants as bodies
 use Rattle.asm_text.specs.declared.mnemonic.Mnemonic.{Mnemonic}
-use Rattle.asm_text.specs.declared.mnemonic.Mnemonic.TheVariants.{Mov, Add, Addc, Subc, Sub, Cmp, Dadd, Bit, Bic, Bis, Xor, And, Rrc, Swpb, Rra, Sxt, Push, Call, Reti, Jne, Jeq, Jnc, Jc, Jn, Jge, Jl, Jmp, Br, Clrc, Clrn, Clrz, Dint, Eint, Nop, Ret, Rla, Rlc, Setc, Setn, Setz}
 use Rattle.asm_text.specs.declared.operand.Operand.{Operand}
 use Rattle.asm_text.specs.declared.operand.Operand.TheVariants.{Reg, Imm, Abs, Indexed, Symbolic, Indirect, IndirectInc}
 use Rattle.asm_text.specs.declared.operand_form.OperandForm.{OperandForm}
@@ -20,81 +23,40 @@ use Rattle.asm_text.specs.declared.token.Token.{Token}
 use Rattle.asm_text.specs.declared.token.Token.TheVariants as tokens
 use Rattle.asm_text.specs.Operand.{operand_of, operands_of, parts_of, all_of}
 use Rattle.asm_text.specs.Expr.{SignedTerm}
+use Rattle.asm_text.specs.Form.{form_of, operand_form}
 
--- the operands that an emulated instruction takes
-abbrev pub emulated_form : Mnemonic → OperandForm
-emulated_form Br = Source
-emulated_form Rla = DestinationTwice
-emulated_form Rlc = DestinationTwice
-emulated_form Clrc = Nothing
-emulated_form Clrn = Nothing
-emulated_form Clrz = Nothing
-emulated_form Dint = Nothing
-emulated_form Eint = Nothing
-emulated_form Nop = Nothing
-emulated_form Ret = Nothing
-emulated_form Setc = Nothing
-emulated_form Setn = Nothing
-emulated_form Setz = Nothing
-emulated_form mnemonic = Destination
+-- `E(Rn)` is not with R2, and with R3 only as a destination
+abbrev pub is_dest_base : Register → Bool
+is_dest_base R2 = false
+is_dest_base register = true
 
--- the operands that an instruction takes
-abbrev pub form_of : Mnemonic → OperandForm
-form_of Mov = SourceAndDestination
-form_of Add = SourceAndDestination
-form_of Addc = SourceAndDestination
-form_of Subc = SourceAndDestination
-form_of Sub = SourceAndDestination
-form_of Cmp = SourceAndDestination
-form_of Dadd = SourceAndDestination
-form_of Bit = SourceAndDestination
-form_of Bic = SourceAndDestination
-form_of Bis = SourceAndDestination
-form_of Xor = SourceAndDestination
-form_of And = SourceAndDestination
-form_of Rrc = InPlace
-form_of Swpb = InPlace
-form_of Rra = InPlace
-form_of Sxt = InPlace
-form_of Push = Source
-form_of Call = Source
-form_of Jne = Target
-form_of Jeq = Target
-form_of Jnc = Target
-form_of Jc = Target
-form_of Jn = Target
-form_of Jge = Target
-form_of Jl = Target
-form_of Jmp = Target
-form_of Reti = Nothing
-form_of mnemonic = emulated_form mnemonic
+abbrev pub is_base : Register → Bool
+is_base R3 = false
+is_base register = is_dest_base register
 
--- `@Rn`: not with R2 and R3
-abbrev pub is_pointer : ℕ → Bool
-is_pointer register = not (register == 2) && not (register == 3)
-
--- `E(Rn)` is not with R2, and with R3 only as a destination; `@PC+` is not written
+-- `@Rn` and `@Rn+` are not of registers that mean another operand in these modes: R2 and R3, and
+-- behind `+` R0
 abbrev pub is_source : Operand → Bool
-is_source (Indexed expr register) = is_pointer register
-is_source (Indirect register) = is_pointer register
-is_source (IndirectInc register) = is_pointer register && not (register == 0)
+is_source (Indexed expr register) = is_base register
+is_source (Indirect register) = has_form (forms.Indirect register)
+is_source (IndirectInc register) = has_form (forms.IndirectInc register)
 is_source operand = true
 
 abbrev pub is_destination : Operand → Bool
 is_destination (Reg register) = true
 is_destination (Abs expr) = true
-is_destination (Indexed expr register) = not (register == 2)
+is_destination (Indexed expr register) = is_dest_base register
 is_destination (Symbolic expr) = true
 is_destination operand = false
 
 -- an operand that is read and then written: not `E(R3)`
 abbrev pub is_doubled : Operand → Bool
-is_doubled (Indexed expr register) = is_pointer register
+is_doubled (Indexed expr register) = is_base register
 is_doubled operand = is_destination operand
 
 -- a destination, `@Rn` or `@Rn+`; neither R3 nor `E(R3)`
 abbrev pub is_modified : Operand → Bool
-is_modified (Reg register) = not (register == 3)
+is_modified (Reg register) = has_form (forms.Register register)
 is_modified (Imm expr) = false
 is_modified operand = is_source operand
 
@@ -124,7 +86,7 @@ two_of operands = Err faults.Operand
 abbrev pub instruction_of : Mnemonic → Size → List Operand → Result Body FaultKind
 instruction_of mnemonic size operands = do
   two ← two_of operands
-  if fits (form_of mnemonic) two.0 two.1 then Ok (bodies.Instr mnemonic size two.0 two.1)
+  if fits (operand_form (form_of mnemonic)) two.0 two.1 then Ok (bodies.Instr mnemonic size two.0 two.1)
       else Err faults.Operand
 
 -- the expression of an operand that is one alone

@@ -2,6 +2,7 @@
 use Rattle.std.specs.Prelude.{ℕ, ◌<◌, ◌≤◌, ◌+◌, ◌-◌, ◌==◌, Bool, not, ◌&&◌, List, [], ◌∷◌, Option, Some, None, zero, suc, length, slice_index, if◌then◌else◌, nat_le, Result, Ok, Err}
 use Rattle.std.specs.Char.{is_ascii_digit}
 use Rattle.std.specs.List.{position_or_len, before_first}
+use Rattle.msp_decode.specs.declared.reg.Reg.{Reg}
 use Rattle.text_scan.specs.declared.fault_kind.FaultKind.{FaultKind}
 use Rattle.text_scan.specs.declared.fault_kind.FaultKind.TheVariants.{Syntax}
 use Rattle.text_scan.specs.Word.{is_blank}
@@ -11,7 +12,8 @@ use Rattle.asm_text.specs.declared.piece.Piece.TheVariants as pieces
 use Rattle.asm_text.specs.declared.span.Span.{Span}
 use Rattle.asm_text.specs.declared.token.Token.{Token}
 use Rattle.asm_text.specs.declared.token.Token.TheVariants as tokens
-use Rattle.asm_text.specs.Word.{is_word_character, ends_word, is_name, number_of, register_of, operation_of, lower_case}
+use Rattle.asm_text.specs.Word.{is_word_character, ends_word, is_name, number_of, operation_of, lower_case}
+use Rattle.asm_text.specs.Name.{register_of}
 
 -- so many characters from a place on
 abbrev pub span_at : ℕ → ℕ → Span
@@ -25,7 +27,7 @@ abbrev pub name_token : (word : List ℕ) → Option Operation → Span → Toke
 name_token word operation span =
     if is_name word then tokens.Name span operation else tokens.Word operation
 
-abbrev pub named_token : Option ℕ → Token → Token
+abbrev pub named_token : Option Reg → Token → Token
 named_token None name = name
 named_token (Some register) name = tokens.Register register
 

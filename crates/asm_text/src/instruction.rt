@@ -1,12 +1,14 @@
 ghost use Rattle.std.specs.Prelude.{◌≡◌};
 ghost use Rattle.std.specs.Option.{option_copied};
-ghost use Rattle.asm_text.specs.Statement.{form_of, emulated_form, is_pointer, is_source, is_destination, is_doubled, is_modified, is_target, fits, instruction_of};
+ghost use Rattle.asm_text.specs.Statement.{is_base, is_source, is_destination, is_doubled, is_modified, is_target, fits, instruction_of};
 
 use crate::body::Body;
+use crate::form::Form;
 use crate::mnemonic::Mnemonic;
 use crate::operand::Operand;
 use crate::operand_form::OperandForm;
 use crate::operands::Operands;
+use msp_decode::Reg;
 use text_scan::FaultKind;
 use word_arith::Size;
 
@@ -15,7 +17,11 @@ pub fn instruction_of(mnemonic: Mnemonic, size: Size, operands: Operands) -> Res
     ensures { result ≡ instruction_of mnemonic size operands }
 {
     let (first, second) = operands.into_two()?;
-    if !fits(form_of(mnemonic), first.as_ref(), second.as_ref()) {
+    if !fits(
+        Form::of(mnemonic).operand_form(),
+        first.as_ref(),
+        second.as_ref(),
+    ) {
         return Err(FaultKind::Operand);
     }
     Ok(Body::Instr(mnemonic, size, first, second))
@@ -38,71 +44,20 @@ fn fits(form: OperandForm, first: Option<&Operand>, second: Option<&Operand>) ->
     }
 }
 
-fn form_of(mnemonic: Mnemonic) -> OperandForm
-    ensures { result ≡ form_of mnemonic }
+// Whether a source `E(Rn)` may be written with a register.
+fn is_base(register: Reg) -> bool
+    ensures { result ≡ is_base register }
 {
-    match mnemonic {
-        Mnemonic::Mov
-        | Mnemonic::Add
-        | Mnemonic::Addc
-        | Mnemonic::Subc
-        | Mnemonic::Sub
-        | Mnemonic::Cmp
-        | Mnemonic::Dadd
-        | Mnemonic::Bit
-        | Mnemonic::Bic
-        | Mnemonic::Bis
-        | Mnemonic::Xor
-        | Mnemonic::And => OperandForm::SourceAndDestination,
-        Mnemonic::Rrc | Mnemonic::Swpb | Mnemonic::Rra | Mnemonic::Sxt => OperandForm::InPlace,
-        Mnemonic::Push | Mnemonic::Call => OperandForm::Source,
-        Mnemonic::Jne
-        | Mnemonic::Jeq
-        | Mnemonic::Jnc
-        | Mnemonic::Jc
-        | Mnemonic::Jn
-        | Mnemonic::Jge
-        | Mnemonic::Jl
-        | Mnemonic::Jmp => OperandForm::Target,
-        Mnemonic::Reti => OperandForm::Nothing,
-        _ => emulated_form(mnemonic),
-    }
-}
-
-// The same of the emulated instructions.
-fn emulated_form(mnemonic: Mnemonic) -> OperandForm
-    ensures { result ≡ emulated_form mnemonic }
-{
-    match mnemonic {
-        Mnemonic::Br => OperandForm::Source,
-        Mnemonic::Rla | Mnemonic::Rlc => OperandForm::DestinationTwice,
-        Mnemonic::Clrc
-        | Mnemonic::Clrn
-        | Mnemonic::Clrz
-        | Mnemonic::Dint
-        | Mnemonic::Eint
-        | Mnemonic::Nop
-        | Mnemonic::Ret
-        | Mnemonic::Setc
-        | Mnemonic::Setn
-        | Mnemonic::Setz => OperandForm::Nothing,
-        _ => OperandForm::Destination,
-    }
-}
-
-// Whether `@Rn` and a source `E(Rn)` may be written with a register.
-fn is_pointer(register: u8) -> bool
-    ensures { result ≡ is_pointer register }
-{
-    !matches!(register, 2 | 3)
+    !matches!(register, Reg::R2 | Reg::R3)
 }
 
 fn is_source(operand: &Operand) -> bool
     ensures { result ≡ is_source operand.now }
 {
     match operand {
-        Operand::Indexed(_, register) | Operand::Indirect(register) => is_pointer(*register),
-        Operand::IndirectInc(register) => is_pointer(*register) && *register != 0,
+        Operand::Indexed(_, register) => is_base(*register),
+        Operand::Indirect(register) => !matches!(*register, Reg::R2 | Reg::R3),
+        Operand::IndirectInc(register) => !matches!(*register, Reg::R0 | Reg::R2 | Reg::R3),
         _ => true,
     }
 }
@@ -112,7 +67,7 @@ fn is_destination(operand: &Operand) -> bool
 {
     match operand {
         Operand::Reg(_) | Operand::Abs(_) | Operand::Symbolic(_) => true,
-        Operand::Indexed(_, register) => *register != 2,
+        Operand::Indexed(_, register) => *register != Reg::R2,
         _ => false,
     }
 }
@@ -122,7 +77,7 @@ fn is_doubled(operand: &Operand) -> bool
     ensures { result ≡ is_doubled operand.now }
 {
     match operand {
-        Operand::Indexed(_, register) => is_pointer(*register),
+        Operand::Indexed(_, register) => is_base(*register),
         _ => is_destination(operand),
     }
 }
@@ -131,7 +86,7 @@ fn is_modified(operand: &Operand) -> bool
     ensures { result ≡ is_modified operand.now }
 {
     match operand {
-        Operand::Reg(register) => *register != 3,
+        Operand::Reg(register) => *register != Reg::R3,
         Operand::Imm(_) => false,
         _ => is_source(operand),
     }

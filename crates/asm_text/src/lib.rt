@@ -11,14 +11,17 @@
 
 mod body;
 mod directive;
+mod emulated;
 mod expr;
 mod expr_reader;
 mod exprs;
+mod form;
 mod instruction;
 mod law;
 mod line_piece;
 mod mnemonic;
 mod mnemonic_word;
+mod name_table;
 mod number_word;
 mod operand;
 mod operand_form;
@@ -40,11 +43,15 @@ mod tokens;
 mod word_piece;
 
 pub use body::Body;
+pub use emulated::Emulated;
 pub use expr::Expr;
 pub use exprs::Exprs;
+pub use form::{DestRole, Form, SourceRole};
 pub use law::{fault_is_of_the_first_faulty_line, statements_are_of_the_lines};
 pub use mnemonic::Mnemonic;
+pub use mnemonic_word::{jump_name, one_name, op2_name};
 pub use operand::Operand;
+pub use register_word::reg_name;
 pub use source::Source;
 pub use source_reader::parse;
 pub use span::Span;

@@ -1,20 +1,21 @@
 use crate::expr::Expr;
+use msp_decode::Reg;
 
-/// An operand as it is written. A register's number is one of 0..=15.
+/// An operand as it is written.
 #[derive(Debug, Drop)]
 pub enum Operand {
     /// `Rn`
-    Reg(u8),
+    Reg(Reg),
     /// `#E`
     Imm(Expr),
     /// `&E`
     Abs(Expr),
     /// `E(Rn)`
-    Indexed(Expr, u8),
+    Indexed(Expr, Reg),
     /// `E`
     Symbolic(Expr),
     /// `@Rn`
-    Indirect(u8),
+    Indirect(Reg),
     /// `@Rn+`
-    IndirectInc(u8),
+    IndirectInc(Reg),
 }

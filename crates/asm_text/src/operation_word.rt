@@ -1,6 +1,7 @@
 ghost use Rattle.std.specs.Prelude.{◌≡◌};
-ghost use Rattle.asm_text.specs.Word.{has_byte_form, byte_form, word_form, instruction_of, dot_operation_of, directive_of, operation_of};
+ghost use Rattle.asm_text.specs.Word.{byte_form, word_form, instruction_of, dot_operation_of, directive_of, operation_of};
 
+use crate::form::Form;
 use crate::mnemonic::Mnemonic;
 use crate::mnemonic_word::mnemonic_of;
 use crate::operation::Operation;
@@ -63,40 +64,9 @@ fn byte_form(mnemonic: Option<Mnemonic>) -> Option<Operation>
     ensures { result ≡ byte_form mnemonic }
 {
     match mnemonic {
-        Some(mnemonic) if has_byte_form(mnemonic) => {
+        Some(mnemonic) if Form::of(mnemonic).has_byte_form() => {
             Some(Operation::Instr(mnemonic, Size::Byte))
         }
         _ => None,
-    }
-}
-
-fn has_byte_form(mnemonic: Mnemonic) -> bool
-    ensures { result ≡ has_byte_form mnemonic }
-{
-    match mnemonic {
-        Mnemonic::Swpb
-        | Mnemonic::Sxt
-        | Mnemonic::Call
-        | Mnemonic::Reti
-        | Mnemonic::Jne
-        | Mnemonic::Jeq
-        | Mnemonic::Jnc
-        | Mnemonic::Jc
-        | Mnemonic::Jn
-        | Mnemonic::Jge
-        | Mnemonic::Jl
-        | Mnemonic::Jmp
-        | Mnemonic::Br
-        | Mnemonic::Clrc
-        | Mnemonic::Clrn
-        | Mnemonic::Clrz
-        | Mnemonic::Dint
-        | Mnemonic::Eint
-        | Mnemonic::Nop
-        | Mnemonic::Ret
-        | Mnemonic::Setc
-        | Mnemonic::Setn
-        | Mnemonic::Setz => false,
-        _ => true,
     }
 }

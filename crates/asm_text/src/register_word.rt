@@ -1,27 +1,34 @@
-ghost use Rattle.std.specs.Prelude.{◌≡◌};
-ghost use Rattle.asm_text.specs.Word.{register_of};
+ghost use Rattle.std.specs.Prelude.{◌≡◌, ◌≤◌, length};
+ghost use Rattle.asm_text.specs.Name.{reg_name, register_of};
 
-/// The number of the register that a word in lower case names.
-pub fn register_of(word: &[u8]) -> Option<u8>
+use crate::name_table::{name_of, value_named};
+use msp_decode::Reg::{self, R0, R1, R2, R3, R4, R5, R6, R7, R8, R9, R10, R11, R12, R13, R14, R15};
+
+macro_rules! registers {
+    ($read:ident $of:expr) => {
+        $read!($of;
+            R0 b"r0", R1 b"r1", R2 b"r2", R3 b"r3", R4 b"r4", R5 b"r5", R6 b"r6", R7 b"r7",
+            R8 b"r8", R9 b"r9", R10 b"r10", R11 b"r11", R12 b"r12", R13 b"r13", R14 b"r14",
+            R15 b"r15")
+    };
+}
+
+/// The name of a register by its number.
+pub fn reg_name(register: Reg) -> &'static [u8]
+    ensures name { result.now ≡ reg_name register }
+    ensures len { length result.now ≤ 3 }
+{
+    registers!(name_of register)
+}
+
+/// The register that a word in lower case names.
+pub fn register_of(word: &[u8]) -> Option<Reg>
     ensures { result ≡ register_of word.now }
 {
     match word {
-        b"r0" | b"pc" => Some(0),
-        b"r1" | b"sp" => Some(1),
-        b"r2" | b"sr" => Some(2),
-        b"r3" => Some(3),
-        b"r4" => Some(4),
-        b"r5" => Some(5),
-        b"r6" => Some(6),
-        b"r7" => Some(7),
-        b"r8" => Some(8),
-        b"r9" => Some(9),
-        b"r10" => Some(10),
-        b"r11" => Some(11),
-        b"r12" => Some(12),
-        b"r13" => Some(13),
-        b"r14" => Some(14),
-        b"r15" => Some(15),
-        _ => None,
+        b"pc" => Some(R0),
+        b"sp" => Some(R1),
+        b"sr" => Some(R2),
+        _ => registers!(value_named word),
     }
 }

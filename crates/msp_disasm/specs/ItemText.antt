@@ -2,22 +2,17 @@
 use Rattle.std.specs.Prelude.{◌++◌, ℕ, List, [], codes}
 use Rattle.word_arith.specs.declared.size.Size.{Size}
 use Rattle.word_arith.specs.declared.size.Size.TheVariants.{Byte as ByteSize, Word as WordSize}
-use Rattle.word_arith.specs.declared.op2.Op2.{Op2}
-use Rattle.word_arith.specs.declared.op2.Op2.TheVariants.{Mov, Add, Addc, Subc, Sub, Cmp, Dadd, Bit, Bic, Bis, Xor, And}
 use Rattle.msp_decode.specs.declared.reg.Reg.{Reg}
-use Rattle.msp_decode.specs.declared.reg.Reg.TheVariants.{R0, R1, R2, R3, R4, R5, R6, R7, R8, R9, R10, R11, R12, R13, R14, R15}
-use Rattle.msp_decode.specs.declared.cond.Cond.{Cond}
-use Rattle.msp_decode.specs.declared.cond.Cond.TheVariants.{Ne, Eq, Nc, C, N, Ge, L, Always}
+use Rattle.msp_decode.specs.declared.reg.Reg.TheVariants.{R2}
 use Rattle.msp_decode.specs.declared.constant.Gen.{Gen}
 use Rattle.msp_decode.specs.declared.constant.Gen.TheVariants.{Zero, One as PlusOne, Two as PlusTwo, Four, Eight, MinusOne}
 use Rattle.msp_decode.specs.declared.source.Source.{Source}
 use Rattle.msp_decode.specs.declared.source.Source.TheVariants.{Reg as Register, Indexed, Indirect, IndirectInc, Immediate, Constant}
 use Rattle.msp_decode.specs.declared.dest.Dest.{Dest}
 use Rattle.msp_decode.specs.declared.dest.Dest.TheVariants.{Reg as DestRegister, Indexed as DestIndexed}
-use Rattle.msp_decode.specs.declared.one.One.{One}
-use Rattle.msp_decode.specs.declared.one.One.TheVariants.{Rrc, Swpb, Rra, Sxt, Push, Call}
 use Rattle.msp_decode.specs.declared.instr.Instr.{Instr}
 use Rattle.msp_decode.specs.declared.instr.Instr.TheVariants.{Two, One as OneOperand, Reti, Jump}
+use Rattle.asm_text.specs.Name.{op2_name, one_name, jump_name, reg_name}
 use Rattle.part_definitions.specs.AddressSum.{plus}
 use Rattle.part_definitions.specs.Instruction.{jump_target}
 use Rattle.printed_lines.specs.Line.{byte_digits, word_digits}
@@ -28,61 +23,10 @@ use Rattle.msp_disasm.specs.declared.item.Item.TheVariants.{Byte, Word, Instruct
 abbrev pub word_text : ℕ → List ℕ
 word_text word = codes "0x" ++ word_digits word
 
--- the names of the operations
-abbrev pub op2_name : Op2 → List ℕ
-op2_name Mov = codes "mov"
-op2_name Add = codes "add"
-op2_name Addc = codes "addc"
-op2_name Subc = codes "subc"
-op2_name Sub = codes "sub"
-op2_name Cmp = codes "cmp"
-op2_name Dadd = codes "dadd"
-op2_name Bit = codes "bit"
-op2_name Bic = codes "bic"
-op2_name Bis = codes "bis"
-op2_name Xor = codes "xor"
-op2_name And = codes "and"
-
-abbrev pub one_name : One → List ℕ
-one_name Rrc = codes "rrc"
-one_name Swpb = codes "swpb"
-one_name Rra = codes "rra"
-one_name Sxt = codes "sxt"
-one_name Push = codes "push"
-one_name Call = codes "call"
-
-abbrev pub jump_name : Cond → List ℕ
-jump_name Ne = codes "jne"
-jump_name Eq = codes "jeq"
-jump_name Nc = codes "jnc"
-jump_name C = codes "jc"
-jump_name N = codes "jn"
-jump_name Ge = codes "jge"
-jump_name L = codes "jl"
-jump_name Always = codes "jmp"
-
 -- a byte instruction has a suffix
 abbrev pub size_suffix : Size → List ℕ
 size_suffix ByteSize = codes ".b"
 size_suffix WordSize = []
-
-abbrev pub reg_name : Reg → List ℕ
-reg_name R0 = codes "r0"
-reg_name R1 = codes "r1"
-reg_name R2 = codes "r2"
-reg_name R3 = codes "r3"
-reg_name R4 = codes "r4"
-reg_name R5 = codes "r5"
-reg_name R6 = codes "r6"
-reg_name R7 = codes "r7"
-reg_name R8 = codes "r8"
-reg_name R9 = codes "r9"
-reg_name R10 = codes "r10"
-reg_name R11 = codes "r11"
-reg_name R12 = codes "r12"
-reg_name R13 = codes "r13"
-reg_name R14 = codes "r14"
-reg_name R15 = codes "r15"
 
 -- indexed by R2 is absolute
 abbrev pub indexed_text : Reg → ℕ → List ℕ

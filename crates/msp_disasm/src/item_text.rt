@@ -1,62 +1,13 @@
 ghost use Rattle.std.specs.Prelude.{◌≡◌, ◌≤◌, ◌+◌, ◌++◌, length};
 ghost use Rattle.part_definitions.specs.AddressSum.{plus};
 ghost use Rattle.part_definitions.specs.Instruction.{jump_target};
-ghost use Rattle.msp_disasm.specs.ItemText.{word_text, op2_name, one_name, jump_name, size_suffix, reg_name, indexed_text, constant_text, source_text, dest_text, instr_text, item_text};
+ghost use Rattle.msp_disasm.specs.ItemText.{word_text, size_suffix, indexed_text, constant_text, source_text, dest_text, instr_text, item_text};
 
 use crate::item::Item;
+use asm_text::{jump_name, one_name, op2_name, reg_name};
 use line_buffer::LineBuffer;
-use msp_decode::{Cond, Dest, Gen, Instr, One, Reg, Source};
-use word_arith::{Op2, Size};
-
-fn op2_name(op: Op2) -> &'static [u8]
-    ensures text { result.now ≡ op2_name op }
-    ensures len { length result.now ≤ 4 }
-{
-    match op {
-        Op2::Mov => b"mov",
-        Op2::Add => b"add",
-        Op2::Addc => b"addc",
-        Op2::Subc => b"subc",
-        Op2::Sub => b"sub",
-        Op2::Cmp => b"cmp",
-        Op2::Dadd => b"dadd",
-        Op2::Bit => b"bit",
-        Op2::Bic => b"bic",
-        Op2::Bis => b"bis",
-        Op2::Xor => b"xor",
-        Op2::And => b"and",
-    }
-}
-
-fn one_name(op: One) -> &'static [u8]
-    ensures text { result.now ≡ one_name op }
-    ensures len { length result.now ≤ 4 }
-{
-    match op {
-        One::Rrc => b"rrc",
-        One::Swpb => b"swpb",
-        One::Rra => b"rra",
-        One::Sxt => b"sxt",
-        One::Push => b"push",
-        One::Call => b"call",
-    }
-}
-
-fn jump_name(condition: Cond) -> &'static [u8]
-    ensures text { result.now ≡ jump_name condition }
-    ensures len { length result.now ≤ 3 }
-{
-    match condition {
-        Cond::Ne => b"jne",
-        Cond::Eq => b"jeq",
-        Cond::Nc => b"jnc",
-        Cond::C => b"jc",
-        Cond::N => b"jn",
-        Cond::Ge => b"jge",
-        Cond::L => b"jl",
-        Cond::Always => b"jmp",
-    }
-}
+use msp_decode::{Dest, Gen, Instr, Reg, Source};
+use word_arith::Size;
 
 fn size_suffix(size: Size) -> &'static [u8]
     ensures text { result.now ≡ size_suffix size }
@@ -89,30 +40,6 @@ fn push_word_text(line: &mut LineBuffer, word: u16)
 {
     line.push(b"0x");
     line.push_word(word);
-}
-
-fn reg_name(register: Reg) -> &'static [u8]
-    ensures text { result.now ≡ reg_name register }
-    ensures len { length result.now ≤ 3 }
-{
-    match register {
-        Reg::R0 => b"r0",
-        Reg::R1 => b"r1",
-        Reg::R2 => b"r2",
-        Reg::R3 => b"r3",
-        Reg::R4 => b"r4",
-        Reg::R5 => b"r5",
-        Reg::R6 => b"r6",
-        Reg::R7 => b"r7",
-        Reg::R8 => b"r8",
-        Reg::R9 => b"r9",
-        Reg::R10 => b"r10",
-        Reg::R11 => b"r11",
-        Reg::R12 => b"r12",
-        Reg::R13 => b"r13",
-        Reg::R14 => b"r14",
-        Reg::R15 => b"r15",
-    }
 }
 
 // Where a jump at a place goes.

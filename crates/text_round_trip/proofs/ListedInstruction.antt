@@ -1,9 +1,8 @@
 -- The instructions of a listing with operands, read again.
-use Rattle.std.proofs.Common.{◌≡◌, ◌∙◌, ap, refl, ℕ, ◌+◌, ◌*◌, arith, true, not, inl, inr, List, [], ◌∷◌, ◌++◌, append_assoc, ℤ, pos, Option, Some, None, Result, Ok, Err}
+use Rattle.std.proofs.Common.{◌≡◌, ◌∙◌, ap, refl, ℕ, ◌+◌, ◌*◌, true, not, inl, inr, List, [], ◌∷◌, ◌++◌, append_assoc, ℤ, pos, Option, Some, None, Result, Ok, Err}
 use Rattle.std.specs.Prelude.{◌||◌, codes, flat_map}
 use Rattle.std.proofs.lemmas.Bool.{or_cases, false≢true}
 use Rattle.word_arith.specs.declared.op2.Op2.{Op2}
-use Rattle.word_arith.specs.declared.op2.Op2.TheVariants as op
 use Rattle.word_arith.specs.declared.size.Size.{Size}
 use Rattle.word_arith.specs.declared.size.Size.TheVariants as sizes
 use Rattle.msp_decode.specs.declared.one.One.{One as OneOp}
@@ -20,88 +19,37 @@ use Rattle.part_definitions.specs.AddressSum.{plus}
 use Rattle.text_scan.specs.declared.fault_kind.FaultKind.{FaultKind}
 use Rattle.text_scan.specs.Reader.{◌>>=◌}
 use Rattle.asm_text.specs.declared.body.Body.TheVariants as bodies
-use Rattle.asm_text.specs.declared.mnemonic.Mnemonic.{Mnemonic}
-use Rattle.asm_text.specs.declared.mnemonic.Mnemonic.TheVariants.{Mov, Add, Addc, Subc, Sub, Cmp, Dadd, Bit, Bic, Bis, Xor, And, Rrc, Swpb, Rra, Sxt, Push, Call}
-use Rattle.asm_text.specs.declared.operand_form.OperandForm.TheVariants as forms
-use Rattle.asm_text.specs.declared.operation.Operation.TheVariants as operations
+use Rattle.asm_text.specs.declared.mnemonic.Mnemonic.TheVariants as mnemonics
 use Rattle.asm_text.specs.declared.token.Token.TheVariants.{Comma}
 use Rattle.asm_text.specs.Source.{line_statement}
-use Rattle.asm_text.specs.Statement.{form_of, fits}
-use Rattle.asm_bytes.specs.declared.form.Form.TheVariants as shapes
-use Rattle.asm_bytes.specs.declared.form.SourceRole.TheVariants as sources
-use Rattle.asm_bytes.specs.declared.form.DestRole.TheVariants as dests
-use Rattle.asm_bytes.specs.Form.{form_of as shape_of}
+use Rattle.asm_text.specs.Form.{operand_form}
+use Rattle.asm_text.specs.Name.{op2_name}
+use Rattle.asm_text.specs.Statement.{fits}
+use Rattle.asm_text.specs.declared.form.Form.TheVariants as shapes
+use Rattle.asm_text.specs.declared.form.SourceRole.TheVariants as sources
+use Rattle.asm_text.specs.declared.form.DestRole.TheVariants as dests
 use Rattle.asm_bytes.specs.Instruction.{Operands, instruction_of, one_of, source_words}
 use Rattle.asm_bytes.specs.Operand.{expr_in, source_of, dest_of, constant_of, immediate, immediate_word}
 use Rattle.asm_bytes.specs.Statement.{word_bytes}
 use Rattle.asm_bytes.specs.Value.{Scope, value}
 use Rattle.msp_disasm.specs.declared.item.Item.TheVariants as items
-use Rattle.msp_disasm.specs.ItemText.{op2_name, one_name, size_suffix, source_text, dest_text}
+use Rattle.msp_disasm.specs.ItemText.{size_suffix, source_text, dest_text}
 use Rattle.text_round_trip.specs.Listing.{IsReadAs, source_again}
+use Rattle.text_round_trip.specs.Writable.{has_size as mnemonic_has_size}
 use Rattle.text_round_trip.proofs.Falls.{falls-then, falls-apart, comma-falls}
 use Rattle.text_round_trip.proofs.ListedOperand.{FitsSource, FitsDest, source_operand, dest_tokens, dest_operand, source-falls, dest-falls, source-read, dest-read, source-form, source-modified, dest-form, source-again, dest-again}
 use Rattle.text_round_trip.proofs.Operands.{no_colon-first, one-read, two-read}
-use Rattle.text_round_trip.proofs.Words.{IsOperation, statement-read}
+use Rattle.text_round_trip.proofs.Words.{mnemonic-operation, statement-read}
 
--- the mnemonics of the processor's operations
-abbrev two_mnemonic : Op2 → Mnemonic
-two_mnemonic op.Mov = Mov
-two_mnemonic op.Add = Add
-two_mnemonic op.Addc = Addc
-two_mnemonic op.Subc = Subc
-two_mnemonic op.Sub = Sub
-two_mnemonic op.Cmp = Cmp
-two_mnemonic op.Dadd = Dadd
-two_mnemonic op.Bit = Bit
-two_mnemonic op.Bic = Bic
-two_mnemonic op.Bis = Bis
-two_mnemonic op.Xor = Xor
-two_mnemonic op.And = And
+-- the sizes that there are
+two-sized : (op : Op2) (size : Size) → mnemonic_has_size (mnemonics.Two op) size ≡ true
+two-sized op sizes.Byte = refl
+two-sized op sizes.Word = refl
 
-abbrev one_mnemonic : OneOp → Mnemonic
-one_mnemonic one.Rrc = Rrc
-one_mnemonic one.Swpb = Swpb
-one_mnemonic one.Rra = Rra
-one_mnemonic one.Sxt = Sxt
-one_mnemonic one.Push = Push
-one_mnemonic one.Call = Call
-
-two-operation : (op : Op2) (size : Size)
-    → IsOperation (op2_name op ++ size_suffix size) (operations.Instr (two_mnemonic op) size)
-two-operation op.Mov sizes.Byte =
-    record { all = refl; some = omega arith; begins = refl; register = refl; names = refl }
-two-operation op.Mov sizes.Word =
-    record { all = refl; some = omega arith; begins = refl; register = refl; names = refl }
-two-operation op sizes.Byte =
-    record { all = refl; some = omega arith; begins = refl; register = refl; names = refl }
-two-operation op sizes.Word =
-    record { all = refl; some = omega arith; begins = refl; register = refl; names = refl }
-
-one-operation : (op : OneOp) (size : Size) → has_size op size ≡ true
-    → IsOperation (one_name op ++ size_suffix size) (operations.Instr (one_mnemonic op) size)
-one-operation one.Rrc sizes.Byte is =
-    record { all = refl; some = omega arith; begins = refl; register = refl; names = refl }
-one-operation one.Rra sizes.Byte is =
-    record { all = refl; some = omega arith; begins = refl; register = refl; names = refl }
-one-operation one.Push sizes.Byte is =
-    record { all = refl; some = omega arith; begins = refl; register = refl; names = refl }
-one-operation op sizes.Byte is = absurd (false≢true is)
-one-operation one.Rrc sizes.Word is =
-    record { all = refl; some = omega arith; begins = refl; register = refl; names = refl }
-one-operation op sizes.Word is =
-    record { all = refl; some = omega arith; begins = refl; register = refl; names = refl }
-
-two-form : (op : Op2) → form_of (two_mnemonic op) ≡ forms.SourceAndDestination
-two-form op.Mov = refl
-two-form op = refl
-
-two-shape : (op : Op2) → shape_of (two_mnemonic op) ≡ shapes.Two op sources.First dests.Second
-two-shape op.Mov = refl
-two-shape op = refl
-
-one-shape : (op : OneOp) → shape_of (one_mnemonic op) ≡ shapes.One op
-one-shape one.Rrc = refl
-one-shape op = refl
+one-sized : (op : OneOp) (size : Size) → has_size op size ≡ true
+    → mnemonic_has_size (mnemonics.One op) size ≡ true
+one-sized op sizes.Byte has = has
+one-sized op sizes.Word has = refl
 
 -- the bytes of an instruction
 abbrev pub bytes_read : Result Instr FaultKind → Result (List ℕ) FaultKind
@@ -144,22 +92,22 @@ pub two-again : (place : ℕ) (op : Op2) (size : Size) (source : Source) (dest :
     → FitsSource source → FitsDest dest → has_form (source_form source) ≡ true
     → IsReadAs place (items.Instruction (Two op size source dest))
 two-again place op size source dest fits fits_dest form = record {
-  body = bodies.Instr (two_mnemonic op) size (Some (source_operand source))
+  body = bodies.Instr (mnemonics.Two op) size (Some (source_operand source))
       (Some (dest_operand dest));
   read = λ number start.
       ap (line_statement number start)
       (two-text (op2_name op ++ size_suffix size) (codes " ") (source_text source) (codes ",")
       (dest_text dest))
       ∙ statement-read number start (source_operand source ∷ dest_operand dest ∷ [])
-      (two-operation op size) refl
+      (mnemonic-operation (mnemonics.Two op) size (two-sized op size)) refl
       (falls-apart (source-falls source fits) refl
       (falls-then comma-falls (dest-falls dest fits_dest)))
       ((source-read source).begins (Comma ∷ dest_tokens dest))
       (two-read (source-read source) (dest-read dest))
-      (rw (two-form op, source-form source form, dest-form dest) refl);
+      (rw (source-form source form, dest-form dest) refl);
   bytes = λ text names.
       let scope : Scope = record { text = text; names = names; here = place } in
-      rw (two-shape op) (ap bytes_read (two-bytes scope op size source dest fits fits_dest form));
+      ap bytes_read (two-bytes scope op size source dest fits fits_dest form);
 }
 
 -- one operand
@@ -207,7 +155,7 @@ taken-again op size (source.Constant constant) has write =
 -- the form of the operand
 one-fits : (op : OneOp) (source : Source) → has_form (source_form source) ≡ true
     → (takes_result (source_form source) || not (writes_operand op)) ≡ true
-    → fits (form_of (one_mnemonic op)) (Some (source_operand source)) None ≡ true
+    → fits (operand_form (shapes.One op)) (Some (source_operand source)) None ≡ true
 one-fits one.Push source form write = source-form source form
 one-fits one.Call source form write = source-form source form
 one-fits op source form write =
@@ -221,17 +169,18 @@ pub one-again : (place : ℕ) (op : OneOp) (size : Size) (source : Source) → F
     → (takes_result (source_form source) || not (writes_operand op)) ≡ true
     → IsReadAs place (items.Instruction (One op size source))
 one-again place op size source fits form has write = record {
-  body = bodies.Instr (one_mnemonic op) size (Some (source_operand source)) None;
+  body = bodies.Instr (mnemonics.One op) size (Some (source_operand source)) None;
   read = λ number start.
-      statement-read number start (source_operand source ∷ []) (one-operation op size has) refl
+      statement-read number start (source_operand source ∷ [])
+      (mnemonic-operation (mnemonics.One op) size (one-sized op size has)) refl
       (source-falls source fits) (no_colon-first (source-read source))
       (one-read (source-read source))
       (rw (one-fits op source form write) refl);
   bytes = λ text names.
       let scope : Scope = record { text = text; names = names; here = place } in
       let from = source-again scope size (plus place 2) source fits form in
-      rw (one-shape op) (ap bytes_read
+      ap bytes_read
       (one-steps scope op size (record { first = Some (source_operand source); second = None })
       from.value (source_again size source) from.valued from.read
-      ∙ taken-again op size source has write));
+      ∙ taken-again op size source has write);
 }

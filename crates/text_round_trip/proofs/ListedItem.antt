@@ -12,7 +12,6 @@ use Rattle.asm_text.specs.declared.body.Body.{Body}
 use Rattle.asm_text.specs.declared.body.Body.TheVariants as bodies
 use Rattle.asm_text.specs.declared.mnemonic.Mnemonic.TheVariants.{Reti as RetiMnemonic}
 use Rattle.asm_text.specs.declared.operand.Operand.TheVariants.{Symbolic}
-use Rattle.asm_text.specs.declared.operation.Operation.TheVariants as operations
 use Rattle.asm_text.specs.Token.{word_token}
 use Rattle.asm_bytes.specs.Statement.{all_bytes}
 use Rattle.msp_disasm.specs.declared.item.Item.TheVariants as items
@@ -20,23 +19,20 @@ use Rattle.text_round_trip.specs.Listing.{IsReadAs}
 use Rattle.text_round_trip.proofs.ListedOperand.{number_expr, word-falls}
 use Rattle.text_round_trip.proofs.Numerals.{number-falls, byte_text-number}
 use Rattle.text_round_trip.proofs.Operands.{one-read}
-use Rattle.text_round_trip.proofs.Words.{IsOperation, without_label, operation-falls, no_label, operation-read, line-read, statement-read}
+use Rattle.text_round_trip.proofs.Words.{mnemonic-operation, without_label, operation-falls, no_label, operation-read, line-read, statement-read}
 use Rattle.text_round_trip.proofs.ListedJump.{number-operand}
-
-reti-operation : IsOperation (codes "reti") (operations.Instr RetiMnemonic sizes.Word)
-reti-operation =
-    record { all = refl; some = omega arith; begins = refl; register = refl; names = refl }
 
 pub reti-again : (place : ℕ) → IsReadAs place (items.Instruction Reti)
 reti-again place =
     let body : Body = bodies.Instr RetiMnemonic sizes.Word None None in
+    let operation = mnemonic-operation RetiMnemonic sizes.Word refl in
     record {
       body = body;
       read = λ number start.
-          line-read number start (None, body) (operation-falls reti-operation)
+          line-read number start (None, body) (operation-falls operation)
           (no_label (word_token start (codes "reti")) [] refl
           ∙ ap (λ (answer : Result Body FaultKind). answer >>= without_label)
-          (operation-read start [] [] reti-operation refl refl refl));
+          (operation-read start [] [] operation refl refl refl));
       bytes = λ text names. refl;
     }
 

@@ -1,11 +1,10 @@
 -- The jumps of a listing, read again.
-use Rattle.std.proofs.Common.{◌≡◌, ◌∙◌, ap, refl, ℕ, suc, ◌+◌, ◌-◌, ◌*◌, ◌/◌, ◌%◌, ◌<◌, ◌≤◌, arith, Bool, true, false, [], ◌∷◌, ℤ, pos, negsuc, Some, None, Ok, Err}
+use Rattle.std.proofs.Common.{◌≡◌, ◌∙◌, ap, refl, ℕ, suc, ◌+◌, ◌-◌, ◌*◌, ◌/◌, ◌%◌, ◌<◌, ◌≤◌, arith, Bool, true, false, List, [], ◌∷◌, append-nil, subst, ℤ, pos, negsuc, Some, None, Ok, Err}
 use Rattle.std.specs.Prelude.{if◌then◌else◌, neg_ℤ}
 use Rattle.std.proofs.lemmas.Bool.{le-leb, lt-leb, le-ltb, leb-true, leb-false, lt-ltb, ltb-true, ltb-false, eq-eqb}
 use Rattle.std.proofs.Math.IntN.{+ℤ_idr}
 use Rattle.word_arith.specs.declared.size.Size.TheVariants as sizes
 use Rattle.msp_decode.specs.declared.cond.Cond.{Cond}
-use Rattle.msp_decode.specs.declared.cond.Cond.TheVariants as conditions
 use Rattle.msp_decode.specs.declared.instr.Instr.TheVariants.{Jump}
 use Rattle.msp_decode.specs.Spelling.{has_range}
 use Rattle.part_definitions.specs.AddressSum.{plus}
@@ -13,24 +12,20 @@ use Rattle.part_definitions.specs.Instruction.{jump_target}
 use Rattle.text_scan.specs.declared.fault_kind.FaultKind.TheVariants.{Range}
 use Rattle.text_scan.specs.Reader.{◌>>=◌}
 use Rattle.asm_text.specs.declared.body.Body.TheVariants as bodies
-use Rattle.asm_text.specs.declared.mnemonic.Mnemonic.{Mnemonic}
-use Rattle.asm_text.specs.declared.mnemonic.Mnemonic.TheVariants.{Jne, Jeq, Jnc, Jc, Jn, Jge, Jl, Jmp}
+use Rattle.asm_text.specs.declared.mnemonic.Mnemonic.TheVariants as mnemonics
 use Rattle.asm_text.specs.declared.operand.Operand.TheVariants.{Symbolic}
-use Rattle.asm_text.specs.declared.operand_form.OperandForm.TheVariants as forms
 use Rattle.asm_text.specs.declared.operation.Operation.TheVariants as operations
 use Rattle.asm_text.specs.declared.token.Token.TheVariants.{Number}
 use Rattle.asm_text.specs.Operand.{terms_of}
-use Rattle.asm_text.specs.Statement.{form_of}
-use Rattle.asm_bytes.specs.declared.form.Form.TheVariants as shapes
-use Rattle.asm_bytes.specs.Form.{form_of as shape_of}
+use Rattle.asm_text.specs.declared.form.Form.TheVariants as shapes
+use Rattle.asm_text.specs.Name.{jump_name}
 use Rattle.asm_bytes.specs.Instruction.{instruction_of, half_way, jump_of}
 use Rattle.asm_bytes.specs.Value.{Scope, address_of}
 use Rattle.msp_disasm.specs.declared.item.Item.TheVariants as items
-use Rattle.msp_disasm.specs.ItemText.{jump_name}
 use Rattle.text_round_trip.specs.Listing.{IsReadAs, stays_within}
 use Rattle.text_round_trip.proofs.ListedOperand.{number_expr, word-falls}
 use Rattle.text_round_trip.proofs.Operands.{IsOperandOf, one-read}
-use Rattle.text_round_trip.proofs.Words.{IsOperation, statement-read}
+use Rattle.text_round_trip.proofs.Words.{IsOperation, mnemonic-operation, statement-read}
 use Rattle.text_round_trip.proofs.ListedInstruction.{bytes_read}
 
 -- a lone number
@@ -40,31 +35,13 @@ unfolding terms_of
 number-operand number =
     record { some = omega arith; alone = refl; read = refl; begins = λ rest. refl }
 
--- the conditions' mnemonics
-abbrev jump_mnemonic : Cond → Mnemonic
-jump_mnemonic conditions.Ne = Jne
-jump_mnemonic conditions.Eq = Jeq
-jump_mnemonic conditions.Nc = Jnc
-jump_mnemonic conditions.C = Jc
-jump_mnemonic conditions.N = Jn
-jump_mnemonic conditions.Ge = Jge
-jump_mnemonic conditions.L = Jl
-jump_mnemonic conditions.Always = Jmp
-
 jump-operation : (condition : Cond)
-    → IsOperation (jump_name condition) (operations.Instr (jump_mnemonic condition) sizes.Word)
-jump-operation conditions.Ne =
-    record { all = refl; some = omega arith; begins = refl; register = refl; names = refl }
+    → IsOperation (jump_name condition) (operations.Instr (mnemonics.Jump condition) sizes.Word)
 jump-operation condition =
-    record { all = refl; some = omega arith; begins = refl; register = refl; names = refl }
-
-jump-form : (condition : Cond) → form_of (jump_mnemonic condition) ≡ forms.Target
-jump-form conditions.Ne = refl
-jump-form condition = refl
-
-jump-shape : (condition : Cond) → shape_of (jump_mnemonic condition) ≡ shapes.Jump condition
-jump-shape conditions.Ne = refl
-jump-shape condition = refl
+    subst (λ (word : List ℕ).
+    IsOperation word (operations.Instr (mnemonics.Jump condition) sizes.Word))
+    (append-nil (jump_name condition))
+    (mnemonic-operation (mnemonics.Jump condition) sizes.Word refl)
 
 half-forward : (from to n : ℕ) → from ≤ to → (to - from) / 2 ≡ n → half_way from to ≡ pos n
 half-forward from to n order same = rw (le-leb from to order) (ap pos same)
@@ -147,14 +124,14 @@ jump-again place condition offset range even below =
     let target : ℕ = jump_target (plus place 2) offset in
     let fits : target < 65536 = omega arith in
     record {
-      body = bodies.Instr (jump_mnemonic condition) sizes.Word
+      body = bodies.Instr (mnemonics.Jump condition) sizes.Word
           (Some (Symbolic (number_expr target))) None;
       read = λ number start.
           statement-read number start (Symbolic (number_expr target) ∷ [])
           (jump-operation condition) refl (word-falls target fits) refl
-          (one-read (number-operand target)) (rw (jump-form condition) refl);
+          (one-read (number-operand target)) refl;
       bytes = λ text names.
           let scope : Scope = record { text = text; names = names; here = place } in
-          rw (jump-shape condition) (ap bytes_read (jump-steps scope condition target fits
-          ∙ target-again condition place offset range even below));
+          ap bytes_read (jump-steps scope condition target fits
+          ∙ target-again condition place offset range even below);
     }

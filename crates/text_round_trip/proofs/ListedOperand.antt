@@ -6,7 +6,7 @@ use Rattle.std.proofs.Math.IntN.{+ℤ_idr}
 use Rattle.hex.specs.Hex.{encode_with}
 use Rattle.word_arith.specs.declared.size.Size.{Size}
 use Rattle.msp_decode.specs.declared.reg.Reg.{Reg}
-use Rattle.msp_decode.specs.declared.reg.Reg.TheVariants.{R0, R2, R3}
+use Rattle.msp_decode.specs.declared.reg.Reg.TheVariants.{R2, R3}
 use Rattle.msp_decode.specs.declared.constant.Gen.{Gen}
 use Rattle.msp_decode.specs.declared.constant.Gen.TheVariants as gen
 use Rattle.msp_decode.specs.declared.source.Source.{Source}
@@ -15,7 +15,6 @@ use Rattle.msp_decode.specs.declared.dest.Dest.{Dest}
 use Rattle.msp_decode.specs.declared.dest.Dest.TheVariants as dest
 use Rattle.msp_decode.specs.Completion.{source_form}
 use Rattle.msp_decode.specs.Spelling.{has_form, takes_result}
-use Rattle.msp_decode.specs.Table.{reg_number}
 use Rattle.asm_text.specs.declared.operand.Operand.{Operand}
 use Rattle.asm_text.specs.declared.operand.Operand.TheVariants.{Reg as RegOperand, Imm, Abs, Indexed, Indirect, IndirectInc}
 use Rattle.asm_text.specs.declared.term.Term.TheVariants as terms
@@ -40,11 +39,11 @@ number_expr number = (false, terms.Number number) ∷ []
 -- indexed by R2 is absolute
 abbrev indexed_tokens : Reg → ℕ → List Token
 indexed_tokens R2 index = Ampersand ∷ Number index ∷ []
-indexed_tokens register index = Number index ∷ Open ∷ Register (reg_number register) ∷ Close ∷ []
+indexed_tokens register index = Number index ∷ Open ∷ Register register ∷ Close ∷ []
 
 abbrev indexed_operand : Reg → ℕ → Operand
 indexed_operand R2 index = Abs (number_expr index)
-indexed_operand register index = Indexed (number_expr index) (reg_number register)
+indexed_operand register index = Indexed (number_expr index) register
 
 pub word-falls : (word : ℕ) → word < 65536 → FallsInto (word_text word) (λ place. Number word ∷ [])
 word-falls word below = number-falls (word_text word) word (word_text-number word below)
@@ -85,28 +84,28 @@ constant-falls gen.MinusOne =
     falls-then hash-falls (falls-then minus-falls (number-falls (codes "1") 1 refl))
 
 abbrev pub source_tokens : Source → List Token
-source_tokens (source.Reg register) = Register (reg_number register) ∷ []
+source_tokens (source.Reg register) = Register register ∷ []
 source_tokens (source.Indexed register index) = indexed_tokens register index
-source_tokens (source.Indirect register) = At ∷ Register (reg_number register) ∷ []
-source_tokens (source.IndirectInc register) = At ∷ Register (reg_number register) ∷ Plus ∷ []
+source_tokens (source.Indirect register) = At ∷ Register register ∷ []
+source_tokens (source.IndirectInc register) = At ∷ Register register ∷ Plus ∷ []
 source_tokens (source.Immediate word) = Hash ∷ Number word ∷ []
 source_tokens (source.Constant constant) = constant_tokens constant
 
 abbrev pub source_operand : Source → Operand
-source_operand (source.Reg register) = RegOperand (reg_number register)
+source_operand (source.Reg register) = RegOperand register
 source_operand (source.Indexed register index) = indexed_operand register index
-source_operand (source.Indirect register) = Indirect (reg_number register)
-source_operand (source.IndirectInc register) = IndirectInc (reg_number register)
+source_operand (source.Indirect register) = Indirect register
+source_operand (source.IndirectInc register) = IndirectInc register
 source_operand (source.Immediate word) = Imm (number_expr word)
 source_operand (source.Constant constant) =
     Imm ((is_negative constant, terms.Number (constant_number constant)) ∷ [])
 
 abbrev pub dest_tokens : Dest → List Token
-dest_tokens (dest.Reg register) = Register (reg_number register) ∷ []
+dest_tokens (dest.Reg register) = Register register ∷ []
 dest_tokens (dest.Indexed register index) = indexed_tokens register index
 
 abbrev pub dest_operand : Dest → Operand
-dest_operand (dest.Reg register) = RegOperand (reg_number register)
+dest_operand (dest.Reg register) = RegOperand register
 dest_operand (dest.Indexed register index) = indexed_operand register index
 
 -- the extension word is a word
@@ -176,10 +175,7 @@ source-form (source.Indexed R2 index) form = refl
 source-form (source.Indexed R3 index) form = absurd (false≢true form)
 source-form (source.Indexed register index) form = refl
 source-form (source.Indirect register) form = form
-source-form (source.IndirectInc R0) form = absurd (false≢true form)
-source-form (source.IndirectInc R2) form = absurd (false≢true form)
-source-form (source.IndirectInc R3) form = absurd (false≢true form)
-source-form (source.IndirectInc register) form = refl
+source-form (source.IndirectInc register) form = form
 source-form (source.Immediate word) form = refl
 source-form (source.Constant constant) form = refl
 
@@ -190,8 +186,7 @@ source-modified (source.Indexed R2 index) form takes = refl
 source-modified (source.Indexed R3 index) form takes = absurd (false≢true form)
 source-modified (source.Indexed register index) form takes = refl
 source-modified (source.Indirect register) form takes = form
-source-modified (source.IndirectInc register) form takes =
-    source-form (source.IndirectInc register) form
+source-modified (source.IndirectInc register) form takes = form
 source-modified (source.Immediate word) form takes = absurd (false≢true takes)
 source-modified (source.Constant constant) form takes = absurd (false≢true takes)
 
@@ -233,23 +228,6 @@ register-again scope size at R3 form = absurd (false≢true form)
 register-again scope size at register form =
     record { value = pos 0; valued = refl; read = refl }
 
-indirect-again : (scope : Scope) (size : Size) (at : ℕ) (register : Reg)
-    → has_form (source_form (source.Indirect register)) ≡ true
-    → IsSourceAgain scope size at (source.Indirect register)
-indirect-again scope size at R2 form = absurd (false≢true form)
-indirect-again scope size at R3 form = absurd (false≢true form)
-indirect-again scope size at register form =
-    record { value = pos 0; valued = refl; read = refl }
-
-indirect_inc-again : (scope : Scope) (size : Size) (at : ℕ) (register : Reg)
-    → has_form (source_form (source.IndirectInc register)) ≡ true
-    → IsSourceAgain scope size at (source.IndirectInc register)
-indirect_inc-again scope size at R0 form = absurd (false≢true form)
-indirect_inc-again scope size at R2 form = absurd (false≢true form)
-indirect_inc-again scope size at R3 form = absurd (false≢true form)
-indirect_inc-again scope size at register form =
-    record { value = pos 0; valued = refl; read = refl }
-
 constant-again : (scope : Scope) (size : Size) (at : ℕ) (constant : Gen)
     → IsSourceAgain scope size at (source.Constant constant)
 constant-again scope size at gen.MinusOne = record { value = negsuc 0; valued = refl; read = refl }
@@ -263,9 +241,9 @@ source-again scope size at (source.Reg register) fits form =
 source-again scope size at (source.Indexed register index) fits form =
     indexed-again scope size at register index fits form
 source-again scope size at (source.Indirect register) fits form =
-    indirect-again scope size at register form
+    record { value = pos 0; valued = refl; read = rw form refl }
 source-again scope size at (source.IndirectInc register) fits form =
-    indirect_inc-again scope size at register form
+    record { value = pos 0; valued = refl; read = rw form refl }
 source-again scope size at (source.Immediate word) fits form =
     record { value = pos word; valued = number-value scope word; read = refl }
 source-again scope size at (source.Constant constant) fits form =
@@ -279,7 +257,6 @@ pub record IsDestAgain (scope : Scope) (at : ℕ) (dest : Dest) : Type 0 where
 
 pub dest-again : (scope : Scope) (at : ℕ) (dest : Dest) → FitsDest dest
     → IsDestAgain scope at dest
-dest-again scope at (dest.Reg R0) fits = record { value = pos 0; valued = refl; read = refl }
 dest-again scope at (dest.Reg register) fits =
     record { value = pos 0; valued = refl; read = refl }
 dest-again scope at (dest.Indexed R2 index) fits = record {

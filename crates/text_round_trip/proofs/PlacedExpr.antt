@@ -4,6 +4,7 @@ use Rattle.std.specs.Prelude.{◌==◌, ◌&&◌, slice_index, is_none, nat_lt, 
 use Rattle.std.specs.Char.{is_ascii_digit}
 use Rattle.std.specs.List.{list_all}
 use Rattle.std.proofs.lemmas.Bool.{and_parts, and_from, or_left, false≢true, ltb-true}
+use Rattle.msp_decode.specs.declared.reg.Reg.{Reg}
 use Rattle.asm_text.specs.declared.piece.Piece.TheVariants as pieces
 use Rattle.asm_text.specs.declared.term.Term.{Term}
 use Rattle.asm_text.specs.declared.term.Term.TheVariants as terms
@@ -12,7 +13,8 @@ use Rattle.asm_text.specs.declared.token.Token.TheVariants as tokens
 use Rattle.asm_text.specs.Expr.{SignedTerm}
 use Rattle.asm_text.specs.Operand.{term_of, sign_of, terms_of, expr_of}
 use Rattle.asm_text.specs.Token.{span_at, number_piece, word_piece, named_token, name_token, word_token}
-use Rattle.asm_text.specs.Word.{is_word_character, is_name, is_name_character, number_of, register_of, operation_of, lower_case}
+use Rattle.asm_text.specs.Word.{is_word_character, is_name, is_name_character, number_of, operation_of, lower_case}
+use Rattle.asm_text.specs.Name.{register_of}
 use Rattle.text_round_trip.specs.ReadBack.{AreNumerals}
 use Rattle.text_round_trip.specs.LineSyntax.{TermSyntax, Number, Name, Here, ExprSyntax}
 use Rattle.text_round_trip.specs.SyntaxText.{Numerals, term_text, sign_text, more_text, expr_text}
@@ -80,7 +82,7 @@ all-characters (c ∷ word) all =
     and_from (is_word_character c) (list_all is_word_character word)
     (or_left (is_name_character c) (c == 46) parts.0) (all-characters word parts.1)
 
-no-register : (answer : Option ℕ) → is_none answer ≡ true → answer ≡ None
+no-register : (answer : Option Reg) → is_none answer ≡ true → answer ≡ None
 no-register None is = refl
 no-register (Some register) is = absurd (false≢true is)
 
@@ -89,7 +91,7 @@ name-token : (place : ℕ) (name : List ℕ) → is_name name ≡ true
     → word_token place name
     ≡ tokens.Name (span_at place (length name)) (operation_of (lower_case name))
 name-token place name is other =
-    ap (λ (answer : Option ℕ). named_token answer
+    ap (λ (answer : Option Reg). named_token answer
     (name_token name (operation_of (lower_case name)) (span_at place (length name)))) other
     ∙ ap (λ (test : Bool). if test
     then tokens.Name (span_at place (length name)) (operation_of (lower_case name))

@@ -1,73 +1,26 @@
 -- Instructions are read back.
-use Rattle.std.proofs.Common.{◌≡◌, ◌∙◌, ap, sym, refl, ℕ, ◌+◌, arith, Bool, true, false, List, [], ◌∷◌, ◌++◌, length, Option, Some, None}
-use Rattle.std.specs.Prelude.{◌&&◌, codes, option_map, if◌then◌else◌}
+use Rattle.std.proofs.Common.{◌≡◌, ◌∙◌, ap, sym, refl, ℕ, ◌+◌, Bool, true, false, List, [], ◌∷◌, ◌++◌, length, Option, Some, None}
+use Rattle.std.specs.Prelude.{◌&&◌, option_map}
 use Rattle.std.proofs.lemmas.Bool.{and_parts, false≢true}
 use Rattle.word_arith.specs.declared.size.Size.{Size}
-use Rattle.word_arith.specs.declared.size.Size.TheVariants as sizes
 use Rattle.msp_disasm.specs.ItemText.{size_suffix}
 use Rattle.asm_text.specs.declared.body.Body.{Body}
 use Rattle.asm_text.specs.declared.body.Body.TheVariants as bodies
 use Rattle.asm_text.specs.declared.mnemonic.Mnemonic.{Mnemonic}
-use Rattle.asm_text.specs.declared.mnemonic.Mnemonic.TheVariants.{Mov}
 use Rattle.asm_text.specs.declared.operand.Operand.{Operand}
 use Rattle.asm_text.specs.declared.operand_form.OperandForm.{OperandForm}
 use Rattle.asm_text.specs.declared.operand_form.OperandForm.TheVariants as forms
-use Rattle.asm_text.specs.declared.operation.Operation.TheVariants as operations
-use Rattle.asm_text.specs.Statement.{form_of, fits, is_source, is_destination}
-use Rattle.asm_text.specs.Word.{lower_case, operation_of, byte_form, has_byte_form}
+use Rattle.asm_text.specs.Form.{form_of, operand_form}
+use Rattle.asm_text.specs.Name.{mnemonic_name}
+use Rattle.asm_text.specs.Statement.{fits, is_source, is_destination}
 use Rattle.text_round_trip.specs.ReadBack.{AreNumerals}
 use Rattle.text_round_trip.specs.LineSyntax.{OperandSyntax, Reg, Instr, body_syntax}
-use Rattle.text_round_trip.specs.SyntaxText.{Numerals, operand_text, operands_text, mnemonic_text, body_text}
+use Rattle.text_round_trip.specs.SyntaxText.{Numerals, operand_text, operands_text, body_text}
 use Rattle.text_round_trip.specs.Writable.{form_in, is_none_or_writable, has_size, is_writable_body}
 use Rattle.text_round_trip.proofs.PlacedName.{Stands, stands-back, says-operands}
 use Rattle.text_round_trip.proofs.PlacedOperand.{placed_operand}
-use Rattle.text_round_trip.proofs.Words.{IsOperation}
+use Rattle.text_round_trip.proofs.Words.{mnemonic-operation}
 use Rattle.text_round_trip.proofs.PlacedStatement.{IsBodyText, operation-body}
-
--- the operation of each instruction
-
-byte-name : (mnemonic : Mnemonic)
-    → operation_of (lower_case (mnemonic_text mnemonic ++ codes ".b"))
-    ≡ byte_form (Some mnemonic)
-byte-name Mov = refl
-byte-name mnemonic = refl
-
-byte-names : (mnemonic : Mnemonic) → has_byte_form mnemonic ≡ true
-    → operation_of (lower_case (mnemonic_text mnemonic ++ codes ".b"))
-    ≡ Some (operations.Instr mnemonic sizes.Byte)
-byte-names mnemonic has =
-    byte-name mnemonic
-    ∙ ap (λ (test : Bool). if test then Some (operations.Instr mnemonic sizes.Byte) else None) has
-
-byte-operation : (mnemonic : Mnemonic) → has_byte_form mnemonic ≡ true
-    → IsOperation (mnemonic_text mnemonic ++ codes ".b") (operations.Instr mnemonic sizes.Byte)
-byte-operation Mov has =
-    record {
-      all = refl;
-      some = omega arith;
-      begins = refl;
-      register = refl;
-      names = byte-names Mov has;
-    }
-byte-operation mnemonic has = record {
-  all = refl;
-  some = omega arith;
-  begins = refl;
-  register = refl;
-  names = byte-names mnemonic has;
-}
-
-word-operation : (mnemonic : Mnemonic)
-    → IsOperation (mnemonic_text mnemonic ++ []) (operations.Instr mnemonic sizes.Word)
-word-operation Mov =
-    record { all = refl; some = omega arith; begins = refl; register = refl; names = refl }
-word-operation mnemonic =
-    record { all = refl; some = omega arith; begins = refl; register = refl; names = refl }
-
-pub mnemonic-operation : (mnemonic : Mnemonic) (size : Size) → has_size mnemonic size ≡ true
-    → IsOperation (mnemonic_text mnemonic ++ size_suffix size) (operations.Instr mnemonic size)
-mnemonic-operation mnemonic sizes.Word has = word-operation mnemonic
-mnemonic-operation mnemonic sizes.Byte has = byte-operation mnemonic has
 
 -- what fits goes by the forms alone
 
@@ -110,9 +63,9 @@ placed_instruction numerals mnemonic size None second place = bodies.Instr mnemo
 placed_instruction numerals mnemonic size (Some first) None place =
     bodies.Instr mnemonic size
     (Some (placed_operand numerals
-    (place + length (mnemonic_text mnemonic ++ size_suffix size) + 1) first)) None
+    (place + length (mnemonic_name mnemonic ++ size_suffix size) + 1) first)) None
 placed_instruction numerals mnemonic size (Some first) (Some second) place =
-    let word : ℕ = place + length (mnemonic_text mnemonic ++ size_suffix size) + 1 in
+    let word : ℕ = place + length (mnemonic_name mnemonic ++ size_suffix size) + 1 in
     bodies.Instr mnemonic size (Some (placed_operand numerals word first))
     (Some (placed_operand numerals (word + length (operand_text numerals first) + 1) second))
 
@@ -120,8 +73,8 @@ placed_instruction numerals mnemonic size (Some first) (Some second) place =
 pub record IsWritableInstruction (mnemonic : Mnemonic) (size : Size)
     (first second : Option OperandSyntax) : Type 0 where
   pub sized : has_size mnemonic size ≡ true
-  pub fitting : fits (form_of mnemonic) (option_map form_in first) (option_map form_in second)
-      ≡ true
+  pub fitting : fits (operand_form (form_of mnemonic)) (option_map form_in first)
+      (option_map form_in second) ≡ true
   pub one : is_none_or_writable first ≡ true
   pub two : is_none_or_writable second ≡ true
 
@@ -131,7 +84,7 @@ pub instruction-parts : (mnemonic : Mnemonic) (size : Size) (first second : Opti
 instruction-parts mnemonic size first second is =
     let is_sized : Bool = has_size mnemonic size in
     let does_fit : Bool =
-    fits (form_of mnemonic) (option_map form_in first) (option_map form_in second) in
+    fits (operand_form (form_of mnemonic)) (option_map form_in first) (option_map form_in second) in
     let last = and_parts (is_sized && does_fit && is_none_or_writable first)
     (is_none_or_writable second) is in
     let middle = and_parts (is_sized && does_fit) (is_none_or_writable first) last.0 in
@@ -147,22 +100,23 @@ instruction-text numerals are mnemonic size None None is =
     operation-body numerals are [] (placed_instruction numerals mnemonic size None None)
     (mnemonic-operation mnemonic size is.sized) refl refl (λ place. rw is.fitting refl)
 instruction-text numerals are mnemonic size None (Some second) is =
-    absurd (false≢true (sym (second-alone (form_of mnemonic) (form_in second)) ∙ is.fitting))
+    absurd (false≢true
+    (sym (second-alone (operand_form (form_of mnemonic)) (form_in second)) ∙ is.fitting))
 instruction-text numerals are mnemonic size (Some first) None is =
     operation-body numerals are (first ∷ [])
     (placed_instruction numerals mnemonic size (Some first) None)
     (mnemonic-operation mnemonic size is.sized) refl (rw is.one refl)
     (λ place. rw (one-same numerals
-    (place + length (mnemonic_text mnemonic ++ size_suffix size) + 1) (form_of mnemonic) first
-    ∙ is.fitting) refl)
+    (place + length (mnemonic_name mnemonic ++ size_suffix size) + 1)
+    (operand_form (form_of mnemonic)) first ∙ is.fitting) refl)
 instruction-text numerals are mnemonic size (Some first) (Some second) is =
     operation-body numerals are (first ∷ second ∷ [])
     (placed_instruction numerals mnemonic size (Some first) (Some second))
     (mnemonic-operation mnemonic size is.sized) refl (rw (is.one, is.two) refl)
     (λ place.
-    let word : ℕ = place + length (mnemonic_text mnemonic ++ size_suffix size) + 1 in
+    let word : ℕ = place + length (mnemonic_name mnemonic ++ size_suffix size) + 1 in
     rw (two-same numerals word (word + length (operand_text numerals first) + 1)
-    (form_of mnemonic) first second ∙ is.fitting) refl)
+    (operand_form (form_of mnemonic)) first second ∙ is.fitting) refl)
 
 abbrev first_of : List OperandSyntax → Option OperandSyntax
 first_of [] = None
@@ -180,14 +134,15 @@ pub instruction-says : (source : List ℕ) (numerals : Numerals) (mnemonic : Mne
     ≡ Instr mnemonic size first second
 instruction-says source numerals mnemonic size None None place is stands = refl
 instruction-says source numerals mnemonic size None (Some second) place is stands =
-    absurd (false≢true (sym (second-alone (form_of mnemonic) (form_in second)) ∙ is.fitting))
+    absurd (false≢true
+    (sym (second-alone (operand_form (form_of mnemonic)) (form_in second)) ∙ is.fitting))
 instruction-says source numerals mnemonic size (Some first) None place is stands =
-    let word : List ℕ = mnemonic_text mnemonic ++ size_suffix size in
+    let word : List ℕ = mnemonic_name mnemonic ++ size_suffix size in
     ap (λ (all : List OperandSyntax). Instr mnemonic size (first_of all) (second_of all))
     (says-operands source numerals (place + length word) (first ∷ [])
     (stands-back word (operands_text numerals (first ∷ [])) stands))
 instruction-says source numerals mnemonic size (Some first) (Some second) place is stands =
-    let word : List ℕ = mnemonic_text mnemonic ++ size_suffix size in
+    let word : List ℕ = mnemonic_name mnemonic ++ size_suffix size in
     ap (λ (all : List OperandSyntax). Instr mnemonic size (first_of all) (second_of all))
     (says-operands source numerals (place + length word) (first ∷ second ∷ [])
     (stands-back word (operands_text numerals (first ∷ second ∷ [])) stands))

@@ -6,7 +6,8 @@ use Rattle.std.proofs.lemmas.List.{drop-drop}
 use Rattle.asm_text.specs.Token.{span_at}
 use Rattle.asm_bytes.specs.Value.{characters}
 use Rattle.text_round_trip.specs.LineSyntax.{TermSyntax, Number, Name, Here, ExprSyntax, OperandSyntax, Reg, Imm, Abs, Indexed, Symbolic, Indirect, IndirectInc, term_syntax, expr_syntax, operand_syntax}
-use Rattle.text_round_trip.specs.SyntaxText.{Numerals, term_text, sign_text, more_text, expr_text, register_text, operand_text, more_operands_text, operands_text}
+use Rattle.asm_text.specs.Name.{reg_name}
+use Rattle.text_round_trip.specs.SyntaxText.{Numerals, term_text, sign_text, more_text, expr_text, operand_text, more_operands_text, operands_text}
 use Rattle.text_round_trip.proofs.PlacedExpr.{placed_term, placed_more, placed_expr}
 use Rattle.text_round_trip.proofs.PlacedOperand.{placed_operand, placed_operands}
 
@@ -95,8 +96,8 @@ says-operand source numerals place (Abs expr) stands =
 says-operand source numerals place (Indexed expr register) stands =
     let word : List ℕ = expr_text numerals expr in
     rw (says-expr source numerals place expr
-    (stands-prefix word (codes "(") (stands-prefix (word ++ codes "(") (register_text register)
-    (stands-prefix (word ++ codes "(" ++ register_text register) (codes ")") stands)))) refl
+    (stands-prefix word (codes "(") (stands-prefix (word ++ codes "(") (reg_name register)
+    (stands-prefix (word ++ codes "(" ++ reg_name register) (codes ")") stands)))) refl
 says-operand source numerals place (Symbolic expr) stands =
     rw (says-expr source numerals place expr stands) refl
 says-operand source numerals place (Indirect register) stands = refl

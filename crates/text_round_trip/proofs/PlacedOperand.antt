@@ -1,16 +1,12 @@
 -- The tokens of operands, and what they are read as.
-use Rattle.std.proofs.Common.{◌≡◌, ◌∙◌, ap, sym, refl, subst, ℕ, ◌+◌, ◌-◌, ◌<◌, arith, Bool, true, false, not, List, [], ◌∷◌, ◌++◌, append_assoc, append-nil, length, length-append, take, drop, Result, Ok}
-use Rattle.std.specs.Prelude.{◌==◌, ◌&&◌, codes}
-use Rattle.std.specs.Fmt.{digits}
-use Rattle.std.specs.Str.{bytes_eq}
+use Rattle.std.proofs.Common.{◌≡◌, ◌∙◌, ap, sym, refl, subst, ℕ, ◌+◌, ◌-◌, ◌<◌, arith, true, false, not, List, [], ◌∷◌, ◌++◌, append_assoc, append-nil, length, length-append, take, drop, Result, Ok}
+use Rattle.std.specs.Prelude.{codes}
 use Rattle.std.proofs.Math.Seq.{drop-append_seam, take-append_seam}
-use Rattle.std.proofs.lemmas.Bool.{and_parts, and_from, false≢true, ltb-true, eqb-true}
-use Rattle.std.proofs.lemmas.Slice.Eq.{bytes_eq-Decides}
+use Rattle.std.proofs.lemmas.Bool.{and_parts, and_from, false≢true}
 use Rattle.std.proofs.lemmas.List.{take-append-drop}
 use Rattle.std.proofs.lemmas.List.Folds.{list_all-append}
-use Rattle.msp_decode.specs.Field.{reg_of}
-use Rattle.msp_decode.specs.Table.{reg_number}
-use Rattle.msp_disasm.specs.ItemText.{reg_name}
+use Rattle.msp_decode.specs.declared.reg.Reg.{Reg as Register}
+use Rattle.asm_text.specs.Name.{reg_name}
 use Rattle.text_scan.specs.declared.fault_kind.FaultKind.{FaultKind}
 use Rattle.text_scan.specs.Reader.{◌>>=◌}
 use Rattle.asm_text.specs.declared.operand.Operand.{Operand}
@@ -21,10 +17,9 @@ use Rattle.asm_text.specs.Expr.{SignedTerm}
 use Rattle.asm_text.specs.Operand.{is_comma, expr_of, with_expr, place_operand, place_of, operand_of}
 use Rattle.text_round_trip.specs.ReadBack.{AreNumerals}
 use Rattle.text_round_trip.specs.LineSyntax.{OperandSyntax, Reg, Imm, Abs, Indexed, Symbolic, Indirect, IndirectInc}
-use Rattle.text_round_trip.specs.SyntaxText.{Numerals, expr_text, register_text, operand_text}
-use Rattle.text_round_trip.specs.Writable.{is_writable_expr, is_register, is_writable_operand}
+use Rattle.text_round_trip.specs.SyntaxText.{Numerals, expr_text, operand_text}
+use Rattle.text_round_trip.specs.Writable.{is_writable_operand}
 use Rattle.text_round_trip.proofs.Falls.{FallsInto, falls-then, falls-apart, falls-into, hash-falls, ampersand-falls, at-falls, plus-falls, open-falls, close-falls}
-use Rattle.text_round_trip.proofs.Numerals.{below-passes, all_below}
 use Rattle.text_round_trip.proofs.Operands.{IsOperandOf, has_no_comma}
 use Rattle.text_round_trip.proofs.Words.{register-falls, begins_with_colon}
 use Rattle.text_round_trip.proofs.PlacedExpr.{terms-are, placed_expr, expr_tokens, expr-falls, expr-read, is_expr_token, are_expr_tokens, expr-are, expr-some}
@@ -58,54 +53,29 @@ placed_operands numerals place (first ∷ rest) =
     placed_operand numerals place first
     ∷ placed_operands numerals (place + length (operand_text numerals first) + 1) rest
 
--- registers
-abbrev is_named : ℕ → Bool
-is_named number =
-    bytes_eq (reg_name (reg_of number)) (register_text number)
-    && (reg_number (reg_of number) == number)
-
-number-register-falls : (number : ℕ) → number < 16
-    → FallsInto (register_text number) (λ place. tokens.Register number ∷ [])
-unfolding all_below digits
-number-register-falls number below =
-    let parts = and_parts (bytes_eq (reg_name (reg_of number)) (register_text number))
-    (reg_number (reg_of number) == number) (below-passes is_named 16 refl number below) in
-    let text = (bytes_eq-Decides (reg_name (reg_of number)) (register_text number)).0 parts.0 in
-    let same = eqb-true (reg_number (reg_of number)) number parts.1 in
-    subst (λ (n : ℕ). FallsInto (register_text number) (λ place. tokens.Register n ∷ [])) same
-    (subst (λ (word : List ℕ). FallsInto word
-    (λ place. tokens.Register (reg_number (reg_of number)) ∷ [])) text
-    (register-falls (reg_of number)))
-
 pub operand-falls : (numerals : Numerals) → AreNumerals numerals → (operand : OperandSyntax)
     → is_writable_operand operand ≡ true
     → FallsInto (operand_text numerals operand) (λ place. operand_tokens numerals place operand)
-operand-falls numerals are (Reg register) is =
-    number-register-falls register (ltb-true register 16 is)
+operand-falls numerals are (Reg register) is = register-falls register
 operand-falls numerals are (Imm expr) is =
     falls-then hash-falls (expr-falls numerals are expr (terms-are expr is))
 operand-falls numerals are (Abs expr) is =
     falls-then ampersand-falls (expr-falls numerals are expr (terms-are expr is))
 operand-falls numerals are (Indexed expr register) is =
-    let parts = and_parts (is_writable_expr expr) (is_register register) is in
-    let text : expr_text numerals expr ++ (codes "(" ++ (register_text register ++ codes ")"))
-    ≡ expr_text numerals expr ++ codes "(" ++ register_text register ++ codes ")" =
-    sym (append_assoc (expr_text numerals expr ++ codes "(") (register_text register) (codes ")")
-    ∙ append_assoc (expr_text numerals expr) (codes "(") (register_text register ++ codes ")")) in
+    let text : expr_text numerals expr ++ (codes "(" ++ (reg_name register ++ codes ")"))
+    ≡ expr_text numerals expr ++ codes "(" ++ reg_name register ++ codes ")" =
+    sym (append_assoc (expr_text numerals expr ++ codes "(") (reg_name register) (codes ")")
+    ∙ append_assoc (expr_text numerals expr) (codes "(") (reg_name register ++ codes ")")) in
     subst (λ (word : List ℕ). FallsInto word
     (λ place. operand_tokens numerals place (Indexed expr register))) text
-    (falls-apart (expr-falls numerals are expr (terms-are expr parts.0)) refl
+    (falls-apart (expr-falls numerals are expr (terms-are expr is)) refl
     (falls-then open-falls
-    (falls-apart (number-register-falls register (ltb-true register 16 parts.1)) refl
-    (falls-into close-falls))))
+    (falls-apart (register-falls register) refl (falls-into close-falls))))
 operand-falls numerals are (Symbolic expr) is =
     expr-falls numerals are expr (terms-are expr is)
-operand-falls numerals are (Indirect register) is =
-    falls-then at-falls (number-register-falls register (ltb-true register 16 is))
+operand-falls numerals are (Indirect register) is = falls-then at-falls (register-falls register)
 operand-falls numerals are (IndirectInc register) is =
-    falls-then at-falls
-    (falls-apart (number-register-falls register (ltb-true register 16 is)) refl
-    (falls-into plus-falls))
+    falls-then at-falls (falls-apart (register-falls register) refl (falls-into plus-falls))
 
 no-comma : (token : Token) → is_expr_token token ≡ true → not (is_comma token) ≡ true
 no-comma tokens.Comma is = absurd (false≢true is)
@@ -157,7 +127,7 @@ symbolic-read all expr are some outcome =
     ∙ ap (λ (answer : Result (List SignedTerm) FaultKind).
     answer >>= (λ outcome. Ok (operands.Symbolic outcome))) outcome
 
-indexed-read : (all : List Token) (expr : List SignedTerm) (register : ℕ)
+indexed-read : (all : List Token) (expr : List SignedTerm) (register : Register)
     → are_expr_tokens all ≡ true → 0 < length all → expr_of all ≡ Ok expr
     → operand_of (all ++ tokens.Open ∷ tokens.Register register ∷ tokens.Close ∷ [])
     ≡ Ok (operands.Indexed expr register)
@@ -194,15 +164,14 @@ operand-read numerals place (Abs expr) is = record {
 }
 operand-read numerals place (Indexed expr register) is =
     let last : List Token = tokens.Open ∷ tokens.Register register ∷ tokens.Close ∷ [] in
-    let parts = and_parts (is_writable_expr expr) (is_register register) is in
     let all : List Token = expr_tokens numerals place expr in
     let are = expr-are numerals place expr in
-    let some = expr-some numerals place expr parts.0 in record {
+    let some = expr-some numerals place expr is in record {
       some = omega (arith, some, length-append all last);
       alone = list_all-append (λ token. not (is_comma token)) all last
           ∙ rw (none-comma all are) refl;
       read = indexed-read all (placed_expr numerals place expr) register are some
-          (expr-read numerals place expr parts.0);
+          (expr-read numerals place expr is);
       begins = λ rest. ap begins_with_colon (append_assoc all last rest)
           ∙ no-colon all (last ++ rest) are some;
     }

@@ -2,7 +2,6 @@
 use Rattle.std.proofs.Common.{◌≡◌, ◌∙◌, ap, refl, ℕ, ◌≤◌, arith, Bool, true, false, inl, inr, List, [], ◌∷◌, ◌++◌, length, Option, Some, None}
 use Rattle.std.specs.Prelude.{◌==◌, ◌&&◌, ◌||◌, codes, map, nat_le, nat_lt, not}
 use Rattle.std.specs.Char.{is_ascii_alphanumeric, is_ascii_digit}
-use Rattle.std.specs.Fmt.{digits}
 use Rattle.std.specs.Int.{is_in_range}
 use Rattle.std.specs.List.{list_all}
 use Rattle.std.proofs.lemmas.Bool.{and_parts, and_from, or_cases, le-leb, leb-true, ltb-true, eqb-true}
@@ -11,12 +10,16 @@ use Rattle.asm_text.specs.Token.{is_text_character}
 use Rattle.asm_text.specs.Word.{is_word_character, is_name_character}
 use Rattle.msp_disasm.specs.ItemText.{size_suffix}
 use Rattle.text_round_trip.specs.ReadBack.{AreNumerals}
+use Rattle.msp_decode.specs.declared.reg.Reg.{Reg as Register}
+use Rattle.msp_decode.specs.declared.reg.Reg.TheVariants.{R0}
+use Rattle.asm_text.specs.Name.{mnemonic_name, reg_name}
 use Rattle.text_round_trip.specs.LineSyntax.{TermSyntax, Number, Name, Here, ExprSyntax, OperandSyntax, Reg, Imm, Abs, Indexed, Symbolic, Indirect, IndirectInc, BodySyntax, Empty, Instr, Org, Word, Byte, Ascii, Equ, LineSyntax}
-use Rattle.text_round_trip.specs.SyntaxText.{Numerals, term_text, sign_text, more_text, expr_text, register_text, operand_text, more_operands_text, operands_text, mnemonic_text, operand_list, body_text, label_text, syntax_text}
-use Rattle.text_round_trip.specs.Writable.{is_free_name, is_writable_term, is_writable_expr, is_register, is_writable_operand, is_none_or_writable, is_writable_body, is_free_label, is_writable}
-use Rattle.text_round_trip.proofs.Numerals.{number-is, all_below, below-passes}
+use Rattle.text_round_trip.specs.SyntaxText.{Numerals, term_text, sign_text, more_text, expr_text, operand_text, more_operands_text, operands_text, operand_list, body_text, label_text, syntax_text}
+use Rattle.text_round_trip.specs.Writable.{is_free_name, is_writable_term, is_writable_expr, is_writable_operand, is_none_or_writable, is_writable_body, is_free_label, is_writable}
+use Rattle.text_round_trip.proofs.Numerals.{number-is}
 use Rattle.text_round_trip.proofs.PlacedDirective.{symbolic-are}
-use Rattle.text_round_trip.proofs.PlacedInstruction.{instruction-parts, mnemonic-operation}
+use Rattle.text_round_trip.proofs.PlacedInstruction.{instruction-parts}
+use Rattle.text_round_trip.proofs.Words.{mnemonic-operation}
 use Rattle.text_round_trip.proofs.PlacedExpr.{are_terms, terms-are, name-characters}
 use Rattle.text_round_trip.proofs.PlacedStatement.{are_operands}
 
@@ -121,30 +124,25 @@ expr-printed numerals are ((true, term) ∷ rest) is =
     both-printed (codes "-" ++ term_text numerals term) (more_text numerals rest)
     (term-printed numerals are term parts.0) (more-printed numerals are rest parts.1)
 
-register-printed : (register : ℕ) → is_register register ≡ true
-    → are_printed (register_text register) ≡ true
-unfolding all_below digits
-register-printed register is =
-    below-passes (λ number. are_printed (register_text number)) 16 refl register
-    (ltb-true register 16 is)
+register-printed : (register : Register) → are_printed (reg_name register) ≡ true
+register-printed R0 = refl
+register-printed register = refl
 
 operand-printed : (numerals : Numerals) → AreNumerals numerals → (operand : OperandSyntax)
     → is_writable_operand operand ≡ true → are_printed (operand_text numerals operand) ≡ true
-operand-printed numerals are (Reg register) is = register-printed register is
+operand-printed numerals are (Reg register) is = register-printed register
 operand-printed numerals are (Imm expr) is = expr-printed numerals are expr is
 operand-printed numerals are (Abs expr) is = expr-printed numerals are expr is
 operand-printed numerals are (Indexed expr register) is =
-    let parts = and_parts (is_writable_expr expr) (is_register register) is in
     let word : List ℕ = expr_text numerals expr in
-    both-printed (word ++ codes "(" ++ register_text register) (codes ")")
-    (both-printed (word ++ codes "(") (register_text register)
-    (both-printed word (codes "(") (expr-printed numerals are expr parts.0) refl)
-    (register-printed register parts.1)) refl
+    both-printed (word ++ codes "(" ++ reg_name register) (codes ")")
+    (both-printed (word ++ codes "(") (reg_name register)
+    (both-printed word (codes "(") (expr-printed numerals are expr is) refl)
+    (register-printed register)) refl
 operand-printed numerals are (Symbolic expr) is = expr-printed numerals are expr is
-operand-printed numerals are (Indirect register) is = register-printed register is
+operand-printed numerals are (Indirect register) is = register-printed register
 operand-printed numerals are (IndirectInc register) is =
-    both-printed (codes "@" ++ register_text register) (codes "+") (register-printed register is)
-    refl
+    both-printed (codes "@" ++ reg_name register) (codes "+") (register-printed register) refl
 
 more_operands-printed : (numerals : Numerals) → AreNumerals numerals → (rest : List OperandSyntax)
     → are_operands rest ≡ true → are_printed (more_operands_text numerals rest) ≡ true
@@ -174,7 +172,7 @@ body-printed : (numerals : Numerals) → AreNumerals numerals → (body : BodySy
 body-printed numerals are Empty is = refl
 body-printed numerals are (Instr mnemonic size first second) is =
     let parts = instruction-parts mnemonic size first second is in
-    let word : List ℕ = mnemonic_text mnemonic ++ size_suffix size in
+    let word : List ℕ = mnemonic_name mnemonic ++ size_suffix size in
     both-printed word (operands_text numerals (operand_list first second))
     (words-printed word (mnemonic-operation mnemonic size parts.sized).all)
     (operands-printed numerals are (operand_list first second)

@@ -1,17 +1,25 @@
 -- Words that are registers, and words that are operations.
 use Rattle.std.proofs.Common.{◌≡◌, ◌∙◌, ap, sym, refl, ℕ, ◌<◌, arith, Bool, true, false, List, [], ◌∷◌, ◌++◌, append_assoc, append-nil, length, Option, Some, None, Result, Ok}
-use Rattle.std.specs.Prelude.{codes, slice_index}
+use Rattle.std.specs.Prelude.{codes, slice_index, if◌then◌else◌}
 use Rattle.std.specs.Char.{is_ascii_digit}
 use Rattle.std.specs.List.{list_all}
 use Rattle.std.proofs.lemmas.Bool.{false≢true}
+use Rattle.word_arith.specs.declared.op2.Op2.TheVariants as op
+use Rattle.word_arith.specs.declared.size.Size.{Size}
+use Rattle.word_arith.specs.declared.size.Size.TheVariants as sizes
+use Rattle.msp_decode.specs.declared.one.One.TheVariants as one
+use Rattle.msp_decode.specs.declared.cond.Cond.TheVariants as cond
 use Rattle.msp_decode.specs.declared.reg.Reg.{Reg}
 use Rattle.msp_decode.specs.declared.reg.Reg.TheVariants.{R0}
-use Rattle.msp_decode.specs.Table.{reg_number}
 use Rattle.text_scan.specs.declared.fault_kind.FaultKind.{FaultKind}
 use Rattle.text_scan.specs.Reader.{◌>>=◌}
 use Rattle.asm_text.specs.declared.body.Body.{Body}
+use Rattle.asm_text.specs.declared.emulated.Emulated.TheVariants as emulated
+use Rattle.asm_text.specs.declared.mnemonic.Mnemonic.{Mnemonic}
+use Rattle.asm_text.specs.declared.mnemonic.Mnemonic.TheVariants as mnemonics
 use Rattle.asm_text.specs.declared.operand.Operand.{Operand}
 use Rattle.asm_text.specs.declared.operation.Operation.{Operation}
+use Rattle.asm_text.specs.declared.operation.Operation.TheVariants as operations
 use Rattle.asm_text.specs.declared.span.Span.{Span}
 use Rattle.asm_text.specs.declared.token.Token.{Token}
 use Rattle.asm_text.specs.declared.token.Token.TheVariants.{Register, Name, Colon}
@@ -19,18 +27,19 @@ use Rattle.asm_text.specs.Operand.{operands_of}
 use Rattle.asm_text.specs.Source.{line_statement, statement_in_line}
 use Rattle.asm_text.specs.Statement.{first_word, is_ascii_directive, statement_body, operation_body, body_of, labelled_body}
 use Rattle.asm_text.specs.Token.{name_token, span_at, word_token, word_piece, tokens_behind, tokens_of}
-use Rattle.asm_text.specs.Word.{is_word_character, is_name, lower_case, register_of, operation_of}
-use Rattle.msp_disasm.specs.ItemText.{reg_name}
+use Rattle.asm_text.specs.Word.{is_word_character, is_name, lower_case, byte_form, word_form, operation_of}
+use Rattle.asm_text.specs.Name.{mnemonic_name, reg_name, register_of}
+use Rattle.msp_disasm.specs.ItemText.{size_suffix}
+use Rattle.text_round_trip.specs.Writable.{has_size}
 use Rattle.text_round_trip.proofs.Falls.{FallsInto, word-falls, falls-then, falls-apart, blank-falls}
 
 pub register-falls : (register : Reg)
-    → FallsInto (reg_name register) (λ place. Register (reg_number register) ∷ [])
+    → FallsInto (reg_name register) (λ place. Register register ∷ [])
 unfolding word_piece
 register-falls R0 =
-    word-falls (reg_name R0) (λ place. Register 0) refl (omega arith) (λ place. refl)
+    word-falls (reg_name R0) (λ place. Register R0) refl (omega arith) (λ place. refl)
 register-falls register =
-    word-falls (reg_name register) (λ place. Register (reg_number register)) refl (omega arith)
-    (λ place. refl)
+    word-falls (reg_name register) (λ place. Register register) refl (omega arith) (λ place. refl)
 
 -- a word that names an operation, and no register
 pub record IsOperation (word : List ℕ) (operation : Operation) : Type 0 where
@@ -39,6 +48,46 @@ pub record IsOperation (word : List ℕ) (operation : Operation) : Type 0 where
   pub begins : is_ascii_digit (slice_index word 0) ≡ false
   pub register : register_of (lower_case word) ≡ None
   pub names : operation_of (lower_case word) ≡ Some operation
+
+-- the operation of a mnemonic in a size
+abbrev pub in_size : Mnemonic → Size → Option Operation
+in_size mnemonic sizes.Byte = byte_form (Some mnemonic)
+in_size mnemonic sizes.Word = word_form (Some mnemonic)
+
+named-operation : (mnemonic : Mnemonic) (size : Size)
+    → in_size mnemonic size ≡ Some (operations.Instr mnemonic size)
+    → IsOperation (mnemonic_name mnemonic ++ size_suffix size) (operations.Instr mnemonic size)
+named-operation (mnemonics.Two op.Mov) sizes.Byte is =
+    record { all = refl; some = omega arith; begins = refl; register = refl; names = is }
+named-operation (mnemonics.Two op.Mov) sizes.Word is =
+    record { all = refl; some = omega arith; begins = refl; register = refl; names = is }
+named-operation (mnemonics.One one.Rrc) sizes.Byte is =
+    record { all = refl; some = omega arith; begins = refl; register = refl; names = is }
+named-operation (mnemonics.One one.Rrc) sizes.Word is =
+    record { all = refl; some = omega arith; begins = refl; register = refl; names = is }
+named-operation mnemonics.Reti sizes.Byte is =
+    record { all = refl; some = omega arith; begins = refl; register = refl; names = is }
+named-operation mnemonics.Reti sizes.Word is =
+    record { all = refl; some = omega arith; begins = refl; register = refl; names = is }
+named-operation (mnemonics.Jump cond.Ne) sizes.Byte is =
+    record { all = refl; some = omega arith; begins = refl; register = refl; names = is }
+named-operation (mnemonics.Jump cond.Ne) sizes.Word is =
+    record { all = refl; some = omega arith; begins = refl; register = refl; names = is }
+named-operation (mnemonics.Emulated emulated.Adc) sizes.Byte is =
+    record { all = refl; some = omega arith; begins = refl; register = refl; names = is }
+named-operation (mnemonics.Emulated emulated.Adc) sizes.Word is =
+    record { all = refl; some = omega arith; begins = refl; register = refl; names = is }
+named-operation mnemonic sizes.Byte is =
+    record { all = refl; some = omega arith; begins = refl; register = refl; names = is }
+named-operation mnemonic sizes.Word is =
+    record { all = refl; some = omega arith; begins = refl; register = refl; names = is }
+
+pub mnemonic-operation : (mnemonic : Mnemonic) (size : Size) → has_size mnemonic size ≡ true
+    → IsOperation (mnemonic_name mnemonic ++ size_suffix size) (operations.Instr mnemonic size)
+mnemonic-operation mnemonic sizes.Byte has =
+    named-operation mnemonic sizes.Byte
+    (ap (λ (test : Bool). if test then Some (operations.Instr mnemonic sizes.Byte) else None) has)
+mnemonic-operation mnemonic sizes.Word has = named-operation mnemonic sizes.Word refl
 
 pub operation-falls : {word : List ℕ} {operation : Operation} → IsOperation word operation
     → FallsInto word (λ place. word_token place word ∷ [])

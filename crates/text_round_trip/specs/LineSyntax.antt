@@ -1,6 +1,7 @@
 -- What a statement says wherever it stands: its names are characters.
 use Rattle.std.specs.Prelude.{ℕ, Bool, List, map, Option, option_map}
 use Rattle.word_arith.specs.declared.size.Size.{Size}
+use Rattle.msp_decode.specs.declared.reg.Reg.{Reg as Register}
 use Rattle.asm_text.specs.declared.body.Body.{Body}
 use Rattle.asm_text.specs.declared.body.Body.TheVariants as bodies
 use Rattle.asm_text.specs.declared.mnemonic.Mnemonic.{Mnemonic}
@@ -24,13 +25,13 @@ ExprSyntax = List (Bool × TermSyntax)
 
 -- an operand by its form
 pub data OperandSyntax : Type 0 where
-  Reg : ℕ → OperandSyntax
+  Reg : Register → OperandSyntax
   Imm : ExprSyntax → OperandSyntax
   Abs : ExprSyntax → OperandSyntax
-  Indexed : ExprSyntax → ℕ → OperandSyntax
+  Indexed : ExprSyntax → Register → OperandSyntax
   Symbolic : ExprSyntax → OperandSyntax
-  Indirect : ℕ → OperandSyntax
-  IndirectInc : ℕ → OperandSyntax
+  Indirect : Register → OperandSyntax
+  IndirectInc : Register → OperandSyntax
 
 -- what a line says behind its label
 pub data BodySyntax : Type 0 where

@@ -1,8 +1,6 @@
 -- The text of what a statement says, where each number is written in a given way.
 use Rattle.std.specs.Prelude.{◌++◌, ℕ, Bool, true, false, List, [], ◌∷◌, map, codes, Option, None, Some}
-use Rattle.std.specs.Fmt.{decimal}
-use Rattle.asm_text.specs.declared.mnemonic.Mnemonic.{Mnemonic}
-use Rattle.asm_text.specs.declared.mnemonic.Mnemonic.TheVariants.{Mov, Add, Addc, Subc, Sub, Cmp, Dadd, Bit, Bic, Bis, Xor, And, Rrc, Swpb, Rra, Sxt, Push, Call, Reti, Jne, Jeq, Jnc, Jc, Jn, Jge, Jl, Jmp, Adc, Br, Clr, Clrc, Clrn, Clrz, Dadc, Dec, Decd, Dint, Eint, Inc, Incd, Inv, Nop, Pop, Ret, Rla, Rlc, Sbc, Setc, Setn, Setz, Tst}
+use Rattle.asm_text.specs.Name.{mnemonic_name, reg_name}
 use Rattle.msp_disasm.specs.ItemText.{size_suffix}
 use Rattle.text_round_trip.specs.LineSyntax.{TermSyntax, Number, Name, Here, ExprSyntax, OperandSyntax, Reg, Imm, Abs, Indexed, Symbolic, Indirect, IndirectInc, BodySyntax, Empty, Instr, Org, Word, Byte, Ascii, Equ, LineSyntax}
 
@@ -32,18 +30,15 @@ expr_text numerals ((false, term) ∷ rest) = term_text numerals term ++ more_te
 expr_text numerals ((true, term) ∷ rest) =
     codes "-" ++ term_text numerals term ++ more_text numerals rest
 
-abbrev pub register_text : ℕ → List ℕ
-register_text register = codes "r" ++ decimal register
-
 abbrev pub operand_text : Numerals → OperandSyntax → List ℕ
-operand_text numerals (Reg register) = register_text register
+operand_text numerals (Reg register) = reg_name register
 operand_text numerals (Imm expr) = codes "#" ++ expr_text numerals expr
 operand_text numerals (Abs expr) = codes "&" ++ expr_text numerals expr
 operand_text numerals (Indexed expr register) =
-    expr_text numerals expr ++ codes "(" ++ register_text register ++ codes ")"
+    expr_text numerals expr ++ codes "(" ++ reg_name register ++ codes ")"
 operand_text numerals (Symbolic expr) = expr_text numerals expr
-operand_text numerals (Indirect register) = codes "@" ++ register_text register
-operand_text numerals (IndirectInc register) = codes "@" ++ register_text register ++ codes "+"
+operand_text numerals (Indirect register) = codes "@" ++ reg_name register
+operand_text numerals (IndirectInc register) = codes "@" ++ reg_name register ++ codes "+"
 
 -- further operands, each behind a comma
 abbrev pub more_operands_text : Numerals → List OperandSyntax → List ℕ
@@ -57,60 +52,6 @@ operands_text numerals [] = []
 operands_text numerals (first ∷ rest) =
     codes " " ++ operand_text numerals first ++ more_operands_text numerals rest
 
--- the names of the instructions
-abbrev pub mnemonic_text : Mnemonic → List ℕ
-mnemonic_text Mov = codes "mov"
-mnemonic_text Add = codes "add"
-mnemonic_text Addc = codes "addc"
-mnemonic_text Subc = codes "subc"
-mnemonic_text Sub = codes "sub"
-mnemonic_text Cmp = codes "cmp"
-mnemonic_text Dadd = codes "dadd"
-mnemonic_text Bit = codes "bit"
-mnemonic_text Bic = codes "bic"
-mnemonic_text Bis = codes "bis"
-mnemonic_text Xor = codes "xor"
-mnemonic_text And = codes "and"
-mnemonic_text Rrc = codes "rrc"
-mnemonic_text Swpb = codes "swpb"
-mnemonic_text Rra = codes "rra"
-mnemonic_text Sxt = codes "sxt"
-mnemonic_text Push = codes "push"
-mnemonic_text Call = codes "call"
-mnemonic_text Reti = codes "reti"
-mnemonic_text Jne = codes "jne"
-mnemonic_text Jeq = codes "jeq"
-mnemonic_text Jnc = codes "jnc"
-mnemonic_text Jc = codes "jc"
-mnemonic_text Jn = codes "jn"
-mnemonic_text Jge = codes "jge"
-mnemonic_text Jl = codes "jl"
-mnemonic_text Jmp = codes "jmp"
-mnemonic_text Adc = codes "adc"
-mnemonic_text Br = codes "br"
-mnemonic_text Clr = codes "clr"
-mnemonic_text Clrc = codes "clrc"
-mnemonic_text Clrn = codes "clrn"
-mnemonic_text Clrz = codes "clrz"
-mnemonic_text Dadc = codes "dadc"
-mnemonic_text Dec = codes "dec"
-mnemonic_text Decd = codes "decd"
-mnemonic_text Dint = codes "dint"
-mnemonic_text Eint = codes "eint"
-mnemonic_text Inc = codes "inc"
-mnemonic_text Incd = codes "incd"
-mnemonic_text Inv = codes "inv"
-mnemonic_text Nop = codes "nop"
-mnemonic_text Pop = codes "pop"
-mnemonic_text Ret = codes "ret"
-mnemonic_text Rla = codes "rla"
-mnemonic_text Rlc = codes "rlc"
-mnemonic_text Sbc = codes "sbc"
-mnemonic_text Setc = codes "setc"
-mnemonic_text Setn = codes "setn"
-mnemonic_text Setz = codes "setz"
-mnemonic_text Tst = codes "tst"
-
 -- the operands that there are
 abbrev pub operand_list : Option OperandSyntax → Option OperandSyntax → List OperandSyntax
 operand_list None second = []
@@ -121,7 +62,7 @@ operand_list (Some first) (Some second) = first ∷ second ∷ []
 abbrev pub body_text : Numerals → BodySyntax → List ℕ
 body_text numerals Empty = []
 body_text numerals (Instr mnemonic size first second) =
-    mnemonic_text mnemonic ++ size_suffix size
+    mnemonic_name mnemonic ++ size_suffix size
     ++ operands_text numerals (operand_list first second)
 body_text numerals (Org expr) = codes ".org" ++ operands_text numerals (Symbolic expr ∷ [])
 body_text numerals (Word exprs) = codes ".word" ++ operands_text numerals (map Symbolic exprs)

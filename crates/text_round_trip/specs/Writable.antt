@@ -6,9 +6,11 @@ use Rattle.word_arith.specs.declared.size.Size.TheVariants as sizes
 use Rattle.asm_text.specs.declared.mnemonic.Mnemonic.{Mnemonic}
 use Rattle.asm_text.specs.declared.operand.Operand.{Operand}
 use Rattle.asm_text.specs.declared.operand.Operand.TheVariants as operands
-use Rattle.asm_text.specs.Statement.{form_of, fits}
+use Rattle.asm_text.specs.Form.{form_of, has_byte_form, operand_form}
+use Rattle.asm_text.specs.Name.{register_of}
+use Rattle.asm_text.specs.Statement.{fits}
 use Rattle.asm_text.specs.Token.{is_text_character}
-use Rattle.asm_text.specs.Word.{is_name, register_of, lower_case, has_byte_form}
+use Rattle.asm_text.specs.Word.{is_name, lower_case}
 use Rattle.text_round_trip.specs.LineSyntax.{TermSyntax, Number, Name, Here, ExprSyntax, OperandSyntax, Reg, Imm, Abs, Indexed, Symbolic, Indirect, IndirectInc, BodySyntax, Empty, Instr, Org, Word, Byte, Ascii, Equ, LineSyntax}
 
 -- a name is no register in any case
@@ -24,17 +26,14 @@ is_writable_term Here = true
 abbrev pub is_writable_expr : ExprSyntax → Bool
 is_writable_expr expr = nat_lt 0 (length expr) && list_all (λ term. is_writable_term term.1) expr
 
-abbrev pub is_register : ℕ → Bool
-is_register number = nat_lt number 16
-
 abbrev pub is_writable_operand : OperandSyntax → Bool
-is_writable_operand (Reg register) = is_register register
+is_writable_operand (Reg register) = true
 is_writable_operand (Imm expr) = is_writable_expr expr
 is_writable_operand (Abs expr) = is_writable_expr expr
-is_writable_operand (Indexed expr register) = is_writable_expr expr && is_register register
+is_writable_operand (Indexed expr register) = is_writable_expr expr
 is_writable_operand (Symbolic expr) = is_writable_expr expr
-is_writable_operand (Indirect register) = is_register register
-is_writable_operand (IndirectInc register) = is_register register
+is_writable_operand (Indirect register) = true
+is_writable_operand (IndirectInc register) = true
 
 -- the form of an operand
 abbrev pub form_in : OperandSyntax → Operand
@@ -52,7 +51,7 @@ is_none_or_writable (Some operand) = is_writable_operand operand
 
 abbrev pub has_size : Mnemonic → Size → Bool
 has_size mnemonic sizes.Word = true
-has_size mnemonic sizes.Byte = has_byte_form mnemonic
+has_size mnemonic sizes.Byte = has_byte_form (form_of mnemonic)
 
 -- one expression or more
 abbrev pub are_writable : List ExprSyntax → Bool
@@ -62,7 +61,7 @@ abbrev pub is_writable_body : BodySyntax → Bool
 is_writable_body Empty = true
 is_writable_body (Instr mnemonic size first second) =
     has_size mnemonic size
-    && fits (form_of mnemonic) (option_map form_in first) (option_map form_in second)
+    && fits (operand_form (form_of mnemonic)) (option_map form_in first) (option_map form_in second)
     && is_none_or_writable first && is_none_or_writable second
 is_writable_body (Org expr) = is_writable_expr expr
 is_writable_body (Word exprs) = are_writable exprs

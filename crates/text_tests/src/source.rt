@@ -1,7 +1,9 @@
 use asm_text::{Body, Mnemonic, Operand, Span, Term, parse};
+use msp_decode::Reg;
 use std::alloc::Global;
 use std::test::Fail;
 use text_scan::{FaultAt, FaultKind, TextFault};
+use word_arith::Op2;
 
 fn fault_of(alloc: Global, text: &[u8]) -> Option<FaultAt> {
     match parse(alloc, text) {
@@ -239,7 +241,12 @@ fn spans_are_places_in_the_whole_text(rt: HostRuntime) -> Result<(), Fail> {
             spans.push(label)?;
         }
         match &statement.body {
-            Body::Instr(Mnemonic::Mov, _, Some(Operand::Imm(expr)), Some(Operand::Reg(4))) => {
+            Body::Instr(
+                Mnemonic::Two(Op2::Mov),
+                _,
+                Some(Operand::Imm(expr)),
+                Some(Operand::Reg(Reg::R4)),
+            ) => {
                 if let Some((false, Term::Name(name))) = expr.get(0) {
                     spans.push(name)?;
                 }
