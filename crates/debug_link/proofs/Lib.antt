@@ -1,0 +1,3 @@
+mod Parties
+mod Sources
+mod Talks

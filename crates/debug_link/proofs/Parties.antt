@@ -1,0 +1,253 @@
+-- How those who take part in a serving go on with a conversation, byte after byte.
+use Rattle.std.proofs.Common.{◌≡◌, ◌∙◌, ◌++◌, ◌+◌, ◌<◌, ℕ, true, false, List, [], ◌∷◌, Bool, Option, Some, None, Result, Ok, Err, IsErr, refl, ap, sym, subst, ⊎_elim}
+use Rattle.std.specs.Prelude.{is_some, length, nat_lt, slice_index, take}
+use Rattle.std.proofs.lemmas.Bool.{cases_Bool, false≢true}
+use Rattle.std.proofs.lemmas.List.{append-nil, take_more}
+use Rattle.outside_edge.specs.Sink.{Takes, TakesPrefix}
+use Rattle.outside_edge.specs.declared.sink.Sink as sink
+use Rattle.outside_edge.proofs.SinkLemmas.{prefix_after, prefix_of_more, takes_both}
+use Rattle.debug_link.specs.Conversation.{LONGEST_BODY, Answer, Talk, answer_to, answered, mark_of, marked, with_answer, with_byte, with_bytes}
+use Rattle.debug_link.specs.HeldBody.{HeldBody, short_body}
+use Rattle.debug_link.specs.Link.{Message, Silence, Again, Damage, Whole, link_after, message_of}
+use Rattle.debug_link.specs.Packet.{packet_of, packets_of}
+use Rattle.debug_link.specs.Reading.{KeepsBody, ReaderStandsFor, heard_of}
+use Rattle.debug_link.specs.Serving.{GoesOnTo, Parties, TalkStandsFor}
+use Rattle.debug_link.specs.Writing.{Answers, PacketSink}
+use Rattle.debug_link.specs.declared.answer_fault.AnswerFault.{AnswerFault}
+use Rattle.debug_link.specs.declared.connection.Connection.{Connection}
+use Rattle.debug_link.specs.declared.connection.Connection.TheVariants.{Open, Closed}
+use Rattle.debug_link.specs.declared.packet_reader.Heard.{Heard}
+use Rattle.debug_link.specs.declared.packet_reader.Heard.TheVariants as heard
+use Rattle.debug_link.proofs.Talks.{answered_more, bytes_both, bytes_more, closed_bytes, open_byte}
+
+abbrev is_whole : Heard → Bool
+is_whole heard.Silence = false
+is_whole heard.Again = false
+is_whole heard.Damage = false
+is_whole heard.Whole = true
+
+module _ {T Session W : Type 0} (stands : T → Session → Type 0) (w : sink.Ghosts W)
+    (reply : Session → List ℕ → Answer Session) where
+  -- the mark that is due could not be put
+  pub mark_failed : (first : W) (old new : Parties T W) (talk : Talk Session) (byte : ℕ)
+      (result : Result Connection AnswerFault)
+      → talk.is_over ≡ false → TalkStandsFor stands w first old talk
+      → TakesPrefix w.stands old.packets.sink new.packets.sink
+      (mark_of old.packets.last (message_of talk.link byte))
+      → IsErr result
+      → GoesOnTo stands w first new (with_byte reply talk byte) result
+  mark_failed first old new talk byte (Ok connection) still so prefix is = absurd (false≢true is)
+  mark_failed first old new talk byte (Err fault) still so prefix is =
+      let message : Message = message_of talk.link byte in
+      let mark : List ℕ = mark_of talk.last message in
+      let rest = answered_more reply (marked talk byte) message in
+      let Due : List ℕ → Type 0 =
+      λ last. TakesPrefix w.stands old.packets.sink new.packets.sink (mark_of last message) in
+      record {
+        all = tt;
+        prefix = rw (open_byte reply talk byte still, rest.1)
+            (prefix_of_more w.stands first new.packets.sink (talk.put ++ mark) rest.0
+            (prefix_after w.stands first old.packets.sink new.packets.sink talk.put mark so.put
+            (subst Due so.last prefix)));
+      }
+
+  -- it was put
+  pub mark_put : (first : W) (old new : Parties T W) (talk : Talk Session) (byte : ℕ)
+      → TalkStandsFor stands w first old talk
+      → Takes w.stands old.packets.sink new.packets.sink
+      (mark_of old.packets.last (message_of talk.link byte))
+      → ReaderStandsFor new.reader (link_after talk.link byte)
+      → new.answerer ≡ old.answerer → new.packets.last ≡ old.packets.last
+      → TalkStandsFor stands w first new (marked talk byte)
+  mark_put first old new talk byte so put reads answerer last =
+      let message : Message = message_of talk.link byte in
+      let Due : List ℕ → Type 0 =
+      λ (one : List ℕ). Takes w.stands old.packets.sink new.packets.sink (mark_of one message) in
+      record {
+        reads = reads;
+        session = rw answerer so.session;
+        last = last ∙ so.last;
+        put = takes_both w.stands first old.packets.sink new.packets.sink talk.put
+            (mark_of talk.last message) so.put (subst Due so.last put);
+      }
+
+  -- nothing more is due
+  nothing_due : (talk : Talk Session) (message : Message) → (heard_of message ≡ heard.Whole → ⊥)
+      → answered reply talk message ≡ talk
+  nothing_due talk Silence other = refl
+  nothing_due talk Again other = refl
+  nothing_due talk Damage other = refl
+  nothing_due talk (Whole body) other = absurd (other refl)
+
+  pub byte_marked : (first : W) (new : Parties T W) (talk : Talk Session) (byte : ℕ)
+      → talk.is_over ≡ false → TalkStandsFor stands w first new (marked talk byte)
+      → (heard_of (message_of talk.link byte) ≡ heard.Whole → ⊥)
+      → GoesOnTo stands w first new (with_byte reply talk byte) (Ok Open)
+  byte_marked first new talk byte still so other =
+      let same = open_byte reply talk byte still
+      ∙ nothing_due (marked talk byte) (message_of talk.link byte) other in
+      rw same (record { all = (sym still, so); prefix = tt })
+
+  -- the answer to a whole packet
+  answer_put : (first : W) (old new : Parties T W) (talk : Talk Session) (answer : Answer Session)
+      (result : Result Connection AnswerFault)
+      → TalkStandsFor stands w first old talk
+      → ReaderStandsFor new.reader talk.link
+      → Answers stands w old.packets new.packets new.answerer answer result
+      → GoesOnTo stands w first new (with_answer talk answer) result
+  answer_put first old new talk answer (Ok connection) so reads put =
+      record {
+        all = (
+          rw put.all.connection_is refl,
+          record {
+            reads = reads;
+            session = put.all.stood;
+            last = put.all.last ∙ rw so.last refl;
+            put = takes_both w.stands first old.packets.sink new.packets.sink talk.put
+                (packets_of answer.packets) so.put put.all.put;
+          },
+        );
+        prefix = tt;
+      }
+  answer_put first old new talk answer (Err fault) so reads put =
+      record {
+        all = tt;
+        prefix = prefix_after w.stands first old.packets.sink new.packets.sink talk.put
+            (packets_of answer.packets) so.put put.prefix;
+      }
+
+  whole_answered : (first : W) (old new : Parties T W) (talk : Talk Session) (message : Message)
+      (body : Option (List ℕ)) (result : Result Connection AnswerFault)
+      → TalkStandsFor stands w first old talk
+      → ReaderStandsFor new.reader talk.link
+      → heard_of message ≡ heard.Whole → KeepsBody old.reader message
+      → body ≡ old.reader.body.bytes
+      → ((session : Session) (bytes : List ℕ) → stands old.answerer session
+      → body ≡ short_body bytes
+      → Answers stands w old.packets new.packets new.answerer (answer_to reply session bytes)
+      result)
+      → GoesOnTo stands w first new (answered reply talk message) result
+  whole_answered first old new talk (Whole bytes) body result so reads is kept held answers =
+      answer_put first old new talk (answer_to reply talk.session bytes) result so reads
+      (answers talk.session bytes so.session (held ∙ ap (λ (one : HeldBody). one.bytes) kept))
+  whole_answered first old new talk Silence body result so reads is kept held answers =
+      absurd (false≢true (ap is_whole is))
+  whole_answered first old new talk Again body result so reads is kept held answers =
+      absurd (false≢true (ap is_whole is))
+  whole_answered first old new talk Damage body result so reads is kept held answers =
+      absurd (false≢true (ap is_whole is))
+
+  pub byte_answered : (first : W) (old new : Parties T W) (talk : Talk Session) (byte : ℕ)
+      (body : Option (List ℕ)) (result : Result Connection AnswerFault)
+      → talk.is_over ≡ false → TalkStandsFor stands w first old (marked talk byte)
+      → ReaderStandsFor new.reader (link_after talk.link byte)
+      → heard_of (message_of talk.link byte) ≡ heard.Whole
+      → KeepsBody old.reader (message_of talk.link byte)
+      → body ≡ old.reader.body.bytes
+      → ((session : Session) (bytes : List ℕ) → stands old.answerer session
+      → body ≡ short_body bytes
+      → Answers stands w old.packets new.packets new.answerer (answer_to reply session bytes)
+      result)
+      → GoesOnTo stands w first new (with_byte reply talk byte) result
+  byte_answered first old new talk byte body result still so reads is kept held answers =
+      rw (open_byte reply talk byte still)
+      (whole_answered first old new (marked talk byte) (message_of talk.link byte) body result so
+      reads is kept held answers)
+
+  -- a body that is too long
+  short_is : (bytes : List ℕ) → nat_lt LONGEST_BODY (length bytes) ≡ false
+      → short_body bytes ≡ Some bytes
+  short_is bytes short = rw short refl
+
+  long_body : (session : Session) (bytes : List ℕ) → None ≡ short_body bytes
+      → answer_to reply session bytes
+      ≡ record { session = session; packets = [] ∷ []; connection = Open }
+  long_body session bytes none =
+      ⊎_elim
+      (λ long. rw long refl)
+      (λ short. absurd (false≢true (ap is_some (none ∙ short_is bytes short))))
+      (cases_Bool (nat_lt LONGEST_BODY (length bytes)))
+
+  one_packet : packets_of ([] ∷ []) ≡ packet_of []
+  unfolding packets_of
+  one_packet = append-nil (packet_of [])
+
+  pub long_failed : (old new : PacketSink W) (answerer : T) (session : Session) (bytes : List ℕ)
+      (result : Result Connection AnswerFault)
+      → None ≡ short_body bytes → TakesPrefix w.stands old.sink new.sink (packet_of [])
+      → IsErr result
+      → Answers stands w old new answerer (answer_to reply session bytes) result
+  long_failed old new answerer session bytes (Ok connection) none prefix is =
+      absurd (false≢true is)
+  long_failed old new answerer session bytes (Err fault) none prefix is =
+      rw (long_body session bytes none) (record { all = tt; prefix = rw one_packet prefix })
+
+  pub long_put : (old new : PacketSink W) (answerer : T) (session : Session) (bytes : List ℕ)
+      → stands answerer session → None ≡ short_body bytes
+      → Takes w.stands old.sink new.sink (packet_of []) → new.last ≡ packet_of []
+      → Answers stands w old new answerer (answer_to reply session bytes) (Ok Open)
+  long_put old new answerer session bytes stood none put last =
+      rw (long_body session bytes none)
+      (record {
+        all = record {
+          connection_is = refl;
+          stood = stood;
+          put = rw one_packet put;
+          last = last;
+        };
+        prefix = tt;
+      })
+
+  -- how they go on by bytes, whatever they stood for while the connection is open
+  abbrev pub GoesOnBy : Parties T W → Parties T W → List ℕ → Result Connection AnswerFault → Type 0
+  GoesOnBy old new bytes result =
+      (talk : Talk Session) (first : W) → talk.is_over ≡ false
+      → TalkStandsFor stands w first old talk
+      → GoesOnTo stands w first new (with_bytes reply talk bytes) result
+
+  pub by_none : (now : Parties T W) → GoesOnBy now now [] (Ok Open)
+  by_none now talk first still so = record { all = (sym still, so); prefix = tt }
+
+  pub by_more : (old mid new : Parties T W) (one two : List ℕ)
+      (result : Result Connection AnswerFault)
+      → GoesOnBy old mid one (Ok Open) → GoesOnBy mid new two result
+      → GoesOnBy old new (one ++ two) result
+  by_more old mid new one two result before next talk first still so =
+      let between = before talk first still so in
+      rw (bytes_both reply talk one two)
+      (next (with_bytes reply talk one) first (sym between.all.0) between.all.1)
+
+  -- behind the end no byte counts
+  pub by_closed : (old new : Parties T W) (bytes rest : List ℕ)
+      → GoesOnBy old new bytes (Ok Closed) → GoesOnBy old new (bytes ++ rest) (Ok Closed)
+  by_closed old new bytes rest by talk first still so =
+      let end = by talk first still so in
+      rw (
+        bytes_both reply talk bytes rest,
+        closed_bytes reply (with_bytes reply talk bytes) rest (sym end.all.0),
+      ) end
+
+  pub by_failed : (old new : Parties T W) (bytes rest : List ℕ) (fault : AnswerFault)
+      (result : Result Connection AnswerFault)
+      → IsErr result → GoesOnBy old new bytes (Err fault) → GoesOnBy old new (bytes ++ rest) result
+  by_failed old new bytes rest fault (Ok connection) is by talk first still so =
+      absurd (false≢true is)
+  by_failed old new bytes rest fault (Err other) is by talk first still so =
+      let end = by talk first still so in
+      let more = bytes_more reply (with_bytes reply talk bytes) rest in
+      record {
+        all = tt;
+        prefix = rw (bytes_both reply talk bytes rest, more.1)
+            (prefix_of_more w.stands first new.packets.sink (with_bytes reply talk bytes).put
+            more.0 end.prefix);
+      }
+
+  -- one byte of a piece more
+  pub by_byte : (old mid new : Parties T W) (piece : List ℕ) (at byte : ℕ)
+      (result : Result Connection AnswerFault)
+      → at < length piece → byte ≡ slice_index piece at
+      → GoesOnBy old mid (take at piece) (Ok Open) → GoesOnBy mid new (byte ∷ []) result
+      → GoesOnBy old new (take (at + 1) piece) result
+  by_byte old mid new piece at byte result within is before next =
+      rw (take_more piece at 0 within, ← is)
+      (by_more old mid new (take at piece) (byte ∷ []) result before next)

@@ -1,0 +1,37 @@
+-- Packets that are put into a sink.
+use Rattle.std.specs.Prelude.{◌≡◌, ◌≤◌, ℕ, List, Result, OnErr, IfOk, IfErr}
+use Rattle.outside_edge.specs.Count.{Rose}
+use Rattle.outside_edge.specs.Sink.{Takes, TakesPrefix}
+use Rattle.outside_edge.specs.declared.sink.Sink as sink
+use Rattle.debug_link.specs.Conversation.{Answer, last_packet}
+use Rattle.debug_link.specs.Packet.{packets_of}
+use Rattle.debug_link.specs.declared.answer_fault.AnswerFault.{AnswerFault}
+use Rattle.debug_link.specs.declared.answer_fault.AnswerFault.TheVariants.{Write}
+use Rattle.debug_link.specs.declared.connection.Connection.{Connection}
+
+-- A sink behind packets, and the last packet that was put, as its bytes: none at first.
+pub record PacketSink (W : Type 0) : Type 0 where
+  pub sink : W
+  pub last : List ℕ
+
+-- a packet's body was answered: the packets were put, and the answerer stands where the answer says
+pub record HasAnswered {T Session W : Type 0} (stands : T → Session → Type 0)
+    (w : sink.Ghosts W) (old new : PacketSink W) (answerer : T) (answer : Answer Session)
+    (connection : Connection) : Type 0 where
+  pub connection_is : connection ≡ answer.connection
+  pub stood : stands answerer answer.session
+  pub put : Takes w.stands old.sink new.sink (packets_of answer.packets)
+  pub last : new.last ≡ last_packet old.last answer.packets
+
+-- it was, or a prefix of the packets was put
+pub record Answers {T Session W : Type 0} (stands : T → Session → Type 0)
+    (w : sink.Ghosts W) (old new : PacketSink W) (answerer : T) (answer : Answer Session)
+    (result : Result Connection AnswerFault) : Type 0 where
+  pub all : IfOk result (HasAnswered stands w old new answerer answer)
+  pub prefix : OnErr result (TakesPrefix w.stands old.sink new.sink (packets_of answer.packets))
+
+-- a call that fails to write has counted a fault of the sink
+pub record CountsWriteFaults {W V : Type 0} (faults : W → ℕ) (old new : W)
+    (result : Result V AnswerFault) : Type 0 where
+  pub failed : IfErr result (λ fault. fault ≡ Write → Rose (faults old) (faults new))
+  pub counted : faults old ≤ faults new

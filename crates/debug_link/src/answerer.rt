@@ -1,0 +1,32 @@
+use crate::answer_fault::AnswerFault;
+use crate::connection::Connection;
+use crate::packet_writer::PacketWriter;
+use outside_edge::Sink;
+
+/// One who answers the packets of a debugger.
+pub trait Answerer {
+    ghost use Rattle.std.specs.Prelude.{◌≤◌, ℕ, List, length};
+    ghost use Rattle.debug_link.specs.Conversation.{Answer, LONGEST_BODY};
+    ghost use Rattle.debug_link.specs.Writing.{Answers, CountsWriteFaults};
+
+    /// Where a session may stand.
+    ghost Session: { Type 0 };
+
+    /// Where its session may stand now.
+    ghost stands: { Self → Session → Type 0 };
+
+    /// What it answers to a body there.
+    ghost reply: { Session → List ℕ → Answer Session };
+
+    /// Puts its packets, each as soon as it is known, the reply at last.
+    fn answer<W: Sink + Drop>(
+        &mut self,
+        body: &[u8],
+        packets: &mut PacketWriter<W>,
+    ) -> Result<Connection, AnswerFault>
+        requires { length body.now ≤ LONGEST_BODY }
+        ensures answers { (session : Session) → stands self.old session
+            → Answers stands W.Sink packets.old packets.new self.new (reply session body.now)
+            result }
+        ensures counts { CountsWriteFaults W.faults packets.old.sink packets.new.sink result };
+}

@@ -1,0 +1,28 @@
+//! The packets of GDB's remote serial protocol: a debugger's bytes from a source, and what is put
+//! for them into a sink.
+//!
+//! [`serve`] finds the packets among the bytes that come, and has each answered by an [`Answerer`],
+//! who puts packets by a [`PacketWriter`]. What is put is a function of the bytes alone, from where
+//! the answerer's session stands.
+#![tactic(auto)]
+
+mod answer_fault;
+mod answerer;
+mod check_digits;
+mod connection;
+mod held_body;
+mod packet_reader;
+mod packet_writer;
+mod served;
+mod serving;
+
+pub use answer_fault::AnswerFault;
+pub use answerer::Answerer;
+pub use connection::Connection;
+pub use held_body::LONGEST_BODY;
+pub use packet_writer::PacketWriter;
+pub use served::Served;
+pub use serving::{MOST_INPUT, serve};
+
+#[cfg(test)]
+mod tests;

@@ -1,0 +1,154 @@
+ghost use Rattle.std.specs.Prelude.{◌≡◌, ◌<◌, ◌≤◌, ℕ, List, [], false, length, take, IfOk, IfSome, OnErr, option_map};
+ghost use Rattle.outside_edge.specs.Sink.{CountsFaults, Puts};
+ghost use Rattle.debug_link.specs.Conversation.{LONGEST_BODY as longest, Talk, answer_to, mark_of, with_byte, with_bytes};
+ghost use Rattle.debug_link.specs.Link.{Message};
+ghost use Rattle.debug_link.specs.HeldBody.{short_body};
+ghost use Rattle.debug_link.specs.Reading.{heard_of};
+ghost use Rattle.debug_link.specs.Serving.{Gave, GoesOnTo, Serves, TalkStandsFor};
+ghost use Rattle.debug_link.specs.Writing.{Answers, CountsWriteFaults};
+
+use crate::answer_fault::AnswerFault;
+use crate::answerer::Answerer;
+use crate::connection::Connection;
+use crate::packet_reader::{Heard, PacketReader};
+use crate::packet_writer::PacketWriter;
+use crate::served::Served;
+use outside_edge::{Failed, Sink, Source};
+
+/// The most bytes that are taken of a source.
+pub const MOST_INPUT: u64 = 1_073_741_824;
+
+// The most bytes that are taken at once.
+const PIECE: usize = 4_096;
+
+/// Answers the packets of a source, each as soon as it is whole: `+` is put before its answerer is
+/// asked, since a debugger waits for it a short time alone.
+pub fn serve<R: Source, A: Answerer, W: Sink + Drop>(
+    source: &mut R,
+    answerer: &mut A,
+    packets: &mut PacketWriter<W>,
+) -> Served
+    ensures serves { (session : A.Session) → A.stands answerer.old session
+        → packets.old.last ≡ []
+        → Serves R.Source W.Sink A.reply session source.old source.new packets.old.sink
+        packets.new.sink result }
+    ensures source_faults { R.faults source.old ≤ R.faults source.new }
+    ensures sink_faults { W.faults packets.old.sink ≤ W.faults packets.new.sink }
+{
+    let mut reader = PacketReader::new();
+    let mut piece = [0; PIECE];
+    let mut room = MOST_INPUT;
+    while room > 0 {
+        let count = match take_piece(source, &mut piece, room) {
+            Ok(0) => return Served::Done,
+            Ok(count) => count,
+            Err(Failed) => return Served::ReadFault,
+        };
+        match answer_piece(&piece[..count], &mut reader, answerer, packets) {
+            Ok(Connection::Open) => room -= count as u64,
+            Ok(Connection::Closed) => return Served::Done,
+            Err(AnswerFault::Write) => return Served::WriteFault,
+            Err(AnswerFault::Memory) => return Served::Memory,
+        }
+    }
+    Served::Spent
+}
+
+// Takes what comes next into the beginning of a piece, no more than there is room for.
+fn take_piece<R: Source>(source: &mut R, piece: &mut [u8], room: u64) -> Result<usize, Failed>
+    requires { (0 < length piece.old) × (0 < room) }
+    ensures within { IfOk result (λ n. n ≤ length piece.new) }
+    ensures few { IfOk result (λ n. n ≤ room) }
+    ensures gave { IfOk result (λ n. Gave R.Source source.old source.new (take n piece.new)) }
+    ensures ends { IfOk result (λ n. n ≡ 0 → IfSome (R.left source.new) (λ left. left ≡ [])) }
+    ensures kept { OnErr result (Gave R.Source source.old source.new []) }
+    ensures counts { CountsFaults R.faults source.old source.new result }
+{
+    let most = (piece.len() as u64).min(room) as usize;
+    source.take(&mut piece[..most])
+}
+
+// Answers the packets that end in a piece, as long as the connection is open.
+fn answer_piece<A: Answerer, W: Sink + Drop>(
+    piece: &[u8],
+    reader: &mut PacketReader,
+    answerer: &mut A,
+    packets: &mut PacketWriter<W>,
+) -> Result<Connection, AnswerFault>
+    ensures goes_on { (talk : Talk A.Session) (first : W) → talk.is_over ≡ false
+        → TalkStandsFor A.stands W.Sink first
+        (record { reader = reader.old; answerer = answerer.old; packets = packets.old }) talk
+        → GoesOnTo A.stands W.Sink first
+        (record { reader = reader.new; answerer = answerer.new; packets = packets.new })
+        (with_bytes A.reply talk piece.now) result }
+    ensures counts { CountsWriteFaults W.faults packets.old.sink packets.new.sink result }
+{
+    for byte in piece {
+        match answer_byte(*byte, reader, answerer, packets)? {
+            Connection::Open => {}
+            Connection::Closed => return Ok(Connection::Closed),
+        }
+    }
+    Ok(Connection::Open)
+}
+
+// Answers the packet that ends in a byte, if one does.
+fn answer_byte<A: Answerer, W: Sink + Drop>(
+    byte: u8,
+    reader: &mut PacketReader,
+    answerer: &mut A,
+    packets: &mut PacketWriter<W>,
+) -> Result<Connection, AnswerFault>
+    ensures goes_on { (talk : Talk A.Session) (first : W) → talk.is_over ≡ false
+        → TalkStandsFor A.stands W.Sink first
+        (record { reader = reader.old; answerer = answerer.old; packets = packets.old }) talk
+        → GoesOnTo A.stands W.Sink first
+        (record { reader = reader.new; answerer = answerer.new; packets = packets.new })
+        (with_byte A.reply talk byte) result }
+    ensures counts { CountsWriteFaults W.faults packets.old.sink packets.new.sink result }
+{
+    let heard = reader.take(byte);
+    put_mark(heard, packets)?;
+    match heard {
+        Heard::Whole => answer_body(reader.body(), answerer, packets),
+        _ => Ok(Connection::Open),
+    }
+}
+
+// Puts what is due at once.
+fn put_mark<W: Sink + Drop>(heard: Heard, packets: &mut PacketWriter<W>) -> Result<(), Failed>
+    ensures puts { (message : Message) → heard ≡ heard_of message
+        → Puts W.stands packets.old.sink packets.new.sink (mark_of packets.old.last message)
+        result }
+    ensures last { packets.new.last ≡ packets.old.last }
+    ensures counts { CountsFaults W.faults packets.old.sink packets.new.sink result }
+{
+    match heard {
+        Heard::Silence => Ok(()),
+        Heard::Again => packets.put_again(),
+        Heard::Damage => packets.refuse(),
+        Heard::Whole => packets.accept(),
+    }
+}
+
+// Answers a body; `None` is one that is too long.
+fn answer_body<A: Answerer, W: Sink + Drop>(
+    body: Option<&[u8]>,
+    answerer: &mut A,
+    packets: &mut PacketWriter<W>,
+) -> Result<Connection, AnswerFault>
+    requires { IfSome body (λ bytes. length bytes.now ≤ longest) }
+    ensures answers { (session : A.Session) (bytes : List ℕ) → A.stands answerer.old session
+        → option_map (λ bytes. bytes.now) body.entry ≡ short_body bytes
+        → Answers A.stands W.Sink packets.old packets.new answerer.new
+        (answer_to A.reply session bytes) result }
+    ensures counts { CountsWriteFaults W.faults packets.old.sink packets.new.sink result }
+{
+    match body {
+        Some(body) => answerer.answer(body, packets),
+        None => {
+            packets.put(b"")?;
+            Ok(Connection::Open)
+        }
+    }
+}
