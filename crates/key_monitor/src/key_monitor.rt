@@ -1,5 +1,5 @@
 ghost use Rattle.std.specs.Prelude.{◌≡◌, ◌+◌, true};
-ghost use Rattle.bus_signals.specs.Map.{some_touches};
+ghost use Rattle.bus_signals.specs.Map.{key_region, stack_region, some_touches};
 ghost use Rattle.part_definitions.specs.MonitorRule.{in_rom, is_written_by_rom, leaves_stack_and_mac, key_rule};
 ghost use Rattle.part_definitions.specs.MonitorRule.{breaks_k1, breaks_k2, breaks_k3, breaks_k4, breaks_k5, breaks_k6};
 
@@ -46,7 +46,7 @@ fn breaks_k1(now: &Signals, inside: bool) -> bool
     requires { inside ≡ in_rom now.now.pc }
     ensures { result ≡ breaks_k1 now.now }
 {
-    !inside && touches(now.cpu, KR) && !some_writes(now.cpu)
+    !inside && touches_key(now.cpu) && !some_writes(now.cpu)
 }
 
 // K2: from outside the ROM an access touches the exclusive stack.
@@ -55,7 +55,7 @@ fn breaks_k2(now: &Signals, inside: bool) -> bool
     requires { inside ≡ in_rom now.now.pc }
     ensures { result ≡ breaks_k2 now.now }
 {
-    !inside && touches(now.cpu, XS)
+    !inside && touches_stack(now.cpu)
 }
 
 // K3: the ROM writes outside the exclusive stack and the MAC.
@@ -72,7 +72,7 @@ fn breaks_k3(now: &Signals, inside: bool) -> bool
 fn breaks_k4(now: &Signals) -> bool
     ensures { result ≡ breaks_k4 now.now }
 {
-    touches(now.dma, KR)
+    touches_key(now.dma)
 }
 
 // K5: the DMA touches the exclusive stack.
@@ -80,7 +80,7 @@ fn breaks_k4(now: &Signals) -> bool
 fn breaks_k5(now: &Signals) -> bool
     ensures { result ≡ breaks_k5 now.now }
 {
-    touches(now.dma, XS)
+    touches_stack(now.dma)
 }
 
 // K6: the DMA has an access while the ROM runs.
@@ -92,23 +92,40 @@ fn breaks_k6(now: &Signals, inside: bool) -> bool
     inside && now.dma.is_some()
 }
 
-// A byte of the access lies in the region. Nearly no access comes near it, so that is asked first.
+// A byte of the access lies in the key. Nearly no access comes near what is secret, so that is
+// asked first.
 #[inline(always)]
-fn touches(access: Option<Access>, region: Region) -> bool
-    ensures { result ≡ some_touches access region }
+fn touches_key(access: Option<Access>) -> bool
+    ensures { result ≡ some_touches access key_region }
 {
-    comes_near(access, region) && some_touches(access, region)
+    comes_near(access) && some_touches(access, KR)
 }
 
-// The access is at a place of the region or right before it. Any that touches the region is.
+// Likewise in the exclusive stack.
 #[inline(always)]
-fn comes_near(access: Option<Access>, region: Region) -> bool
-    ensures { some_touches access region ≡ true → result ≡ true }
+fn touches_stack(access: Option<Access>) -> bool
+    ensures { result ≡ some_touches access stack_region }
+{
+    comes_near(access) && some_touches(access, XS)
+}
+
+// The exclusive stack, the key, and what is between them.
+const SECRETS: Region = Region {
+    first: XS.first,
+    last: KR.last,
+};
+
+// The access is at a place of these or right before them. Any that touches the exclusive stack or
+// the key is.
+#[inline(always)]
+fn comes_near(access: Option<Access>) -> bool
+    ensures key { some_touches access key_region ≡ true → result ≡ true }
+    ensures stack { some_touches access stack_region ≡ true → result ≡ true }
 {
     match access {
         None => false,
         Some(Access::Fetch(place) | Access::Read(place, _) | Access::Write(place, _, _)) => {
-            region.contains(place) || region.contains_next(place)
+            SECRETS.contains(place) || SECRETS.contains_next(place)
         }
     }
 }

@@ -2,7 +2,7 @@ ghost use Rattle.std.specs.Prelude.{◌≡◌};
 ghost use Rattle.part_definitions.specs.Memory.{is_program, is_image_place, takes_write, rom_byte};
 ghost use Rattle.mem_map.specs.Span.{is_span};
 
-use bus_signals::{AUX_WORD, EXEC_WORD, PROGRAM, RAM, ROM_EXIT, VECTORS, XS};
+use bus_signals::{AUX_WORD, EXEC_WORD, META, PROGRAM, RAM, ROM_EXIT, VECTORS, XS};
 
 /// How many places the address space has.
 pub const PLACES: usize = 0x1_0000;
@@ -29,8 +29,17 @@ pub fn is_span(first: u16, last: u16) -> bool
         && ((RAM.contains(first) && RAM.contains(last)) || (is_program(first) && is_program(last)))
 }
 
-/// Whether a write to this place leaves its byte there.
+/// Whether a write to this place leaves its byte there. Most are to RAM above the metadata.
+#[inline(always)]
 pub fn takes_write(place: u16) -> bool
+    ensures { result ≡ takes_write place }
+{
+    (META.last < place && place <= RAM.last) || takes_write_apart(place)
+}
+
+// Likewise, wherever it is.
+#[inline(never)]
+fn takes_write_apart(place: u16) -> bool
     ensures { result ≡ takes_write place }
 {
     let is_flag_word = EXEC_WORD <= place && place <= AUX_WORD + 1;

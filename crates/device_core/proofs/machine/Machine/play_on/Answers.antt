@@ -15,7 +15,8 @@ loop-made-preserved g c = (
       let made = c.loop-made.made in
       let (here, all) = c.loop-made.invariant.1 start play stands in
       let next = goes-idle made play
-      (c.go_undisturbed-stage.ensures start _ here.same here.same_stage) in
+      (c.go_undisturbed-stage.ensures start _ here.same
+      (here.same_stage, c.dma_access-dma.ensures start _ here.same.same_bus)) in
       let silent = silent-more start made play
       (silent-unkept start (with_idle (made + 1) play) _ next.same.same_bus.same_last
       (sym c.is_some.ensures ∙ c.if-is_some.false))
@@ -35,7 +36,8 @@ pub returns-then-is_some-clause-stands : goal.returns-then-is_some-clause-stands
 returns-then-is_some-clause-stands g c = λ start play stands.
     let (here, all) = c.loop-made.invariant.1 start play stands in
     goes-idle c.loop-made.made play
-    (c.go_undisturbed-stage.ensures start _ here.same here.same_stage)
+    (c.go_undisturbed-stage.ensures start _ here.same
+    (here.same_stage, c.dma_access-dma.ensures start _ here.same.same_bus))
 
 pub returns-then-is_some-clause-silent : goal.returns-then-is_some-clause-silent
 returns-then-is_some-clause-silent g c = λ start play stands.

@@ -22,4 +22,4 @@ returns-then-fetches g c = λ start logs stands (stage, dma).
 
 pub returns-else-fetches : goal.returns-else-fetches
 returns-else-fetches g c = λ start logs stands (stage, dma).
-    c.go_from.ensures.stands start logs stands (stage, c.access_where-dma.ensures ∙ dma)
+    c.go_from.ensures.stands start logs stands stage

@@ -16,4 +16,4 @@ returns-clause-stands g c = λ start play stands.
       same_decision = stands.same.same_decision;
       same_word = stands.same.same_word;
     })
-    (stands.same_stage, c.dma_access-dma.ensures start _ bus))
+    stands.same_stage)
