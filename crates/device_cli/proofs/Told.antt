@@ -129,7 +129,7 @@ stopped : {D G T S : Type 0} {hash : Hash D} {flag : Flag G} (stands : S → Byt
 stopped stands faults account old new outcome device_play Write told watched counts =
     (rw told.same_text watched.puts.prefix, write-rose counts.failed)
 stopped stands faults account old new outcome device_play Memory told watched counts =
-    inr (rw told.same_cuts (watched.memory refl))
+    rw told.same_cuts (watched.memory refl)
 
 -- where a watcher stopped
 pub stopped-puts : {D G T S : Type 0} {hash : Hash D} {flag : Flag G} (stands : S → Bytes → Type 0)

@@ -6,7 +6,7 @@ use device_play::PutFault;
 use hex_loader::write_hex;
 use input_files::{File, Inputs, Refusal};
 use outside_edge::{Shelf, Sink};
-use std::alloc::Global;
+use std::alloc::{AllocError, Global};
 
 /// The command `asm SOURCE`.
 #[derive(Clone, Copy, Debug)]
@@ -22,11 +22,15 @@ impl<'a> Task<'a> for Asm<'a> {
 
     type Values = mem_map::Image;
 
+    type Prepared = ();
+
     ghost row_of = { asm_row_of };
 
     ghost command_row = { λ asm. asm_row asm.source.name.now };
 
     ghost outcome = { λ asm image. plain (hex_text (byte_in image)) };
+
+    ghost is_prepared = { λ task values prepared. Unit {0} };
 
     ghost once_put = { λ outcome. Unit {0} };
 
@@ -42,10 +46,15 @@ impl<'a> Task<'a> for Asm<'a> {
         self.source.read::<CommandEnd, S>(alloc, shelf)
     }
 
+    fn prepare(&self, _alloc: Global, _values: &mem_map::Image) -> Result<(), AllocError> {
+        Ok(())
+    }
+
     fn put<W: Sink>(
         &self,
         _alloc: Global,
         image: &mem_map::Image,
+        _prepared: (),
         sink: &mut W,
     ) -> Result<Ending, PutFault> {
         write_hex(image, sink)?;

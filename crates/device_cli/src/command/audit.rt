@@ -5,7 +5,7 @@ use crate::task::Task;
 use device_play::PutFault;
 use input_files::{File, Inputs, Refusal};
 use outside_edge::{Shelf, Sink};
-use std::alloc::Global;
+use std::alloc::{AllocError, Global};
 use trace_audit::{Audited, print_audited};
 
 /// The command `audit TRACE`.
@@ -19,11 +19,15 @@ impl<'a> Task<'a> for Audit<'a> {
 
     type Values = Audited;
 
+    type Prepared = ();
+
     ghost row_of = { audit_row_of };
 
     ghost command_row = { λ audit. audit_row audit.trace.name.now };
 
     ghost outcome = { λ audit audited. audit_outcome audited };
+
+    ghost is_prepared = { λ task values prepared. Unit {0} };
 
     ghost once_put = { λ outcome. Unit {0} };
 
@@ -39,10 +43,15 @@ impl<'a> Task<'a> for Audit<'a> {
         self.trace.read::<CommandEnd, S>(alloc, shelf)
     }
 
+    fn prepare(&self, _alloc: Global, _values: &Audited) -> Result<(), AllocError> {
+        Ok(())
+    }
+
     fn put<W: Sink>(
         &self,
         _alloc: Global,
         audited: &Audited,
+        _prepared: (),
         sink: &mut W,
     ) -> Result<Ending, PutFault> {
         print_audited(audited, sink)?;

@@ -5,7 +5,7 @@ use device_play::PutFault;
 use input_files::{File, Image, Inputs, Refusal};
 use msp_disasm::write_listing;
 use outside_edge::{Shelf, Sink};
-use std::alloc::Global;
+use std::alloc::{AllocError, Global};
 
 /// The command `list IMAGE`.
 #[derive(Clone, Copy, Debug)]
@@ -21,11 +21,15 @@ impl<'a> Task<'a> for List<'a> {
 
     type Values = mem_map::Image;
 
+    type Prepared = ();
+
     ghost row_of = { list_row_of };
 
     ghost command_row = { λ list. list_row list.image.name.now };
 
     ghost outcome = { λ list image. plain (listing (byte_in image)) };
+
+    ghost is_prepared = { λ task values prepared. Unit {0} };
 
     ghost once_put = { λ outcome. Unit {0} };
 
@@ -41,10 +45,15 @@ impl<'a> Task<'a> for List<'a> {
         self.image.read::<CommandEnd, S>(alloc, shelf)
     }
 
+    fn prepare(&self, _alloc: Global, _values: &mem_map::Image) -> Result<(), AllocError> {
+        Ok(())
+    }
+
     fn put<W: Sink>(
         &self,
         _alloc: Global,
         image: &mem_map::Image,
+        _prepared: (),
         sink: &mut W,
     ) -> Result<Ending, PutFault> {
         write_listing(image, sink)?;

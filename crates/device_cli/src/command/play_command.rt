@@ -1,16 +1,17 @@
 use crate::command::play_arguments::PlayArguments;
-use crate::command::play_files::PlayValues;
+use crate::command::play_files::{PlayValues, PoweredDevice};
 use crate::command::telling::{Telling, tell};
 use crate::command_end::CommandEnd;
 use crate::ending::Ending;
 use crate::task::Task;
+use bus_signals::TraceFlag;
 use device_core::power_on;
 use device_play::PutFault;
-use hmac_core::Sha256Digest;
+use hmac_core::{Digest32, Sha256Digest};
 use input_files::{Inputs, Refusal};
 use isr_flag::IsrFlag;
 use outside_edge::{Shelf, Sink};
-use std::alloc::Global;
+use std::alloc::{AllocError, Global};
 use std::marker::PhantomData;
 
 /// A command with the arguments `IMAGE SCRIPT KEY STEPS`, which tells this of a play.
@@ -21,10 +22,14 @@ pub struct PlayCommand<'a, T> {
 }
 
 impl<'a, T: Telling> Task<'a> for PlayCommand<'a, T> {
+    ghost use Rattle.std.specs.Prelude.{[]};
     ghost use Rattle.mem_map.specs.Image.{byte_in};
-    ghost use Rattle.device_cli.specs.Play.{play_with, steps_row, steps_row_of};
+    ghost use Rattle.device_core.specs.Device.{HeldStandsFor};
+    ghost use Rattle.device_cli.specs.Play.{play_with, start_of, steps_row, steps_row_of};
 
     type Values = PlayValues;
+
+    type Prepared = PoweredDevice;
 
     ghost row_of = { steps_row_of T.outcome };
 
@@ -34,6 +39,9 @@ impl<'a, T: Telling> Task<'a> for PlayCommand<'a, T> {
 
     ghost outcome = { λ command values. T.outcome (play_with command.arguments.steps values.0.0
         (byte_in values.0.1) values.1) };
+
+    ghost is_prepared = { λ command values device. HeldStandsFor ⟦<Sha256Digest as Digest32>⟧.hash ⟦<IsrFlag as TraceFlag>⟧.flag device
+        (start_of values.0.0 (byte_in values.0.1)) [] };
 
     ghost once_put = { T.once_put };
 
@@ -49,14 +57,19 @@ impl<'a, T: Telling> Task<'a> for PlayCommand<'a, T> {
         self.arguments.files.read::<CommandEnd, S>(alloc, shelf)
     }
 
+    fn prepare(&self, alloc: Global, values: &PlayValues) -> Result<PoweredDevice, AllocError> {
+        let ((key, image), _) = values;
+        power_on::<Sha256Digest, IsrFlag>(alloc, key, image, IsrFlag::new())
+    }
+
     fn put<W: Sink>(
         &self,
-        alloc: Global,
+        _alloc: Global,
         values: &PlayValues,
+        device: PoweredDevice,
         sink: &mut W,
     ) -> Result<Ending, PutFault> {
-        let ((key, image), script) = values;
-        let device = power_on::<Sha256Digest, IsrFlag>(alloc, key, image, IsrFlag::new())?;
+        let script = &values.1;
         tell::<T, Sha256Digest, IsrFlag, W>(device, script, self.arguments.steps, sink)?;
         Ok(Ending::Done)
     }

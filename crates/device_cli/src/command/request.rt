@@ -7,7 +7,7 @@ use input_files::{File, Inputs, Refusal};
 use outside_edge::{Shelf, Sink};
 use report_text::print_request;
 use report_verifier::token;
-use std::alloc::Global;
+use std::alloc::{AllocError, Global};
 use text_scan::{decimal, hex_bytes};
 
 // The greatest counter of a request.
@@ -27,11 +27,15 @@ impl<'a> Task<'a> for Request<'a> {
 
     type Values = [u8; 64];
 
+    type Prepared = ();
+
     ghost row_of = { request_row_of };
 
     ghost command_row = { λ request. request_row request.key.name.now request.chal request.count };
 
     ghost outcome = { λ request key. plain (request_text request.chal request.count key) };
+
+    ghost is_prepared = { λ task values prepared. Unit {0} };
 
     ghost once_put = { λ outcome. Unit {0} };
 
@@ -55,10 +59,15 @@ impl<'a> Task<'a> for Request<'a> {
         self.key.read::<CommandEnd, S>(alloc, shelf)
     }
 
+    fn prepare(&self, _alloc: Global, _values: &[u8; 64]) -> Result<(), AllocError> {
+        Ok(())
+    }
+
     fn put<W: Sink>(
         &self,
         _alloc: Global,
         key: &[u8; 64],
+        _prepared: (),
         sink: &mut W,
     ) -> Result<Ending, PutFault> {
         let token = token(key, &self.chal, self.count);

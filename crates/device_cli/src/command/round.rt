@@ -2,19 +2,20 @@ ghost use Rattle.std.specs.Prelude.{◌≤◌};
 ghost use Rattle.device_play.specs.Limit.{most_steps};
 
 use crate::command::play_arguments::MOST_STEPS;
-use crate::command::play_files::{PlayFiles, PlayValues, play_files};
+use crate::command::play_files::{PlayFiles, PlayValues, PoweredDevice, play_files};
 use crate::command_end::CommandEnd;
 use crate::ending::Ending;
 use crate::task::Task;
 use crate::verdict::judging::Judging;
+use bus_signals::TraceFlag;
 use device_core::power_on;
 use device_play::{PutFault, play_before};
-use hmac_core::Sha256Digest;
+use hmac_core::{Digest32, Sha256Digest};
 use input_files::{File, Inputs, Policy, Refusal};
 use isr_flag::IsrFlag;
 use outside_edge::{Shelf, Sink};
 use report_verifier::Verifier;
-use std::alloc::Global;
+use std::alloc::{AllocError, Global};
 use text_scan::decimal;
 
 /// The command `round IMAGE SCRIPT KEY POLICY STEPS`. The policy is read after the files of the
@@ -30,10 +31,15 @@ pub struct Round<'a> {
 pub type RoundValues = (PlayValues, report_verifier::Policy);
 
 impl<'a> Task<'a> for Round<'a> {
+    ghost use Rattle.std.specs.Prelude.{[]};
     ghost use Rattle.mem_map.specs.Image.{byte_in};
+    ghost use Rattle.device_core.specs.Device.{HeldStandsFor};
+    ghost use Rattle.device_cli.specs.Play.{start_of};
     ghost use Rattle.device_cli.specs.Round.{round_row, round_row_of, round_outcome};
 
     type Values = RoundValues;
+
+    type Prepared = PoweredDevice;
 
     ghost row_of = { round_row_of };
 
@@ -42,6 +48,9 @@ impl<'a> Task<'a> for Round<'a> {
 
     ghost outcome = { λ round values. round_outcome round.steps values.0.0.0
         (byte_in values.0.0.1) values.0.1 values.1 };
+
+    ghost is_prepared = { λ round values device. HeldStandsFor ⟦<Sha256Digest as Digest32>⟧.hash ⟦<IsrFlag as TraceFlag>⟧.flag device
+        (start_of values.0.0.0 (byte_in values.0.0.1)) [] };
 
     ghost once_put = { λ outcome. Unit {0} };
 
@@ -63,14 +72,19 @@ impl<'a> Task<'a> for Round<'a> {
         self.files.read::<CommandEnd, S>(alloc, shelf)
     }
 
+    fn prepare(&self, alloc: Global, values: &RoundValues) -> Result<PoweredDevice, AllocError> {
+        let (((key, image), _), _) = values;
+        power_on::<Sha256Digest, IsrFlag>(alloc, key, image, IsrFlag::new())
+    }
+
     fn put<W: Sink>(
         &self,
         alloc: Global,
         values: &RoundValues,
+        device: PoweredDevice,
         sink: &mut W,
     ) -> Result<Ending, PutFault> {
         let (((key, image), script), policy) = values;
-        let device = power_on::<Sha256Digest, IsrFlag>(alloc, key, image, IsrFlag::new())?;
         let verifier = Verifier { key, image, policy };
         let judging = Judging {
             alloc,

@@ -10,7 +10,7 @@ use input_files::{File, Image, Inputs, Policy, Refusal};
 use outside_edge::{Shelf, Sink};
 use report_text::Report;
 use report_verifier::Verifier;
-use std::alloc::Global;
+use std::alloc::{AllocError, Global};
 
 /// The command `verify IMAGE POLICY KEY REPORTS`. Its files are in the order in which they are
 /// read.
@@ -33,6 +33,8 @@ impl<'a> Task<'a> for Verify<'a> {
 
     type Values = VerifyValues;
 
+    type Prepared = ();
+
     ghost row_of = { verify_row_of };
 
     ghost command_row = { λ verify. verify_row verify.device.1.name.now verify.evidence.0.name.now
@@ -40,6 +42,8 @@ impl<'a> Task<'a> for Verify<'a> {
 
     ghost outcome = { λ verify values. verdicts_outcome
         (verdicts (judge_with values.0.0 (byte_in values.0.1) values.1.0) values.1.1.items) };
+
+    ghost is_prepared = { λ task values prepared. Unit {0} };
 
     ghost once_put = { λ outcome. Unit {0} };
 
@@ -61,10 +65,15 @@ impl<'a> Task<'a> for Verify<'a> {
         (self.device, self.evidence).read::<CommandEnd, S>(alloc, shelf)
     }
 
+    fn prepare(&self, _alloc: Global, _values: &VerifyValues) -> Result<(), AllocError> {
+        Ok(())
+    }
+
     fn put<W: Sink>(
         &self,
         _alloc: Global,
         values: &VerifyValues,
+        _prepared: (),
         sink: &mut W,
     ) -> Result<Ending, PutFault> {
         let ((key, image), (policy, reports)) = values;

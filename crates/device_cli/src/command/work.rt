@@ -1,8 +1,6 @@
-ghost use Rattle.std.specs.Prelude.{◌≡◌, IfOk, IfErr};
-ghost use Rattle.sha2.specs.Sha256.{sha256};
-ghost use Rattle.device_play.specs.declared.put_fault.PutFault.TheVariants.{Memory};
+ghost use Rattle.std.specs.Prelude.{◌≡◌, IfOk};
 ghost use Rattle.device_cli.specs.Load.{load_text};
-ghost use Rattle.device_cli.specs.TextSummary.{counts_in};
+ghost use Rattle.device_cli.specs.TextSummary.{IsSummaryOf};
 
 use crate::command_end::CommandEnd;
 use crate::ending::Ending;
@@ -17,7 +15,7 @@ use hmac_core::Sha256Digest;
 use input_files::{Inputs, Refusal};
 use isr_flag::IsrFlag;
 use outside_edge::{Shelf, Sink};
-use std::alloc::Global;
+use std::alloc::{AllocError, Global};
 use text_scan::decimal;
 
 // The greatest seed.
@@ -35,11 +33,15 @@ impl<'a> Task<'a> for Work {
 
     type Values = ();
 
+    type Prepared = (LineCounts, [u8; 32]);
+
     ghost row_of = { work_row_of };
 
     ghost command_row = { λ work. work_row work.seed };
 
     ghost outcome = { λ work values. plain_of (load_play work.seed) (work_line work.seed) };
+
+    ghost is_prepared = { λ work values summary. IsSummaryOf (load_text work.seed) summary };
 
     ghost once_put = { λ outcome. Unit {0} };
 
@@ -56,18 +58,26 @@ impl<'a> Task<'a> for Work {
         ().read::<CommandEnd, S>(alloc, shelf)
     }
 
-    fn put<W: Sink>(&self, alloc: Global, _none: &(), sink: &mut W) -> Result<Ending, PutFault> {
-        let (counts, digest) = play_load(alloc, self.seed)?;
+    fn prepare(&self, alloc: Global, _none: &()) -> Result<(LineCounts, [u8; 32]), AllocError> {
+        play_load(alloc, self.seed)
+    }
+
+    fn put<W: Sink>(
+        &self,
+        _alloc: Global,
+        _none: &(),
+        summary: (LineCounts, [u8; 32]),
+        sink: &mut W,
+    ) -> Result<Ending, PutFault> {
+        let (counts, digest) = summary;
         print_work_line(self.seed, counts, &digest, sink)?;
         Ok(Ending::Done)
     }
 }
 
 // Plays the load of a seed. What is kept of its text are the counts of its lines, and its SHA-256.
-fn play_load(alloc: Global, seed: u64) -> Result<(LineCounts, [u8; 32]), PutFault>
-    ensures counts { IfOk result (λ summary. summary.0 ≡ counts_in (load_text seed)) }
-    ensures digest { IfOk result (λ summary. summary.1 ≡ sha256 (load_text seed)) }
-    ensures memory { IfErr result (λ fault. fault ≡ Memory) }
+fn play_load(alloc: Global, seed: u64) -> Result<(LineCounts, [u8; 32]), AllocError>
+    ensures { IfOk result (IsSummaryOf (load_text seed)) }
 {
     let load = load_of(alloc, seed)?;
     let device = power_on::<Sha256Digest, IsrFlag>(alloc, &load.key, &load.image, IsrFlag::new())?;

@@ -13,12 +13,10 @@ summary c =
     (told-summary _ _ c.new-summary.result c.play_before.new.sink _ _ _ c.new-summary.ensures
     (c.in-Ok.ensures.watched _ c.in_ok-device.ensures.stands))
 
-pub returns-clause-counts : goal.returns-clause-counts
-returns-clause-counts c =
-    (c.finish.ensures (load_text c.args.seed) (summary c)).0 ∙ load_counts-fit c.args.seed
-
-pub returns-clause-digest : goal.returns-clause-digest
-returns-clause-digest c = (c.finish.ensures (load_text c.args.seed) (summary c)).1
+pub returns : goal.returns
+returns c =
+    let finished = c.finish.ensures (load_text c.args.seed) (summary c) in
+    record { counts = finished.0 ∙ load_counts-fit c.args.seed; digest = finished.1 }
 
 pub unreachable-requires : goal.unreachable-requires
 unreachable-requires c =

@@ -2,16 +2,8 @@ use Rattle.std.proofs.Common.{ap, sym, refl}
 use Rattle.mem_map.specs.Image.{byte_in}
 use Rattle.device_cli.specs.Play.{play_with}
 use Rattle.device_cli.specs.Row.{DevicePlay, ending_of}
-use Rattle.device_cli.proofs.Putting.{fails, stops}
+use Rattle.device_cli.proofs.Putting.{fails}
 use Rattle.device_cli.proofs.command.play_command.PlayCommandTask.put.Goals as goal
-
-pub returns-in_err-device-clause-puts : goal.returns-in_err-device-clause-puts
-returns-in_err-device-clause-puts g c =
-    let values = c.args.values.now in
-    stops g.W.Sink.stands g.W.Sink.faults c.args.sink.now
-    (g.T.Telling.outcome (play_with c.args.self.now.arguments.steps values.0.0
-    (byte_in values.0.1) values.1))
-    c.from_residual.result c.from_residual.ensures.1
 
 pub returns-in_err-tell-clause-puts : goal.returns-in_err-tell-clause-puts
 returns-in_err-tell-clause-puts g c =
@@ -19,9 +11,9 @@ returns-in_err-tell-clause-puts g c =
     let device_play : DevicePlay =
     play_with c.args.self.now.arguments.steps values.0.0 (byte_in values.0.1) values.1 in
     fails g.W.Sink.stands g.W.Sink.faults c.args.sink.now c.tell.new.sink
-    (g.T.Telling.outcome device_play) c.from_residual-in_err-tell.result
-    c.from_residual-in_err-tell.ensures.1
-    (c.in_err-tell.ensures.puts device_play c.in_ok-device.ensures.stands refl).prefix
+    (g.T.Telling.outcome device_play) c.from_residual.result
+    c.from_residual.ensures.1
+    (c.in_err-tell.ensures.puts device_play c.requires refl).prefix
     c.in_err-tell.ensures.counts.failed
 
 pub returns-clause-puts : goal.returns-clause-puts
@@ -30,7 +22,7 @@ returns-clause-puts g c =
     let device_play : DevicePlay =
     play_with c.args.self.now.arguments.steps values.0.0 (byte_in values.0.1) values.1 in (
       ap ending_of (sym (g.met.T.Telling.accepted device_play)),
-      (c.in_ok-tell.ensures.puts device_play c.in_ok-device.ensures.stands refl).all,
+      (c.in_ok-tell.ensures.puts device_play c.requires refl).all,
     )
 
 pub returns-clause-whole : goal.returns-clause-whole
@@ -38,4 +30,4 @@ returns-clause-whole g c =
     let values = c.args.values.now in
     let device_play : DevicePlay =
     play_with c.args.self.now.arguments.steps values.0.0 (byte_in values.0.1) values.1 in
-    c.in_ok-tell.ensures.whole device_play c.in_ok-device.ensures.stands refl
+    c.in_ok-tell.ensures.whole device_play c.requires refl

@@ -16,9 +16,9 @@ returns-in_err-tally-clause-puts g c =
     play_with c.args.self.now.steps values.0.0.0 (byte_in values.0.0.1) values.0.1 in
     stopped-puts g.W.Sink.stands g.W.Sink.faults (judge_account judge) c.args.sink.now
     c.play_before.new.sink (judged_outcome judge device_play) device_play
-    c.in_err-tally.field-0.0 c.from_residual-in_err-tally.result
-    c.from_residual-in_err-tally.ensures.1 (told-round judge device_play)
-    (c.in_err-tally.ensures.watched (start_in device_play) c.in_ok-device.ensures.stands)
+    c.in_err-tally.field-0.0 c.from_residual.result
+    c.from_residual.ensures.1 (told-round judge device_play)
+    (c.in_err-tally.ensures.watched (start_in device_play) c.requires)
     c.in_err-tally.ensures.counts
 
 pub returns-clause-puts : goal.returns-clause-puts
@@ -28,7 +28,7 @@ returns-clause-puts g c =
     let judge : Judge = judge_with values.0.0.0 (byte_in values.0.0.1) values.1 in
     let device_play : DevicePlay =
     play_with steps values.0.0.0 (byte_in values.0.0.1) values.0.1 in
-    let watched = c.in_ok-tally.ensures.watched (start_in device_play) c.in_ok-device.ensures.stands
+    let watched = c.in_ok-tally.ensures.watched (start_in device_play) c.requires
     in
     made-puts g.W.Sink.stands g.W.Sink.faults (judge_account judge) c.args.sink.now
     c.play_before.new.sink (judged_outcome judge device_play) device_play
