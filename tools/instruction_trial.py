@@ -7,34 +7,92 @@ from sample_files import read
 from trial import ROOT
 
 
+EXTENSION = "0x0042"  # the extension word of an operand that has one
+OPERANDS = {"the register": "r{}", "indexed": EXTENSION + "(r{})", "absolute": "&" + EXTENSION,
+            "indirect": "@r{}", "indirect, and the register is incremented": "@r{}+",
+            "immediate": "#" + EXTENSION}
+
+
 def cells(line):
     return [cell.strip() for cell in line.strip("|\n").split("|")]
 
 
-def row_under(head):
-    """The numbers in the head of a table of docs/instructions.md, with the names in its first row.
-    """
+def table(head):
+    """The rows of the table of docs/instructions.md with this head, the head the first."""
     text = read(f"{ROOT}/docs/instructions.md").decode()
-    numbers, names = re.search(rf"^(\| {head} \|.*)\n\|[-|]+\n(.*)", text, re.M).groups()
-    return [(int(number, 16), name.lower())
-            for number, name in zip(cells(numbers)[1:], cells(names)[1:])]
+    first, rows = re.search(rf"^(\| {head} \|.*\n)\|[-|]+\n((?:\|.*\n)*)", text, re.M).groups()
+    return [cells(line) for line in (first + rows).splitlines()]
+
+
+def numbered(head):
+    """The numbers in a table's head, with the names in its first row."""
+    numbers, names = table(head)[:2]
+    return [(int(number, 16), name.lower()) for number, name in zip(numbers[1:], names[1:])]
+
+
+def word_of(form, **values):
+    """The word of a form whose fields, by the table of bits, have these values; 0 where none."""
+    word, above = 0, 16
+    for high, low, fixed, name in re.findall(r"(\d+)(?:\.\.(\d+))? (?:are ([01]+)|([^,]+))",
+                                             dict(table("Form"))[form]):
+        low = int(low or high)
+        value = int(fixed, 2) if fixed else values.pop(re.sub(r"\W", "_", name), 0)
+        if int(high) != above - 1 or value >> above - low:
+            raise ValueError(f"docs/instructions.md: bits {high} to {low} of {form}")
+        word, above = word | value << low, low
+    if values:
+        raise ValueError(f"docs/instructions.md: no {', '.join(values)} of {form}")
+    return word
+
+
+def source(mode, register):
+    """How the source of a mode and a register is printed, by the table of modes."""
+    (modes, text), = (
+        (modes.split(", "), text) for modes, registers, text in table("As")[1:]
+        if str(mode) in modes.split(", ")
+        and (f"R{register}" in re.findall(r"R\d+", registers)) != registers.startswith("not "))
+    if text.startswith("the constants "):
+        constants = text.removeprefix("the constants ").replace("−", "-").split(", ")
+        return "#" + constants[modes.index(str(mode))]
+    return OPERANDS[re.split(":|;| with|, added", text)[0]].format(register)
+
+
+def dest(mode, register):
+    """How a destination is printed: as a source of such a mode, but for R3."""
+    return ["r3", EXTENSION + "(r3)"][mode] if register == 3 else source(mode, register)
+
+
+def statements():
+    """The first word of each instruction that is tried, with its text but for a jump's target: each
+    opcode, and each mode of each register."""
+    for opcode, name in numbered("Opcode of two operands"):
+        yield (word_of("two operands", opcode=opcode, source_register=4, destination_register=5),
+               f"{name} r4,r5")
+    for opcode, name in numbered("Opcode of one operand"):
+        yield word_of("one operand", opcode=opcode, register=4), f"{name} r4"
+    for condition, name in numbered("Condition"):
+        yield word_of("jump", condition=condition), name
+    for mode in range(4):
+        for register in range(16):
+            text, fields = source(mode, register), {"B_W": 1, "As": mode}
+            yield word_of("one operand", opcode=4, register=register, **fields), f"push.b {text}"
+            yield (word_of("two operands", opcode=4, source_register=register, Ad=mode % 2,
+                           destination_register=15 - register, **fields),
+                   f"mov.b {text},{dest(mode % 2, 15 - register)}")
 
 
 def opcodes(trial, files):
-    """Each opcode of docs/instructions.md has its name, read and printed."""
-    first = PROGRAM.first
-    lines = [(number << 12 | 4 << 8 | 5, f"{name} r4,r5")
-             for number, name in row_under("Opcode of two operands")]
-    lines += [(0x1004 | number << 7, f"{name} r4")
-              for number, name in row_under("Opcode of one operand")]
-    lines += [(0x2000 | number << 10, name) for number, name in row_under("Condition")]
-    lines = [(word, text if " " in text else f"{text} 0x{first + 2 * k + 2:04x}")
-             for k, (word, text) in enumerate(lines)]
-    image = {first + 2 * k + byte: word >> 8 * byte & 0xFF
-             for k, (word, _) in enumerate(lines) for byte in range(2)}
-    source = files.add("opcodes.asm", "".join(f"{text}\n" for _, text in lines).encode())
-    trial.prints(hex_text(image), "asm", source)
-    listed = "".join(f"{first + 2 * k:04x}: {text}\n" for k, (_, text) in enumerate(lines))
+    """What docs/instructions.md says of words, opcodes and modes is what is read and printed."""
+    image, lines, place = {}, [], PROGRAM.first
+    for word, text in statements():
+        text = text if " " in text else f"{text} 0x{place + 2:04x}"
+        lines.append((place, text))
+        for part in [word] + text.count(EXTENSION) * [int(EXTENSION, 16)]:
+            image.update(enumerate(part.to_bytes(2, "little"), place))
+            place += 2
+    asm = files.add("opcodes.asm", "".join(f"{text}\n" for _, text in lines).encode())
+    trial.prints(hex_text(image), "asm", asm)
+    listed = "".join(f"{place:04x}: {text}\n" for place, text in lines)
     trial.prints(listed.encode(), "list", files.add("opcodes.hex", hex_text(image)))
 
 
