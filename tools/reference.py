@@ -94,9 +94,9 @@ COMMANDS = {command.name: command for command in (
             "in which what lies in the key or in the exclusive stack stands as 0.",
             "trace image.hex script.txt key.txt 5000 > trace.txt"),
     Command("wave", ("image", "script", "key", "steps"),
-            "the same as a waveform, for GTKWave and other viewers",
-            "Prints what trace says of a run as a value change dump (IEEE 1364), in which one unit "
-            "of time is one bus step.",
+            "the same, and the registers, as a waveform, for GTKWave and other viewers",
+            "Prints what trace says of a run, and the registers, as a value change dump (IEEE "
+            "1364), in which one unit of time is one bus step.",
             "wave image.hex script.txt key.txt 5000 > wave.vcd"),
     Command("list", ("image",),
             "the instructions, words and bytes of an image, one a line",

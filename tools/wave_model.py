@@ -1,5 +1,8 @@
 """A reader of value change dumps (IEEE 1364), and what a trace file says of the same wires."""
 
+# The wires of which a trace says nothing.
+REGISTERS = {"sp", "sr", *(f"r{number}" for number in range(4, 16))}
+
 
 def declarations(tokens):
     """The wires that are declared: by code, their names and widths."""
@@ -77,3 +80,20 @@ def samples_of_trace(trace):
     before = [0, *(line.exec for line in trace)]
     sampled = [*map(wires_of, trace, before)]
     return [*sampled, {**sampled[-1], "exec": before[-1]}]
+
+
+def told_by_trace(sampled):
+    """Samples without the registers."""
+    return [{name: sample[name] for name in sample.keys() - REGISTERS} for sample in sampled]
+
+
+def wrong_entry(sampled):
+    """The first time at which an interrupt entry does not push below `sp`, or another word than
+    `sr`.
+    """
+    for time, sample in enumerate(sampled):
+        if sample["kind"] == int.from_bytes(b"irq", "big") and sample["cpu_op"] == ord("w"):
+            below = (sample["sp"] - sample["cpu_address"]) % 65536
+            if below not in (2, 4) or (below == 4 and sample["cpu_data"] != sample["sr"]):
+                return time
+    return None

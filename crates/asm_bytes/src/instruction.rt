@@ -117,14 +117,8 @@ pub fn form_size(form: Form, size: Size, operands: Operands<'_>) -> u16
 fn takes_source(op: One, size: Size, source: Source) -> bool
     ensures { result ≡ takes_source op size source }
 {
-    match op {
-        One::Rrc | One::Rra => !matches!(source, Source::Immediate(_) | Source::Constant(_)),
-        One::Swpb | One::Sxt => {
-            size == Size::Word && !matches!(source, Source::Immediate(_) | Source::Constant(_))
-        }
-        One::Push => true,
-        One::Call => size == Size::Word,
-    }
+    let is_value = matches!(source, Source::Immediate(_) | Source::Constant(_));
+    op.has_size(size) && !(op.writes_operand() && is_value)
 }
 
 // The instruction of one operand.

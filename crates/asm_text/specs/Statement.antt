@@ -86,8 +86,8 @@ two_of operands = Err faults.Operand
 abbrev pub instruction_of : Mnemonic → Size → List Operand → Result Body FaultKind
 instruction_of mnemonic size operands = do
   two ← two_of operands
-  if fits (operand_form (form_of mnemonic)) two.0 two.1 then Ok (bodies.Instr mnemonic size two.0 two.1)
-      else Err faults.Operand
+  if fits (operand_form (form_of mnemonic)) two.0 two.1
+      then Ok (bodies.Instr mnemonic size two.0 two.1) else Err faults.Operand
 
 -- the expression of an operand that is one alone
 abbrev pub lone_expr : Option Operand → Result (List SignedTerm) FaultKind

@@ -9,7 +9,7 @@ use crate::emulated::Emulated;
 use crate::mnemonic::Mnemonic;
 use crate::operand_form::OperandForm;
 use msp_decode::{Cond, Gen, One, Reg};
-use word_arith::Op2;
+use word_arith::{Op2, Size};
 
 /// Where the source of an instruction is from.
 #[derive(Clone, Copy, Debug, PartialEq, Eq)]
@@ -116,7 +116,7 @@ impl Form {
     {
         match self {
             Form::Two(_, _, dest) => !matches!(dest, DestRole::Register(_)),
-            Form::One(op) => matches!(op, One::Rrc | One::Rra | One::Push),
+            Form::One(op) => op.has_size(Size::Byte),
             Form::Reti | Form::Jump(_) => false,
         }
     }
@@ -131,8 +131,8 @@ impl Form {
             Form::Two(_, SourceRole::First, DestRole::Register(_)) => OperandForm::Source,
             Form::Two(_, _, DestRole::Register(_)) => OperandForm::Nothing,
             Form::Two(..) => OperandForm::Destination,
-            Form::One(One::Push | One::Call) => OperandForm::Source,
-            Form::One(_) => OperandForm::InPlace,
+            Form::One(op) if op.writes_operand() => OperandForm::InPlace,
+            Form::One(_) => OperandForm::Source,
             Form::Reti => OperandForm::Nothing,
             Form::Jump(_) => OperandForm::Target,
         }

@@ -8,7 +8,7 @@ use crate::mnemonic::Mnemonic;
 use crate::operand::Operand;
 use crate::operand_form::OperandForm;
 use crate::operands::Operands;
-use msp_decode::Reg;
+use msp_decode::{Reg, SourceForm};
 use text_scan::FaultKind;
 use word_arith::Size;
 
@@ -17,11 +17,8 @@ pub fn instruction_of(mnemonic: Mnemonic, size: Size, operands: Operands) -> Res
     ensures { result ≡ instruction_of mnemonic size operands }
 {
     let (first, second) = operands.into_two()?;
-    if !fits(
-        Form::of(mnemonic).operand_form(),
-        first.as_ref(),
-        second.as_ref(),
-    ) {
+    let form = Form::of(mnemonic).operand_form();
+    if !fits(form, first.as_ref(), second.as_ref()) {
         return Err(FaultKind::Operand);
     }
     Ok(Body::Instr(mnemonic, size, first, second))
@@ -56,8 +53,8 @@ fn is_source(operand: &Operand) -> bool
 {
     match operand {
         Operand::Indexed(_, register) => is_base(*register),
-        Operand::Indirect(register) => !matches!(*register, Reg::R2 | Reg::R3),
-        Operand::IndirectInc(register) => !matches!(*register, Reg::R0 | Reg::R2 | Reg::R3),
+        Operand::Indirect(register) => SourceForm::Indirect(*register).has_form(),
+        Operand::IndirectInc(register) => SourceForm::IndirectInc(*register).has_form(),
         _ => true,
     }
 }
@@ -86,7 +83,7 @@ fn is_modified(operand: &Operand) -> bool
     ensures { result ≡ is_modified operand.now }
 {
     match operand {
-        Operand::Reg(register) => *register != Reg::R3,
+        Operand::Reg(register) => SourceForm::Register(*register).has_form(),
         Operand::Imm(_) => false,
         _ => is_source(operand),
     }

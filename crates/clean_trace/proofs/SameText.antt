@@ -18,15 +18,19 @@ use Rattle.trace_facts.proofs.SoundPlay.{logs_after-sound}
 use Rattle.key_isolation.specs.Agreement.{ReleaseAlike, SameButKey}
 use Rattle.key_isolation.proofs.Bytes.{same_if}
 use Rattle.key_isolation.proofs.FlagBlank.{exec-blank, blank_access-twice, blank_value-twice}
-use Rattle.key_isolation.proofs.Hiding.{open_start, hide, logged_bounds-hide}
+use Rattle.key_isolation.proofs.Hiding.{open_start, hide, hide_progress, logged_bounds-hide}
 use Rattle.key_isolation.proofs.Induction.{play_hides, releases_before}
 use Rattle.key_isolation.proofs.LogsBlank.{step_hides}
 use Rattle.key_isolation.proofs.Reading.{value_read-hide}
 use Rattle.key_isolation.proofs.SignalShape.{signals_of-hide}
 use Rattle.key_isolation.proofs.TwoKeys.{one_keyless}
 use Rattle.trace_line.specs.declared.trace_line.TraceLine.{TraceLine}
-use Rattle.clean_trace.specs.KeylessLines.{HasKeylessLines}
+use Rattle.clean_trace.specs.KeylessLines.{HasKeylessLines, IsKeyless}
 use Rattle.clean_trace.specs.TraceText.{line_with, next_line, trace_lines, word_shown}
+use Rattle.clean_trace.specs.WaveSamples.{next_sample, play_registers, wave_samples}
+use Rattle.part_definitions.specs.CpuRegister.{Registers}
+use Rattle.device_trace.specs.Progress.{Progress, Held, Runs, InCall, last_registers}
+use Rattle.wave_dump.specs.declared.sample.Sample.{Sample}
 
 -- the word that a line shows of a proposed access
 abbrev word_at : Start → Logs → Option Access → ℕ
@@ -123,14 +127,65 @@ trace_lines-hide start free (events ∷ play) more split =
     (sym (next_line-hide start free more logs events (logs_after-sound start play) split)
     ∙ ap (λ (ls : Logs). next_line opened ls events) before.logs)
 
+-- the registers, which no secret is in
+last_registers-hide : (progress : Progress)
+    → last_registers (hide_progress progress) ≡ last_registers progress
+last_registers-hide Held = refl
+last_registers-hide (Runs cpu) = refl
+last_registers-hide (InCall regs words) = refl
+
+registers-hide : (start : Start) (free : List ℕ) (play : Play) (more : List ℕ)
+    → free ≡ (logs_after start play).released_words ++ more
+    → play_registers start play ≡ play_registers (open_start free start) play
+registers-hide start free play more split =
+    sym (last_registers-hide (logs_after start play).progress)
+    ∙ ap (λ (logs : Logs). last_registers logs.progress)
+    (play_hides start free play more split).logs
+
+-- a step of the waveform
+abbrev sample_of : TraceLine → Registers → Sample
+sample_of line registers = record { line = line; registers = registers }
+
+wave_samples-hide : (start : Start) (free : List ℕ) (play : Play) (more : List ℕ)
+    → free ≡ (logs_after start play).released_words ++ more
+    → wave_samples start play ≡ wave_samples (open_start free start) play
+unfolding wave_samples logs_after
+wave_samples-hide start free [] more split = refl
+wave_samples-hide start free (events ∷ play) more split =
+    let logs : Logs = logs_after start play in
+    let opened : Start = open_start free start in
+    let rest = releases_before start free more logs events split in
+    let before = play_hides start free play rest.0 rest.1 in
+    let line = sym (next_line-hide start free more logs events (logs_after-sound start play) split)
+    ∙ ap (λ (ls : Logs). next_line opened ls events) before.logs in
+    ap (λ (samples : List Sample). next_sample start events play ∷ samples)
+    (wave_samples-hide start free play rest.0 rest.1)
+    ∙ ap (λ (line : TraceLine). sample_of line (play_registers start (events ∷ play))
+    ∷ wave_samples opened play) line
+    ∙ ap (λ (registers : Registers). sample_of (next_line opened (logs_after opened play) events)
+    registers ∷ wave_samples opened play)
+    (registers-hide start free (events ∷ play) more split)
+
 pub lines_keyless : (start : Start) (play : Play) → HasKeylessLines start play
 lines_keyless start play more =
-    trace_lines-hide start (released_words start play ++ more) play more refl
+    record {
+      lines = trace_lines-hide start (released_words start play ++ more) play more refl;
+      samples = wave_samples-hide start (released_words start play ++ more) play more refl;
+    }
+
+-- two starts that look alike without their keys
+alike : {A : Type 0} (shown : Start → A) (left right : A) (one two : Start)
+    → left ≡ shown one → one ≡ two → right ≡ shown two → left ≡ right
+alike shown left right one two before same after = before ∙ ap shown same ∙ sym after
 
 pub same_trace_lines : (left right : Start) (play : Play) → SameButKey left right
-    → ReleaseAlike left right play → trace_lines left play ≡ trace_lines right play
+    → ReleaseAlike left right play → IsKeyless left right play
 same_trace_lines left right play same agree =
     let one = one_keyless left right play same agree in
-    lines_keyless left play one.after_left
-    ∙ ap (λ (start : Start). trace_lines start play) one.same
-    ∙ sym (lines_keyless right play one.after_right)
+    let before = lines_keyless left play one.after_left in
+    let after = lines_keyless right play one.after_right in
+    record {
+      lines = alike (λ start. trace_lines start play) _ _ _ _ before.lines one.same after.lines;
+      samples = alike (λ start. wave_samples start play) _ _ _ _ before.samples one.same
+          after.samples;
+    }

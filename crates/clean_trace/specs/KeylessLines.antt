@@ -5,9 +5,14 @@ use Rattle.device_trace.specs.Play.{Play}
 use Rattle.device_trace.specs.Start.{Start}
 use Rattle.key_isolation.specs.Keyless.{keyless}
 use Rattle.clean_trace.specs.TraceText.{trace_lines}
+use Rattle.clean_trace.specs.WaveSamples.{wave_samples}
 
--- the trace lines of a play, so its trace file and its waveform, are those that it has without the
--- key, where the calls release the same words
+-- the trace lines of a play, so its trace file, and what its waveform shows are those that it has
+-- without the key, where the calls release the same words
+pub record IsKeyless (start other : Start) (play : Play) : Type 0 where
+  pub lines : trace_lines start play ≡ trace_lines other play
+  pub samples : wave_samples start play ≡ wave_samples other play
+
 abbrev pub HasKeylessLines : Start → Play → Type 0
 HasKeylessLines start play =
-    (more : List Word16) → trace_lines start play ≡ trace_lines (keyless start play more) play
+    (more : List Word16) → IsKeyless start (keyless start play more) play

@@ -1,9 +1,8 @@
-ghost use Rattle.std.specs.Prelude.{◌≡◌};
 ghost use Rattle.device_trace.specs.Play.{Play};
 ghost use Rattle.device_trace.specs.Start.{Start};
 ghost use Rattle.key_isolation.specs.Agreement.{ReleaseAlike, SameButKey};
 ghost use Rattle.trace_audit.specs.Clean.{IsClean};
-ghost use Rattle.clean_trace.specs.KeylessLines.{HasKeylessLines};
+ghost use Rattle.clean_trace.specs.KeylessLines.{HasKeylessLines, IsKeyless};
 ghost use Rattle.clean_trace.specs.TraceText.{trace_lines};
 
 /// The lines of every play are clean: each names the first rule that its step breaks, as far as the
@@ -12,8 +11,8 @@ pub fn trace_is_clean()
     ensures { (start : Start) (play : Play) → IsClean (trace_lines start play) }
 {}
 
-/// The lines of every play are those that it has without its key, where the calls release the same
-/// words.
+/// The lines of every play, and the registers beside them, are those that it has without its key,
+/// where the calls release the same words.
 pub fn lines_are_keyless()
     ensures { (start : Start) (play : Play) → HasKeylessLines start play }
 {}
@@ -24,5 +23,5 @@ pub fn second_key_gives_same_lines()
     ensures { (start other : Start) (play : Play)
         → SameButKey start other
         → ReleaseAlike start other play
-        → trace_lines start play ≡ trace_lines other play }
+        → IsKeyless start other play }
 {}

@@ -1,6 +1,5 @@
 -- Answers of a desk: after a refusal of its files, and after it met its memory and its lines.
 use Rattle.std.proofs.Common.{◌≡◌, ◌≤◌, ◌⊎◌, ℕ, List, Option, Some, None, IfSome, Ok, Err, refl, inl, inr, arith}
-use Rattle.outside_edge.specs.Count.{Rose}
 use Rattle.outside_edge.specs.Shelf.{KeepsFiles}
 use Rattle.outside_edge.specs.declared.shelf.Shelf as shelves
 use Rattle.outside_edge.specs.declared.sink.Sink as sink
@@ -14,7 +13,7 @@ use Rattle.verifier_desk.specs.Replies.{DeskFields}
 use Rattle.input_files.specs.declared.refusal.Refusal.{Refusal}
 use Rattle.input_files.specs.declared.status.Status.{Status}
 use Rattle.input_files.specs.declared.status.Status.TheVariants.{Done, Words, Memory}
-use Rattle.input_files.specs.Reading.{Files, IsRefusal, Reaches, Reads, Refuses, ShelfCounts, counts_of, first_refusal}
+use Rattle.input_files.specs.Reading.{Files, IsRefusal, Reaches, Reads, Refuses, first_refusal}
 use Rattle.input_files.specs.Row.{RowOf, Ends}
 use Rattle.input_files.specs.Status.{status_of_refusal}
 use Rattle.input_files.proofs.Refused.{failed-counted, refused-words}
@@ -31,34 +30,33 @@ desk_end values =
     Ends (Ok (record { devices = values.0; image = values.1.0; policy = values.1.1 }))
 
 -- files of which none is refused and none failed were refused only for lack of memory
-refused-memory : {Outcome : Type 0} (files : Files) (counts : ShelfCounts)
+refused-memory : {Outcome : Type 0} (files : Files) (missed failed : Type 0)
     (row : RowOf Outcome) (answer : Option Status) (status : Status)
-    → Refuses answer status → IsRefusal files counts row status → answer ≡ None
-    → ¬ Rose counts.faults_before counts.faults_after
+    → Refuses answer status → IsRefusal files missed failed row status → answer ≡ None → ¬ failed
     → status ≡ Memory
-refused-memory files counts row (Some answer) status refuses cause none no_read = absurd (cc none)
-refused-memory files counts row None status (inl fails) cause none no_read =
-    absurd (no_read (failed-counted files counts row (rw fails at cause)))
-refused-memory files counts row None status (inr memory) cause none no_read = memory
+refused-memory files missed failed row (Some answer) status refuses cause none no_read = absurd (cc none)
+refused-memory files missed failed row None status (inl fails) cause none no_read =
+    absurd (no_read (failed-counted files missed failed row (rw fails at cause)))
+refused-memory files missed failed row None status (inr memory) cause none no_read = memory
 
 refused-complete : {Outcome : Type 0} (files : Files) (left : Option (List ℕ))
-    (counts : ShelfCounts) (row : RowOf Outcome) (memory : Option (List ℕ)) (status : Status)
+    (missed failed : Type 0) (row : RowOf Outcome) (memory : Option (List ℕ)) (status : Status)
     (few : List ℕ → Type 0) (source_rose sink_rose : Type 0)
     → IfSome files (λ contents. Refuses (first_refusal row contents) status)
-    → IsRefusal files counts row status
+    → IsRefusal files missed failed row status
     → IfSome files (λ contents. IfSome left (λ lines.
     first_refusal row contents ≡ None
     → few lines
-    → ¬ Rose counts.faults_before counts.faults_after
+    → ¬ failed
     → ¬ source_rose
     → ¬ sink_rose
     → (status ≡ Done) ⊎ (status ≡ Memory) ⊎ IsOfMemory memory status))
-refused-complete None left counts row memory status few source_rose sink_rose order cause = tt
-refused-complete (Some contents) None counts row memory status few source_rose sink_rose order
+refused-complete None left missed failed row memory status few source_rose sink_rose order cause = tt
+refused-complete (Some contents) None missed failed row memory status few source_rose sink_rose order
     cause = tt
-refused-complete (Some contents) (Some lines) counts row memory status few source_rose sink_rose
+refused-complete (Some contents) (Some lines) missed failed row memory status few source_rose sink_rose
     order cause = λ none is_few no_read no_source no_sink.
-    inr (inl (refused-memory (Some contents) counts row (first_refusal row contents) status order
+    inr (inl (refused-memory (Some contents) missed failed row (first_refusal row contents) status order
     cause none no_read))
 
 pub refused-answer : {S F R M W V : Type 0} (s : shelves.Ghosts S) (told : ToldMemories F M)
@@ -71,9 +69,8 @@ pub refused-answer : {S F R M W V : Type 0} (s : shelves.Ghosts S) (told : ToldM
     (status_of_refusal refusal)
 refused-answer s told r m w shelf shelf_after memories ports names named rest refusal spells
     reads =
-    let counts = counts_of s.faults s.misses shelf shelf_after in
     let no_words = λ (is : status_of_refusal refusal ≡ Words).
-    refused-words (s.files shelf) counts (desk_row names) (rw is at reads.refusal) in
+    refused-words (s.files shelf) _ _ (desk_row names) (rw is at reads.refusal) in
     rw (← spells) (record {
       words = (λ is. absurd (no_words is), λ none. absurd (cc none));
       unread = λ is. absurd (no_words is);
@@ -83,7 +80,7 @@ refused-answer s told r m w shelf shelf_after memories ports names named rest re
         unopened = refl;
         silent = refl;
       });
-      complete = refused-complete (s.files shelf) (r.left ports.source) counts (desk_row names)
+      complete = refused-complete (s.files shelf) (r.left ports.source) _ _ (desk_row names)
           names.memory _ _ _ _ reads.order reads.refusal;
       limit = refused-limit r ports.source refusal;
       kept = reads.kept;

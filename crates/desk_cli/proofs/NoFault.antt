@@ -16,7 +16,7 @@ use Rattle.verifier_desk.specs.Replies.{DeskFields}
 use Rattle.verifier_desk.specs.Serving.{HasCause, Outside}
 use Rattle.input_files.specs.declared.status.Status.{Status}
 use Rattle.input_files.specs.declared.status.Status.TheVariants.{ReadFault, Words, WriteFault}
-use Rattle.input_files.specs.Reading.{Files, IsRefusal, ShelfCounts, counts_of}
+use Rattle.input_files.specs.Reading.{Files, IsRefusal}
 use Rattle.input_files.specs.Row.{RowOf}
 use Rattle.desk_cli.specs.Desk.{DeskNames, DeskValues, HasServed, IsDeskAnswer, Meets, ServesFrom, desk_names_of, desk_over, desk_row}
 use Rattle.desk_cli.specs.Edge.{Ports}
@@ -48,19 +48,19 @@ lacks-fault told memories memories_after name status lacks fault =
     unopened-fault lacks.fault (rw lacks.answer at fault)
 
 -- files that were refused
-refused-fault : {Outcome : Type 0} (files : Files) (counts : ShelfCounts) (row : RowOf Outcome)
-    (status : Status) → IsRefusal files counts row status
-    → ¬ Rose counts.faults_before counts.faults_after → IsFault status → ⊥
-refused-fault files counts row status (inl miss) no_read (inl read) = cc (miss.0, read)
-refused-fault files counts row status (inl miss) no_read (inr write) = cc (miss.0, write)
-refused-fault files counts row status (inr (inl fails)) no_read fault = no_read fails.1
-refused-fault files counts row status (inr (inr (inl memory))) no_read (inl read) =
+refused-fault : {Outcome : Type 0} (files : Files) (missed failed : Type 0)
+    (row : RowOf Outcome) (status : Status) → IsRefusal files missed failed row status
+    → ¬ failed → IsFault status → ⊥
+refused-fault files missed failed row status (inl miss) no_read (inl read) = cc (miss.0, read)
+refused-fault files missed failed row status (inl miss) no_read (inr write) = cc (miss.0, write)
+refused-fault files missed failed row status (inr (inl fails)) no_read fault = no_read fails.1
+refused-fault files missed failed row status (inr (inr (inl memory))) no_read (inl read) =
     cc (memory, read)
-refused-fault files counts row status (inr (inr (inl memory))) no_read (inr write) =
+refused-fault files missed failed row status (inr (inr (inl memory))) no_read (inr write) =
     cc (memory, write)
-refused-fault files counts row status (inr (inr (inr (bad, is, reaches)))) no_read (inl read) =
+refused-fault files missed failed row status (inr (inr (inr (bad, is, reaches)))) no_read (inl read) =
     cc (is, read)
-refused-fault files counts row status (inr (inr (inr (bad, is, reaches)))) no_read (inr write) =
+refused-fault files missed failed row status (inr (inr (inr (bad, is, reaches)))) no_read (inr write) =
     cc (is, write)
 
 -- `desk`
@@ -148,9 +148,8 @@ module _ {R W : Type 0} (r : source.Ghosts R) (w : sink.Ghosts W) where
   desk-fault s told m shelf shelf_after memories memories_after old new (Some names) status answer
       no_read none fault =
       ⊎_elim
-      (λ refused. refused-fault (s.files shelf)
-      (counts_of s.faults s.misses shelf shelf_after) (desk_row names) status refused.cause
-      no_read fault)
+      (λ refused. refused-fault (s.files shelf) _ _ (desk_row names) status refused.cause no_read
+      fault)
       (λ serves. serves-fault told m serves.0 names.memory memories memories_after old new status
       serves.2 none fault)
       answer.answers
@@ -219,8 +218,8 @@ remember-fault s told m shelf shelf_after memories memories_after None status an
 remember-fault s told m shelf shelf_after memories memories_after (Some names) status answer
     no_read fault =
     ⊎_elim
-    (λ refused. refused-fault (s.files shelf) (counts_of s.faults s.misses shelf shelf_after)
-    (remember_row names) status refused.cause no_read fault)
+    (λ refused. refused-fault (s.files shelf) _ _ (remember_row names) status refused.cause no_read
+    fault)
     (λ came. ⊎_elim
     (λ lacks. lacks-fault told memories memories_after names.memory status lacks fault)
     (λ remembers. remembered-fault m remembers.opened remembers.left remembers.had came.0 status

@@ -8,7 +8,7 @@ use Rattle.desk_memory.specs.Entry.{Entry}
 use Rattle.input_files.specs.declared.refusal.Refusal.{Refusal}
 use Rattle.input_files.specs.declared.status.Status.{Status}
 use Rattle.input_files.specs.declared.status.Status.TheVariants.{Words}
-use Rattle.input_files.specs.Reading.{Reaches, Reads, counts_of}
+use Rattle.input_files.specs.Reading.{Reaches, Reads}
 use Rattle.input_files.specs.Row.{RowOf}
 use Rattle.input_files.specs.Status.{status_of_refusal}
 use Rattle.desk_cli.specs.MemoryFiles.{LacksMemory, ToldMemories}
@@ -47,8 +47,7 @@ pub refused-answer : {S F M V : Type 0} (s : shelves.Ghosts S) (told : ToldMemor
     (status_of_refusal refusal)
 refused-answer s told m shelf shelf_after memories names named rest refusal spells reads =
     let no_words = λ (is : status_of_refusal refusal ≡ Words).
-    refused-words (s.files shelf) (counts_of s.faults s.misses shelf shelf_after)
-    (remember_row names) (rw is at reads.refusal) in
+    refused-words (s.files shelf) _ _ (remember_row names) (rw is at reads.refusal) in
     rw (← spells) (record {
       words = (λ is. absurd (no_words is), λ none. absurd (cc none));
       unread = λ is. absurd (no_words is);

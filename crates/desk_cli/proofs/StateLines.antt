@@ -1,19 +1,20 @@
 -- The lines of entries are read as these entries.
-use Rattle.std.proofs.Common.{◌≡◌, ◌∙◌, ℕ, ◌+◌, ◌^◌, ◌<◌, ◌≤◌, Bool, true, false, List, [], ◌∷◌, ◌++◌, Option, Some, None, Ok, Err, length, append_assoc, append-nil, refl, ap, sym, arith, rules}
-use Rattle.std.specs.Prelude.{◌==◌, ◌||◌, nat_le, nat_lt, IsUtf8}
+use Rattle.std.proofs.Common.{◌≡◌, ◌∙◌, ℕ, ◌+◌, ◌^◌, ◌<◌, ◌≤◌, Bool, true, false, List, [], ◌∷◌, ◌++◌, Option, Some, None, Ok, Err, length, drop, append_assoc, append-nil, refl, ap, sym, arith, rules}
+use Rattle.std.specs.Prelude.{◌==◌, ◌||◌, nat_le, nat_lt, IsUtf8, codes}
 use Rattle.std.specs.Int.{is_in_range}
 use Rattle.std.specs.Fmt.{decimal}
-use Rattle.std.specs.List.{join_with_byte, list_all}
+use Rattle.std.specs.List.{list_all}
 use Rattle.std.specs.Str.Lines.{lines}
 use Rattle.std.proofs.lemmas.Bool.{and_from, and_parts, eqb-true, leb-true, ltb-true, le-leb, lt-ltb}
-use Rattle.std.proofs.lemmas.Str.{IsUtf8-nil, IsUtf8-append, IsUtf8-from_ascii}
-use Rattle.std.proofs.lemmas.Str.Ascii.{IsAscii-nil, IsAscii-cons}
+use Rattle.std.proofs.lemmas.Str.{IsUtf8-nil, IsUtf8-append}
 use Rattle.text_scan.specs.LineFold.{state_after, text_fold}
 use Rattle.text_scan.specs.Line.{numbered_lines}
 use Rattle.text_scan.specs.Word.{is_passed_over, says_nothing}
-use Rattle.text_scan.proofs.FirstLine.{lines-line}
 use Rattle.named_value.specs.PlainWord.{IsPlainWord, is_plain}
-use Rattle.text_scan.proofs.PlainWords.{ArePlain, words_of-join, printed-join, printed_bounds, printed-ascii, plain-decimal, plain-encoded}
+use Rattle.printed_lines.specs.Line.{with_pieces}
+use Rattle.line_buffer.specs.LineLaw.{ArePieces, IsFirstLine}
+use Rattle.line_buffer.proofs.PieceLines.{first_line, utf8_line}
+use Rattle.text_scan.proofs.PlainWords.{plain-decimal, plain-encoded}
 use Rattle.text_scan.proofs.TextUtf8.{utf8_of-whole}
 use Rattle.text_scan.specs.declared.fault_kind.FaultKind.{FaultKind}
 use Rattle.text_scan.specs.declared.fault_kind.FaultKind.TheVariants.{Digit}
@@ -27,10 +28,10 @@ use Rattle.desk_memory.specs.SizedEntry.{is_short, is_short_answer, is_short_lin
 use Rattle.verifier_desk.specs.DeviceKey.{is_name_character, name_fault}
 use Rattle.desk_cli.specs.ReadBack.{IsWritable, StatesReadBack}
 use Rattle.desk_cli.specs.StateFile.{entries_with, goes_behind, states_of, with_line}
-use Rattle.desk_cli.specs.StateText.{number_word, state_line, states_text}
+use Rattle.desk_cli.specs.StateText.{answer_pieces, last_pieces, number_piece, state_pieces, state_line, states_text}
 use Rattle.desk_cli.proofs.StatesBehind.{stand_behind}
 use Rattle.desk_cli.proofs.StatesNoted.{AreWritable, StandWritten, stand-noted}
-use Rattle.desk_cli.proofs.StateWords.{answer_words, last_fields, state_fields, entry-read, sizes, state_line-fields}
+use Rattle.desk_cli.proofs.StateWords.{entry-read, sizes}
 
 -- the words are plain
 
@@ -39,7 +40,7 @@ short-plain number is =
     let below = ltb-true number (2 ^ 32) is in plain-decimal number (omega (arith, below))
 
 number-plain : (number : Option ℕ) → is_short_number number ≡ true
-    → IsPlainWord (number_word number)
+    → IsPlainWord (number_piece number)
 number-plain None is = (omega arith, refl)
 number-plain (Some number) is = short-plain number is
 
@@ -49,19 +50,18 @@ kind-plain = search rules
 verdict-plain : (verdict : Decision) → IsPlainWord (verdict_name verdict)
 verdict-plain = search rules
 
-answer-plain : (answer : Answer) → is_short_answer answer ≡ true → ArePlain (answer_words answer)
-answer-plain Stale is = ((omega arith, refl), tt)
-answer-plain (Bad kind) is = ((omega arith, refl), (kind-plain kind, tt))
-answer-plain Spent is = ((omega arith, refl), tt)
-answer-plain (Requested count) is = ((omega arith, refl), (short-plain count is, tt))
-answer-plain (Judged verdict) is = ((omega arith, refl), (verdict-plain verdict, tt))
+answer-are : (answer : Answer) → is_short_answer answer ≡ true → ArePieces (answer_pieces answer)
+answer-are Stale is = ((omega arith, refl), tt)
+answer-are (Bad kind) is = ((omega arith, refl), (kind-plain kind, tt))
+answer-are Spent is = ((omega arith, refl), tt)
+answer-are (Requested count) is = ((omega arith, refl), (short-plain count is, tt))
+answer-are (Judged verdict) is = ((omega arith, refl), (verdict-plain verdict, tt))
 
-last-plain : (last : Option (ℕ × Answer)) → is_short_line last ≡ true
-    → ArePlain (last_fields last)
-last-plain None is = ((omega arith, refl), tt)
-last-plain (Some last) is =
+last-are : (last : Option (ℕ × Answer)) → is_short_line last ≡ true → ArePieces (last_pieces last)
+last-are None is = ((omega arith, refl), tt)
+last-are (Some last) is =
     let parts = and_parts (is_short last.0) (is_short_answer last.1) is in
-    (short-plain last.0 parts.0, answer-plain last.1 parts.1)
+    (short-plain last.0 parts.0, answer-are last.1 parts.1)
 
 -- a character of a name is plain
 range-plain : (low high character : ℕ) → 33 ≤ low → high < 127
@@ -120,53 +120,40 @@ name-plain entry writable = (
       (name-characters entry.name (list_all is_name_character entry.name) refl writable.name),
 )
 
-fields-plain : (entry : Entry) → IsWritable entry → ArePlain (state_fields entry)
-fields-plain entry writable =
-    let sized = sizes entry writable.sized in (
-      (omega arith, refl),
-      (
-        name-plain entry writable,
-        (
-          (omega arith, refl),
-          (
-            plain-encoded entry.mark writable.mark (omega (arith, sized.mark)),
-            (
-              (omega arith, refl),
-              (
-                short-plain entry.state.count sized.count,
-                (
-                  (omega arith, refl),
-                  (
-                    number-plain entry.state.outstanding sized.outstanding,
-                    ((omega arith, refl), last-plain entry.state.last sized.last),
-                  ),
-                ),
-              ),
-            ),
-          ),
-        ),
-      ),
-    )
+abbrev pieces : Entry → List (List ℕ)
+pieces entry = entry.name ∷ state_pieces entry
+
+are_pieces : (entry : Entry) → IsWritable entry → ArePieces (codes "state" ∷ pieces entry)
+are_pieces entry writable =
+    let sized = sizes entry writable.sized in
+    let last : ArePieces (drop 7 (pieces entry)) =
+    ((omega arith, refl), last-are entry.state.last sized.last) in
+    let outstanding : ArePieces (drop 5 (pieces entry)) =
+    ((omega arith, refl), (number-plain entry.state.outstanding sized.outstanding, last)) in
+    let count : ArePieces (drop 3 (pieces entry)) =
+    ((omega arith, refl), (short-plain entry.state.count sized.count, outstanding)) in
+    let mark = plain-encoded entry.mark writable.mark (omega (arith, sized.mark)) in
+    ((omega arith, refl), (name-plain entry writable, ((omega arith, refl), (mark, count))))
 
 -- one line, and all
 
 abbrev line_text : Entry → List ℕ
-line_text entry = join_with_byte 32 (state_fields entry)
+line_text entry = with_pieces (codes "state") (pieces entry)
+
+first : (entry : Entry) (rest : List ℕ) → IsWritable entry
+    → IsFirstLine (codes "state") (pieces entry) rest
+first entry rest writable =
+    first_line (codes "state") (pieces entry) rest (are_pieces entry writable)
 
 line-taken : (before : List Entry) (entry : Entry) → IsWritable entry
     → goes_behind before entry ≡ true
     → with_line before (line_text entry) ≡ Ok (before ++ entry ∷ [])
 unfolding with_line
 line-taken before entry writable apart =
-    rw (
-      words_of-join (state_fields entry) (fields-plain entry writable),
-      entry-read entry writable,
-      apart,
-    ) refl
+    rw ((first entry [] writable).words, entry-read entry writable, apart) refl
 
 line-passed : (entry : Entry) → IsWritable entry → is_passed_over (line_text entry) ≡ false
-line-passed entry writable =
-    ap says_nothing (words_of-join (state_fields entry) (fields-plain entry writable))
+line-passed entry writable = ap says_nothing (first entry [] writable).words
 
 next-state : (before next : List Entry) (number : ℕ) (line : List ℕ)
     (later : List (ℕ × List ℕ))
@@ -174,15 +161,6 @@ next-state : (before next : List Entry) (number : ℕ) (line : List ℕ)
     → state_after with_line before ((number, line) ∷ later) ≡ state_after with_line next later
 unfolding state_after
 next-state before next number line later says answer = rw says (rw answer refl)
-
-states-lines : (entry : Entry) (rest : List ℕ) → IsWritable entry
-    → lines (state_line entry ++ rest) ≡ line_text entry ∷ lines rest
-states-lines entry rest writable =
-    ap (λ (line : List ℕ). lines (line ++ rest)) (state_line-fields entry)
-    ∙ ap lines (append_assoc (line_text entry) (10 ∷ []) rest)
-    ∙ lines-line (line_text entry) rest (omega arith)
-    (printed_bounds (line_text entry)
-    (printed-join (state_fields entry) (fields-plain entry writable)))
 
 states-read : (before entries : List Entry) (number : ℕ) → AreWritable entries
     → stand_behind before entries ≡ true
@@ -196,24 +174,18 @@ states-read before (entry ∷ entries) number writable behind =
     let parts = and_parts (goes_behind before entry)
     (stand_behind (before ++ entry ∷ []) entries) behind in
     ap (λ (all : List (List ℕ)). state_after with_line before (numbered_lines number all))
-    (states-lines entry rest writable.0)
+    (first entry rest writable.0).line
     ∙ next-state before (before ++ entry ∷ []) number (line_text entry)
     (numbered_lines (number + 1) (lines rest)) (line-passed entry writable.0)
     (line-taken before entry writable.0 parts.0)
     ∙ states-read (before ++ entry ∷ []) entries (number + 1) writable.1 parts.1
     ∙ ap (λ (all : List Entry). Ok all) (append_assoc before (entry ∷ []) entries)
 
-line-utf8 : (entry : Entry) → IsWritable entry → IsUtf8 (state_line entry)
-line-utf8 entry writable =
-    rw (state_line-fields entry) (IsUtf8-append (line_text entry) (10 ∷ [])
-    (IsUtf8-from_ascii (line_text entry) (printed-ascii (line_text entry)
-    (printed-join (state_fields entry) (fields-plain entry writable))))
-    (IsUtf8-from_ascii (10 ∷ []) (IsAscii-cons 10 [] (omega arith) IsAscii-nil)))
-
 text-utf8 : (entries : List Entry) → AreWritable entries → IsUtf8 (states_text entries)
 text-utf8 [] writable = IsUtf8-nil
 text-utf8 (entry ∷ entries) writable =
-    IsUtf8-append (state_line entry) (states_text entries) (line-utf8 entry writable.0)
+    IsUtf8-append (state_line entry) (states_text entries)
+    (utf8_line (codes "state") (pieces entry) (are_pieces entry writable.0))
     (text-utf8 entries writable.1)
 
 stand-read : (entries : List Entry) → StandWritten entries

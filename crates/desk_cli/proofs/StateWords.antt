@@ -1,12 +1,11 @@
 -- The words of an entry's line, and what they are read as.
-use Rattle.std.proofs.Common.{◌≡◌, ◌∙◌, ℕ, ◌^◌, ◌<◌, ◌≤◌, Bool, true, false, List, [], ◌∷◌, ◌++◌, Option, Some, None, IfSome, Ok, length, append_assoc, refl, ap, sym, arith, rules}
+use Rattle.std.proofs.Common.{◌≡◌, ℕ, ◌^◌, ◌<◌, ◌≤◌, Bool, true, false, List, [], ◌∷◌, ◌++◌, Option, Some, None, IfSome, Ok, length, append_assoc, refl, arith, rules}
 use Rattle.std.specs.Prelude.{◌==◌, ◌&&◌, codes}
 use Rattle.std.specs.Fmt.{decimal}
-use Rattle.std.specs.List.{join_with_byte}
 use Rattle.std.specs.Str.{bytes_eq}
 use Rattle.std.proofs.lemmas.Bool.{and_parts, eqb-true, leb-true, ltb-true}
 use Rattle.std.proofs.lemmas.Slice.Eq.{bytes_eq-Decides}
-use Rattle.hex.specs.Hex.{encode_lower}
+use Rattle.printed_lines.specs.Line.{with_pieces}
 use Rattle.text_scan.specs.declared.fault_kind.FaultKind.{FaultKind}
 use Rattle.text_scan.specs.Decimal.{decimal_of}
 use Rattle.text_scan.specs.WordValue.{block_of, number_of}
@@ -25,133 +24,19 @@ use Rattle.text_scan.specs.FaultName.{fault_name, fault_names}
 use Rattle.desk_memory.specs.SizedEntry.{is_short, is_short_answer, is_short_line, is_short_number, is_sized}
 use Rattle.desk_cli.specs.ReadBack.{IsWritable, is_made}
 use Rattle.desk_cli.specs.StateFile.{entry_of, last_of, last_with, number_in, outstanding_of, state_of}
-use Rattle.desk_cli.specs.StateText.{number_word, last_words, state_line}
+use Rattle.desk_cli.specs.StateText.{answer_pieces, last_pieces, number_piece, state_pieces}
 
--- the line, word by word
-
-abbrev pub answer_words : Answer → List (List ℕ)
-answer_words Stale = codes "stale" ∷ []
-answer_words (Bad kind) = codes "bad" ∷ fault_name kind ∷ []
-answer_words Spent = codes "spent" ∷ []
-answer_words (Requested count) = codes "request" ∷ decimal count ∷ []
-answer_words (Judged verdict) = codes "verdict" ∷ verdict_name verdict ∷ []
-
-abbrev pub last_fields : Option (ℕ × Answer) → List (List ℕ)
-last_fields None = codes "none" ∷ []
-last_fields (Some last) = decimal last.0 ∷ answer_words last.1
-
-abbrev pub words_with : List ℕ → List ℕ → List ℕ → List ℕ → List (List ℕ) → List (List ℕ)
-words_with name mark count number last =
-    codes "state" ∷ name ∷ codes "key" ∷ mark ∷ codes "count" ∷ count ∷ codes "outstanding"
-    ∷ number ∷ codes "last" ∷ last
-
-abbrev pub state_fields : Entry → List (List ℕ)
-state_fields entry =
-    words_with entry.name (encode_lower entry.mark) (decimal entry.state.count)
-    (number_word entry.state.outstanding) (last_fields entry.state.last)
-
--- the pieces of the line, and the words with a space between them, from left to right
-pieces-nested : (k₁ name k₂ mark k₃ count k₄ number k₅ last end : List ℕ)
-    → k₁ ++ name ++ (k₂ ++ mark ++ k₃ ++ count ++ k₄ ++ number ++ k₅ ++ last ++ end)
-    ≡ k₁ ++ (name ++ (k₂ ++ (mark ++ (k₃ ++ (count ++ (k₄ ++ (number ++ (k₅ ++ (last
-    ++ end)))))))))
-pieces-nested k₁ name k₂ mark k₃ count k₄ number k₅ last end = simp append_assoc
-
--- the last words are one, two or three
-words-nested : (k₁ name k₂ mark k₃ count k₄ number k₅ last end : List ℕ)
-    → join_with_byte 32
-    (k₁ ∷ name ∷ k₂ ∷ mark ∷ k₃ ∷ count ∷ k₄ ∷ number ∷ k₅ ∷ last ∷ []) ++ end
-    ≡ k₁ ++ (32 ∷ name ++ (32 ∷ k₂ ++ (32 ∷ mark ++ (32 ∷ k₃ ++ (32 ∷ count ++ (32 ∷ k₄
-    ++ (32 ∷ number ++ (32 ∷ k₅ ++ (32 ∷ last ++ end)))))))))
-words-nested k₁ name k₂ mark k₃ count k₄ number k₅ last end = simp append_assoc
-
-words-nested-two : (k₁ name k₂ mark k₃ count k₄ number k₅ last verb end : List ℕ)
-    → join_with_byte 32
-    (k₁ ∷ name ∷ k₂ ∷ mark ∷ k₃ ∷ count ∷ k₄ ∷ number ∷ k₅ ∷ last ∷ verb ∷ []) ++ end
-    ≡ k₁ ++ (32 ∷ name ++ (32 ∷ k₂ ++ (32 ∷ mark ++ (32 ∷ k₃ ++ (32 ∷ count ++ (32 ∷ k₄
-    ++ (32 ∷ number ++ (32 ∷ k₅ ++ (32 ∷ (last ++ 32 ∷ verb) ++ end)))))))))
-words-nested-two k₁ name k₂ mark k₃ count k₄ number k₅ last verb end = simp append_assoc
-
-words-nested-three : (k₁ name k₂ mark k₃ count k₄ number k₅ last verb value end : List ℕ)
-    → join_with_byte 32
-    (k₁ ∷ name ∷ k₂ ∷ mark ∷ k₃ ∷ count ∷ k₄ ∷ number ∷ k₅ ∷ last ∷ verb ∷ value ∷ []) ++ end
-    ≡ k₁ ++ (32 ∷ name ++ (32 ∷ k₂ ++ (32 ∷ mark ++ (32 ∷ k₃ ++ (32 ∷ count ++ (32 ∷ k₄
-    ++ (32 ∷ number ++ (32 ∷ k₅ ++ (32 ∷ (last ++ 32 ∷ (verb ++ 32 ∷ value)) ++ end)))))))))
-words-nested-three k₁ name k₂ mark k₃ count k₄ number k₅ last verb value end = simp append_assoc
-
-abbrev line_with_words : List ℕ → List ℕ → List ℕ → List ℕ → List ℕ → List ℕ
-line_with_words name mark count number last =
-    codes "state " ++ name
-    ++ (codes " key " ++ mark ++ codes " count " ++ count ++ codes " outstanding " ++ number
-    ++ codes " last " ++ last ++ codes "\n")
-
-pieces : (name mark count number last : List ℕ)
-    → line_with_words name mark count number last
-    ≡ codes "state " ++ (name ++ (codes " key " ++ (mark ++ (codes " count " ++ (count
-    ++ (codes " outstanding " ++ (number ++ (codes " last " ++ (last ++ codes "\n")))))))))
-pieces name mark count number last =
-    pieces-nested (codes "state ") name (codes " key ") mark (codes " count ") count
-    (codes " outstanding ") number (codes " last ") last (codes "\n")
-
-line-one : (name mark count number last : List ℕ)
-    → line_with_words name mark count number last
-    ≡ join_with_byte 32 (words_with name mark count number (last ∷ [])) ++ 10 ∷ []
-line-one name mark count number last =
-    pieces name mark count number last
-    ∙ sym (words-nested (codes "state") name (codes "key") mark (codes "count") count
-    (codes "outstanding") number (codes "last") last (10 ∷ []))
-
-line-two : (name mark count number last verb : List ℕ)
-    → line_with_words name mark count number (last ++ 32 ∷ verb)
-    ≡ join_with_byte 32 (words_with name mark count number (last ∷ verb ∷ [])) ++ 10 ∷ []
-line-two name mark count number last verb =
-    pieces name mark count number (last ++ 32 ∷ verb)
-    ∙ sym (words-nested-two (codes "state") name (codes "key") mark (codes "count") count
-    (codes "outstanding") number (codes "last") last verb (10 ∷ []))
-
-line-three : (name mark count number last verb value : List ℕ)
-    → line_with_words name mark count number (last ++ 32 ∷ (verb ++ 32 ∷ value))
-    ≡ join_with_byte 32 (words_with name mark count number (last ∷ verb ∷ value ∷ [])) ++ 10 ∷ []
-line-three name mark count number last verb value =
-    pieces name mark count number (last ++ 32 ∷ (verb ++ 32 ∷ value))
-    ∙ sym (words-nested-three (codes "state") name (codes "key") mark (codes "count") count
-    (codes "outstanding") number (codes "last") last verb value (10 ∷ []))
-
-answer-line : (name mark count number last verb : List ℕ)
-    → line_with_words name mark count number (last ++ codes " " ++ verb)
-    ≡ line_with_words name mark count number (last ++ 32 ∷ verb)
-answer-line name mark count number last verb =
-    ap (λ (words : List ℕ). line_with_words name mark count number words)
-    (append_assoc last (codes " ") verb)
-
-line-answer : (name mark count number : List ℕ) (last : ℕ) (answer : Answer)
-    → line_with_words name mark count number (decimal last ++ 32 ∷ answer_text answer)
-    ≡ join_with_byte 32 (words_with name mark count number (decimal last ∷ answer_words answer))
-    ++ 10 ∷ []
-line-answer name mark count number last Stale =
-    line-two name mark count number (decimal last) (codes "stale")
-line-answer name mark count number last (Bad kind) =
-    line-three name mark count number (decimal last) (codes "bad") (fault_name kind)
-line-answer name mark count number last Spent =
-    line-two name mark count number (decimal last) (codes "spent")
-line-answer name mark count number last (Requested request) =
-    line-three name mark count number (decimal last) (codes "request") (decimal request)
-line-answer name mark count number last (Judged verdict) =
-    line-three name mark count number (decimal last) (codes "verdict") (verdict_name verdict)
-
-line-last : (name mark count number : List ℕ) (last : Option (ℕ × Answer))
-    → line_with_words name mark count number (last_words last)
-    ≡ join_with_byte 32 (words_with name mark count number (last_fields last)) ++ 10 ∷ []
-line-last name mark count number None = line-one name mark count number (codes "none")
-line-last name mark count number (Some last) =
-    answer-line name mark count number (decimal last.0) (answer_text last.1)
-    ∙ line-answer name mark count number last.0 last.1
-
-pub state_line-fields : (entry : Entry)
-    → state_line entry ≡ join_with_byte 32 (state_fields entry) ++ 10 ∷ []
-state_line-fields entry =
-    line-last entry.name (encode_lower entry.mark) (decimal entry.state.count)
-    (number_word entry.state.outstanding) entry.state.last
+-- an answer's text is its pieces
+pub answer_text_pieces : (text : List ℕ) (answer : Answer)
+    → with_pieces text (answer_pieces answer) ≡ text ++ 32 ∷ answer_text answer
+answer_text_pieces text Stale = refl
+answer_text_pieces text (Bad kind) =
+    append_assoc text (32 ∷ codes "bad") (32 ∷ fault_name kind)
+answer_text_pieces text Spent = refl
+answer_text_pieces text (Requested count) =
+    append_assoc text (32 ∷ codes "request") (32 ∷ decimal count)
+answer_text_pieces text (Judged verdict) =
+    append_assoc text (32 ∷ codes "verdict") (32 ∷ verdict_name verdict)
 
 -- the value of each word
 
@@ -175,7 +60,7 @@ decimal-read most number false is within few =
     rw (is, decimal_of-decimal most number within few) refl
 
 number-read : (most : ℕ) (number : Option ℕ) → IfSome number (λ n. n ≤ most) → most < 10 ^ 10
-    → number_in most (number_word number) ≡ Ok number
+    → number_in most (number_piece number) ≡ Ok number
 unfolding number_in
 number-read most None within few = refl
 number-read most (Some number) within few =
@@ -198,7 +83,7 @@ verdict-told :
 verdict-told = search rules
 
 answer-read : (answer : Answer) → is_short_answer answer ≡ true
-    → answer_of (answer_words answer) ≡ Ok (answer, [])
+    → answer_of (answer_pieces answer) ≡ Ok (answer, [])
 unfolding answer_of answer_with
 answer-read Stale few = refl
 answer-read (Bad kind) few = rw (value_of-name fault_names kind [] (kind-told kind)) refl
@@ -208,7 +93,7 @@ answer-read (Judged verdict) few =
     rw (value_of-name verdict_names verdict [] (verdict-told verdict)) refl
 
 last-read : (last : Option (ℕ × Answer)) → is_short_line last ≡ true
-    → last_of (codes "last" ∷ last_fields last) ≡ Ok (last, [])
+    → last_of (codes "last" ∷ last_pieces last) ≡ Ok (last, [])
 unfolding last_of last_with
 last-read None few = rw (number-read 4294967295 None tt (omega arith)) refl
 last-read (Some last) few =
@@ -225,7 +110,7 @@ made-within count (Some number) is = leb-true number count is
 
 outstanding-read : (count : ℕ) (number : Option ℕ) (rest : List (List ℕ))
     → is_made count number ≡ true → is_short count ≡ true
-    → outstanding_of count (codes "outstanding" ∷ number_word number ∷ rest) ≡ Ok (number, rest)
+    → outstanding_of count (codes "outstanding" ∷ number_piece number ∷ rest) ≡ Ok (number, rest)
 unfolding outstanding_of
 outstanding-read count number rest made few =
     let most = short count few in
@@ -233,17 +118,15 @@ outstanding-read count number rest made few =
 
 state-read : (state : DeviceState) → is_made state.count state.outstanding ≡ true
     → is_short state.count ≡ true → is_short_line state.last ≡ true
-    → state_of (codes "count" ∷ decimal state.count ∷ codes "outstanding"
-    ∷ number_word state.outstanding ∷ codes "last" ∷ last_fields state.last)
+    → state_of (codes "count" ∷ decimal state.count
+    ∷ codes "outstanding" ∷ number_piece state.outstanding
+    ∷ codes "last" ∷ last_pieces state.last)
     ≡ Ok (state, [])
 unfolding state_of
 state-read state made few few_last =
     rw (
-      count-read state.count
-          (codes "outstanding" ∷ number_word state.outstanding ∷ codes "last"
-          ∷ last_fields state.last) few,
-      outstanding-read state.count state.outstanding
-          (codes "last" ∷ last_fields state.last) made few,
+      count-read state.count _ few,
+      outstanding-read state.count state.outstanding _ made few,
       last-read state.last few_last,
     ) refl
 
@@ -268,7 +151,8 @@ sizes entry is =
       last = first.1;
     }
 
-pub entry-read : (entry : Entry) → IsWritable entry → entry_of (state_fields entry) ≡ Ok entry
+pub entry-read : (entry : Entry) → IsWritable entry
+    → entry_of (codes "state" ∷ entry.name ∷ state_pieces entry) ≡ Ok entry
 unfolding entry_of block_of
 entry-read entry writable =
     let sized = sizes entry writable.sized in

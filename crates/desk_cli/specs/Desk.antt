@@ -20,7 +20,7 @@ use Rattle.verifier_desk.specs.Serving.{Serves, most_input}
 use Rattle.input_files.specs.declared.status.Status.{Status}
 use Rattle.input_files.specs.declared.status.Status.TheVariants.{Done, Words, Memory, Spent, BadMemory, TakenKey, InUse, Unwritten}
 use Rattle.input_files.specs.FileKind.{image_kind}
-use Rattle.input_files.specs.Reading.{IsRefusal, Reaches, Refuses, counts_of, first_refusal}
+use Rattle.input_files.specs.Reading.{IsRefusal, Reaches, Refuses, first_refusal}
 use Rattle.input_files.specs.Row.{RowOf, Ends, read_file}
 use Rattle.desk_cli.specs.Edge.{Ports}
 use Rattle.desk_cli.specs.FileKind.{desk_policy_kind, keys_kind}
@@ -64,8 +64,8 @@ desk_row names =
 pub record IsRefused {S F R W : Type 0} (s : shelves.Ghosts S) (shelf shelf_after : S)
     (memories memories_after : F) (old new : Ports R W) (names : DeskNames) (status : Status)
     : Type 0 where
-  pub cause : IsRefusal (s.files shelf) (counts_of s.faults s.misses shelf shelf_after)
-      (desk_row names) status
+  pub cause : IsRefusal (s.files shelf) (Rose (s.misses shelf) (s.misses shelf_after))
+      (Rose (s.faults shelf) (s.faults shelf_after)) (desk_row names) status
   pub order : IfSome (s.files shelf) (λ contents.
       Refuses (first_refusal (desk_row names) contents) status)
   pub unopened : memories_after ≡ memories

@@ -1,5 +1,6 @@
 -- The command `remember`: a new memory of the entries that a text has.
 use Rattle.std.specs.Prelude.{◌≡◌, ◌⊎◌, ◌↔◌, ℕ, List, [], ◌∷◌, Option, Some, None, IfSome, Ok}
+use Rattle.outside_edge.specs.Count.{Rose}
 use Rattle.outside_edge.specs.Shelf.{KeepsFiles}
 use Rattle.outside_edge.specs.declared.shelf.Shelf as shelves
 use Rattle.desk_memory.specs.declared.memory.Memory as memory
@@ -8,7 +9,7 @@ use Rattle.desk_memory.specs.Entry.{Entry}
 use Rattle.verifier_desk.specs.Serving.{HasFailed, Keeps}
 use Rattle.input_files.specs.declared.status.Status.{Status}
 use Rattle.input_files.specs.declared.status.Status.TheVariants.{Done, Words, BadMemory}
-use Rattle.input_files.specs.Reading.{IsRefusal, Reaches, Refuses, counts_of, first_refusal}
+use Rattle.input_files.specs.Reading.{IsRefusal, Reaches, Refuses, first_refusal}
 use Rattle.input_files.specs.Row.{RowOf, Ends, read_file}
 use Rattle.desk_cli.specs.FileKind.{states_kind}
 use Rattle.desk_cli.specs.MemoryFiles.{IsOpened, LacksMemory, ToldMemories}
@@ -71,8 +72,8 @@ pub record Remembers {F M : Type 0} (told : ToldMemories F M) (m : memory.Ghosts
 -- the file was refused, for a cause, and no memory was opened
 pub record IsUnread {S F : Type 0} (s : shelves.Ghosts S) (shelf shelf_after : S)
     (memories memories_after : F) (names : RememberNames) (status : Status) : Type 0 where
-  pub cause : IsRefusal (s.files shelf) (counts_of s.faults s.misses shelf shelf_after)
-      (remember_row names) status
+  pub cause : IsRefusal (s.files shelf) (Rose (s.misses shelf) (s.misses shelf_after))
+      (Rose (s.faults shelf) (s.faults shelf_after)) (remember_row names) status
   pub order : IfSome (s.files shelf) (λ contents.
       Refuses (first_refusal (remember_row names) contents) status)
   pub unopened : memories_after ≡ memories

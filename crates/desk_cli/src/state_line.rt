@@ -1,7 +1,8 @@
-ghost use Rattle.std.specs.Prelude.{◌≡◌, ◌+◌, ◌≤◌, ◌++◌, length};
+ghost use Rattle.std.specs.Prelude.{◌≡◌, ◌+◌, ◌≤◌, ◌++◌, ◌∷◌, [], length};
 ghost use Rattle.outside_edge.specs.Sink.{CountsFaults, Puts};
+ghost use Rattle.printed_lines.specs.Line.{with_pieces, line_of};
 ghost use Rattle.line_buffer.specs.declared.line_buffer.TheConstants.{ROOM};
-ghost use Rattle.desk_cli.specs.StateText.{last_words, number_word, state_line, state_words, states_text};
+ghost use Rattle.desk_cli.specs.StateText.{last_pieces, number_piece, state_line, state_pieces, states_text};
 
 use desk_memory::{Answer, Entry};
 use line_buffer::LineBuffer;
@@ -31,46 +32,46 @@ fn put_state<W: Sink>(entry: &Entry, sink: &mut W) -> Result<(), Failed>
 
 // What the line of an entry says behind the device's name.
 fn state_words(entry: &Entry) -> LineBuffer
-    ensures { result ≡ state_words entry.now }
+    ensures { result ≡ line_of [] (state_pieces entry.now) }
 {
     let state = entry.state();
     let mut line = LineBuffer::new();
-    line.push(b" key ");
-    line.push_hex(entry.mark());
-    line.push(b" count ");
-    line.push_decimal(u64::from(state.count));
-    line.push(b" outstanding ");
-    push_number(&mut line, state.outstanding);
-    line.push(b" last ");
-    push_last(&mut line, state.last);
+    line.add_text(b"key");
+    line.add_digits(entry.mark());
+    line.add_text(b"count");
+    line.add_decimal(u64::from(state.count));
+    line.add_text(b"outstanding");
+    add_number(&mut line, state.outstanding);
+    line.add_text(b"last");
+    add_last(&mut line, state.last);
     line.push(b"\n");
     line
 }
 
 // A number, or `none`.
-fn push_number(line: &mut LineBuffer, number: Option<u32>)
-    requires { length line.old + 20 ≤ ROOM }
-    ensures text { line.new ≡ line.old ++ number_word number }
-    ensures len { length line.new ≤ length line.old + 20 }
+fn add_number(line: &mut LineBuffer, number: Option<u32>)
+    requires { length line.old + 21 ≤ ROOM }
+    ensures text { line.new ≡ line.old ++ 32 ∷ number_piece number }
+    ensures len { length line.new ≤ length line.old + 21 }
 {
     match number {
-        None => line.push(b"none"),
-        Some(number) => line.push_decimal(u64::from(number)),
+        None => line.add_text(b"none"),
+        Some(number) => line.add_decimal(u64::from(number)),
     }
 }
 
 // The last number of a line and its answer, or `none`.
-fn push_last(line: &mut LineBuffer, last: Option<(u32, Answer)>)
-    requires { length line.old + 49 ≤ ROOM }
-    ensures text { line.new ≡ line.old ++ last_words last }
-    ensures len { length line.new ≤ length line.old + 49 }
+#[tactic(auto, using(crate::proofs::StateWords::answer_text_pieces))]
+fn add_last(line: &mut LineBuffer, last: Option<(u32, Answer)>)
+    requires { length line.old + 50 ≤ ROOM }
+    ensures text { line.new ≡ with_pieces line.old (last_pieces last) }
+    ensures len { length line.new ≤ length line.old + 50 }
 {
     match last {
-        None => line.push(b"none"),
+        None => line.add_text(b"none"),
         Some((number, answer)) => {
-            line.push_decimal(u64::from(number));
-            line.push(b" ");
-            line.push(answer_text(answer).as_slice());
+            line.add_decimal(u64::from(number));
+            line.add_text(answer_text(answer).as_slice());
         }
     }
 }

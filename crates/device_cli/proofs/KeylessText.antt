@@ -33,7 +33,6 @@ use Rattle.report_verifier.specs.Judge.{Judge, verdict_at}
 use Rattle.report_verifier.specs.Policy.{expect_at}
 use Rattle.report_verifier.specs.declared.expect.Expect.{Expect}
 use Rattle.device_play.specs.Accounts.{end_line_of, memory_after}
-use Rattle.device_cli.specs.Dump.{dump_text}
 use Rattle.device_cli.specs.Judgement.{collision_lines, evidence_lines, judgement_lines}
 use Rattle.device_cli.specs.KeylessText.{HasKeylessTexts}
 use Rattle.device_cli.specs.RoundText.{remark_of_step, reports_in, round_lines, round_text, with_last}

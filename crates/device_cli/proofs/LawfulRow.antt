@@ -3,7 +3,6 @@ use Rattle.std.proofs.Common.{◌≡◌, ◌<◌, ℕ, Bool, true, false, List, 
 use Rattle.std.specs.Prelude.{if◌then◌else◌, nat_lt}
 use Rattle.std.proofs.lemmas.List.Elements.{All-from_get_or}
 use Rattle.std.proofs.lemmas.List.FromFn.{get_or-range_with_len}
-use Rattle.bus_signals.specs.Address.{Bytes}
 use Rattle.part_definitions.specs.TrustedFlag.{aux}
 use Rattle.text_scan.specs.Key.{key_of}
 use Rattle.text_scan.specs.declared.fault_at.FaultAt.{FaultAt}
@@ -21,8 +20,7 @@ use Rattle.report_verifier.proofs.PolicyBounds.{policy_of-valid}
 use Rattle.input_files.specs.Row.{FileKind, RowOf, Ends, Reads, go_on, read_file, value_of}
 use Rattle.device_cli.specs.Row.{Always, DevicePlay, start_in}
 use Rattle.input_files.specs.Reading.{Files, Reaches}
-use Rattle.input_files.specs.FileKind.{image_kind, policy_kind}
-use Rattle.device_cli.specs.FileKind.{key_kind, script_kind}
+use Rattle.input_files.specs.FileKind.{image_kind, key_kind, policy_kind, script_kind}
 use Rattle.device_cli.specs.Load.{load_key, load_image}
 use Rattle.device_cli.specs.LawfulPlay.{IsLawful, IsLawfulRow, IsPutLawfully}
 use Rattle.report_verifier.specs.Judge.{judge_with}

@@ -18,7 +18,7 @@ use Rattle.report_verifier.specs.Judge.{Judge, verdict_at}
 use Rattle.report_verifier.specs.Policy.{expect_at}
 use Rattle.device_play.specs.Accounts.{end_line_of}
 use Rattle.device_cli.specs.Judgement.{comparison_lines, evidence_lines, judgement_lines, own_bytes_collide}
-use Rattle.device_cli.specs.RoundPieces.{IsPairLine, IsPlayWithVerdicts, IsRemark, Piece, round_pieces, step_pieces}
+use Rattle.device_cli.specs.RoundPieces.{IsPairLine, IsPlayWithVerdicts, IsRemark, Piece, step_pieces}
 use Rattle.device_cli.specs.RoundText.{reports_in, remark_of_step, round_lines, round_text}
 use Rattle.device_cli.specs.Verify.{is_accept}
 

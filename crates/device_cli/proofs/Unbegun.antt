@@ -3,7 +3,7 @@ use Rattle.std.proofs.Common.{◌≡◌, ◌<◌, [], ◌∷◌, ℕ, Bool, true
 use Rattle.std.specs.Prelude.{bytes_eq, codes, option_map, if◌then◌else◌}
 use Rattle.std.specs.Result.{result_ok}
 use Rattle.text_scan.specs.Decimal.{decimal_of}
-use Rattle.input_files.specs.FileKind.{image_kind, policy_kind}
+use Rattle.input_files.specs.FileKind.{image_kind, key_kind, policy_kind, script_kind}
 use Rattle.input_files.specs.Reading.{Files}
 use Rattle.input_files.specs.declared.status.Status.{Status}
 use Rattle.input_files.specs.declared.status.Status.TheVariants.{Memory}
@@ -17,7 +17,7 @@ use Rattle.device_cli.specs.Asm.{asm_row_of}
 use Rattle.device_cli.specs.Audit.{audit_row_of}
 use Rattle.device_cli.specs.Command.{is_round, row_named, row_of}
 use Rattle.device_cli.specs.Dump.{dump_text}
-use Rattle.device_cli.specs.FileKind.{key_kind, reports_kind, script_kind, source_kind, trace_kind}
+use Rattle.device_cli.specs.FileKind.{reports_kind, source_kind, trace_kind}
 use Rattle.device_cli.specs.Limit.{most_seed}
 use Rattle.device_cli.specs.List.{list_row_of}
 use Rattle.device_cli.specs.Play.{steps_row, steps_row_of, text_outcome}

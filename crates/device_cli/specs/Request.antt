@@ -9,7 +9,7 @@ use Rattle.text_scan.specs.Reader.{◌>>=◌}
 use Rattle.part_definitions.specs.Request.{request_token}
 use Rattle.report_text.specs.RequestLine.{request_line}
 use Rattle.report_verifier.specs.Expectation.{count_bytes}
-use Rattle.device_cli.specs.FileKind.{key_kind}
+use Rattle.input_files.specs.FileKind.{key_kind}
 use Rattle.device_cli.specs.Limit.{most_count}
 use Rattle.input_files.specs.Row.{read_file}
 use Rattle.device_cli.specs.Row.{Row, plain, put}

@@ -4,13 +4,13 @@ use Rattle.bus_signals.specs.Address.{Bytes}
 use Rattle.wave_dump.specs.WaveText.{wave_file}
 use Rattle.device_trace.specs.Play.{Play}
 use Rattle.device_trace.specs.Start.{Start}
-use Rattle.clean_trace.specs.TraceText.{trace_lines}
+use Rattle.clean_trace.specs.WaveSamples.{wave_samples}
 use Rattle.device_cli.specs.Row.{Row}
 use Rattle.device_cli.specs.Play.{text_outcome, steps_row_of}
 
--- the waveform of the lines of a play, in which the secrets are blanked
+-- the waveform of the lines of a play, in which the secrets are blanked, and of its registers
 abbrev pub wave_text : Start → Play → Bytes
-wave_text start play = wave_file (trace_lines start play)
+wave_text start play = wave_file (wave_samples start play)
 
 -- the row that the arguments after `wave` spell: they are those of a play
 abbrev pub wave_row_of : List (List ℕ) → Option Row

@@ -11,6 +11,7 @@ pub mod Outside
 pub mod Bus
 pub mod Calm
 pub mod FlagsKept
+pub mod LiveView
 pub mod Machine
 pub mod Monitors
 pub mod Peripherals

@@ -6,6 +6,7 @@ use Rattle.device_trace.specs.Start.{Start}
 use Rattle.device_trace.specs.Text.{lines_of, lines_of_step}
 use Rattle.wave_dump.specs.WaveText.{header, steps_text}
 use Rattle.clean_trace.specs.TraceText.{trace_lines, trace_text}
+use Rattle.clean_trace.specs.WaveSamples.{wave_samples}
 use Rattle.device_play.specs.Account.{GoesOn}
 use Rattle.device_play.specs.Accounts.{change_text, dump_account, line_account, trace_account, wave_account}
 use Rattle.device_play.proofs.SilentStep.{silent-lines}
@@ -53,9 +54,9 @@ trace-goes_on start events play =
     }
 
 wave-next : (start : Start) (events : List Event) (play : Play)
-    → steps_text (trace_lines start (events ∷ play))
-    ≡ steps_text (trace_lines start play) ++ change_text start events play
-unfolding trace_lines steps_text
+    → steps_text (wave_samples start (events ∷ play))
+    ≡ steps_text (wave_samples start play) ++ change_text start events play
+unfolding wave_samples steps_text
 wave-next start events play = refl
 
 pub wave-goes_on : (start : Start) (events : List Event) (play : Play)
@@ -63,7 +64,7 @@ pub wave-goes_on : (start : Start) (events : List Event) (play : Play)
 wave-goes_on start events play =
     record {
       same_text = ap (λ (text : List ℕ). header ++ text) (wave-next start events play)
-          ∙ sym (append_assoc header (steps_text (trace_lines start play))
+          ∙ sym (append_assoc header (steps_text (wave_samples start play))
           (change_text start events play));
       same_cuts = λ cut has. has;
       no_text = λ passed. absurd (cc (passed.0));

@@ -1,5 +1,5 @@
 -- What `play`, `dump`, `trace` and `wave` say of a play.
-use Rattle.std.specs.Prelude.{◌++◌, ◌∷◌, [], ℕ, List, Option, Some, None, length, if◌then◌else◌}
+use Rattle.std.specs.Prelude.{◌++◌, [], ℕ, List, Option, Some, None, length, if◌then◌else◌}
 use Rattle.bus_signals.specs.Address.{Bytes}
 use Rattle.bus_signals.specs.declared.event.Event.{Event}
 use Rattle.part_definitions.specs.Memory.{is_image_place}
@@ -14,6 +14,7 @@ use Rattle.wave_dump.specs.declared.wave.Wave.{Wave}
 use Rattle.wave_dump.specs.Wave.{WaveStandsFor}
 use Rattle.wave_dump.specs.WaveText.{end_text, header, last_shown, shown_after, step_text, steps_text}
 use Rattle.clean_trace.specs.TraceText.{next_line, trace_lines, trace_text}
+use Rattle.clean_trace.specs.WaveSamples.{next_sample, wave_samples}
 use Rattle.device_play.specs.Account.{Account}
 
 abbrev pub end_line_of : Start → Play → Bytes
@@ -63,16 +64,16 @@ trace_account =
 -- `wave`: what each step changes
 abbrev pub change_text : Start → List Event → Play → Bytes
 change_text start events play =
-    let lines = trace_lines start play in
-    step_text (length lines) (last_shown lines)
-    (shown_after lines (next_line start (logs_after start play) events))
+    let samples = wave_samples start play in
+    step_text (length samples) (last_shown samples)
+    (shown_after samples (next_sample start events play))
 
 abbrev pub wave_account : Account Wave
 wave_account =
     record {
-      tallies = λ start play wave. WaveStandsFor wave (trace_lines start play);
-      text = λ start play. header ++ steps_text (trace_lines start play);
+      tallies = λ start play wave. WaveStandsFor wave (wave_samples start play);
+      text = λ start play. header ++ steps_text (wave_samples start play);
       step_text = change_text;
-      end_text = λ start play. end_text (trace_lines start play);
+      end_text = λ start play. end_text (wave_samples start play);
       cuts = λ start play. [];
     }

@@ -5,7 +5,7 @@ use bus_signals::TraceFlag;
 use device_core::Live;
 use hmac_core::Digest32;
 use outside_edge::{Failed, Sink};
-use wave_dump::Wave;
+use wave_dump::{Sample, Wave};
 
 /// Puts the waveform of a play, with the secrets blanked.
 #[derive(Clone, Copy, Debug)]
@@ -40,7 +40,11 @@ impl Watcher for WaveWatcher {
         live: &Live<D, G>,
         sink: &mut W,
     ) -> Result<(), PutFault> {
-        wave.tell(&last_trace_line(live), sink)?;
+        let sample = Sample {
+            line: last_trace_line(live),
+            registers: *live.registers(),
+        };
+        wave.tell(&sample, sink)?;
         Ok(())
     }
 

@@ -6,7 +6,7 @@ use Rattle.outside_edge.specs.Shelf.{KeepsFiles}
 use Rattle.input_files.specs.declared.refusal.Refusal.{Refusal}
 use Rattle.input_files.specs.declared.status.Status.{Status}
 use Rattle.input_files.specs.Row.{RowOf}
-use Rattle.input_files.specs.Reading.{Files, IsRefusal, Leaves, Reads, Refuses, counts_of, first_refusal}
+use Rattle.input_files.specs.Reading.{Files, IsRefusal, Leaves, Reads, Refuses, first_refusal}
 use Rattle.input_files.specs.Status.{status_of_refusal}
 
 refusal-both : {Outcome : Type 0} (files : Files) (row middle rest : RowOf Outcome)
@@ -42,8 +42,10 @@ IsRefusal-before : {S Outcome : Type 0} (files : S → Files) (faults misses : S
     (old mid new : S) (row rest : RowOf Outcome) (status : Status)
     → KeepsFiles files faults misses old mid
     → Leaves (files old) row rest
-    → IsRefusal (files mid) (counts_of faults misses mid new) rest status
-    → IsRefusal (files old) (counts_of faults misses old new) row status
+    → IsRefusal (files mid) (Rose (misses mid) (misses new)) (Rose (faults mid) (faults new)) rest
+    status
+    → IsRefusal (files old) (Rose (misses old) (misses new)) (Rose (faults old) (faults new)) row
+    status
 IsRefusal-before files faults misses old mid new row rest status keeps leaves (inl miss) =
     inl (
       miss.0,

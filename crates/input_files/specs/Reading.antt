@@ -20,38 +20,22 @@ abbrev pub Files : Type 0
 Files = Option (List (List ℕ × List ℕ))
 
 -- a row comes to this end, where its files have the bytes that are found of them
-abbrev pub Reaches :
-    {Outcome : Type 0} → Files → RowOf Outcome → Result Outcome BadFile → Type 0
+abbrev pub Reaches : {Outcome : Type 0} → Files → RowOf Outcome → Result Outcome BadFile → Type 0
 Reaches files (Ends reached) end = reached ≡ end
 Reaches files (Reading name onward) end =
     (bytes : List ℕ) × Finds files name (Some bytes) × Reaches files (onward bytes) end
-
-pub record ShelfCounts : Type 0 where
-  pub faults_before : ℕ
-  pub faults_after : ℕ
-  pub misses_before : ℕ
-  pub misses_after : ℕ
-
-abbrev pub counts_of : {S : Type 0} → (S → ℕ) → (S → ℕ) → S → S → ShelfCounts
-counts_of faults misses old new =
-    record {
-      faults_before = faults old;
-      faults_after = faults new;
-      misses_before = misses old;
-      misses_after = misses new;
-    }
 
 -- the answer is the first fault of the first file that has one
 abbrev pub NamesFirstFault : {Outcome : Type 0} → Files → RowOf Outcome → Status → Type 0
 NamesFirstFault files row status =
     (fault : BadFile) × (status ≡ Bad fault) × Reaches files row (Err fault)
 
--- why nothing was put: a miss or a read fault was counted, memory ran out, or a file has its fault
+-- why nothing was put: there was a miss or a read fault, memory ran out, or a file has its fault
 abbrev pub IsRefusal :
-    {Outcome : Type 0} → Files → ShelfCounts → RowOf Outcome → Status → Type 0
-IsRefusal files counts row status =
-    ((status ≡ Absent) × Rose counts.misses_before counts.misses_after)
-    ⊎ ((status ≡ ReadFault) × Rose counts.faults_before counts.faults_after)
+    {Outcome : Type 0} → Files → Type 0 → Type 0 → RowOf Outcome → Status → Type 0
+IsRefusal files missed failed row status =
+    ((status ≡ Absent) × missed)
+    ⊎ ((status ≡ ReadFault) × failed)
     ⊎ (status ≡ Memory)
     ⊎ NamesFirstFault files row status
 
@@ -86,7 +70,8 @@ pub record Reads {S V Outcome : Type 0} (files : S → Files) (faults misses : S
     : Type 0 where
   pub values : IfOk result (λ values. Leaves (files old) row (rest values))
   pub refusal : IfErr result (λ refusal.
-      IsRefusal (files old) (counts_of faults misses old new) row (status_of_refusal refusal))
+      IsRefusal (files old) (Rose (misses old) (misses new)) (Rose (faults old) (faults new)) row
+      (status_of_refusal refusal))
   pub order : IfErr result (λ refusal. IfSome (files old) (λ contents.
       Refuses (first_refusal row contents) (status_of_refusal refusal)))
   pub kept : KeepsFiles files faults misses old new

@@ -18,19 +18,16 @@ pub record FileKind (Value : Type 0) : Type 0 where
 -- the value of a file, or its first fault: past the limit it is at line 0
 abbrev pub value_of : {Value : Type 0} → FileKind Value → List ℕ → Result Value FaultAt
 value_of kind bytes =
-    if nat_lt kind.limit (length bytes)
-    then Err (record { line = 0; kind = TooLong })
+    if nat_lt kind.limit (length bytes) then Err (record { line = 0; kind = TooLong })
     else kind.grammar bytes
 
 -- a row that goes on with a value, where there is one
-abbrev pub go_on :
-    {Value Outcome : Type 0} → FileKind Value → (Value → RowOf Outcome)
+abbrev pub go_on : {Value Outcome : Type 0} → FileKind Value → (Value → RowOf Outcome)
     → Result Value FaultAt → RowOf Outcome
 go_on kind onward (Ok value) = onward value
 go_on kind onward (Err fault) = Ends (Err (kind.refusal fault))
 
 -- a row that reads the file of this kind and name, and goes on with its value
 abbrev pub read_file :
-    {Value Outcome : Type 0} → FileKind Value → List ℕ → (Value → RowOf Outcome)
-    → RowOf Outcome
+    {Value Outcome : Type 0} → FileKind Value → List ℕ → (Value → RowOf Outcome) → RowOf Outcome
 read_file kind name onward = Reads name (λ bytes. go_on kind onward (value_of kind bytes))

@@ -1,5 +1,7 @@
 pub mod image;
+pub mod key;
 pub mod policy;
+pub mod script;
 
 use crate::bad_file::BadFile;
 use std::alloc::Global;

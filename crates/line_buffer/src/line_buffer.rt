@@ -1,8 +1,9 @@
 ghost use Rattle.std.specs.Prelude.{◌≡◌, ◌+◌, ◌*◌, ◌≤◌, ◌++◌, ◌∷◌, [], ℕ, List, length, decimal};
 ghost use Rattle.hex.specs.Hex.{encode_lower};
-ghost use Rattle.printed_lines.specs.Line.{byte_digits, word_digits};
+ghost use Rattle.printed_lines.specs.Line.{byte_digits, word_digits, flag_digit};
 ghost use Rattle.line_buffer.specs.declared.line_buffer.TheConstants.{ROOM};
 
+use crate::printed_flag::flag_digit;
 use arrayvec::ArrayVec;
 use itoa::Buffer;
 use std::marker::Model;
@@ -98,8 +99,27 @@ impl LineBuffer {
         }
     }
 
+    /// A space and a word.
+    pub fn add_text(&mut self, text: &[u8])
+        requires { length self.old + length text.now + 1 ≤ ROOM }
+        ensures text { self.new ≡ self.old ++ 32 ∷ text.now }
+        ensures len { length self.new ≡ length self.old + length text.now + 1 }
+    {
+        self.push(b" ");
+        self.push(text);
+    }
+
+    pub fn add_decimal(&mut self, number: u64)
+        requires { length self.old + 21 ≤ ROOM }
+        ensures text { self.new ≡ self.old ++ 32 ∷ decimal number }
+        ensures len { length self.new ≤ length self.old + 21 }
+    {
+        self.push(b" ");
+        self.push_decimal(number);
+    }
+
     /// A space and four digits, lower case.
-    pub fn push_spaced_word(&mut self, word: u16)
+    pub fn add_word(&mut self, word: u16)
         requires { length self.old + 5 ≤ ROOM }
         ensures text { self.new ≡ self.old ++ 32 ∷ word_digits word }
         ensures len { length self.new ≡ length self.old + 5 }
@@ -109,5 +129,34 @@ impl LineBuffer {
             Ok(()) => self.push(&text),
             Err(_) => unreachable!(),
         }
+    }
+
+    pub fn add_byte(&mut self, byte: u8)
+        requires { length self.old + 3 ≤ ROOM }
+        ensures text { self.new ≡ self.old ++ 32 ∷ byte_digits byte }
+        ensures len { length self.new ≡ length self.old + 3 }
+    {
+        self.push(b" ");
+        self.push_byte(byte);
+    }
+
+    /// A space and two digits a byte, lower case, of at most 32 bytes.
+    pub fn add_digits(&mut self, bytes: &[u8])
+        requires few { length bytes.now ≤ 32 }
+        requires fits { length self.old + 65 ≤ ROOM }
+        ensures text { self.new ≡ self.old ++ 32 ∷ encode_lower bytes.now }
+        ensures len { length self.new ≡ length self.old + 2 * length bytes.now + 1 }
+    {
+        self.push(b" ");
+        self.push_hex(bytes);
+    }
+
+    pub fn add_flag(&mut self, flag: bool)
+        requires { length self.old + 2 ≤ ROOM }
+        ensures text { self.new ≡ self.old ++ 32 ∷ flag_digit flag }
+        ensures len { length self.new ≡ length self.old + 2 }
+    {
+        self.push(b" ");
+        self.push(flag_digit(flag));
     }
 }

@@ -111,7 +111,9 @@ high_item : (device : Device) (contents : AttestedBytes) (kept words : List ℕ)
     → call_item words ≡ KeptWrite 1
 high_item device contents kept words by_plan count =
     call_item-planned device.digest device.key contents kept words by_plan
-    ∙ (ap (item_after (attested_words contents) (decision_of device.digest device.key contents kept))
+    ∙ (ap
+    (item_after (attested_words contents)
+    (decision_of device.digest device.key contents kept))
     count
     ∙ high_word_item (attested_words contents) (decision_of device.digest device.key contents kept))
 

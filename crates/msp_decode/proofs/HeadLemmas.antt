@@ -21,7 +21,7 @@ use Rattle.msp_decode.proofs.TableLemmas.{op2_number-op2_of, op2_of-op2_number, 
 -- the word of the head that is read from a word is that word
 two_spelled : (word : ℕ) → 0x4000 ≤ word → word < 0x10000 → Spells word (two_head word)
 two_spelled word least fits = (
-  has_form-source_of (word / 0x10 % 4) (word / 0x100 % 16) (omega arith),
+  has_form-source_of (word / 0x10 % 4) (word / 0x100 % 16) (omega arith) (omega arith),
   grind (
     arith,
     op2_number-op2_of,

@@ -82,7 +82,7 @@ illegal_fields op bit mode register op_fits bit_fits mode_fits register_fits fai
     let size : Bool = has_size (one_of op) (size_of_bit bit) in
     let takes : Bool = takes_result (source_of mode register) in
     let write : Bool = writes_operand (one_of op) in
-    let form = has_form-source_of mode register register_fits in
+    let form = has_form-source_of mode register mode_fits register_fits in
     elim (first_false (has_form (source_of mode register)) size takes write form fails) [
       | inl lacks ↦ inl (byte_only op bit op_fits bit_fits lacks)
       | inr operand ↦ inr (writes op (operand.1), is_fixed mode register mode_fits (operand.0))

@@ -25,4 +25,4 @@ one_head-legal word =
     && (takes_result (source_of (word / 0x10 % 4) (word % 16))
     || not (writes_operand (one_of (word / 0x80 % 8))))
     then Some (one_of_fields word) else None)
-    (sym (has_form-source_of (word / 0x10 % 4) (word % 16) (omega arith)))
+    (sym (has_form-source_of (word / 0x10 % 4) (word % 16) (omega arith) (omega arith)))

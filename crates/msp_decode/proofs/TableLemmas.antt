@@ -85,8 +85,8 @@ source_mode-source_of mode n mode_fits = grind (arith, nat_tests)
 pub source_register-source_of : (mode n : ℕ) → n < 16 → source_register (source_of mode n) ≡ n
 source_register-source_of mode n fits = grind (arith, nat_tests, reg_number-reg_of)
 
-pub has_form-source_of : (mode n : ℕ) → n < 16 → IsTrue (has_form (source_of mode n))
-has_form-source_of mode n fits = grind (arith, nat_tests, reg_number-reg_of)
+pub has_form-source_of : (mode n : ℕ) → mode < 4 → n < 16 → IsTrue (has_form (source_of mode n))
+has_form-source_of mode n mode_fits fits = grind (arith, nat_tests, reg_number-reg_of)
 
 pub dest_mode-lt : (d : DestForm) → dest_mode d < 2
 dest_mode-lt d = grind arith

@@ -1,5 +1,5 @@
 -- The meaning of each field of an instruction word, as functions that compute.
-use Rattle.std.specs.Prelude.{◌-ℤ◌, ◌==◌, ℕ, ℤ, pos, nat_lt, List, [], ◌∷◌, if◌then◌else◌}
+use Rattle.std.specs.Prelude.{◌-ℤ◌, ◌==◌, ◌&&◌, ℕ, ℤ, pos, nat_lt, Bool, List, [], ◌∷◌, if◌then◌else◌}
 use Rattle.word_arith.specs.declared.size.Size.{Size}
 use Rattle.word_arith.specs.declared.size.Size.TheVariants.{Byte, Word}
 use Rattle.word_arith.specs.declared.op2.Op2.{Op2}
@@ -15,13 +15,16 @@ use Rattle.msp_decode.specs.declared.source_form.SourceForm.{SourceForm}
 use Rattle.msp_decode.specs.declared.source_form.SourceForm.TheVariants.{Register, Indexed, Indirect, IndirectInc, Immediate, Constant}
 use Rattle.msp_decode.specs.declared.dest_form.DestForm.{DestForm}
 use Rattle.msp_decode.specs.declared.dest_form.DestForm.TheVariants.{Register as DestRegister, Indexed as DestIndexed}
-use Rattle.msp_decode.specs.Table.{reg_number, op2_number, one_number, cond_number, size_number}
+use Rattle.msp_decode.specs.Table.{reg_number, op2_number, one_number, cond_number, size_number, source_mode, source_register, dest_mode}
+
+-- the first of some values that passes a test, the last value where none of them does
+abbrev pub first_that : {A : Type 0} → (A → Bool) → List A → A → A
+first_that test [] last = last
+first_that test (value ∷ values) last = if test value then value else first_that test values last
 
 -- the first of some values that has a number, the last value where none of them has it
 abbrev pub value_numbered : {A : Type 0} → (A → ℕ) → List A → A → ℕ → A
-value_numbered number_of [] last n = last
-value_numbered number_of (value ∷ values) last n =
-    if n == number_of value then value else value_numbered number_of values last n
+value_numbered number_of values last n = first_that (λ value. n == number_of value) values last
 
 -- the register of a number below 16
 abbrev pub reg_of : ℕ → Reg
@@ -47,23 +50,21 @@ cond_of n = value_numbered cond_number (Ne ∷ Eq ∷ Nc ∷ C ∷ N ∷ Ge ∷ 
 abbrev pub size_of_bit : ℕ → Size
 size_of_bit bit = value_numbered size_number (Word ∷ []) Byte bit
 
--- the source of a mode and a register
+-- the source of a mode and a register field: the immediate or the constant that has both, else
+-- the register in the mode
 abbrev pub source_of : ℕ → ℕ → SourceForm
 source_of mode n =
-    if mode == 0 then (if n == 3 then Constant Zero else Register (reg_of n))
-    else if mode == 1 then (if n == 3 then Constant PlusOne else Indexed (reg_of n))
-    else if mode == 2 then
-    (if n == 2 then Constant Four
-    else if n == 3 then Constant Two
-    else Indirect (reg_of n))
-    else if n == 0 then Immediate
-    else if n == 2 then Constant Eight
-    else if n == 3 then Constant MinusOne
-    else IndirectInc (reg_of n)
+    first_that (λ form. mode == source_mode form && n == source_register form)
+    (Immediate ∷ Constant Zero ∷ Constant PlusOne ∷ Constant Two ∷ Constant Four ∷ Constant Eight
+    ∷ Constant MinusOne ∷ [])
+    (value_numbered source_mode
+    (Register (reg_of n) ∷ Indexed (reg_of n) ∷ Indirect (reg_of n) ∷ []) (IndirectInc (reg_of n))
+    mode)
 
--- the destination of a mode and a register
+-- the destination of a mode and a register field
 abbrev pub dest_of : ℕ → ℕ → DestForm
-dest_of mode n = if mode == 0 then DestRegister (reg_of n) else DestIndexed (reg_of n)
+dest_of mode n =
+    value_numbered dest_mode (DestRegister (reg_of n) ∷ []) (DestIndexed (reg_of n)) mode
 
 -- the offset of ten bits in two's complement
 abbrev pub offset_of : ℕ → ℤ

@@ -4,7 +4,7 @@ use Rattle.word_arith.specs.declared.size.Size.{Size}
 use Rattle.word_arith.specs.declared.size.Size.TheVariants.{Byte, Word}
 use Rattle.word_arith.specs.Word16.{Word16}
 use Rattle.msp_decode.specs.declared.one.One.{One}
-use Rattle.msp_decode.specs.declared.one.One.TheVariants.{Rrc, Swpb, Rra, Sxt, Push, Call}
+use Rattle.msp_decode.specs.declared.one.One.TheVariants.{Swpb, Sxt, Push, Call}
 use Rattle.msp_decode.specs.declared.head.Head.{Head}
 use Rattle.msp_decode.specs.declared.head.Head.TheVariants.{Two, One as OneOperand, Reti, Jump}
 use Rattle.msp_decode.specs.declared.source_form.SourceForm.{SourceForm}

@@ -75,43 +75,37 @@ abbrev pub size_number : Size → ℕ
 size_number Word = 0
 size_number Byte = 1
 
--- As, the mode of a source
+-- the mode (As) and the register field of a source: an immediate is at R0, and R2 and R3 generate
+-- the constants
+abbrev pub source_fields : SourceForm → ℕ × ℕ
+source_fields (Register r) = (0, reg_number r)
+source_fields (Indexed r) = (1, reg_number r)
+source_fields (Indirect r) = (2, reg_number r)
+source_fields (IndirectInc r) = (3, reg_number r)
+source_fields Immediate = (3, 0)
+source_fields (Constant Zero) = (0, 3)
+source_fields (Constant PlusOne) = (1, 3)
+source_fields (Constant Two) = (2, 3)
+source_fields (Constant Four) = (2, 2)
+source_fields (Constant Eight) = (3, 2)
+source_fields (Constant MinusOne) = (3, 3)
+
 abbrev pub source_mode : SourceForm → ℕ
-source_mode (Register r) = 0
-source_mode (Indexed r) = 1
-source_mode (Indirect r) = 2
-source_mode (IndirectInc r) = 3
-source_mode Immediate = 3
-source_mode (Constant Zero) = 0
-source_mode (Constant PlusOne) = 1
-source_mode (Constant Two) = 2
-source_mode (Constant Four) = 2
-source_mode (Constant Eight) = 3
-source_mode (Constant MinusOne) = 3
+source_mode form = (source_fields form).0
 
--- the register field of a source: an immediate is at R0, and R2 and R3 generate the constants
 abbrev pub source_register : SourceForm → ℕ
-source_register (Register r) = reg_number r
-source_register (Indexed r) = reg_number r
-source_register (Indirect r) = reg_number r
-source_register (IndirectInc r) = reg_number r
-source_register Immediate = 0
-source_register (Constant Zero) = 3
-source_register (Constant PlusOne) = 3
-source_register (Constant Two) = 3
-source_register (Constant Four) = 2
-source_register (Constant Eight) = 2
-source_register (Constant MinusOne) = 3
+source_register form = (source_fields form).1
 
--- Ad, the mode of a destination
+-- the mode (Ad) and the register field of a destination
+abbrev pub dest_fields : DestForm → ℕ × ℕ
+dest_fields (DestRegister r) = (0, reg_number r)
+dest_fields (DestIndexed r) = (1, reg_number r)
+
 abbrev pub dest_mode : DestForm → ℕ
-dest_mode (DestRegister r) = 0
-dest_mode (DestIndexed r) = 1
+dest_mode form = (dest_fields form).0
 
--- the register field of a destination
 abbrev pub dest_register : DestForm → ℕ
-dest_register (DestRegister r) = reg_number r
-dest_register (DestIndexed r) = reg_number r
+dest_register form = (dest_fields form).1
 
 -- a jump's offset in ten bits, two's complement; negsuc n is -(n + 1)
 abbrev pub offset_number : ℤ → ℕ

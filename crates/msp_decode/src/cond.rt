@@ -1,5 +1,7 @@
 ghost use Rattle.std.specs.Prelude.{◌≡◌, ◌<◌};
 
+use crate::value_numbered::value_numbered;
+
 /// When a jump is taken: by Z, by C, by N, by N and V, or always; in the order of their numbers
 /// from 0.
 #[derive(Clone, Copy, Debug, PartialEq, Eq)]
@@ -38,15 +40,6 @@ impl Cond {
         requires { number < 8 }
         ensures { result ≡ cond_of number }
     {
-        match number {
-            0 => Cond::Ne,
-            1 => Cond::Eq,
-            2 => Cond::Nc,
-            3 => Cond::C,
-            4 => Cond::N,
-            5 => Cond::Ge,
-            6 => Cond::L,
-            _ => Cond::Always,
-        }
+        value_numbered!(number; Cond: Ne, Eq, Nc, C, N, Ge, L, Always)
     }
 }

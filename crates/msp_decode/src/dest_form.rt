@@ -10,27 +10,18 @@ pub enum DestForm {
 }
 
 impl DestForm {
-    ghost use Rattle.msp_decode.specs.Table.{dest_mode, dest_register};
+    ghost use Rattle.msp_decode.specs.Table.{dest_fields};
     ghost use Rattle.msp_decode.specs.Field.{dest_of};
 
-    // The mode (Ad) in which the form is written.
-    pub(crate) fn mode(self) -> u16
-        ensures value { result ≡ dest_mode self }
-        ensures fits { result < 2 }
+    // The mode (Ad) and the register field with which the form is written.
+    pub(crate) fn fields(self) -> (u16, u16)
+        ensures value { result ≡ dest_fields self }
+        ensures mode_fits { result.0 < 2 }
+        ensures register_fits { result.1 < 16 }
     {
         match self {
-            DestForm::Register(_) => 0,
-            DestForm::Indexed(_) => 1,
-        }
-    }
-
-    // The register field with which the form is written.
-    pub(crate) fn register(self) -> u16
-        ensures value { result ≡ dest_register self }
-        ensures fits { result < 16 }
-    {
-        match self {
-            DestForm::Register(register) | DestForm::Indexed(register) => register.number(),
+            DestForm::Register(register) => (0, register.number()),
+            DestForm::Indexed(register) => (1, register.number()),
         }
     }
 

@@ -119,19 +119,18 @@ fn first_word(head: &Head) -> u16
 {
     match *head {
         Head::Two(op, size, source, dest) => {
+            let (mode, register) = source.fields();
+            let (dest_mode, dest_register) = dest.fields();
             op2_number(op) * 0x1000
-                + source.register() * 0x100
-                + dest.mode() * 0x80
+                + register * 0x100
+                + dest_mode * 0x80
                 + size_number(size) * 0x40
-                + source.mode() * 0x10
-                + dest.register()
+                + mode * 0x10
+                + dest_register
         }
         Head::One(op, size, source) => {
-            0x1000
-                + op.number() * 0x80
-                + size_number(size) * 0x40
-                + source.mode() * 0x10
-                + source.register()
+            let (mode, register) = source.fields();
+            0x1000 + op.number() * 0x80 + size_number(size) * 0x40 + mode * 0x10 + register
         }
         Head::Reti => 0x1300,
         Head::Jump(cond, offset) => 0x2000 + cond.number() * 0x400 + offset_number(offset),

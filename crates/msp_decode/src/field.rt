@@ -3,6 +3,7 @@ ghost use Rattle.msp_decode.specs.Table.{op2_number, size_number, offset_number}
 ghost use Rattle.msp_decode.specs.Field.{op2_of, size_of_bit, offset_of};
 ghost use Rattle.msp_decode.specs.Spelling.{has_range};
 
+use crate::value_numbered::value_numbered;
 use word_arith::{Op2, Size};
 
 // The opcode of MOV.
@@ -23,20 +24,8 @@ pub(crate) fn op2_from_number(number: u16) -> Op2
     requires fits { number < 16 }
     ensures { result ≡ op2_of number }
 {
-    match number {
-        0x4 => Op2::Mov,
-        0x5 => Op2::Add,
-        0x6 => Op2::Addc,
-        0x7 => Op2::Subc,
-        0x8 => Op2::Sub,
-        0x9 => Op2::Cmp,
-        0xA => Op2::Dadd,
-        0xB => Op2::Bit,
-        0xC => Op2::Bic,
-        0xD => Op2::Bis,
-        0xE => Op2::Xor,
-        _ => Op2::And,
-    }
+    value_numbered!(number - FIRST_OPCODE;
+        Op2: Mov, Add, Addc, Subc, Sub, Cmp, Dadd, Bit, Bic, Bis, Xor, And)
 }
 
 // The B/W bit of a size.

@@ -25,6 +25,7 @@ mod one;
 mod reg;
 mod source;
 mod source_form;
+mod value_numbered;
 mod words;
 
 pub use completion::{complete, extensions};

@@ -1,5 +1,6 @@
 ghost use Rattle.std.specs.Prelude.{◌≡◌, ◌<◌};
 
+use crate::value_numbered::value_numbered;
 use word_arith::Size;
 
 /// An operation of one operand, by its mnemonic; in the order of their opcodes from 0.
@@ -31,18 +32,11 @@ impl One {
         requires { number < 6 }
         ensures { result ≡ one_of number }
     {
-        match number {
-            0 => One::Rrc,
-            1 => One::Swpb,
-            2 => One::Rra,
-            3 => One::Sxt,
-            4 => One::Push,
-            _ => One::Call,
-        }
+        value_numbered!(number; One: Rrc, Swpb, Rra, Sxt, Push, Call)
     }
 
-    // Whether there is an instruction of this size.
-    pub(crate) fn has_size(self, size: Size) -> bool
+    /// Whether there is an instruction of this size.
+    pub fn has_size(self, size: Size) -> bool
         ensures { result ≡ has_size self size }
     {
         match size {
@@ -51,8 +45,8 @@ impl One {
         }
     }
 
-    // Whether the result is written to the operand.
-    pub(crate) fn writes_operand(self) -> bool
+    /// Whether the result is written to the operand.
+    pub fn writes_operand(self) -> bool
         ensures { result ≡ writes_operand self }
     {
         matches!(self, One::Rrc | One::Swpb | One::Rra | One::Sxt)

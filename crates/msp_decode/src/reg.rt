@@ -1,5 +1,7 @@
 ghost use Rattle.std.specs.Prelude.{◌≡◌, ◌<◌};
 
+use crate::value_numbered::value_numbered;
+
 /// A register. R0 is the program counter, R1 the stack pointer, R2 the status register and first
 /// constant generator, R3 the second constant generator.
 #[derive(Clone, Copy, Debug, PartialEq, Eq)]
@@ -40,23 +42,7 @@ impl Reg {
         ensures value { result ≡ reg_of number }
         ensures back { reg_number result ≡ number }
     {
-        match number {
-            0 => Reg::R0,
-            1 => Reg::R1,
-            2 => Reg::R2,
-            3 => Reg::R3,
-            4 => Reg::R4,
-            5 => Reg::R5,
-            6 => Reg::R6,
-            7 => Reg::R7,
-            8 => Reg::R8,
-            9 => Reg::R9,
-            10 => Reg::R10,
-            11 => Reg::R11,
-            12 => Reg::R12,
-            13 => Reg::R13,
-            14 => Reg::R14,
-            _ => Reg::R15,
-        }
+        value_numbered!(number;
+            Reg: R0, R1, R2, R3, R4, R5, R6, R7, R8, R9, R10, R11, R12, R13, R14, R15)
     }
 }

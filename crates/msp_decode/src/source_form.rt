@@ -3,6 +3,36 @@ ghost use Rattle.std.specs.Prelude.{◌≡◌, ◌<◌, IsTrue};
 use crate::constant::Gen;
 use crate::reg::Reg;
 
+// The mode and the register field of each form; where the register is its own, the mode alone.
+macro_rules! sources {
+    ($read:ident $of:expr) => {
+        $read!($of;
+            (3, 0) [Immediate], (0, 3) [Constant(Gen::Zero)], (1, 3) [Constant(Gen::One)],
+            (2, 3) [Constant(Gen::Two)], (2, 2) [Constant(Gen::Four)],
+            (3, 2) [Constant(Gen::Eight)], (3, 3) [Constant(Gen::MinusOne)];
+            0 Register, 1 Indexed, 2 Indirect, 3 IndirectInc)
+    };
+}
+
+macro_rules! fields_of {
+    ($form:expr; $($fields:tt [$($value:tt)+]),+; $($mode:literal $in_mode:ident),+) => {
+        match $form {
+            $(SourceForm::$($value)+ => $fields,)+
+            $(SourceForm::$in_mode(register) => ($mode, register.number()),)+
+        }
+    };
+}
+
+macro_rules! form_of {
+    ($of:expr; $($fields:tt [$($value:tt)+]),+; $($mode:literal $in_mode:ident),+) => {
+        match $of {
+            $($fields => SourceForm::$($value)+,)+
+            $(($mode, register) => SourceForm::$in_mode(Reg::from_number(register)),)+
+            _ => unreachable!(),
+        }
+    };
+}
+
 /// A source operand whose extension word is not yet known.
 #[derive(Clone, Copy, Debug, PartialEq, Eq)]
 pub enum SourceForm {
@@ -15,39 +45,17 @@ pub enum SourceForm {
 }
 
 impl SourceForm {
-    ghost use Rattle.msp_decode.specs.Table.{source_mode, source_register};
+    ghost use Rattle.msp_decode.specs.Table.{source_fields};
     ghost use Rattle.msp_decode.specs.Field.{source_of};
     ghost use Rattle.msp_decode.specs.Spelling.{has_form, takes_result};
 
-    // The mode (As) in which the form is written.
-    pub(crate) fn mode(self) -> u16
-        ensures value { result ≡ source_mode self }
-        ensures fits { result < 4 }
+    // The mode (As) and the register field with which the form is written.
+    pub(crate) fn fields(self) -> (u16, u16)
+        ensures value { result ≡ source_fields self }
+        ensures mode_fits { result.0 < 4 }
+        ensures register_fits { result.1 < 16 }
     {
-        match self {
-            SourceForm::Register(_) | SourceForm::Constant(Gen::Zero) => 0,
-            SourceForm::Indexed(_) | SourceForm::Constant(Gen::One) => 1,
-            SourceForm::Indirect(_) | SourceForm::Constant(Gen::Two | Gen::Four) => 2,
-            SourceForm::IndirectInc(_)
-            | SourceForm::Immediate
-            | SourceForm::Constant(Gen::Eight | Gen::MinusOne) => 3,
-        }
-    }
-
-    // The register field with which the form is written.
-    pub(crate) fn register(self) -> u16
-        ensures value { result ≡ source_register self }
-        ensures fits { result < 16 }
-    {
-        match self {
-            SourceForm::Register(register)
-            | SourceForm::Indexed(register)
-            | SourceForm::Indirect(register)
-            | SourceForm::IndirectInc(register) => register.number(),
-            SourceForm::Immediate => 0,
-            SourceForm::Constant(Gen::Four | Gen::Eight) => 2,
-            SourceForm::Constant(Gen::Zero | Gen::One | Gen::Two | Gen::MinusOne) => 3,
-        }
+        sources!(fields_of self)
     }
 
     // The form of a mode and a register field.
@@ -58,24 +66,12 @@ impl SourceForm {
         ensures value { result ≡ source_of mode register }
         ensures formed { IsTrue (has_form result) }
     {
-        match (mode, register) {
-            (0, 3) => SourceForm::Constant(Gen::Zero),
-            (1, 3) => SourceForm::Constant(Gen::One),
-            (2, 3) => SourceForm::Constant(Gen::Two),
-            (2, 2) => SourceForm::Constant(Gen::Four),
-            (3, 2) => SourceForm::Constant(Gen::Eight),
-            (3, 3) => SourceForm::Constant(Gen::MinusOne),
-            (3, 0) => SourceForm::Immediate,
-            (0, _) => SourceForm::Register(Reg::from_number(register)),
-            (1, _) => SourceForm::Indexed(Reg::from_number(register)),
-            (2, _) => SourceForm::Indirect(Reg::from_number(register)),
-            _ => SourceForm::IndirectInc(Reg::from_number(register)),
-        }
+        sources!(form_of(mode, register))
     }
 
-    // Whether words are written with the form: R3, R2 and R0 give a constant or an immediate in
-    // some modes.
-    pub(crate) fn has_form(self) -> bool
+    /// Whether words are written with the form: R3, R2 and R0 give a constant or an immediate in
+    /// some modes.
+    pub fn has_form(self) -> bool
         ensures { result ≡ has_form self }
     {
         !matches!(

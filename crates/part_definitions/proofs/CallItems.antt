@@ -132,7 +132,8 @@ unfolding call_items
 in_turn region decision count =
     let decided : List CallItem = if decision == ATTESTS then attestation_items region else [] in
     let writes : List CallItem = KeptWrite 1 ∷ KeptWrite 0 ∷ DecisionWrite ∷ decided in
-    series-then KeyRead 32 (series MetadataRead 40 ++ (series KeptRead 2 ++ writes)) 0 32 count _ refl
+    series-then KeyRead 32 (series MetadataRead 40 ++ (series KeptRead 2 ++ writes)) 0 32
+    count _ refl
     (omega arith)
     (λ from_metadata.
     series-then MetadataRead 40 (series KeptRead 2 ++ writes) 32 72 count _ refl from_metadata

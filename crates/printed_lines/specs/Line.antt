@@ -1,9 +1,9 @@
--- The printed lines: digits, names, and one line a sort.
-use Rattle.std.specs.Prelude.{◌/◌, ◌%◌, ◌++◌, ℕ, Bool, true, false, [], ◌∷◌, Option, Some, None, codes}
+-- The printed lines. A line is a keyword and pieces, and ends with LF. A piece is a word: a name, a
+-- number in decimal, a word as four digits, a byte as two, bytes as two digits each, or a flag.
+use Rattle.std.specs.Prelude.{◌/◌, ◌%◌, ◌++◌, ℕ, Bool, true, false, List, [], ◌∷◌, Option, Some, None, codes}
 use Rattle.std.specs.Fmt.{decimal}
 use Rattle.hex.specs.Hex.{encode_lower}
 use Rattle.bus_signals.specs.declared.rule.Rule.{Rule}
-use Rattle.bus_signals.specs.declared.bounds.Bounds.{Bounds}
 use Rattle.bus_signals.specs.declared.version.Version.{Version}
 use Rattle.bus_signals.specs.declared.version.Version.TheVariants.{One, Two}
 use Rattle.bus_signals.specs.Report.{ReportFields}
@@ -21,56 +21,56 @@ abbrev pub flag_digit : Bool → Bytes
 flag_digit true = codes "1"
 flag_digit false = codes "0"
 
+-- a text and pieces behind it, each behind a space (32)
+abbrev pub with_pieces : Bytes → List Bytes → Bytes
+with_pieces text [] = text
+with_pieces text (piece ∷ later) = with_pieces (text ++ 32 ∷ piece) later
+
+abbrev pub line_of : Bytes → List Bytes → Bytes
+line_of keyword pieces = with_pieces keyword pieces ++ codes "\n"
+
 -- in this step a byte was sent
 abbrev pub sent_line : ℕ → ℕ → Bytes
-sent_line step byte = codes "tx " ++ decimal step ++ codes " " ++ byte_digits byte ++ codes "\n"
+sent_line step byte = line_of (codes "tx") (decimal step ∷ byte_digits byte ∷ [])
 
 -- this step broke a rule
 abbrev pub reset_line : ℕ → Rule → Bytes
-reset_line step rule = codes "reset " ++ decimal step ++ codes " " ++ rule_name rule ++ codes "\n"
-
--- the bounds of the executable region, and of the output region
-abbrev pub bounds_words : Bounds → Bytes
-bounds_words bounds =
-    codes "er " ++ word_digits bounds.er_min ++ codes " " ++ word_digits bounds.er_max
-    ++ codes " or " ++ word_digits bounds.or_min ++ codes " " ++ word_digits bounds.or_max
-
--- the output, `-` where the bounds are invalid
-abbrev pub output_word : Option Bytes → Bytes
-output_word None = codes "-"
-output_word (Some bytes) = encode_lower bytes
+reset_line step rule = line_of (codes "reset") (decimal step ∷ rule_name rule ∷ [])
 
 -- this step finished a call that attests: the keyword, and from version 2 on what is new in it
 abbrev pub report_keyword : Version → Bytes
-report_keyword One = codes "report "
-report_keyword Two = codes "report2 "
+report_keyword One = codes "report"
+report_keyword Two = codes "report2"
 
-abbrev pub version_words : Version → Bool → ℕ → Bytes
-version_words One aux count = []
-version_words Two aux count =
-    codes " aux " ++ flag_digit aux ++ codes " count " ++ decimal count
+abbrev pub version_pieces : Version → Bool → ℕ → List Bytes
+version_pieces One aux count = []
+version_pieces Two aux count = codes "aux" ∷ flag_digit aux ∷ codes "count" ∷ decimal count ∷ []
 
--- all before the output, the output, and all after it
-abbrev pub report_head : ReportFields → Bytes
+-- all before the output, and the output, `-` where the bounds are invalid
+abbrev pub report_head : ReportFields → List Bytes
 report_head report =
-    report_keyword report.version ++ decimal report.step ++ codes " exec " ++ flag_digit report.exec
-    ++ version_words report.version report.aux report.count
-    ++ codes " chal " ++ encode_lower report.chal ++ codes " " ++ bounds_words report.bounds
-    ++ codes " data "
+    decimal report.step ∷ codes "exec" ∷ flag_digit report.exec
+    ∷ version_pieces report.version report.aux report.count
+    ++ codes "chal" ∷ encode_lower report.chal
+    ∷ codes "er" ∷ word_digits report.bounds.er_min ∷ word_digits report.bounds.er_max
+    ∷ codes "or" ∷ word_digits report.bounds.or_min ∷ word_digits report.bounds.or_max
+    ∷ codes "data" ∷ []
 
-abbrev pub report_tail : Bytes → Bytes
-report_tail mac = codes " mac " ++ encode_lower mac ++ codes "\n"
+abbrev pub output_piece : Option Bytes → Bytes
+output_piece None = codes "-"
+output_piece (Some bytes) = encode_lower bytes
 
 abbrev pub report_line : ReportFields → Bytes
-report_line report = report_head report ++ output_word report.output ++ report_tail report.mac
+report_line report =
+    line_of (report_keyword report.version)
+    (report_head report ++ output_piece report.output ∷ codes "mac" ∷ encode_lower report.mac ∷ [])
 
 -- this step finished a call that does not attest, with this decision
 abbrev pub denied_line : ℕ → ℕ → Bytes
-denied_line step decision =
-    codes "denied " ++ decimal step ++ codes " " ++ decimal decision ++ codes "\n"
+denied_line step decision = line_of (codes "denied") (decimal step ∷ decimal decision ∷ [])
 
 -- after so many steps: the pc that the next step would have, and the EXEC flag
 abbrev pub end_line : ℕ → Address → Bool → Bytes
 end_line steps pc exec =
-    codes "end " ++ decimal steps ++ codes " pc " ++ word_digits pc
-    ++ codes " exec " ++ flag_digit exec ++ codes "\n"
+    line_of (codes "end")
+    (decimal steps ∷ codes "pc" ∷ word_digits pc ∷ codes "exec" ∷ flag_digit exec ∷ [])

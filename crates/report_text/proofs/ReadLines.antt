@@ -1,32 +1,31 @@
 -- Texts of printed lines, and the reports that are read of them.
-use Rattle.std.proofs.Common.{◌≡◌, ◌∙◌, ℕ, ◌+◌, ◌<◌, ◌≤◌, Bool, false, List, [], ◌∷◌, ◌++◌, ◌⊎◌, inl, inr, Option, Some, None, Ok, length, length-append, append_assoc, append-nil, add-zero, drop, refl, ap, sym, arith, rules}
+use Rattle.std.proofs.Common.{◌≡◌, ◌∙◌, ℕ, ◌+◌, ◌<◌, Bool, false, List, [], ◌∷◌, ◌++◌, ◌⊎◌, inl, inr, Option, Some, None, Ok, length, length-append, append_assoc, append-nil, add-zero, refl, ap, sym, arith, rules}
 use Rattle.std.specs.Prelude.{◌^◌, codes, IsUtf8}
 use Rattle.std.specs.Fmt.{decimal, digits}
-use Rattle.std.specs.List.{join_with_byte}
 use Rattle.std.specs.Str.Lines.{lines}
-use Rattle.std.proofs.lemmas.Str.{IsUtf8-nil, IsUtf8-append, IsUtf8-from_ascii}
-use Rattle.std.proofs.lemmas.Str.Ascii.{IsAscii-nil, IsAscii-cons}
+use Rattle.std.proofs.lemmas.Str.{IsUtf8-nil, IsUtf8-append}
 use Rattle.bus_signals.specs.Report.{ReportFields}
 use Rattle.bus_signals.specs.declared.rule.Rule.{Rule}
 use Rattle.bus_signals.specs.Rule.{rule_name, rule_names}
-use Rattle.printed_lines.specs.Line.{byte_digits, word_digits, flag_digit, sent_line, reset_line, report_line, denied_line, end_line}
+use Rattle.printed_lines.specs.Line.{byte_digits, word_digits, flag_digit, with_pieces, line_of, sent_line, reset_line, report_keyword, report_line, denied_line, end_line}
+use Rattle.line_buffer.specs.LineLaw.{ArePieces}
+use Rattle.line_buffer.proofs.PieceLines.{first_line, utf8_line, plain-flag, plain-byte, plain-word}
 use Rattle.text_scan.specs.LineFold.{state_after, text_fold}
 use Rattle.text_scan.specs.Line.{numbered_lines}
-use Rattle.text_scan.specs.Word.{says_nothing, is_passed_over}
+use Rattle.text_scan.specs.Word.{words_of, says_nothing, is_passed_over}
 use Rattle.text_scan.specs.WordValue.{number_of, place_of, block_of}
-use Rattle.text_scan.proofs.FirstLine.{lines-line}
 use Rattle.named_value.specs.Names.{value_named}
 use Rattle.named_value.specs.PlainWord.{IsPlainWord}
-use Rattle.text_scan.proofs.PlainWords.{ArePlain, hex_bytes_of-digits, hex_word_of-digits, words_of-join, printed-join, printed_bounds, printed-ascii, plain-decimal, plain-encoded, one_byte}
+use Rattle.text_scan.proofs.PlainWords.{hex_bytes_of-digits, hex_word_of-digits, one_byte, plain-decimal}
 use Rattle.text_scan.proofs.NamedWord.{value_of-name}
 use Rattle.text_scan.proofs.TextUtf8.{utf8_of-whole}
 use Rattle.report_verifier.specs.declared.decision.Decision.{Decision}
 use Rattle.report_verifier.specs.VerdictName.{verdict_name, verdict_names}
 use Rattle.report_text.specs.ReadBack.{IsPrintable, IsReadBack, IsPassedOver}
 use Rattle.report_text.specs.ReportFile.{with_report, with_line, reports_of}
-use Rattle.report_text.specs.ReportLine.{tx_line_of, reset_of, denied_of, end_line_of, verdict_of, no_report_of, report_line_of}
+use Rattle.report_text.specs.ReportLine.{no_report_of, report_line_of}
 use Rattle.report_text.specs.VerdictLine.{verdict_line}
-use Rattle.report_text.proofs.ReportWords.{report_words, report_fields, report_line-words, line-some, line-shown, report_line_of-words, count_of-decimal, flag_of-digit, plain-words, plain-flag, plain-place}
+use Rattle.report_text.proofs.ReportWords.{report_pieces, word_shown, report_line_of-pieces, count_of-decimal, flag_of-digit, pieces-report}
 
 -- What a text says, whatever stands before and behind it: these lines, and these reports of them.
 pub record ReadsAs (text : List ℕ) (reports : List ReportFields) : Type 0 where
@@ -94,47 +93,39 @@ state_after-next : (before next : List ReportFields) (number : ℕ) (line : List
 unfolding state_after
 state_after-next before next number line later says answer = rw says (rw answer refl)
 
-with_line-words : (before next : List ReportFields) (words : List (List ℕ))
+with_line-words : (before next : List ReportFields) (line : List ℕ) (words : List (List ℕ))
     (entry : Option ReportFields)
-    → ArePlain words → report_line_of words ≡ Ok entry → with_report before entry ≡ Ok next
-    → with_line before (join_with_byte 32 words) ≡ Ok next
+    → words_of line ≡ words → report_line_of words ≡ Ok entry → with_report before entry ≡ Ok next
+    → with_line before line ≡ Ok next
 unfolding with_line
-with_line-words before next words entry plain is adds =
-    rw (words_of-join words plain, is) adds
+with_line-words before next line words entry same is adds = rw (same, is) adds
 
--- a line of words, which has this entry, and with it these reports
-pub reads-line : (words : List (List ℕ)) (text : List ℕ) (entry : Option ReportFields)
+-- a line of pieces, which has this entry, and with it these reports
+pub reads-line : (keyword : List ℕ) (pieces : List (List ℕ)) (entry : Option ReportFields)
     (reports : List ReportFields)
-    → text ≡ join_with_byte 32 words ++ 10 ∷ []
-    → 0 < length (join_with_byte 32 words) → says_nothing words ≡ false → ArePlain words
-    → report_line_of words ≡ Ok entry
+    → ArePieces (keyword ∷ pieces) → says_nothing (keyword ∷ pieces) ≡ false
+    → report_line_of (keyword ∷ pieces) ≡ Ok entry
     → ((before : List ReportFields) → with_report before entry ≡ Ok (before ++ reports))
-    → ReadsAs text reports
-reads-line words text entry reports is some says plain has adds =
-    let line : List ℕ = join_with_byte 32 words in
-    let shown : is_passed_over line ≡ false =
-    ap says_nothing (words_of-join words plain) ∙ says in
+    → ReadsAs (line_of keyword pieces) reports
+reads-line keyword pieces entry reports are says has adds =
+    let line : List ℕ = with_pieces keyword pieces in
+    let words : words_of line ≡ keyword ∷ pieces = (first_line keyword pieces [] are).words in
     record {
       cuts = line ∷ [];
-      cut = λ rest. ap (λ (all : List ℕ). lines (all ++ rest)) is
-          ∙ ap lines (append_assoc line (10 ∷ []) rest)
-          ∙ lines-line line rest some (printed_bounds line (printed-join words plain));
+      cut = λ rest. (first_line keyword pieces rest are).line;
       read = λ before number later. state_after-next before (before ++ reports) number line
-          (numbered_lines (number + 1) later) shown
-          (with_line-words before (before ++ reports) words entry plain has (adds before));
-      utf8 = rw is (IsUtf8-append line (10 ∷ [])
-          (IsUtf8-from_ascii line (printed-ascii line (printed-join words plain)))
-          (IsUtf8-from_ascii (10 ∷ []) (IsAscii-cons 10 [] (omega arith) IsAscii-nil)));
+          (numbered_lines (number + 1) later) (ap says_nothing words ∙ says)
+          (with_line-words before (before ++ reports) line _ entry words has (adds before));
+      utf8 = utf8_line keyword pieces are;
     }
 
 -- a line that says no report
-reads-other : (words : List (List ℕ)) (text : List ℕ)
-    → text ≡ join_with_byte 32 words ++ 10 ∷ []
-    → 0 < length (join_with_byte 32 words) → says_nothing words ≡ false → ArePlain words
-    → report_line_of words ≡ Ok None
-    → ReadsAs text []
-reads-other words text is some says plain has =
-    reads-line words text None [] is some says plain has
+reads-other : (keyword : List ℕ) (pieces : List (List ℕ))
+    → ArePieces (keyword ∷ pieces) → says_nothing (keyword ∷ pieces) ≡ false
+    → report_line_of (keyword ∷ pieces) ≡ Ok None
+    → ReadsAs (line_of keyword pieces) []
+reads-other keyword pieces are says has =
+    reads-line keyword pieces None [] are says has
     (λ before. ap (λ (reports : List ReportFields). Ok reports) (sym (append-nil before)))
 
 -- the line of a report
@@ -142,11 +133,9 @@ reads-other words text is some says plain has =
 pub reads-report : (report : ReportFields) → IsPrintable report
     → ReadsAs (report_line report) (report ∷ [])
 reads-report report printable =
-    reads-line (report_words report) (report_line report) (Some report) (report ∷ [])
-    (report_line-words report)
-    (line-some report.version (decimal report.step) (drop 1 (report_fields report)))
-    (line-shown report.version (report_fields report)) (plain-words report printable)
-    (report_line_of-words report printable) (λ before. rw printable.fits refl)
+    reads-line (report_keyword report.version) (report_pieces report) (Some report) (report ∷ [])
+    (pieces-report report printable) (word_shown report.version (report_pieces report))
+    (report_line_of-pieces report printable) (λ before. rw printable.fits refl)
 
 pub read_back : IsReadBack
 read_back report printable =
@@ -154,31 +143,17 @@ read_back report printable =
 
 -- the lines of the other sorts
 
-three-words : (first second third : List ℕ)
-    → (first ++ codes " ") ++ second ++ codes " " ++ third ++ codes "\n"
-    ≡ join_with_byte 32 (first ∷ second ∷ third ∷ []) ++ 10 ∷ []
-three-words first second third = simp append_assoc
-
-report_line_of-sent : (step byte : ℕ) → step ≤ 4294967295 → byte < 256
-    → report_line_of (codes "tx" ∷ decimal step ∷ byte_digits byte ∷ []) ≡ Ok None
-unfolding report_line_of no_report_of tx_line_of block_of
-report_line_of-sent step byte within fits =
-    rw (
-      count_of-decimal step (byte_digits byte ∷ []) within,
-      hex_bytes_of-digits 1 (byte ∷ []) refl (one_byte byte fits),
-    ) refl
-
 pub reads-sent : (step byte : ℕ) → step < 2 ^ 32 → byte < 256 → ReadsAs (sent_line step byte) []
+unfolding report_line_of no_report_of block_of
 reads-sent step byte within fits =
-    reads-other (codes "tx" ∷ decimal step ∷ byte_digits byte ∷ []) (sent_line step byte)
-    (three-words (codes "tx") (decimal step) (byte_digits byte)) (omega arith) refl (
+    reads-other (codes "tx") (decimal step ∷ byte_digits byte ∷ []) (
       (omega arith, refl),
-      (
-        plain-decimal step (omega (arith, within)),
-        (plain-encoded (byte ∷ []) (one_byte byte fits) (omega arith), tt),
-      ),
-    )
-    (report_line_of-sent step byte (omega (arith, within)) fits)
+      (plain-decimal step (omega (arith, within)), (plain-byte byte fits, tt)),
+    ) refl
+    (rw (
+      count_of-decimal step _ (omega (arith, within)),
+      hex_bytes_of-digits 1 (byte ∷ []) refl (one_byte byte fits),
+    ) refl)
 
 rule_told : (rule : Rule) → value_named rule_names (rule_name rule) ≡ Some rule
 rule_told = search rules
@@ -186,37 +161,23 @@ rule_told = search rules
 plain-rule : (rule : Rule) → IsPlainWord (rule_name rule)
 plain-rule = search rules
 
-report_line_of-reset : (step : ℕ) (rule : Rule) → step ≤ 4294967295
-    → report_line_of (codes "reset" ∷ decimal step ∷ rule_name rule ∷ []) ≡ Ok None
-unfolding report_line_of no_report_of reset_of
-report_line_of-reset step rule within =
-    rw (
-      count_of-decimal step (rule_name rule ∷ []) within,
-      value_of-name rule_names rule [] (rule_told rule),
-    ) refl
-
 pub reads-reset : (step : ℕ) (rule : Rule) → step < 2 ^ 32 → ReadsAs (reset_line step rule) []
+unfolding report_line_of no_report_of
 reads-reset step rule within =
-    reads-other (codes "reset" ∷ decimal step ∷ rule_name rule ∷ []) (reset_line step rule)
-    (three-words (codes "reset") (decimal step) (rule_name rule)) (omega arith) refl (
+    reads-other (codes "reset") (decimal step ∷ rule_name rule ∷ []) (
       (omega arith, refl),
       (plain-decimal step (omega (arith, within)), (plain-rule rule, tt)),
-    )
-    (report_line_of-reset step rule (omega (arith, within)))
+    ) refl
+    (rw (
+      count_of-decimal step _ (omega (arith, within)),
+      value_of-name rule_names rule [] (rule_told rule),
+    ) refl)
 
-denied_of-decision : (step decision : ℕ) → step ≤ 4294967295 → (decision ≡ 2) ⊎ (decision ≡ 3)
-    → denied_of (decimal step ∷ decimal decision ∷ []) ≡ Ok (tt, [])
-unfolding denied_of number_of digits
-denied_of-decision step decision within (inl is) =
-    rw is (rw (count_of-decimal step (decimal 2 ∷ []) within) refl)
-denied_of-decision step decision within (inr is) =
-    rw is (rw (count_of-decimal step (decimal 3 ∷ []) within) refl)
-
-report_line_of-denied : (step decision : ℕ) → step ≤ 4294967295 → (decision ≡ 2) ⊎ (decision ≡ 3)
-    → report_line_of (codes "denied" ∷ decimal step ∷ decimal decision ∷ []) ≡ Ok None
-unfolding report_line_of no_report_of
-report_line_of-denied step decision within denies =
-    rw (denied_of-decision step decision within denies) refl
+number_of-decision : (decision : ℕ) → (decision ≡ 2) ⊎ (decision ≡ 3)
+    → number_of 2 3 (decimal decision ∷ []) ≡ Ok (decision, [])
+unfolding number_of digits
+number_of-decision decision (inl is) = rw is refl
+number_of-decision decision (inr is) = rw is refl
 
 plain-decision : (decision : ℕ) → (decision ≡ 2) ⊎ (decision ≡ 3) → IsPlainWord (decimal decision)
 plain-decision decision (inl is) = plain-decimal decision (omega (arith, is))
@@ -224,16 +185,16 @@ plain-decision decision (inr is) = plain-decimal decision (omega (arith, is))
 
 pub reads-denied : (step decision : ℕ) → step < 2 ^ 32 → (decision ≡ 2) ⊎ (decision ≡ 3)
     → ReadsAs (denied_line step decision) []
+unfolding report_line_of no_report_of
 reads-denied step decision within denies =
-    reads-other (codes "denied" ∷ decimal step ∷ decimal decision ∷ []) (denied_line step decision)
-    (three-words (codes "denied") (decimal step) (decimal decision)) (omega arith) refl (
+    reads-other (codes "denied") (decimal step ∷ decimal decision ∷ []) (
       (omega arith, refl),
-      (
-        plain-decimal step (omega (arith, within)),
-        (plain-decision decision denies, tt),
-      ),
-    )
-    (report_line_of-denied step decision (omega (arith, within)) denies)
+      (plain-decimal step (omega (arith, within)), (plain-decision decision denies, tt)),
+    ) refl
+    (rw (
+      count_of-decimal step _ (omega (arith, within)),
+      number_of-decision decision denies,
+    ) refl)
 
 verdict_told :
     (verdict : Decision) → value_named verdict_names (verdict_name verdict) ≡ Some verdict
@@ -242,70 +203,36 @@ verdict_told = search rules
 plain-verdict : (verdict : Decision) → IsPlainWord (verdict_name verdict)
 plain-verdict = search rules
 
-report_line_of-verdict : (number : ℕ) (verdict : Decision) → number ≤ 4294967295
-    → report_line_of (codes "verdict" ∷ decimal number ∷ verdict_name verdict ∷ []) ≡ Ok None
-unfolding report_line_of no_report_of verdict_of
-report_line_of-verdict number verdict within =
-    rw (
-      count_of-decimal number (verdict_name verdict ∷ []) within,
-      value_of-name verdict_names verdict [] (verdict_told verdict),
-    ) refl
-
 reads-verdict : (number : ℕ) (verdict : Decision) → number < 2 ^ 32
     → ReadsAs (verdict_line number verdict) []
+unfolding report_line_of no_report_of
 reads-verdict number verdict within =
-    reads-other (codes "verdict" ∷ decimal number ∷ verdict_name verdict ∷ [])
-    (verdict_line number verdict)
-    (three-words (codes "verdict") (decimal number) (verdict_name verdict)) (omega arith) refl (
+    reads-other (codes "verdict") (decimal number ∷ verdict_name verdict ∷ []) (
       (omega arith, refl),
       (plain-decimal number (omega (arith, within)), (plain-verdict verdict, tt)),
-    )
-    (report_line_of-verdict number verdict (omega (arith, within)))
+    ) refl
+    (rw (
+      count_of-decimal number _ (omega (arith, within)),
+      value_of-name verdict_names verdict [] (verdict_told verdict),
+    ) refl)
 
 pub passed_over : IsPassedOver
 passed_over number verdict within =
     reads-whole (verdict_line number verdict) [] (reads-verdict number verdict within)
 
-end-words : (steps pc flag : List ℕ)
-    → codes "end " ++ steps ++ codes " pc " ++ pc ++ codes " exec " ++ flag ++ codes "\n"
-    ≡ join_with_byte 32
-    (codes "end" ∷ steps ∷ codes "pc" ∷ pc ∷ codes "exec" ∷ flag ∷ []) ++ 10 ∷ []
-end-words steps pc flag = simp append_assoc
-
-place_of-digits : (place : ℕ) (rest : List (List ℕ)) → place < 65536
-    → place_of (word_digits place ∷ rest) ≡ Ok (place, rest)
-unfolding place_of
-place_of-digits place rest fits = rw (hex_word_of-digits place fits) refl
-
-report_line_of-end : (steps pc : ℕ) (exec : Bool) → steps ≤ 4294967295 → pc < 65536
-    → report_line_of
-    (codes "end" ∷ decimal steps ∷ codes "pc" ∷ word_digits pc ∷ codes "exec" ∷ flag_digit exec
-    ∷ [])
-    ≡ Ok None
-unfolding report_line_of no_report_of end_line_of
-report_line_of-end steps pc exec within fits =
-    let flag : List (List ℕ) = codes "exec" ∷ flag_digit exec ∷ [] in
-    rw (
-      count_of-decimal steps (codes "pc" ∷ word_digits pc ∷ flag) within,
-      place_of-digits pc flag fits,
-      flag_of-digit (codes "exec") exec [],
-    ) refl
-
 pub reads-end : (steps pc : ℕ) (exec : Bool) → steps < 2 ^ 32 → pc < 2 ^ 16
     → ReadsAs (end_line steps pc exec) []
+unfolding report_line_of no_report_of place_of
 reads-end steps pc exec within fits =
-    reads-other
-    (codes "end" ∷ decimal steps ∷ codes "pc" ∷ word_digits pc ∷ codes "exec" ∷ flag_digit exec
-    ∷ [])
-    (end_line steps pc exec)
-    (end-words (decimal steps) (word_digits pc) (flag_digit exec)) (omega arith) refl (
-      (omega arith, refl),
-      (
-        plain-decimal steps (omega (arith, within)),
-        (
-          (omega arith, refl),
-          (plain-place pc fits, ((omega arith, refl), (plain-flag exec, tt))),
-        ),
-      ),
-    )
-    (report_line_of-end steps pc exec (omega (arith, within)) fits)
+    let flag : ArePieces (codes "exec" ∷ flag_digit exec ∷ []) =
+    ((omega arith, refl), (plain-flag exec, tt)) in
+    let place : ArePieces (codes "pc" ∷ word_digits pc ∷ codes "exec" ∷ flag_digit exec ∷ []) =
+    ((omega arith, refl), (plain-word pc fits, flag)) in
+    reads-other (codes "end")
+    (decimal steps ∷ codes "pc" ∷ word_digits pc ∷ codes "exec" ∷ flag_digit exec ∷ [])
+    ((omega arith, refl), (plain-decimal steps (omega (arith, within)), place)) refl
+    (rw (
+      count_of-decimal steps _ (omega (arith, within)),
+      hex_word_of-digits pc fits,
+      flag_of-digit (codes "exec") exec [],
+    ) refl)

@@ -1,5 +1,5 @@
 -- The lines of a report file: what each says, and its first fault.
-use Rattle.std.specs.Prelude.{false, ℕ, ◌==◌, Bool, List, if◌then◌else◌, Option, Some, None, Result, Ok, Err, codes}
+use Rattle.std.specs.Prelude.{false, ℕ, ◌==◌, Bool, List, [], ◌∷◌, if◌then◌else◌, Option, Some, None, Result, Ok, Err, codes}
 use Rattle.std.specs.Str.{bytes_eq}
 use Rattle.bus_signals.specs.declared.bounds.Bounds.{Bounds}
 use Rattle.bus_signals.specs.declared.version.Version.{Version}
@@ -14,6 +14,8 @@ use Rattle.text_scan.specs.Reader.{◌>>=◌}
 use Rattle.text_scan.specs.Word.{word_of, keyword_of, end_of}
 use Rattle.text_scan.specs.WordValue.{number_of, place_of, block_of, value_of}
 use Rattle.report_verifier.specs.VerdictName.{verdict_names}
+use Rattle.report_text.specs.declared.field.Field.{Field}
+use Rattle.report_text.specs.declared.field.Field.TheVariants as fields
 
 -- a number of a step, of steps, of a report or of a request
 abbrev pub count_of : List (List ℕ) → Result (ℕ × List (List ℕ)) FaultKind
@@ -103,34 +105,6 @@ report_of version words = do
     mac.1,
   )
 
--- `tx S HH`
-unfoldable pub tx_line_of : List (List ℕ) → Result (Unit × List (List ℕ)) FaultKind
-tx_line_of words = do
-  step ← count_of words
-  byte ← block_of 1 step.1
-  Ok (tt, byte.1)
-
--- `reset S R`
-unfoldable pub reset_of : List (List ℕ) → Result (Unit × List (List ℕ)) FaultKind
-reset_of words = do
-  step ← count_of words
-  rule ← value_of rule_names step.1
-  Ok (tt, rule.1)
-
--- `denied S D`: another decision than to attest is 2 or 3
-unfoldable pub denied_of : List (List ℕ) → Result (Unit × List (List ℕ)) FaultKind
-denied_of words = do
-  step ← count_of words
-  decision ← number_of 2 3 step.1
-  Ok (tt, decision.1)
-
--- `verdict I V`
-unfoldable pub verdict_of : List (List ℕ) → Result (Unit × List (List ℕ)) FaultKind
-verdict_of words = do
-  number ← count_of words
-  verdict ← value_of verdict_names number.1
-  Ok (tt, verdict.1)
-
 -- the bytes of one word
 unfoldable pub bytes_of : List (List ℕ) → Result (List ℕ × List (List ℕ)) FaultKind
 bytes_of words = do
@@ -138,36 +112,39 @@ bytes_of words = do
   bytes ← even_bytes_of word.0
   Ok (bytes, word.1)
 
--- `collision HH.. HH..`
-unfoldable pub collision_of : List (List ℕ) → Result (Unit × List (List ℕ)) FaultKind
-collision_of words = do
-  first ← bytes_of words
-  second ← bytes_of first.1
-  Ok (tt, second.1)
+-- a field is passed over in its form
+abbrev pub passed : {A : Type 0} → Result (A × List (List ℕ)) FaultKind
+    → Result (Unit × List (List ℕ)) FaultKind
+passed answer = answer >>= (λ read. Ok (tt, read.1))
 
--- `end N pc H4 exec E`
-unfoldable pub end_line_of : List (List ℕ) → Result (Unit × List (List ℕ)) FaultKind
-end_line_of words = do
-  steps ← count_of words
-  rest ← keyword_of (codes "pc") steps.1
-  pc ← place_of rest
-  exec ← exec_of pc.1
-  Ok (tt, exec.1)
+-- the decision of a denial, another than to attest, is 2 or 3
+abbrev pub field_of : Field → List (List ℕ) → Result (Unit × List (List ℕ)) FaultKind
+field_of fields.Count words = passed (count_of words)
+field_of fields.Byte words = passed (block_of 1 words)
+field_of fields.Rule words = passed (value_of rule_names words)
+field_of fields.Denial words = passed (number_of 2 3 words)
+field_of fields.Verdict words = passed (value_of verdict_names words)
+field_of fields.Bytes words = passed (bytes_of words)
+field_of fields.Pc words = keyword_of (codes "pc") words >>= (λ rest. passed (place_of rest))
+field_of fields.Exec words = passed (exec_of words)
 
--- the lines that are passed over in their form
-abbrev pub other_line_of : List ℕ → List (List ℕ) → Result (Unit × List (List ℕ)) FaultKind
-other_line_of keyword words =
-    if bytes_eq keyword (codes "tx") then tx_line_of words
-    else if bytes_eq keyword (codes "reset") then reset_of words
-    else if bytes_eq keyword (codes "denied") then denied_of words
-    else if bytes_eq keyword (codes "verdict") then verdict_of words
-    else if bytes_eq keyword (codes "end") then end_line_of words
+abbrev pub fields_of : List Field → List (List ℕ) → Result (Unit × List (List ℕ)) FaultKind
+fields_of [] words = Ok (tt, words)
+fields_of (field ∷ later) words = field_of field words >>= (λ read. fields_of later read.1)
+
+-- the lines that are passed over: what stands behind their keywords
+abbrev pub fields_by : List ℕ → Result (List Field) FaultKind
+fields_by keyword =
+    if bytes_eq keyword (codes "tx") then Ok (fields.Count ∷ fields.Byte ∷ [])
+    else if bytes_eq keyword (codes "reset") then Ok (fields.Count ∷ fields.Rule ∷ [])
+    else if bytes_eq keyword (codes "denied") then Ok (fields.Count ∷ fields.Denial ∷ [])
+    else if bytes_eq keyword (codes "verdict") then Ok (fields.Count ∷ fields.Verdict ∷ [])
+    else if bytes_eq keyword (codes "collision") then Ok (fields.Bytes ∷ fields.Bytes ∷ [])
+    else if bytes_eq keyword (codes "end") then Ok (fields.Count ∷ fields.Pc ∷ fields.Exec ∷ [])
     else Err Word
 
-abbrev pub other_or_collision_of :
-    List ℕ → List (List ℕ) → Result (Unit × List (List ℕ)) FaultKind
-other_or_collision_of keyword words =
-    if bytes_eq keyword (codes "collision") then collision_of words else other_line_of keyword words
+abbrev pub other_line_of : List ℕ → List (List ℕ) → Result (Unit × List (List ℕ)) FaultKind
+other_line_of keyword words = fields_by keyword >>= (λ behind. fields_of behind words)
 
 unfoldable pub some_report_of :
     Version → List (List ℕ) → Result (Option ReportFields × List (List ℕ)) FaultKind
@@ -178,7 +155,7 @@ some_report_of version words = do
 unfoldable pub no_report_of :
     List ℕ → List (List ℕ) → Result (Option ReportFields × List (List ℕ)) FaultKind
 no_report_of keyword words = do
-  later ← other_or_collision_of keyword words
+  later ← other_line_of keyword words
   Ok (None, later.1)
 
 abbrev pub report_by_keyword :

@@ -8,8 +8,10 @@
 #![tactic(auto)]
 
 mod collision_line;
+mod field;
 mod law;
 mod passed_line;
+mod printed_digits;
 mod printed_line;
 mod report;
 mod report2;
@@ -26,5 +28,5 @@ pub use report::Report;
 pub use report_line::print_report;
 pub use report_list::read_reports;
 pub use report2::read_report2;
-pub use request_line::{print_request, push_request_fields};
+pub use request_line::{add_request, print_request};
 pub use verdict_line::print_verdict;

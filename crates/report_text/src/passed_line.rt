@@ -1,102 +1,48 @@
-ghost use Rattle.text_scan.specs.Reader.{ReadsOn, ReadsWordOn};
-ghost use Rattle.report_text.specs.ReportLine.{tx_line_of, reset_of, denied_of, verdict_of, bytes_of, collision_of, end_line_of, other_line_of, other_or_collision_of};
+ghost use Rattle.std.specs.Prelude.{◌≡◌};
+ghost use Rattle.text_scan.specs.Reader.{ReadsWordOn, value_as};
+ghost use Rattle.report_text.specs.ReportLine.{fields_by, fields_of, other_line_of};
 
-use crate::report_entry::{read_count, read_flag};
-use bus_signals::Rule;
-use report_verifier::Decision;
+use crate::field::Field;
 use std::alloc::Global;
-use text_scan::{Bytes, FaultKind, WordFault, Words};
+use text_scan::{FaultKind, WordFault, Words};
 
 /// Passes a line that is no report, in its form.
 pub fn pass_line(alloc: Global, keyword: &[u8], words: &mut Words<'_>) -> Result<(), WordFault>
-    ensures { ReadsWordOn result words.new (other_or_collision_of keyword.now words.old) }
+    ensures { ReadsWordOn result words.new (other_line_of keyword.now words.old) }
 {
-    if keyword == b"collision".as_slice() {
-        return pass_collision(alloc, words);
-    }
-    Ok(pass_short_line(keyword, words)?)
+    pass_fields(alloc, fields_by(keyword)?, words)
 }
 
-fn pass_short_line(keyword: &[u8], words: &mut Words<'_>) -> Result<(), FaultKind>
-    ensures { ReadsOn result words.new (other_line_of keyword.now words.old) }
+// The fields behind a keyword.
+fn fields_by(keyword: &[u8]) -> Result<&'static [Field], FaultKind>
+    ensures { value_as (λ fields. fields.now) result ≡ fields_by keyword.now }
 {
     if keyword == b"tx".as_slice() {
-        return pass_sent(words);
+        return Ok(&[Field::Count, Field::Byte]);
     }
     if keyword == b"reset".as_slice() {
-        return pass_reset(words);
+        return Ok(&[Field::Count, Field::Rule]);
     }
     if keyword == b"denied".as_slice() {
-        return pass_denied(words);
+        return Ok(&[Field::Count, Field::Denial]);
     }
     if keyword == b"verdict".as_slice() {
-        return pass_verdict(words);
+        return Ok(&[Field::Count, Field::Verdict]);
+    }
+    if keyword == b"collision".as_slice() {
+        return Ok(&[Field::Bytes, Field::Bytes]);
     }
     if keyword == b"end".as_slice() {
-        return pass_end(words);
+        return Ok(&[Field::Count, Field::Pc, Field::Exec]);
     }
     Err(FaultKind::Word)
 }
 
-#[tactic(auto, unfolding(crate::specs::ReportLine::tx_line_of))]
-fn pass_sent(words: &mut Words<'_>) -> Result<(), FaultKind>
-    ensures { ReadsOn result words.new (tx_line_of words.old) }
+fn pass_fields(alloc: Global, fields: &[Field], words: &mut Words<'_>) -> Result<(), WordFault>
+    ensures { ReadsWordOn result words.new (fields_of fields.now words.old) }
 {
-    read_count(words)?;
-    words.block::<1>()?;
-    Ok(())
-}
-
-#[tactic(auto, unfolding(crate::specs::ReportLine::reset_of))]
-fn pass_reset(words: &mut Words<'_>) -> Result<(), FaultKind>
-    ensures { ReadsOn result words.new (reset_of words.old) }
-{
-    read_count(words)?;
-    words.value::<Rule>()?;
-    Ok(())
-}
-
-#[tactic(auto, unfolding(crate::specs::ReportLine::denied_of))]
-fn pass_denied(words: &mut Words<'_>) -> Result<(), FaultKind>
-    ensures { ReadsOn result words.new (denied_of words.old) }
-{
-    read_count(words)?;
-    words.number(2, 3)?;
-    Ok(())
-}
-
-#[tactic(auto, unfolding(crate::specs::ReportLine::verdict_of))]
-fn pass_verdict(words: &mut Words<'_>) -> Result<(), FaultKind>
-    ensures { ReadsOn result words.new (verdict_of words.old) }
-{
-    read_count(words)?;
-    words.value::<Decision>()?;
-    Ok(())
-}
-
-#[tactic(auto, unfolding(crate::specs::ReportLine::collision_of))]
-fn pass_collision(alloc: Global, words: &mut Words<'_>) -> Result<(), WordFault>
-    ensures { ReadsWordOn result words.new (collision_of words.old) }
-{
-    let _first = read_bytes(alloc, words)?;
-    let _second = read_bytes(alloc, words)?;
-    Ok(())
-}
-
-#[tactic(auto, unfolding(crate::specs::ReportLine::bytes_of))]
-fn read_bytes(alloc: Global, words: &mut Words<'_>) -> Result<Bytes, WordFault>
-    ensures { ReadsWordOn result words.new (bytes_of words.old) }
-{
-    Bytes::from_hex(alloc, words.word()?)
-}
-
-#[tactic(auto, unfolding(crate::specs::ReportLine::end_line_of))]
-fn pass_end(words: &mut Words<'_>) -> Result<(), FaultKind>
-    ensures { ReadsOn result words.new (end_line_of words.old) }
-{
-    read_count(words)?;
-    words.keyword(b"pc")?;
-    words.place()?;
-    read_flag(b"exec", words)?;
+    for field in fields {
+        field.pass(alloc, words)?;
+    }
     Ok(())
 }

@@ -162,8 +162,8 @@ fn read_output(alloc: Global, words: &mut Words<'_>) -> Result<Option<Bytes>, Wo
 fn output_in(alloc: Global, word: &[u8]) -> Result<Option<Bytes>, WordFault>
     ensures { ReadsWord result (output_in word.now) }
 {
-    if word == b"-".as_slice() {
-        return Ok(None);
+    match word {
+        b"-" => Ok(None),
+        _ => Ok(Some(Bytes::from_hex(alloc, word)?)),
     }
-    Ok(Some(Bytes::from_hex(alloc, word)?))
 }

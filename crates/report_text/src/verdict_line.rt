@@ -12,10 +12,9 @@ pub fn print_verdict<W: Sink>(number: u64, decision: Decision, sink: &mut W) -> 
     ensures counts { CountsFaults W.faults sink.old sink.new result }
 {
     let mut line = LineBuffer::new();
-    line.push(b"verdict ");
-    line.push_decimal(number);
-    line.push(b" ");
-    line.push(decision.name().as_bytes());
+    line.push(b"verdict");
+    line.add_decimal(number);
+    line.add_text(decision.name().as_bytes());
     line.push(b"\n");
     put_all(sink, line.as_slice())
 }

@@ -60,7 +60,8 @@ is_return-item_of phase = grind (arith, is_return-until)
 pub item_pc-first : (count : ℕ) → (count == 0) ≡ true → 0xA000 ≡ item_pc (item_until_decision count)
 item_pc-first count first = grind (arith, nat_tests)
 
-pub item_pc-later : (count : ℕ) → (count == 0) ≡ false → 0xA002 ≡ item_pc (item_until_decision count)
+pub item_pc-later : (count : ℕ) → (count == 0) ≡ false
+    → 0xA002 ≡ item_pc (item_until_decision count)
 item_pc-later count later = grind (arith, nat_tests)
 
 pub item_pc-item_of :

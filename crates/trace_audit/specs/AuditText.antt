@@ -1,7 +1,7 @@
 -- The audit of a trace file, and what is printed of it.
-use Rattle.std.specs.Prelude.{◌++◌, ℕ, List, length, Option, Some, None, Result, codes}
+use Rattle.std.specs.Prelude.{ℕ, List, [], ◌∷◌, length, Option, Some, None, Result, codes}
 use Rattle.std.specs.Fmt.{decimal}
-use Rattle.printed_lines.specs.Line.{flag_digit}
+use Rattle.printed_lines.specs.Line.{flag_digit, line_of}
 use Rattle.text_scan.specs.declared.fault_at.FaultAt.{FaultAt}
 use Rattle.text_scan.specs.Reader.{value_as}
 use Rattle.trace_line.specs.LineText.{rule_word}
@@ -21,16 +21,15 @@ abbrev pub audit_of : List ℕ → Result Audited FaultAt
 audit_of text = value_as audited (trace_of text)
 
 -- what would be right
-abbrev pub offence_words : Offence → List ℕ
-offence_words (RuleIs rule) = codes " rule " ++ rule_word rule
-offence_words (ExecIs exec) = codes " exec " ++ flag_digit exec
+abbrev pub offence_pieces : Offence → List (List ℕ)
+offence_pieces (RuleIs rule) = codes "rule" ∷ rule_word rule ∷ []
+offence_pieces (ExecIs exec) = codes "exec" ∷ flag_digit exec ∷ []
 
 abbrev pub offence_line : ℕ → Offence → List ℕ
-offence_line step offence =
-    codes "offence " ++ decimal step ++ offence_words offence ++ codes "\n"
+offence_line step offence = line_of (codes "offence") (decimal step ∷ offence_pieces offence)
 
 abbrev pub clean_line : ℕ → List ℕ
-clean_line lines = codes "clean " ++ decimal lines ++ codes "\n"
+clean_line lines = line_of (codes "clean") (decimal lines ∷ [])
 
 -- of the number of lines, and their first offence
 abbrev pub line_of_audit : ℕ → Option (ℕ × Offence) → List ℕ

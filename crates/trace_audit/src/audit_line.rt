@@ -1,10 +1,11 @@
-ghost use Rattle.std.specs.Prelude.{◌≡◌, ◌≤◌, ◌+◌, ◌++◌, length};
+ghost use Rattle.std.specs.Prelude.{◌≡◌, ◌≤◌, ◌+◌, length};
 ghost use Rattle.outside_edge.specs.Sink.{Puts, CountsFaults};
-ghost use Rattle.trace_audit.specs.AuditText.{audit_text, clean_line, offence_line, offence_words};
+ghost use Rattle.printed_lines.specs.Line.{with_pieces};
+ghost use Rattle.trace_audit.specs.AuditText.{audit_text, clean_line, offence_line, offence_pieces};
 
 use crate::audited::Audited;
 use crate::offence::Offence;
-use line_buffer::{LineBuffer, flag_digit};
+use line_buffer::LineBuffer;
 use outside_edge::{Failed, Sink, put_all};
 use trace_line::rule_word;
 
@@ -24,8 +25,8 @@ fn print_clean<W: Sink>(lines: u64, sink: &mut W) -> Result<(), Failed>
     ensures counts { CountsFaults W.faults sink.old sink.new result }
 {
     let mut line = LineBuffer::new();
-    line.push(b"clean ");
-    line.push_decimal(lines);
+    line.push(b"clean");
+    line.add_decimal(lines);
     line.push(b"\n");
     put_all(sink, line.as_slice())
 }
@@ -35,27 +36,27 @@ fn print_offence<W: Sink>(step: u64, offence: Offence, sink: &mut W) -> Result<(
     ensures counts { CountsFaults W.faults sink.old sink.new result }
 {
     let mut line = LineBuffer::new();
-    line.push(b"offence ");
-    line.push_decimal(step);
-    push_right(&mut line, offence);
+    line.push(b"offence");
+    line.add_decimal(step);
+    add_right(&mut line, offence);
     line.push(b"\n");
     put_all(sink, line.as_slice())
 }
 
 // What would be right.
-fn push_right(line: &mut LineBuffer, offence: Offence)
+fn add_right(line: &mut LineBuffer, offence: Offence)
     requires { length line.old ≤ 32 }
-    ensures text { line.new ≡ line.old ++ offence_words offence }
+    ensures text { line.new ≡ with_pieces line.old (offence_pieces offence) }
     ensures len { length line.new ≤ length line.old + 8 }
 {
     match offence {
         Offence::RuleIs(rule) => {
-            line.push(b" rule ");
-            line.push(rule_word(rule));
+            line.add_text(b"rule");
+            line.add_text(rule_word(rule));
         }
         Offence::ExecIs(exec) => {
-            line.push(b" exec ");
-            line.push(flag_digit(exec));
+            line.add_text(b"exec");
+            line.add_flag(exec);
         }
     }
 }

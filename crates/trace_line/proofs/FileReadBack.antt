@@ -1,14 +1,14 @@
 -- The text of a trace file is read as its lines.
 use Rattle.std.proofs.Common.{suc, ◌≡◌, ◌∙◌, ℕ, ◌+◌, ◌<◌, ◌≤◌, ◌^◌, List, [], ◌∷◌, ◌++◌, Ok, length, append-nil, append_assoc, refl, ap, sym, arith}
+use Rattle.std.specs.Prelude.{codes}
 use Rattle.std.specs.Str.Lines.{lines}
+use Rattle.line_buffer.proofs.PieceLines.{first_line}
 use Rattle.text_scan.specs.Line.{numbered_lines}
-use Rattle.text_scan.proofs.FirstLine.{lines-line}
-use Rattle.text_scan.proofs.PlainWords.{printed_bounds, printed-join}
 use Rattle.trace_line.specs.declared.trace_line.TraceLine.{TraceLine}
-use Rattle.trace_line.specs.LineText.{line_words, line_text, trace_line, file_text}
-use Rattle.trace_line.specs.ReadBack.{IsPrintable, ArePrintable, FilesReadBack}
+use Rattle.trace_line.specs.LineText.{line_pieces, trace_line, file_text}
+use Rattle.trace_line.specs.ReadBack.{ArePrintable, FilesReadBack}
 use Rattle.trace_line.specs.TraceFile.{lines_after, trace_of}
-use Rattle.trace_line.proofs.ReadBack.{plain-words, line_reads_back}
+use Rattle.trace_line.proofs.ReadBack.{pieces-line, line_reads_back}
 
 -- lines in order, from this step on
 text_from : ℕ → List TraceLine → List ℕ
@@ -20,13 +20,6 @@ onto : List TraceLine → List TraceLine → List TraceLine
 onto [] before = before
 onto (line ∷ later) before = onto later (line ∷ before)
 
-first_line : (step : ℕ) (line : TraceLine) (rest : List ℕ) → step < 2 ^ 32 → IsPrintable line
-    → lines (trace_line step line ++ rest) ≡ line_text step line ∷ lines rest
-first_line step line rest small printable =
-    ap lines (append_assoc (line_text step line) (10 ∷ []) rest)
-    ∙ lines-line (line_text step line) rest (omega arith) (printed_bounds (line_text step line)
-    (printed-join (line_words step line) (plain-words step line small printable)))
-
 read_from : (number : ℕ) (later before : List TraceLine)
     → ArePrintable later → length before + length later ≤ 2 ^ 32
     → lines_after before (numbered_lines number (lines (text_from (length before) later)))
@@ -36,7 +29,9 @@ read_from number [] before printable few = refl
 read_from number (line ∷ later) before printable few =
     let small : length before < 2 ^ 32 = omega (arith, few) in
     rw (
-      first_line (length before) line (text_from (suc (length before)) later) small printable.0,
+      (first_line (codes "t") (line_pieces (length before) line)
+          (text_from (suc (length before)) later)
+          (pieces-line (length before) line small printable.0)).line,
       line_reads_back (length before) line small printable.0,
     ) (read_from (number + 1) later (line ∷ before) printable.1 (omega (arith, few)))
 

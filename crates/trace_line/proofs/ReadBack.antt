@@ -1,6 +1,6 @@
 -- The text of a line is read as that line.
-use Rattle.std.proofs.Common.{◌≡◌, ◌∙◌, ℕ, ◌/◌, ◌%◌, ◌^◌, ◌<◌, Bool, true, false, List, [], ◌∷◌, ◌++◌, Option, Some, None, IfSome, Ok, refl, ap, arith, rules}
-use Rattle.std.specs.Prelude.{◌==◌}
+use Rattle.std.proofs.Common.{◌≡◌, ◌∙◌, ℕ, ◌%◌, ◌^◌, ◌<◌, Bool, true, false, List, [], ◌∷◌, ◌++◌, Option, Some, None, IfSome, Ok, drop, refl, ap, arith, rules}
+use Rattle.std.specs.Prelude.{◌==◌, codes}
 use Rattle.std.specs.Fmt.{decimal}
 use Rattle.std.specs.List.{list_all}
 use Rattle.std.proofs.lemmas.Bool.{and_from, eq-eqb}
@@ -14,13 +14,15 @@ use Rattle.bus_signals.specs.declared.kind.Kind.{Kind}
 use Rattle.bus_signals.specs.declared.rule.Rule.{Rule}
 use Rattle.bus_signals.specs.Kind.{kind_name, kind_names}
 use Rattle.printed_lines.specs.Line.{byte_digits, word_digits, flag_digit}
+use Rattle.line_buffer.specs.LineLaw.{ArePieces}
+use Rattle.line_buffer.proofs.PieceLines.{first_line, plain-flag, plain-byte, plain-word}
 use Rattle.text_scan.specs.WordValue.{number_of, place_of, value_of}
 use Rattle.named_value.specs.Names.{value_named}
 use Rattle.named_value.specs.PlainWord.{IsPlainWord, is_plain}
 use Rattle.text_scan.proofs.NamedWord.{value_of-name}
-use Rattle.text_scan.proofs.PlainWords.{ArePlain, one_byte, two_bytes, decimal_of-decimal, hex_bytes_of-digits, hex_word_of-digits, words_of-join, plain-decimal, plain-encoded}
+use Rattle.text_scan.proofs.PlainWords.{one_byte, decimal_of-decimal, hex_bytes_of-digits, hex_word_of-digits, plain-decimal}
 use Rattle.trace_line.specs.declared.trace_line.TraceLine.{TraceLine}
-use Rattle.trace_line.specs.LineText.{access_word, rule_word, line_words}
+use Rattle.trace_line.specs.LineText.{access_word, rule_word, line_pieces}
 use Rattle.trace_line.specs.LineGrammar.{LAST_TRACED_STEP, fetch_in, read_in, write_in, access_in, rule_in, named_of, flag_of, bounds_of, fields_of, trace_line_of}
 use Rattle.bus_signals.specs.Bounds.{AreWords}
 use Rattle.trace_line.specs.ReadBack.{IsAllowed, IsPrintable, LinesReadBack}
@@ -97,71 +99,34 @@ bounds_of-digits : (bounds : Bounds) (rest : List (List ℕ)) → AreWords bound
 unfolding bounds_of
 bounds_of-digits bounds rest words =
     rw (
-      place_of-digits bounds.er_min (word_digits bounds.er_max
-          ∷ word_digits bounds.or_min ∷ word_digits bounds.or_max ∷ rest) words.er_min,
-      place_of-digits bounds.er_max
-          (word_digits bounds.or_min ∷ word_digits bounds.or_max ∷ rest) words.er_max,
-      place_of-digits bounds.or_min (word_digits bounds.or_max ∷ rest) words.or_min,
+      place_of-digits bounds.er_min _ words.er_min,
+      place_of-digits bounds.er_max _ words.er_max,
+      place_of-digits bounds.or_min _ words.or_min,
       place_of-digits bounds.or_max rest words.or_max,
     ) refl
 
-fields_of-words : (line : TraceLine) → IsPrintable line
-    → fields_of (
-    kind_name line.kind ∷ word_digits line.pc
-    ∷ access_word line.cpu ∷ access_word line.dma ∷ flag_digit line.irq ∷ flag_digit line.asked
-    ∷ word_digits line.word ∷ word_digits line.value ∷ word_digits line.dma_value
-    ∷ word_digits line.bounds.er_min ∷ word_digits line.bounds.er_max
-    ∷ word_digits line.bounds.or_min ∷ word_digits line.bounds.or_max
-    ∷ flag_digit line.exec ∷ rule_word line.rule ∷ []
-    ) ≡ Ok (line, [])
-unfolding fields_of
-fields_of-words line printable =
-    let rule : List (List ℕ) = rule_word line.rule ∷ [] in
-    let exec : List (List ℕ) = flag_digit line.exec ∷ rule in
-    let bounds : List (List ℕ) =
-    word_digits line.bounds.er_min ∷ word_digits line.bounds.er_max
-    ∷ word_digits line.bounds.or_min ∷ word_digits line.bounds.or_max ∷ exec in
-    let dma_value : List (List ℕ) = word_digits line.dma_value ∷ bounds in
-    let value : List (List ℕ) = word_digits line.value ∷ dma_value in
-    let word : List (List ℕ) = word_digits line.word ∷ value in
-    let asked : List (List ℕ) = flag_digit line.asked ∷ word in
-    let irq : List (List ℕ) = flag_digit line.irq ∷ asked in
-    let dma : List (List ℕ) = access_word line.dma ∷ irq in
-    let cpu : List (List ℕ) = access_word line.cpu ∷ dma in
-    rw (
-      kind_of-name line.kind (word_digits line.pc ∷ cpu),
-      place_of-digits line.pc cpu printable.pc,
-      access_of-word line.cpu dma printable.cpu,
-      access_of-word line.dma irq printable.dma,
-      flag_of-digit line.irq asked,
-      flag_of-digit line.asked word,
-      place_of-digits line.word value printable.word,
-      place_of-digits line.value dma_value printable.value,
-      place_of-digits line.dma_value bounds printable.dma_value,
-      bounds_of-digits line.bounds exec printable.bounds,
-      flag_of-digit line.exec rule,
-      rule_of-word line.rule [],
-    ) refl
-
-trace_line_of-words : (step : ℕ) (line : TraceLine) → step < 2 ^ 32 → IsPrintable line
-    → trace_line_of step (line_words step line) ≡ Ok line
-unfolding trace_line_of
-trace_line_of-words step line small printable =
+trace_line_of-pieces : (step : ℕ) (line : TraceLine) → step < 2 ^ 32 → IsPrintable line
+    → trace_line_of step (codes "t" ∷ line_pieces step line) ≡ Ok line
+unfolding trace_line_of fields_of
+trace_line_of-pieces step line small printable =
     rw (
       number_of-decimal step _ small,
-      fields_of-words line printable,
+      kind_of-name line.kind _,
+      place_of-digits line.pc _ printable.pc,
+      access_of-word line.cpu _ printable.cpu,
+      access_of-word line.dma _ printable.dma,
+      flag_of-digit line.irq _,
+      flag_of-digit line.asked _,
+      place_of-digits line.word _ printable.word,
+      place_of-digits line.value _ printable.value,
+      place_of-digits line.dma_value _ printable.dma_value,
+      bounds_of-digits line.bounds _ printable.bounds,
+      flag_of-digit line.exec _,
+      rule_of-word line.rule [],
       eq-eqb step step refl,
     ) refl
 
--- the words are printed characters
-
-plain-flag : (flag : Bool) → IsPlainWord (flag_digit flag)
-plain-flag true = (omega arith, refl)
-plain-flag false = (omega arith, refl)
-
-plain-place : (place : ℕ) → place < 2 ^ 16 → IsPlainWord (word_digits place)
-plain-place place small =
-    plain-encoded (place / 256 ∷ place % 256 ∷ []) (two_bytes place small) (omega arith)
+-- the pieces are words of printed characters
 
 plain-kind : (kind : Kind) → IsPlainWord (kind_name kind)
 plain-kind = search rules
@@ -181,76 +146,60 @@ plain-access : (access : Option Access) → IfSome access IsAllowed
 unfolding encode_with
 plain-access None allowed = (omega arith, refl)
 plain-access (Some (Fetch place)) allowed =
-    (omega arith, (plain-place place allowed.words).1)
+    (omega arith, (plain-word place allowed.words).1)
 plain-access (Some (Read place Byte)) allowed =
-    (omega arith, (plain-place place allowed.words).1)
+    (omega arith, (plain-word place allowed.words).1)
 plain-access (Some (Read place Word)) allowed =
-    (omega arith, (plain-place place allowed.words).1)
+    (omega arith, (plain-word place allowed.words).1)
 plain-access (Some (Write place Byte number)) allowed = (
   omega arith,
-  plain-pair (word_digits place) (byte_digits number) (plain-place place allowed.words.0)
-      (plain-encoded (number ∷ []) (one_byte number allowed.formed) (omega arith)),
+  plain-pair (word_digits place) (byte_digits number) (plain-word place allowed.words.0)
+      (plain-byte number allowed.formed),
 )
 plain-access (Some (Write place Word number)) allowed = (
   omega arith,
-  plain-pair (word_digits place) (word_digits number) (plain-place place allowed.words.0)
-      (plain-place number allowed.words.1),
+  plain-pair (word_digits place) (word_digits number) (plain-word place allowed.words.0)
+      (plain-word number allowed.words.1),
 )
 
-pub plain-words : (step : ℕ) (line : TraceLine) → step < 2 ^ 32 → IsPrintable line
-    → ArePlain (line_words step line)
-plain-words step line small printable = (
-  (omega arith, refl),
-  (
-    plain-decimal step (omega (arith, small)),
-    (
-      plain-kind line.kind,
+bounds-pieces : (bounds : Bounds) (later : List (List ℕ)) → AreWords bounds → ArePieces later
+    → ArePieces
+    (word_digits bounds.er_min ∷ word_digits bounds.er_max
+    ∷ word_digits bounds.or_min ∷ word_digits bounds.or_max ∷ later)
+bounds-pieces bounds later words are =
+    let last = plain-word bounds.or_max words.or_max in (
+      plain-word bounds.er_min words.er_min,
       (
-        plain-place line.pc printable.pc,
+        plain-word bounds.er_max words.er_max,
+        (plain-word bounds.or_min words.or_min, (last, are)),
+      ),
+    )
+
+pub pieces-line : (step : ℕ) (line : TraceLine) → step < 2 ^ 32 → IsPrintable line
+    → ArePieces (codes "t" ∷ line_pieces step line)
+pieces-line step line small printable =
+    let last : List (List ℕ) = flag_digit line.exec ∷ rule_word line.rule ∷ [] in
+    let end : ArePieces last = (plain-flag line.exec, (plain-rule line.rule, tt)) in
+    let values : ArePieces (drop 7 (line_pieces step line)) = (
+      plain-word line.word printable.word,
+      (
+        plain-word line.value printable.value,
         (
-          plain-access line.cpu printable.cpu,
-          (
-            plain-access line.dma printable.dma,
-            (
-              plain-flag line.irq,
-              (
-                plain-flag line.asked,
-                (
-                  plain-place line.word printable.word,
-                  (
-                    plain-place line.value printable.value,
-                    (
-                      plain-place line.dma_value printable.dma_value,
-                      (
-                        plain-place line.bounds.er_min printable.bounds.er_min,
-                        (
-                          plain-place line.bounds.er_max printable.bounds.er_max,
-                          (
-                            plain-place line.bounds.or_min printable.bounds.or_min,
-                            (
-                              plain-place line.bounds.or_max printable.bounds.or_max,
-                              (
-                                plain-flag line.exec,
-                                (plain-rule line.rule, tt),
-                              ),
-                            ),
-                          ),
-                        ),
-                      ),
-                    ),
-                  ),
-                ),
-              ),
-            ),
-          ),
+          plain-word line.dma_value printable.dma_value,
+          bounds-pieces line.bounds last printable.bounds end,
         ),
       ),
-    ),
-  ),
-)
+    ) in
+    let asked : ArePieces (drop 5 (line_pieces step line)) =
+    (plain-flag line.irq, (plain-flag line.asked, values)) in
+    let proposed : ArePieces (drop 3 (line_pieces step line)) =
+    (plain-access line.cpu printable.cpu, (plain-access line.dma printable.dma, asked)) in
+    let head : ArePieces (drop 1 (line_pieces step line)) =
+    (plain-kind line.kind, (plain-word line.pc printable.pc, proposed)) in
+    ((omega arith, refl), (plain-decimal step (omega (arith, small)), head))
 
 pub line_reads_back : LinesReadBack
 line_reads_back step line small printable =
-    ap (trace_line_of step)
-    (words_of-join (line_words step line) (plain-words step line small printable))
-    ∙ trace_line_of-words step line small printable
+    let are = pieces-line step line small printable in
+    ap (trace_line_of step) (first_line (codes "t") (line_pieces step line) [] are).words
+    ∙ trace_line_of-pieces step line small printable

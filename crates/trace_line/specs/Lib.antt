@@ -1,4 +1,3 @@
-pub mod Spaced
 pub mod LineText
 pub mod LineGrammar
 pub mod TraceFile

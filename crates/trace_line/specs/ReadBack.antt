@@ -1,13 +1,14 @@
 -- The text of a line is read as that line.
-use Rattle.std.specs.Prelude.{◌≡◌, ◌<◌, ◌≤◌, ◌^◌, ℕ, List, [], ◌∷◌, length, IfSome, Ok}
+use Rattle.std.specs.Prelude.{◌≡◌, ◌<◌, ◌≤◌, ◌^◌, ℕ, List, [], ◌∷◌, length, codes, IfSome, Ok}
 use Rattle.bus_signals.specs.declared.access.Access.{Access}
 use Rattle.bus_signals.specs.declared.access.Access.TheVariants.{Fetch, Read, Write}
 use Rattle.bus_signals.specs.Access.{IsFormed}
 use Rattle.bus_signals.specs.Bounds.{AreWords}
+use Rattle.printed_lines.specs.Line.{with_pieces}
 use Rattle.text_scan.specs.Word.{words_of}
 use Rattle.trace_line.specs.declared.trace_line.TraceLine.{TraceLine}
 use Rattle.trace_line.specs.LineGrammar.{trace_line_of}
-use Rattle.trace_line.specs.LineText.{line_text, file_text}
+use Rattle.trace_line.specs.LineText.{line_pieces, file_text}
 use Rattle.trace_line.specs.TraceFile.{trace_of}
 
 -- the numbers of an access are words
@@ -34,7 +35,7 @@ pub record IsPrintable (line : TraceLine) : Type 0 where
 abbrev pub LinesReadBack : Type 0
 LinesReadBack =
     (step : ℕ) (line : TraceLine) → step < 2 ^ 32 → IsPrintable line
-    → trace_line_of step (words_of (line_text step line)) ≡ Ok line
+    → trace_line_of step (words_of (with_pieces (codes "t") (line_pieces step line))) ≡ Ok line
 
 abbrev pub ArePrintable : List TraceLine → Type 0
 ArePrintable [] = Unit {0}

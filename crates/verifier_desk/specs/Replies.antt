@@ -3,7 +3,8 @@ use Rattle.std.specs.Prelude.{ℕ, ◌++◌, Bool, false, List, [], ◌∷◌, i
 use Rattle.std.specs.Fmt.{decimal}
 use Rattle.std.specs.Str.{bytes_eq}
 use Rattle.part_definitions.specs.Request.{request_token}
-use Rattle.report_text.specs.RequestLine.{request_fields}
+use Rattle.printed_lines.specs.Line.{line_of}
+use Rattle.report_text.specs.RequestLine.{request_pieces}
 use Rattle.report_verifier.specs.VerdictName.{verdict_name}
 use Rattle.report_verifier.specs.Expectation.{count_bytes}
 use Rattle.report_verifier.specs.Judge.{Judge}
@@ -41,10 +42,10 @@ state_at desk device lines =
     state_from (judge_at desk device) (state_named desk.entries device.name) lines
 
 -- a request with the desk's challenge of this counter
-abbrev pub requested_words : (List ℕ → List ℕ) → List ℕ → ℕ → List ℕ
-requested_words digest key count =
+abbrev pub requested_pieces : (List ℕ → List ℕ) → List ℕ → ℕ → List (List ℕ)
+requested_pieces digest key count =
     let chal = desk_challenge digest key count in
-    codes " " ++ request_fields chal count (request_token digest key chal (count_bytes count))
+    request_pieces chal count (request_token digest key chal (count_bytes count))
 
 abbrev pub answer_verb : Answer → List ℕ
 answer_verb Stale = codes "stale"
@@ -53,17 +54,17 @@ answer_verb Spent = codes "spent"
 answer_verb (Requested count) = codes "request"
 answer_verb (Judged decision) = codes "verdict"
 
-abbrev pub answer_words : (List ℕ → List ℕ) → List ℕ → Answer → List ℕ
-answer_words digest key (Bad kind) = codes " " ++ fault_name kind
-answer_words digest key (Requested count) = requested_words digest key count
-answer_words digest key (Judged decision) = codes " " ++ verdict_name decision
-answer_words digest key answer = []
+abbrev pub answer_pieces : (List ℕ → List ℕ) → List ℕ → Answer → List (List ℕ)
+answer_pieces digest key (Bad kind) = fault_name kind ∷ []
+answer_pieces digest key (Requested count) = requested_pieces digest key count
+answer_pieces digest key (Judged decision) = verdict_name decision ∷ []
+answer_pieces digest key answer = []
 
 -- the line of an answer: its verb, the device's name, the number of its line, and what it says
 abbrev pub answer_line : (List ℕ → List ℕ) → DeviceKey → ℕ → Answer → List ℕ
 answer_line digest device number answer =
-    answer_verb answer ++ codes " " ++ device.name ++ codes " " ++ decimal number
-    ++ answer_words digest device.key answer ++ codes "\n"
+    line_of (answer_verb answer)
+    (device.name ∷ decimal number ∷ answer_pieces digest device.key answer)
 
 -- the lines of the device of this name, among lines that are newest first
 abbrev pub own_line : List ℕ → DeskLine → List DeviceLine

@@ -1,12 +1,11 @@
 -- How a reader takes the changes of a time.
-use Rattle.std.proofs.Common.{suc, ◌≡◌, ◌∙◌, ℕ, ◌+◌, Bool, true, false, List, [], ◌∷◌, ◌++◌, Option, Some, append_assoc, eqb-true, flat_map, length, option_map, refl, sym, ap, subst, arith}
+use Rattle.std.proofs.Common.{suc, ◌≡◌, ◌∙◌, ℕ, ◌+◌, Bool, true, false, List, [], ◌∷◌, ◌++◌, Option, Some, append_assoc, eqb-true, flat_map, length, option_map, refl, sym, ap, subst, arith, rules}
 use Rattle.std.specs.Prelude.{◌==◌, ◌&&◌, codes, if◌then◌else◌}
 use Rattle.std.specs.Bool.{MatchBool}
 use Rattle.std.specs.Fmt.{digits}
 use Rattle.std.proofs.lemmas.Bool.{and_parts}
 use Rattle.named_value.specs.PlainWord.{is_plain}
 use Rattle.wave_dump.specs.declared.wire.Wire.{Wire}
-use Rattle.wave_dump.specs.declared.wire.Wire.TheVariants.{Pc, StepKind, Irq, Asked, BrokenRule, CpuOp, CpuAddress, CpuData, FetchWord, DmaOp, DmaAddress, DmaData, ErMin, ErMax, OrMin, OrMax, Exec}
 use Rattle.wave_dump.specs.Wire.{wires, wire_code}
 use Rattle.word_arith.specs.Number.{bit_of}
 use Rattle.wave_dump.specs.WaveText.{change_text, digits_text, is_bit}
@@ -16,23 +15,7 @@ use Rattle.wave_dump.proofs.Reading.{Reads, plain_value, reads_both, reads_line,
 use Rattle.wave_dump.proofs.Stages.{are_numbered, kept, replaced, staged}
 
 plain-code : (wire : Wire) → is_plain (wire_code wire) ≡ true
-plain-code Pc = refl
-plain-code StepKind = refl
-plain-code Irq = refl
-plain-code Asked = refl
-plain-code BrokenRule = refl
-plain-code CpuOp = refl
-plain-code CpuAddress = refl
-plain-code CpuData = refl
-plain-code FetchWord = refl
-plain-code DmaOp = refl
-plain-code DmaAddress = refl
-plain-code DmaData = refl
-plain-code ErMin = refl
-plain-code ErMax = refl
-plain-code OrMin = refl
-plain-code OrMax = refl
-plain-code Exec = refl
+plain-code = search rules
 
 plain-after : (wire : Wire) → (is_plain (wire_code wire) && true) ≡ true
 plain-after wire = ap (λ (plain : Bool). plain && true) (plain-code wire)

@@ -1,4 +1,4 @@
--- What a wire of a printable line shows has as many bits as a reader takes.
+-- What a wire of a step shows has as many bits as a reader takes.
 use Rattle.std.proofs.Common.{◌≡◌, ℕ, ◌^◌, ◌<◌, Bool, Option, Some, None, IfSome, refl, arith, rules}
 use Rattle.std.specs.Bool.{MatchBool}
 use Rattle.word_arith.specs.declared.size.Size.TheVariants.{Byte, Word}
@@ -7,11 +7,12 @@ use Rattle.bus_signals.specs.declared.access.Access.TheVariants.{Fetch, Read, Wr
 use Rattle.bus_signals.specs.declared.kind.Kind.{Kind}
 use Rattle.bus_signals.specs.declared.rule.Rule.{Rule}
 use Rattle.bus_signals.specs.Kind.{kind_name}
-use Rattle.trace_line.specs.declared.trace_line.TraceLine.{TraceLine}
-use Rattle.trace_line.specs.ReadBack.{IsAllowed, IsPrintable}
+use Rattle.trace_line.specs.ReadBack.{IsAllowed}
+use Rattle.wave_dump.specs.declared.sample.Sample.{Sample}
 use Rattle.wave_dump.specs.declared.wire.Wire.{Wire}
-use Rattle.wave_dump.specs.declared.wire.Wire.TheVariants.{Pc, StepKind, Irq, Asked, BrokenRule, CpuOp, CpuAddress, CpuData, FetchWord, DmaOp, DmaAddress, DmaData, ErMin, ErMax, OrMin, OrMax, Exec}
+use Rattle.wave_dump.specs.declared.wire.Wire.TheVariants.{Pc, StepKind, Irq, Asked, BrokenRule, CpuOp, CpuAddress, CpuData, FetchWord, DmaOp, DmaAddress, DmaData, ErMin, ErMax, OrMin, OrMax, Exec, Sp, Sr, R4, R5, R6, R7, R8, R9, R10, R11, R12, R13, R14, R15}
 use Rattle.word_arith.specs.Number.{bit_of}
+use Rattle.wave_dump.specs.ReadBack.{IsShowable}
 use Rattle.wave_dump.specs.WireValue.{access_data, access_letter, access_place, of_access, rule_number, text_number, wire_value}
 use Rattle.wave_dump.specs.WaveText.{is_bit}
 
@@ -52,23 +53,38 @@ short-data value (Some (Fetch place)) small allowed = omega (arith, small)
 short-data value (Some (Read place size)) small allowed = omega (arith, small)
 short-data value (Some (Write place size number)) small allowed = omega (arith, allowed.words.1)
 
-pub suits : (line : TraceLine) → IsPrintable line → (wire : Wire)
-    → Suits wire (wire_value wire line)
-suits line printable Pc = omega (arith, printable.pc)
-suits line printable StepKind = short-kind line.kind
-suits line printable Irq = (line.irq, refl)
-suits line printable Asked = (line.asked, refl)
-suits line printable BrokenRule = short-rule line.rule
-suits line printable CpuOp = short-letter line.cpu
-suits line printable CpuAddress = short-place line.cpu printable.cpu
-suits line printable CpuData = short-data line.value line.cpu printable.value printable.cpu
-suits line printable FetchWord = omega (arith, printable.word)
-suits line printable DmaOp = short-letter line.dma
-suits line printable DmaAddress = short-place line.dma printable.dma
-suits line printable DmaData =
-    short-data line.dma_value line.dma printable.dma_value printable.dma
-suits line printable ErMin = omega (arith, printable.bounds.er_min)
-suits line printable ErMax = omega (arith, printable.bounds.er_max)
-suits line printable OrMin = omega (arith, printable.bounds.or_min)
-suits line printable OrMax = omega (arith, printable.bounds.or_max)
-suits line printable Exec = (line.exec, refl)
+pub suits : (sample : Sample) → IsShowable sample → (wire : Wire)
+    → Suits wire (wire_value wire sample)
+suits sample showable Pc = omega (arith, showable.line.pc)
+suits sample showable StepKind = short-kind sample.line.kind
+suits sample showable Irq = (sample.line.irq, refl)
+suits sample showable Asked = (sample.line.asked, refl)
+suits sample showable BrokenRule = short-rule sample.line.rule
+suits sample showable CpuOp = short-letter sample.line.cpu
+suits sample showable CpuAddress = short-place sample.line.cpu showable.line.cpu
+suits sample showable CpuData =
+    short-data sample.line.value sample.line.cpu showable.line.value showable.line.cpu
+suits sample showable FetchWord = omega (arith, showable.line.word)
+suits sample showable DmaOp = short-letter sample.line.dma
+suits sample showable DmaAddress = short-place sample.line.dma showable.line.dma
+suits sample showable DmaData =
+    short-data sample.line.dma_value sample.line.dma showable.line.dma_value showable.line.dma
+suits sample showable ErMin = omega (arith, showable.line.bounds.er_min)
+suits sample showable ErMax = omega (arith, showable.line.bounds.er_max)
+suits sample showable OrMin = omega (arith, showable.line.bounds.or_min)
+suits sample showable OrMax = omega (arith, showable.line.bounds.or_max)
+suits sample showable Exec = (sample.line.exec, refl)
+suits sample showable Sp = omega (arith, showable.registers 1)
+suits sample showable Sr = omega (arith, showable.registers 2)
+suits sample showable R4 = omega (arith, showable.registers 4)
+suits sample showable R5 = omega (arith, showable.registers 5)
+suits sample showable R6 = omega (arith, showable.registers 6)
+suits sample showable R7 = omega (arith, showable.registers 7)
+suits sample showable R8 = omega (arith, showable.registers 8)
+suits sample showable R9 = omega (arith, showable.registers 9)
+suits sample showable R10 = omega (arith, showable.registers 10)
+suits sample showable R11 = omega (arith, showable.registers 11)
+suits sample showable R12 = omega (arith, showable.registers 12)
+suits sample showable R13 = omega (arith, showable.registers 13)
+suits sample showable R14 = omega (arith, showable.registers 14)
+suits sample showable R15 = omega (arith, showable.registers 15)

@@ -1,5 +1,6 @@
 pub mod Binary
 pub mod Pieces
+pub mod Registers
 pub mod Ends
 pub mod Fitting
 pub mod Reading

@@ -1,15 +1,14 @@
--- A waveform is read as the lines that it was written of.
+-- A waveform is read as the steps that it was written of.
 use Rattle.std.proofs.Common.{◌≡◌, ◌∙◌, ◌^◌, ◌<◌, ℕ, Bool, List, [], ◌++◌, Some, None, append-nil, append_assoc, length, take, drop, refl, sym, ap}
 use Rattle.std.specs.Prelude.{if◌then◌else◌}
 use Rattle.std.specs.Str.{bytes_eq}
 use Rattle.std.specs.Str.Lines.{lines}
 use Rattle.std.proofs.Math.Seq.{drop-append_seam, take-append_seam}
 use Rattle.std.proofs.lemmas.Slice.Eq.{bytes_eq-Decides}
-use Rattle.trace_line.specs.declared.trace_line.TraceLine.{TraceLine}
-use Rattle.trace_line.specs.ReadBack.{ArePrintable}
+use Rattle.wave_dump.specs.declared.sample.Sample.{Sample}
 use Rattle.wave_dump.specs.WaveText.{end_text, header, steps_text}
 use Rattle.wave_dump.specs.WaveReader.{points_after, points_of}
-use Rattle.wave_dump.specs.ReadBack.{WavesReadBack}
+use Rattle.wave_dump.specs.ReadBack.{AreShowable, WavesReadBack}
 use Rattle.wave_dump.proofs.Reading.{reads_both}
 use Rattle.wave_dump.proofs.Steps.{all_points, points_for, reads_ends, reads_steps, shows_end, shows_steps}
 
@@ -31,22 +30,22 @@ cut head rest =
     ∙ ap (λ (same : Bool). if same then points_after [] (lines rest) else None)
     ((bytes_eq-Decides head head).1 refl)
 
-reads-whole : (texts : List TraceLine) → ArePrintable texts → length texts < 2 ^ 32
-    → points_after [] (lines (steps_text texts ++ end_text texts)) ≡ Some (all_points texts)
+reads-whole : (samples : List Sample) → AreShowable samples → length samples < 2 ^ 32
+    → points_after [] (lines (steps_text samples ++ end_text samples)) ≡ Some (all_points samples)
 unfolding points_after
-reads-whole texts printable few =
-    let text : List ℕ = steps_text texts ++ end_text texts in
+reads-whole samples showable few =
+    let text : List ℕ = steps_text samples ++ end_text samples in
     ap (λ (told : List ℕ). points_after [] (lines told)) (sym (append-nil text))
-    ∙ reads_both (steps_text texts) (end_text texts) [] (points_for texts) (all_points texts)
-    (reads_steps texts printable few) (reads_ends texts printable few) []
+    ∙ reads_both (steps_text samples) (end_text samples) [] (points_for samples)
+    (all_points samples) (reads_steps samples showable few) (reads_ends samples showable few) []
 
 pub waves_read_back : WavesReadBack
-waves_read_back texts printable few = record {
-  points = all_points texts;
+waves_read_back samples showable few = record {
+  points = all_points samples;
   read = ap (λ (text : List ℕ). points_of text)
-      (append_assoc header (steps_text texts) (end_text texts))
-      ∙ cut header (steps_text texts ++ end_text texts)
-      ∙ reads-whole texts printable few;
-  steps = shows_steps texts;
-  end = shows_end texts;
+      (append_assoc header (steps_text samples) (end_text samples))
+      ∙ cut header (steps_text samples ++ end_text samples)
+      ∙ reads-whole samples showable few;
+  steps = shows_steps samples;
+  end = shows_end samples;
 }

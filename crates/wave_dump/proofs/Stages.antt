@@ -3,7 +3,7 @@
 use Rattle.std.proofs.Common.{suc, ◌≡◌, ℕ, Bool, true, List, [], ◌∷◌, map, Option, Some, refl}
 use Rattle.std.specs.Prelude.{◌==◌, ◌&&◌, nat_lt, if◌then◌else◌}
 use Rattle.wave_dump.specs.declared.wire.Wire.{Wire}
-use Rattle.wave_dump.specs.declared.wire.Wire.TheVariants.{Pc, StepKind, Irq, Asked, BrokenRule, CpuOp, CpuAddress, CpuData, FetchWord, DmaOp, DmaAddress, DmaData, ErMin, ErMax, OrMin, OrMax, Exec}
+use Rattle.wave_dump.specs.declared.wire.Wire.TheVariants.{Pc, StepKind, Irq, Asked, BrokenRule, CpuOp, CpuAddress, CpuData, FetchWord, DmaOp, DmaAddress, DmaData, ErMin, ErMax, OrMin, OrMax, Exec, Sp, Sr, R4, R5, R6, R7, R8, R9, R10, R11, R12, R13, R14, R15}
 use Rattle.wave_dump.specs.Wire.{wires, wire_code}
 use Rattle.wave_dump.specs.WaveReader.{with_value}
 
@@ -34,6 +34,20 @@ replaced old new ErMax = refl
 replaced old new OrMin = refl
 replaced old new OrMax = refl
 replaced old new Exec = refl
+replaced old new Sp = refl
+replaced old new Sr = refl
+replaced old new R4 = refl
+replaced old new R5 = refl
+replaced old new R6 = refl
+replaced old new R7 = refl
+replaced old new R8 = refl
+replaced old new R9 = refl
+replaced old new R10 = refl
+replaced old new R11 = refl
+replaced old new R12 = refl
+replaced old new R13 = refl
+replaced old new R14 = refl
+replaced old new R15 = refl
 
 -- and so does none, where the value is the same
 pub kept : (old new : Wire → Option ℕ) (wire : Wire) → old wire ≡ new wire
@@ -55,6 +69,20 @@ kept old new ErMax same = rw same refl
 kept old new OrMin same = rw same refl
 kept old new OrMax same = rw same refl
 kept old new Exec same = rw same refl
+kept old new Sp same = rw same refl
+kept old new Sr same = rw same refl
+kept old new R4 same = rw same refl
+kept old new R5 same = rw same refl
+kept old new R6 same = rw same refl
+kept old new R7 same = rw same refl
+kept old new R8 same = rw same refl
+kept old new R9 same = rw same refl
+kept old new R10 same = rw same refl
+kept old new R11 same = rw same refl
+kept old new R12 same = rw same refl
+kept old new R13 same = rw same refl
+kept old new R14 same = rw same refl
+kept old new R15 same = rw same refl
 
 -- the wires have the codes from this one on, in their order
 abbrev pub are_numbered : ℕ → List Wire → Bool

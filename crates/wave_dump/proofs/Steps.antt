@@ -1,16 +1,16 @@
 -- What a reader has after the steps of a waveform.
-use Rattle.std.proofs.Common.{suc, ◌≡◌, ◌∙◌, ℕ, ◌^◌, ◌<◌, ◌≤◌, ◌||◌, Bool, true, false, List, [], ◌∷◌, ◌++◌, map, Option, Some, None, length, eqb-true, le-leb, refl, sym, ap, subst, true≢false, arith}
-use Rattle.std.specs.Prelude.{codes, if◌then◌else◌}
+use Rattle.std.proofs.Common.{suc, ◌≡◌, ◌∙◌, ℕ, ◌^◌, ◌<◌, ◌≤◌, Bool, true, false, List, [], ◌∷◌, ◌++◌, map, Option, Some, None, length, eqb-true, le-leb, refl, sym, ap, subst, true≢false, ⊎_elim, arith}
+use Rattle.std.specs.Prelude.{codes, replicate, slice_index, if◌then◌else◌}
 use Rattle.std.specs.List.{list_any}
-use Rattle.std.proofs.lemmas.Bool.{false≢true, lt-leb, not-false}
-use Rattle.trace_line.specs.declared.trace_line.TraceLine.{TraceLine}
-use Rattle.trace_line.specs.ReadBack.{ArePrintable, IsPrintable}
+use Rattle.std.proofs.lemmas.Bool.{cases_lt, false≢true, lt-leb, not-false, or_parts}
+use Rattle.std.proofs.lemmas.List.{get_or-replicate, get_or_past}
+use Rattle.wave_dump.specs.declared.sample.Sample.{Sample}
 use Rattle.wave_dump.specs.declared.wire.Wire.{Wire}
 use Rattle.wave_dump.specs.Wire.{wires}
 use Rattle.wave_dump.specs.WireValue.{is_same_value, wire_value}
-use Rattle.wave_dump.specs.WaveText.{changes_text, dump_text, end_text, is_told, last_shown, shown_after, step_text, steps_text, time_text, told_text}
+use Rattle.wave_dump.specs.WaveText.{changes_text, dump_text, end_text, is_any_told, is_told, last_shown, registers_after, shown_after, step_text, steps_text, time_text, told_text, wires_text}
 use Rattle.wave_dump.specs.WaveReader.{WavePoint, last_values, values_at}
-use Rattle.wave_dump.specs.ReadBack.{ShowEnd, ShowSteps, values_of}
+use Rattle.wave_dump.specs.ReadBack.{AreShowable, IsShowable, ShowEnd, ShowSteps, values_of}
 use Rattle.wave_dump.proofs.Fitting.{suits}
 use Rattle.wave_dump.proofs.Reading.{Reads, point_at, reads_both, reads_dumpvars, reads_end, reads_nothing, reads_time}
 use Rattle.wave_dump.proofs.Stages.{numbered_wires}
@@ -25,105 +25,102 @@ same-value None (Some right) is = absurd (false≢true is)
 same-value (Some left) None is = absurd (false≢true is)
 
 -- what the wires showed before
-abbrev old_value : Option TraceLine → Wire → Option ℕ
+abbrev old_value : Option Sample → Wire → Option ℕ
 old_value None wire = None
 old_value (Some last) wire = wire_value wire last
 
-untold : (last : Option TraceLine) (now : TraceLine) (wire : Wire) → is_told last now wire ≡ false
+untold : (last : Option Sample) (now : Sample) (wire : Wire) → is_told last now wire ≡ false
     → old_value last wire ≡ wire_value wire now
 untold None now wire is = absurd (true≢false is)
 untold (Some last) now wire is =
     same-value (wire_value wire last) (wire_value wire now)
     (not-false (is_same_value (wire_value wire last) (wire_value wire now)) is)
 
-abbrev point_of : ℕ → TraceLine → WavePoint
-point_of step line = record { time = step; values = values_of line }
+abbrev point_of : ℕ → Sample → WavePoint
+point_of step sample = record { time = step; values = values_of sample }
 
-reads-values : (step : ℕ) (last : Option TraceLine) (now : TraceLine) (points : List WavePoint)
-    → IsPrintable now → last_values points ≡ map (old_value last) wires
+reads-values : (step : ℕ) (last : Option Sample) (now : Sample) (points : List WavePoint)
+    → IsShowable now → last_values points ≡ map (old_value last) wires
     → Reads (changes_text last now) (point_at step points ∷ points) (point_of step now ∷ points)
-unfolding changes_text
-reads-values step last now points printable is =
+unfolding wires_text
+reads-values step last now points showable is =
     subst
     (λ (values : List (Option ℕ)). Reads (changes_text last now)
     (record { time = step; values = values } ∷ points) (point_of step now ∷ points))
     (sym is)
     (reads_changes (is_told last now) (old_value last) (λ wire. wire_value wire now)
-    (record { suits = suits now printable; untold = untold last now })
-    step points wires 65 82 numbered_wires refl)
+    (record { suits = suits now showable; untold = untold last now })
+    step points wires 65 96 numbered_wires refl)
 
-reads-told : (step : ℕ) (last : Option TraceLine) (now : TraceLine) (points : List WavePoint)
-    → step < 2 ^ 32 → IsPrintable now → last_values points ≡ map (old_value last) wires
+reads-told : (step : ℕ) (last : Option Sample) (now : Sample) (points : List WavePoint)
+    → step < 2 ^ 32 → IsShowable now → last_values points ≡ map (old_value last) wires
     → Reads (told_text step last now) points (point_of step now ∷ points)
-reads-told step last now points small printable is =
+reads-told step last now points small showable is =
     reads_both (time_text step) (changes_text last now) points (point_at step points ∷ points)
     (point_of step now ∷ points) (reads_time step points small)
-    (reads-values step last now points printable is)
+    (reads-values step last now points showable is)
 
-reads-dump : (step : ℕ) (now : TraceLine) (points : List WavePoint)
-    → IsPrintable now → last_values points ≡ map (old_value None) wires
+reads-dump : (step : ℕ) (now : Sample) (points : List WavePoint)
+    → IsShowable now → last_values points ≡ map (old_value None) wires
     → Reads (dump_text now) (point_at step points ∷ points) (point_of step now ∷ points)
-reads-dump step now points printable is =
+reads-dump step now points showable is =
     let begun : List WavePoint = point_at step points ∷ points in
     let done : List WavePoint = point_of step now ∷ points in
     reads_both (codes "$dumpvars\n") (changes_text None now ++ codes "$end\n") begun begun done
     (reads_dumpvars begun)
     (reads_both (changes_text None now) (codes "$end\n") begun done done
-    (reads-values step None now points printable is) (reads_end done))
+    (reads-values step None now points showable is) (reads_end done))
 
--- the points of lines
+-- the points of steps
 
 -- a point where a step tells something
 abbrev added : Bool → WavePoint → List WavePoint → List WavePoint
 added true point points = point ∷ points
 added false point points = points
 
-abbrev tells : Option TraceLine → TraceLine → Bool
+abbrev tells : Option Sample → Sample → Bool
 tells None now = true
-tells (Some last) now = list_any (is_told (Some last) now) wires
+tells (Some last) now = is_any_told (Some last) now wires
 
-abbrev points_with : List TraceLine → TraceLine → List WavePoint → List WavePoint
-points_with before line points =
-    let now : TraceLine = shown_after before line in
+abbrev points_with : List Sample → Sample → List WavePoint → List WavePoint
+points_with before sample points =
+    let now : Sample = shown_after before sample in
     added (tells (last_shown before) now) (point_of (length before) now) points
 
-pub points_for : List TraceLine → List WavePoint
+pub points_for : List Sample → List WavePoint
 points_for [] = []
-points_for (line ∷ before) = points_with before line (points_for before)
+points_for (sample ∷ before) = points_with before sample (points_for before)
 
-reads-step : (step : ℕ) (last : Option TraceLine) (now : TraceLine) (points : List WavePoint)
-    → step < 2 ^ 32 → IsPrintable now → last_values points ≡ map (old_value last) wires
+reads-step : (step : ℕ) (last : Option Sample) (now : Sample) (points : List WavePoint)
+    → step < 2 ^ 32 → IsShowable now → last_values points ≡ map (old_value last) wires
     → Reads (step_text step last now) points (added (tells last now) (point_of step now) points)
-reads-step step None now points small printable is =
+reads-step step None now points small showable is =
     reads_both (time_text step) (dump_text now) points (point_at step points ∷ points)
     (point_of step now ∷ points) (reads_time step points small)
-    (reads-dump step now points printable is)
-reads-step step (Some last) now points small printable is =
-    by (list_any (is_told (Some last) now) wires)
+    (reads-dump step now points showable is)
+reads-step step (Some last) now points small showable is =
+    by (is_any_told (Some last) now wires)
   where
     by : (some : Bool)
         → Reads (if some then told_text step (Some last) now else []) points
         (added some (point_of step now) points)
-    by true = reads-told step (Some last) now points small printable is
+    by true = reads-told step (Some last) now points small showable is
     by false = reads_nothing points
 
 -- a step that tells nothing shows what was shown before
-
-neither : (left right : Bool) → (left || right) ≡ false → (left ≡ false) × (right ≡ false)
-neither true right is = absurd (true≢false is)
-neither false right is = (refl, is)
 
 none-told : (told : Wire → Bool) (old new : Wire → Option ℕ)
     → ((wire : Wire) → told wire ≡ false → old wire ≡ new wire)
     → (ws : List Wire) → list_any told ws ≡ false → map old ws ≡ map new ws
 none-told told old new same [] is = refl
 none-told told old new same (wire ∷ ws) is =
-    let both = neither (told wire) (list_any told ws) is in
+    let both = or_parts (told wire) (list_any told ws) is in
     ap (λ (value : Option ℕ). value ∷ map old ws) (same wire both.0)
     ∙ ap (λ (values : List (Option ℕ)). new wire ∷ values) (none-told told old new same ws both.1)
 
-quiet : (last : Option TraceLine) (now : TraceLine) → tells last now ≡ false
+quiet : (last : Option Sample) (now : Sample) → tells last now ≡ false
     → map (old_value last) wires ≡ values_of now
+unfolding is_any_told
 quiet None now is = absurd (true≢false is)
 quiet (Some last) now is =
     none-told (is_told (Some last) now) (old_value (Some last)) (λ wire. wire_value wire now)
@@ -135,52 +132,68 @@ last-added : (some : Bool) (point : WavePoint) (points : List WavePoint)
 last-added true point points same = refl
 last-added false point points same = same refl
 
-last_is : (lines : List TraceLine)
-    → last_values (points_for lines) ≡ map (old_value (last_shown lines)) wires
+last_is : (samples : List Sample)
+    → last_values (points_for samples) ≡ map (old_value (last_shown samples)) wires
 unfolding points_for
 last_is [] = refl
-last_is (line ∷ before) =
-    let now : TraceLine = shown_after before line in
+last_is (sample ∷ before) =
+    let now : Sample = shown_after before sample in
     last-added (tells (last_shown before) now) (point_of (length before) now) (points_for before)
     (λ none. last_is before ∙ quiet (last_shown before) now none)
 
 -- what a reader has read
 
-shown-printable : (before : List TraceLine) (line : TraceLine) → IsPrintable line
-    → IsPrintable (shown_after before line)
-shown-printable before line printable = record {
-  pc = printable.pc;
-  cpu = printable.cpu;
-  dma = printable.dma;
-  word = printable.word;
-  value = printable.value;
-  dma_value = printable.dma_value;
-  bounds = printable.bounds;
+clear-words : (number : ℕ) → slice_index (replicate 16 0) number < 2 ^ 16
+clear-words number =
+    ⊎_elim
+    (λ within. omega (arith, get_or-replicate {A = ℕ} 16 number 0 0 within))
+    (λ past. omega (arith, get_or_past {X = ℕ} (replicate 16 0) number 0 past))
+    (cases_lt number 16)
+
+registers-showable : (before : List Sample) → AreShowable before
+    → (number : ℕ) → slice_index (registers_after before) number < 2 ^ 16
+registers-showable [] showable = clear-words
+registers-showable (sample ∷ before) showable = showable.0.registers
+
+shown-showable : (before : List Sample) (sample : Sample) → AreShowable before
+    → IsShowable sample → IsShowable (shown_after before sample)
+shown-showable before sample earlier showable = record {
+  line = record {
+    pc = showable.line.pc;
+    cpu = showable.line.cpu;
+    dma = showable.line.dma;
+    word = showable.line.word;
+    value = showable.line.value;
+    dma_value = showable.line.dma_value;
+    bounds = showable.line.bounds;
+  };
+  registers = registers-showable before earlier;
 }
 
-pub reads_steps : (lines : List TraceLine) → ArePrintable lines → length lines < 2 ^ 32
-    → Reads (steps_text lines) [] (points_for lines)
+pub reads_steps : (samples : List Sample) → AreShowable samples → length samples < 2 ^ 32
+    → Reads (steps_text samples) [] (points_for samples)
 unfolding steps_text points_for
-reads_steps [] printable few = reads_nothing []
-reads_steps (line ∷ before) printable few =
+reads_steps [] showable few = reads_nothing []
+reads_steps (sample ∷ before) showable few =
     reads_both (steps_text before)
-    (step_text (length before) (last_shown before) (shown_after before line)) []
-    (points_for before) (points_for (line ∷ before))
-    (reads_steps before printable.1 (omega (arith, few)))
-    (reads-step (length before) (last_shown before) (shown_after before line) (points_for before)
-    (omega (arith, few)) (shown-printable before line printable.0) (last_is before))
+    (step_text (length before) (last_shown before) (shown_after before sample)) []
+    (points_for before) (points_for (sample ∷ before))
+    (reads_steps before showable.1 (omega (arith, few)))
+    (reads-step (length before) (last_shown before) (shown_after before sample) (points_for before)
+    (omega (arith, few)) (shown-showable before sample showable.1 showable.0) (last_is before))
 
-pub all_points : List TraceLine → List WavePoint
+pub all_points : List Sample → List WavePoint
 all_points [] = []
-all_points (line ∷ before) = point_of (length (line ∷ before)) line ∷ points_for (line ∷ before)
+all_points (sample ∷ before) =
+    point_of (length (sample ∷ before)) sample ∷ points_for (sample ∷ before)
 
-pub reads_ends : (lines : List TraceLine) → ArePrintable lines → length lines < 2 ^ 32
-    → Reads (end_text lines) (points_for lines) (all_points lines)
+pub reads_ends : (samples : List Sample) → AreShowable samples → length samples < 2 ^ 32
+    → Reads (end_text samples) (points_for samples) (all_points samples)
 unfolding points_for all_points
-reads_ends [] printable few = reads_nothing []
-reads_ends (line ∷ before) printable few =
-    reads-told (length (line ∷ before)) (Some (shown_after before line)) line
-    (points_for (line ∷ before)) few printable.0 (last_is (line ∷ before))
+reads_ends [] showable few = reads_nothing []
+reads_ends (sample ∷ before) showable few =
+    reads-told (length (sample ∷ before)) (Some (shown_after before sample)) sample
+    (points_for (sample ∷ before)) few showable.0 (last_is (sample ∷ before))
 
 -- what it finds there
 
@@ -197,19 +210,20 @@ by-added : (some : Bool) (point : WavePoint) (points : List WavePoint) (time : �
 by-added true point points time now is = now
 by-added false point points time now is = is
 
-by_now : (line : TraceLine) (before : List TraceLine) → IsBy (length before) (points_for before)
-    → IsBy (length before) (points_for (line ∷ before))
+by_now : (sample : Sample) (before : List Sample) → IsBy (length before) (points_for before)
+    → IsBy (length before) (points_for (sample ∷ before))
 unfolding points_for
-by_now line before is =
-    let now : TraceLine = shown_after before line in
+by_now sample before is =
+    let now : Sample = shown_after before sample in
     by-added (tells (last_shown before) now) (point_of (length before) now) (points_for before)
     (length before) (omega arith) is
 
-by-points : (lines : List TraceLine) → IsBy (length lines) (points_for lines)
+by-points : (samples : List Sample) → IsBy (length samples) (points_for samples)
 unfolding points_for
 by-points [] = tt
-by-points (line ∷ before) =
-    by-later (length before) (points_for (line ∷ before)) (by_now line before (by-points before))
+by-points (sample ∷ before) =
+    by-later (length before) (points_for (sample ∷ before))
+    (by_now sample before (by-points before))
 
 at-last : (time : ℕ) (points : List WavePoint) → IsBy time points
     → values_at time points ≡ last_values points
@@ -218,10 +232,10 @@ at-last time (point ∷ earlier) is =
     ap (λ (by : Bool). if by then point.values else values_at time earlier)
     (le-leb point.time time is)
 
-shows-more : (point : WavePoint) (points : List WavePoint) (lines : List TraceLine)
-    → length lines ≤ point.time → ShowSteps points lines → ShowSteps (point ∷ points) lines
+shows-more : (point : WavePoint) (points : List WavePoint) (samples : List Sample)
+    → length samples ≤ point.time → ShowSteps points samples → ShowSteps (point ∷ points) samples
 shows-more point points [] later shows = tt
-shows-more point points (line ∷ before) later shows = (
+shows-more point points (sample ∷ before) later shows = (
   ap (λ (by : Bool). if by then point.values else values_at (length before) points)
       (lt-leb point.time (length before) (omega (arith, later)))
       ∙ shows.0,
@@ -229,34 +243,35 @@ shows-more point points (line ∷ before) later shows = (
 )
 
 shows-added : (some : Bool) (point : WavePoint) (points : List WavePoint)
-    (lines : List TraceLine)
-    → length lines ≤ point.time → ShowSteps points lines
-    → ShowSteps (added some point points) lines
-shows-added true point points lines later shows = shows-more point points lines later shows
-shows-added false point points lines later shows = shows
+    (samples : List Sample)
+    → length samples ≤ point.time → ShowSteps points samples
+    → ShowSteps (added some point points) samples
+shows-added true point points samples later shows = shows-more point points samples later shows
+shows-added false point points samples later shows = shows
 
-shows-points : (lines : List TraceLine) → ShowSteps (points_for lines) lines
+shows-points : (samples : List Sample) → ShowSteps (points_for samples) samples
 unfolding points_for
 shows-points [] = tt
-shows-points (line ∷ before) =
-    let now : TraceLine = shown_after before line in (
-      at-last (length before) (points_for (line ∷ before)) (by_now line before (by-points before))
-          ∙ last_is (line ∷ before),
+shows-points (sample ∷ before) =
+    let now : Sample = shown_after before sample in (
+      at-last (length before) (points_for (sample ∷ before))
+          (by_now sample before (by-points before))
+          ∙ last_is (sample ∷ before),
       shows-added (tells (last_shown before) now) (point_of (length before) now)
           (points_for before) before (omega arith) (shows-points before),
     )
 
-pub shows_steps : (lines : List TraceLine) → ShowSteps (all_points lines) lines
+pub shows_steps : (samples : List Sample) → ShowSteps (all_points samples) samples
 unfolding all_points
 shows_steps [] = tt
-shows_steps (line ∷ before) =
-    shows-more (point_of (length (line ∷ before)) line) (points_for (line ∷ before))
-    (line ∷ before) (omega arith) (shows-points (line ∷ before))
+shows_steps (sample ∷ before) =
+    shows-more (point_of (length (sample ∷ before)) sample) (points_for (sample ∷ before))
+    (sample ∷ before) (omega arith) (shows-points (sample ∷ before))
 
-pub shows_end : (lines : List TraceLine) → ShowEnd (all_points lines) lines
+pub shows_end : (samples : List Sample) → ShowEnd (all_points samples) samples
 unfolding all_points
 shows_end [] = tt
-shows_end (line ∷ before) =
-    let points : List WavePoint = points_for (line ∷ before) in
-    at-last (length (line ∷ before)) (point_of (length (line ∷ before)) line ∷ points)
+shows_end (sample ∷ before) =
+    let points : List WavePoint = points_for (sample ∷ before) in
+    at-last (length (sample ∷ before)) (point_of (length (sample ∷ before)) sample ∷ points)
     (omega arith)

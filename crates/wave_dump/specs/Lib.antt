@@ -1,6 +1,7 @@
 pub mod Wire
 pub mod WireValue
 pub mod WaveText
+pub mod ToldRegisters
 pub mod Wave
 pub mod WaveReader
 pub mod ReadBack

@@ -1,36 +1,45 @@
--- A waveform is read as the lines that it was written of.
-use Rattle.std.specs.Prelude.{◌≡◌, ◌<◌, ◌^◌, ℕ, List, [], ◌∷◌, length, map, Option, Some}
-use Rattle.trace_line.specs.declared.trace_line.TraceLine.{TraceLine}
-use Rattle.trace_line.specs.ReadBack.{ArePrintable}
+-- A waveform is read as the steps that it was written of.
+use Rattle.std.specs.Prelude.{◌≡◌, ◌<◌, ◌^◌, ℕ, List, [], ◌∷◌, length, map, Option, Some, slice_index}
+use Rattle.wave_dump.specs.declared.sample.Sample.{Sample}
+use Rattle.trace_line.specs.ReadBack.{IsPrintable}
 use Rattle.wave_dump.specs.Wire.{wires}
 use Rattle.wave_dump.specs.WireValue.{wire_value}
 use Rattle.wave_dump.specs.WaveText.{shown_after, wave_file}
 use Rattle.wave_dump.specs.WaveReader.{WavePoint, points_of, values_at}
 
--- the values that a line has on the wires
-abbrev pub values_of : TraceLine → List (Option ℕ)
-values_of line = map (λ wire. wire_value wire line) wires
+-- the values that a step has on the wires
+abbrev pub values_of : Sample → List (Option ℕ)
+values_of sample = map (λ wire. wire_value wire sample) wires
 
--- at the time of each line's step a reader finds its fields, and EXEC before the step
-abbrev pub ShowSteps : List WavePoint → List TraceLine → Type 0
+-- at the time of each step a reader finds its fields, and EXEC and the registers before it
+abbrev pub ShowSteps : List WavePoint → List Sample → Type 0
 ShowSteps points [] = Unit {0}
-ShowSteps points (line ∷ before) =
-    (values_at (length before) points ≡ values_of (shown_after before line))
+ShowSteps points (sample ∷ before) =
+    (values_at (length before) points ≡ values_of (shown_after before sample))
     × ShowSteps points before
 
--- and at the time after the last step EXEC as it is then
-abbrev pub ShowEnd : List WavePoint → List TraceLine → Type 0
+-- and at the time after the last step EXEC and the registers as they are then
+abbrev pub ShowEnd : List WavePoint → List Sample → Type 0
 ShowEnd points [] = Unit {0}
-ShowEnd points (line ∷ before) =
-    values_at (length (line ∷ before)) points ≡ values_of line
+ShowEnd points (sample ∷ before) =
+    values_at (length (sample ∷ before)) points ≡ values_of sample
 
-pub record WaveReadsBack (lines : List TraceLine) : Type 0 where
+pub record WaveReadsBack (samples : List Sample) : Type 0 where
   pub points : List WavePoint
-  pub read : points_of (wave_file lines) ≡ Some points
-  pub steps : ShowSteps points lines
-  pub end : ShowEnd points lines
+  pub read : points_of (wave_file samples) ≡ Some points
+  pub steps : ShowSteps points samples
+  pub end : ShowEnd points samples
+
+-- its line is printable, and its registers are words
+pub record IsShowable (sample : Sample) : Type 0 where
+  pub line : IsPrintable sample.line
+  pub registers : (number : ℕ) → slice_index sample.registers number < 2 ^ 16
+
+abbrev pub AreShowable : List Sample → Type 0
+AreShowable [] = Unit {0}
+AreShowable (sample ∷ before) = IsShowable sample × AreShowable before
 
 abbrev pub WavesReadBack : Type 0
 WavesReadBack =
-    (lines : List TraceLine) → ArePrintable lines → length lines < 2 ^ 32
-    → WaveReadsBack lines
+    (samples : List Sample) → AreShowable samples → length samples < 2 ^ 32
+    → WaveReadsBack samples

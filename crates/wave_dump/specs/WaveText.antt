@@ -1,9 +1,10 @@
 -- The text of a waveform: a value change dump (IEEE 1364-2005, clause 18) with one unit of time for
 -- each bus step.
-use Rattle.std.specs.Prelude.{◌++◌, ◌==◌, ℕ, Bool, true, false, not, List, [], ◌∷◌, length, Option, Some, None, if◌then◌else◌, codes}
+use Rattle.std.specs.Prelude.{◌++◌, ◌==◌, ℕ, Bool, true, false, not, List, [], ◌∷◌, length, replicate, Option, Some, None, if◌then◌else◌, codes}
 use Rattle.std.specs.Fmt.{decimal, digits}
 use Rattle.std.specs.List.{flat_map, list_any}
-use Rattle.trace_line.specs.declared.trace_line.TraceLine.{TraceLine}
+use Rattle.word_arith.specs.Word16.{Word16}
+use Rattle.wave_dump.specs.declared.sample.Sample.{Sample}
 use Rattle.wave_dump.specs.declared.wire.Wire.{Wire}
 use Rattle.wave_dump.specs.Wire.{wires, wire_name, wire_width, wire_code}
 use Rattle.wave_dump.specs.WireValue.{wire_value, is_same_value}
@@ -47,63 +48,80 @@ change_text wire value =
 abbrev pub time_text : ℕ → List ℕ
 time_text step = codes "#" ++ decimal step ++ codes "\n"
 
--- whether a wire is told: its value is another than before, or there is no line before
-abbrev pub is_told : Option TraceLine → TraceLine → Wire → Bool
+-- whether a wire is told: its value is another than before, or there is no step before
+abbrev pub is_told : Option Sample → Sample → Wire → Bool
 is_told None now wire = true
 is_told (Some last) now wire = not (is_same_value (wire_value wire last) (wire_value wire now))
 
-abbrev pub change_of : Option TraceLine → TraceLine → Wire → List ℕ
+abbrev pub change_of : Option Sample → Sample → Wire → List ℕ
 change_of last now wire =
     if is_told last now wire then change_text wire (wire_value wire now) else []
 
--- the values that are told
-unfoldable pub changes_text : Option TraceLine → TraceLine → List ℕ
-changes_text last now = flat_map (change_of last now) wires
+-- whether one of these wires is told
+unfoldable pub is_any_told : Option Sample → Sample → List Wire → Bool
+is_any_told last now wires = list_any (is_told last now) wires
+
+-- the values that are told of these wires
+unfoldable pub wires_text : Option Sample → Sample → List Wire → List ℕ
+wires_text last now wires = flat_map (change_of last now) wires
+
+-- of all
+abbrev pub changes_text : Option Sample → Sample → List ℕ
+changes_text last now = wires_text last now wires
 
 -- a time, and the values that are told
-abbrev pub told_text : ℕ → Option TraceLine → TraceLine → List ℕ
+abbrev pub told_text : ℕ → Option Sample → Sample → List ℕ
 told_text step last now = time_text step ++ changes_text last now
 
 -- all values
-abbrev pub dump_text : TraceLine → List ℕ
+abbrev pub dump_text : Sample → List ℕ
 dump_text now = codes "$dumpvars\n" ++ changes_text None now ++ codes "$end\n"
 
 -- a step without a change says nothing
-abbrev pub next_text : ℕ → TraceLine → TraceLine → List ℕ
+abbrev pub next_text : ℕ → Sample → Sample → List ℕ
 next_text step last now =
-    if list_any (is_told (Some last) now) wires then told_text step (Some last) now else []
+    if is_any_told (Some last) now wires then told_text step (Some last) now else []
 
 -- of the step before, if there is one, and this step
-abbrev pub step_text : ℕ → Option TraceLine → TraceLine → List ℕ
+abbrev pub step_text : ℕ → Option Sample → Sample → List ℕ
 step_text step None now = time_text step ++ dump_text now
 step_text step (Some last) now = next_text step last now
 
--- the EXEC flag after these lines, the newest first
-abbrev pub exec_after : List TraceLine → Bool
+-- the EXEC flag after these steps, the newest first
+abbrev pub exec_after : List Sample → Bool
 exec_after [] = false
-exec_after (line ∷ before) = line.exec
+exec_after (sample ∷ before) = sample.line.exec
 
--- a line as it is shown: with EXEC before its step, as the bounds are
-abbrev pub shown_after : List TraceLine → TraceLine → TraceLine
-shown_after before line = record line { exec = exec_after before }
+-- and the registers at the last boundary
+abbrev pub registers_after : List Sample → List Word16
+registers_after [] = replicate 16 0
+registers_after (sample ∷ before) = sample.registers
 
-abbrev pub last_shown : List TraceLine → Option TraceLine
+-- a step as it is shown: with EXEC and the registers before it, as the bounds are
+abbrev pub shown_after : List Sample → Sample → Sample
+shown_after before sample =
+    record {
+      line = record sample.line { exec = exec_after before };
+      registers = registers_after before;
+    }
+
+abbrev pub last_shown : List Sample → Option Sample
 last_shown [] = None
-last_shown (line ∷ before) = Some (shown_after before line)
+last_shown (sample ∷ before) = Some (shown_after before sample)
 
--- of lines, the newest first: their steps in order, which are numbered from 0
-unfoldable pub steps_text : List TraceLine → List ℕ
+-- of steps, the newest first: in their order, numbered from 0
+unfoldable pub steps_text : List Sample → List ℕ
 steps_text [] = []
-steps_text (line ∷ before) =
+steps_text (sample ∷ before) =
     steps_text before
-    ++ step_text (length before) (last_shown before) (shown_after before line)
+    ++ step_text (length before) (last_shown before) (shown_after before sample)
 
--- the time after the last step, and EXEC if that step changed it
-abbrev pub end_text : List TraceLine → List ℕ
+-- the time after the last step, and EXEC and the registers that it changed
+abbrev pub end_text : List Sample → List ℕ
 end_text [] = []
-end_text (line ∷ before) =
-    told_text (length (line ∷ before)) (Some (shown_after before line)) line
+end_text (sample ∷ before) =
+    told_text (length (sample ∷ before)) (Some (shown_after before sample)) sample
 
--- the whole waveform of lines, the newest first
-abbrev pub wave_file : List TraceLine → List ℕ
-wave_file lines = header ++ steps_text lines ++ end_text lines
+-- the whole waveform of steps, the newest first
+abbrev pub wave_file : List Sample → List ℕ
+wave_file samples = header ++ steps_text samples ++ end_text samples

@@ -1,13 +1,22 @@
 -- The wires of a waveform: what a viewer shows of each step.
-use Rattle.std.specs.Prelude.{ℕ, List, [], ◌∷◌, codes}
+use Rattle.std.specs.Prelude.{◌++◌, ℕ, List, [], ◌∷◌, codes}
 use Rattle.wave_dump.specs.declared.wire.Wire.{Wire}
-use Rattle.wave_dump.specs.declared.wire.Wire.TheVariants.{Pc, StepKind, Irq, Asked, BrokenRule, CpuOp, CpuAddress, CpuData, FetchWord, DmaOp, DmaAddress, DmaData, ErMin, ErMax, OrMin, OrMax, Exec}
+use Rattle.wave_dump.specs.declared.wire.Wire.TheVariants.{Pc, StepKind, Irq, Asked, BrokenRule, CpuOp, CpuAddress, CpuData, FetchWord, DmaOp, DmaAddress, DmaData, ErMin, ErMax, OrMin, OrMax, Exec, Sp, Sr, R4, R5, R6, R7, R8, R9, R10, R11, R12, R13, R14, R15}
+
+-- those of a trace line
+abbrev pub line_wires : List Wire
+line_wires =
+    Pc ∷ StepKind ∷ Irq ∷ Asked ∷ BrokenRule ∷ CpuOp ∷ CpuAddress ∷ CpuData ∷ FetchWord
+    ∷ DmaOp ∷ DmaAddress ∷ DmaData ∷ ErMin ∷ ErMax ∷ OrMin ∷ OrMax ∷ Exec ∷ []
+
+-- those of the registers
+abbrev pub register_wires : List Wire
+register_wires =
+    Sp ∷ Sr ∷ R4 ∷ R5 ∷ R6 ∷ R7 ∷ R8 ∷ R9 ∷ R10 ∷ R11 ∷ R12 ∷ R13 ∷ R14 ∷ R15 ∷ []
 
 -- in the order in which they are declared
 abbrev pub wires : List Wire
-wires =
-    Pc ∷ StepKind ∷ Irq ∷ Asked ∷ BrokenRule ∷ CpuOp ∷ CpuAddress ∷ CpuData ∷ FetchWord
-    ∷ DmaOp ∷ DmaAddress ∷ DmaData ∷ ErMin ∷ ErMax ∷ OrMin ∷ OrMax ∷ Exec ∷ []
+wires = line_wires ++ register_wires
 
 abbrev pub wire_name : Wire → List ℕ
 wire_name Pc = codes "pc"
@@ -27,28 +36,32 @@ wire_name ErMax = codes "er_max"
 wire_name OrMin = codes "or_min"
 wire_name OrMax = codes "or_max"
 wire_name Exec = codes "exec"
+wire_name Sp = codes "sp"
+wire_name Sr = codes "sr"
+wire_name R4 = codes "r4"
+wire_name R5 = codes "r5"
+wire_name R6 = codes "r6"
+wire_name R7 = codes "r7"
+wire_name R8 = codes "r8"
+wire_name R9 = codes "r9"
+wire_name R10 = codes "r10"
+wire_name R11 = codes "r11"
+wire_name R12 = codes "r12"
+wire_name R13 = codes "r13"
+wire_name R14 = codes "r14"
+wire_name R15 = codes "r15"
 
 -- how many bits it has; those of names and operations are characters
 abbrev pub wire_width : Wire → ℕ
-wire_width Pc = 16
 wire_width StepKind = 32
 wire_width Irq = 1
 wire_width Asked = 1
-wire_width BrokenRule = 16
 wire_width CpuOp = 8
-wire_width CpuAddress = 16
-wire_width CpuData = 16
-wire_width FetchWord = 16
 wire_width DmaOp = 8
-wire_width DmaAddress = 16
-wire_width DmaData = 16
-wire_width ErMin = 16
-wire_width ErMax = 16
-wire_width OrMin = 16
-wire_width OrMax = 16
 wire_width Exec = 1
+wire_width wire = 16
 
--- the character by which its changes name it: A to Q
+-- the character by which its changes name it: from A on
 abbrev pub wire_code : Wire → ℕ
 wire_code Pc = 65
 wire_code StepKind = 66
@@ -67,3 +80,17 @@ wire_code ErMax = 78
 wire_code OrMin = 79
 wire_code OrMax = 80
 wire_code Exec = 81
+wire_code Sp = 82
+wire_code Sr = 83
+wire_code R4 = 84
+wire_code R5 = 85
+wire_code R6 = 86
+wire_code R7 = 87
+wire_code R8 = 88
+wire_code R9 = 89
+wire_code R10 = 90
+wire_code R11 = 91
+wire_code R12 = 92
+wire_code R13 = 93
+wire_code R14 = 94
+wire_code R15 = 95

@@ -1,5 +1,5 @@
--- What the wires show of a trace line.
-use Rattle.std.specs.Prelude.{◌+◌, ◌*◌, ◌==◌, ℕ, Bool, true, false, List, [], ◌∷◌, Option, Some, None}
+-- What the wires show of a step.
+use Rattle.std.specs.Prelude.{◌+◌, ◌*◌, ◌==◌, ℕ, Bool, true, false, List, [], ◌∷◌, Option, Some, None, slice_index}
 use Rattle.word_arith.specs.declared.size.Size.TheVariants.{Byte, Word}
 use Rattle.word_arith.specs.Number.{bit_of}
 use Rattle.bus_signals.specs.declared.access.Access.{Access}
@@ -7,9 +7,9 @@ use Rattle.bus_signals.specs.declared.access.Access.TheVariants.{Fetch, Read, Wr
 use Rattle.bus_signals.specs.declared.rule.Rule.{Rule}
 use Rattle.bus_signals.specs.Kind.{kind_name}
 use Rattle.bus_signals.specs.Rule.{rule_name}
-use Rattle.trace_line.specs.declared.trace_line.TraceLine.{TraceLine}
+use Rattle.wave_dump.specs.declared.sample.Sample.{Sample}
 use Rattle.wave_dump.specs.declared.wire.Wire.{Wire}
-use Rattle.wave_dump.specs.declared.wire.Wire.TheVariants.{Pc, StepKind, Irq, Asked, BrokenRule, CpuOp, CpuAddress, CpuData, FetchWord, DmaOp, DmaAddress, DmaData, ErMin, ErMax, OrMin, OrMax, Exec}
+use Rattle.wave_dump.specs.declared.wire.Wire.TheVariants.{Pc, StepKind, Irq, Asked, BrokenRule, CpuOp, CpuAddress, CpuData, FetchWord, DmaOp, DmaAddress, DmaData, ErMin, ErMax, OrMin, OrMax, Exec, Sp, Sr, R4, R5, R6, R7, R8, R9, R10, R11, R12, R13, R14, R15}
 
 -- characters as one number, 8 bits each
 abbrev pub number_onto : ℕ → List ℕ → ℕ
@@ -46,25 +46,42 @@ abbrev pub of_access : (Access → ℕ) → Option Access → Option ℕ
 of_access shown None = None
 of_access shown (Some access) = Some (shown access)
 
+abbrev pub register_value : ℕ → Sample → Option ℕ
+register_value number sample = Some (slice_index sample.registers number)
+
 -- nothing where no access drives the wire
-abbrev pub wire_value : Wire → TraceLine → Option ℕ
-wire_value Pc line = Some line.pc
-wire_value StepKind line = Some (text_number (kind_name line.kind))
-wire_value Irq line = Some (bit_of line.irq)
-wire_value Asked line = Some (bit_of line.asked)
-wire_value BrokenRule line = Some (rule_number line.rule)
-wire_value CpuOp line = of_access access_letter line.cpu
-wire_value CpuAddress line = of_access access_place line.cpu
-wire_value CpuData line = of_access (access_data line.value) line.cpu
-wire_value FetchWord line = Some line.word
-wire_value DmaOp line = of_access access_letter line.dma
-wire_value DmaAddress line = of_access access_place line.dma
-wire_value DmaData line = of_access (access_data line.dma_value) line.dma
-wire_value ErMin line = Some line.bounds.er_min
-wire_value ErMax line = Some line.bounds.er_max
-wire_value OrMin line = Some line.bounds.or_min
-wire_value OrMax line = Some line.bounds.or_max
-wire_value Exec line = Some (bit_of line.exec)
+abbrev pub wire_value : Wire → Sample → Option ℕ
+wire_value Pc sample = Some sample.line.pc
+wire_value StepKind sample = Some (text_number (kind_name sample.line.kind))
+wire_value Irq sample = Some (bit_of sample.line.irq)
+wire_value Asked sample = Some (bit_of sample.line.asked)
+wire_value BrokenRule sample = Some (rule_number sample.line.rule)
+wire_value CpuOp sample = of_access access_letter sample.line.cpu
+wire_value CpuAddress sample = of_access access_place sample.line.cpu
+wire_value CpuData sample = of_access (access_data sample.line.value) sample.line.cpu
+wire_value FetchWord sample = Some sample.line.word
+wire_value DmaOp sample = of_access access_letter sample.line.dma
+wire_value DmaAddress sample = of_access access_place sample.line.dma
+wire_value DmaData sample = of_access (access_data sample.line.dma_value) sample.line.dma
+wire_value ErMin sample = Some sample.line.bounds.er_min
+wire_value ErMax sample = Some sample.line.bounds.er_max
+wire_value OrMin sample = Some sample.line.bounds.or_min
+wire_value OrMax sample = Some sample.line.bounds.or_max
+wire_value Exec sample = Some (bit_of sample.line.exec)
+wire_value Sp sample = register_value 1 sample
+wire_value Sr sample = register_value 2 sample
+wire_value R4 sample = register_value 4 sample
+wire_value R5 sample = register_value 5 sample
+wire_value R6 sample = register_value 6 sample
+wire_value R7 sample = register_value 7 sample
+wire_value R8 sample = register_value 8 sample
+wire_value R9 sample = register_value 9 sample
+wire_value R10 sample = register_value 10 sample
+wire_value R11 sample = register_value 11 sample
+wire_value R12 sample = register_value 12 sample
+wire_value R13 sample = register_value 13 sample
+wire_value R14 sample = register_value 14 sample
+wire_value R15 sample = register_value 15 sample
 
 -- two values are told apart
 abbrev pub is_same_value : Option ℕ → Option ℕ → Bool

@@ -1,22 +1,22 @@
 ghost use Rattle.std.specs.Prelude.{◌≡◌, ◌≤◌, ◌+◌, ◌++◌, false, length, None, Some, option_copied};
 ghost use Rattle.std.specs.Fmt.{digits};
-ghost use Rattle.std.specs.List.{list_any};
 ghost use Rattle.outside_edge.specs.Sink.{Puts, CountsFaults};
 ghost use Rattle.line_buffer.specs.declared.line_buffer.TheConstants.{ROOM};
 ghost use Rattle.wave_dump.specs.Wire.{wires};
-ghost use Rattle.wave_dump.specs.WaveText.{change_of, change_text, changes_text, digits_text, dump_text, is_told, next_text, step_text, time_text, told_text};
+ghost use Rattle.wave_dump.specs.WaveText.{change_of, change_text, changes_text, digits_text, dump_text, is_any_told, is_told, next_text, step_text, time_text, told_text, wires_text};
+ghost use Rattle.wave_dump.specs.ToldRegisters.{TellsRegisters};
 
+use crate::sample::Sample;
 use crate::shown_value::wire_value;
-use crate::wire::{WIRES, Wire};
+use crate::wire::{LINE_WIRES, REGISTER_WIRES, Wire};
 use line_buffer::{LineBuffer, flag_digit};
 use outside_edge::{Failed, Sink, put_all};
-use trace_line::TraceLine;
 
-/// Puts what a step changes, after the line of the step before, if there is one.
+/// Puts what a step changes, after the step before, if there is one.
 pub fn print_step<W: Sink>(
     step: u64,
-    last: Option<&TraceLine>,
-    now: &TraceLine,
+    last: Option<&Sample>,
+    now: &Sample,
     sink: &mut W,
 ) -> Result<(), Failed>
     ensures puts { Puts W.stands sink.old sink.new
@@ -32,8 +32,8 @@ pub fn print_step<W: Sink>(
 /// Puts a time, and the values that are told.
 pub fn print_told<W: Sink>(
     step: u64,
-    last: Option<&TraceLine>,
-    now: &TraceLine,
+    last: Option<&Sample>,
+    now: &Sample,
     sink: &mut W,
 ) -> Result<(), Failed>
     ensures puts { Puts W.stands sink.old sink.new
@@ -44,7 +44,7 @@ pub fn print_told<W: Sink>(
     print_changes(last, now, sink)
 }
 
-fn print_first<W: Sink>(step: u64, now: &TraceLine, sink: &mut W) -> Result<(), Failed>
+fn print_first<W: Sink>(step: u64, now: &Sample, sink: &mut W) -> Result<(), Failed>
     ensures puts { Puts W.stands sink.old sink.new (step_text step None now.now) result }
     ensures counts { CountsFaults W.faults sink.old sink.new result }
 {
@@ -53,7 +53,7 @@ fn print_first<W: Sink>(step: u64, now: &TraceLine, sink: &mut W) -> Result<(), 
 }
 
 // Puts all values.
-fn print_dump<W: Sink>(now: &TraceLine, sink: &mut W) -> Result<(), Failed>
+fn print_dump<W: Sink>(now: &Sample, sink: &mut W) -> Result<(), Failed>
     ensures puts { Puts W.stands sink.old sink.new (dump_text now.now) result }
     ensures counts { CountsFaults W.faults sink.old sink.new result }
 {
@@ -63,12 +63,7 @@ fn print_dump<W: Sink>(now: &TraceLine, sink: &mut W) -> Result<(), Failed>
 }
 
 // Puts what a step after another one changes, if it changes anything.
-fn print_next<W: Sink>(
-    step: u64,
-    last: &TraceLine,
-    now: &TraceLine,
-    sink: &mut W,
-) -> Result<(), Failed>
+fn print_next<W: Sink>(step: u64, last: &Sample, now: &Sample, sink: &mut W) -> Result<(), Failed>
     ensures puts { Puts W.stands sink.old sink.new (next_text step last.now now.now) result }
     ensures counts { CountsFaults W.faults sink.old sink.new result }
 {
@@ -90,26 +85,47 @@ fn print_time<W: Sink>(step: u64, sink: &mut W) -> Result<(), Failed>
     put_all(sink, text.as_slice())
 }
 
-// Puts the values that are others than those of the line before; all, where there is none.
-fn print_changes<W: Sink>(
-    last: Option<&TraceLine>,
-    now: &TraceLine,
-    sink: &mut W,
-) -> Result<(), Failed>
+// Puts the values that are others than those of the step before; all, where there is none.
+fn print_changes<W: Sink>(last: Option<&Sample>, now: &Sample, sink: &mut W) -> Result<(), Failed>
     ensures puts { Puts W.stands sink.old sink.new
         (changes_text (option_copied last.entry) now.now) result }
     ensures counts { CountsFaults W.faults sink.old sink.new result }
 {
-    for wire in WIRES {
-        print_if_told(wire, last, now, sink)?;
+    print_wires(&LINE_WIRES, last, now, sink)?;
+    print_wires(register_wires(last, now), last, now, sink)
+}
+
+// The wires of the registers, of which none is told where the step before has the same registers.
+fn register_wires(last: Option<&Sample>, now: &Sample) -> &'static [Wire]
+    ensures { TellsRegisters (option_copied last.entry) now.now result.now }
+{
+    match last {
+        Some(last) if last.registers == now.registers => &[],
+        _ => &REGISTER_WIRES,
+    }
+}
+
+#[tactic(auto, unfolding(crate::specs::WaveText::wires_text))]
+fn print_wires<W: Sink>(
+    wires: &[Wire],
+    last: Option<&Sample>,
+    now: &Sample,
+    sink: &mut W,
+) -> Result<(), Failed>
+    ensures puts { Puts W.stands sink.old sink.new
+        (wires_text (option_copied last.entry) now.now wires.now) result }
+    ensures counts { CountsFaults W.faults sink.old sink.new result }
+{
+    for wire in wires {
+        print_if_told(*wire, last, now, sink)?;
     }
     Ok(())
 }
 
 fn print_if_told<W: Sink>(
     wire: Wire,
-    last: Option<&TraceLine>,
-    now: &TraceLine,
+    last: Option<&Sample>,
+    now: &Sample,
     sink: &mut W,
 ) -> Result<(), Failed>
     ensures puts { Puts W.stands sink.old sink.new
@@ -123,13 +139,20 @@ fn print_if_told<W: Sink>(
     }
 }
 
-fn has_change(last: Option<&TraceLine>, now: &TraceLine) -> bool
-    ensures { result ≡ list_any (is_told (option_copied last.entry) now.now) wires }
+fn has_change(last: Option<&Sample>, now: &Sample) -> bool
+    ensures { result ≡ is_any_told (option_copied last.entry) now.now wires }
 {
-    WIRES.iter().any(|wire| is_told(last, now, *wire))
+    is_any_told(&LINE_WIRES, last, now) || is_any_told(register_wires(last, now), last, now)
 }
 
-fn is_told(last: Option<&TraceLine>, now: &TraceLine, wire: Wire) -> bool
+#[tactic(auto, unfolding(crate::specs::WaveText::is_any_told))]
+fn is_any_told(wires: &[Wire], last: Option<&Sample>, now: &Sample) -> bool
+    ensures { result ≡ is_any_told (option_copied last.entry) now.now wires.now }
+{
+    wires.iter().any(|wire| is_told(last, now, *wire))
+}
+
+fn is_told(last: Option<&Sample>, now: &Sample, wire: Wire) -> bool
     ensures { result ≡ is_told (option_copied last.entry) now.now wire }
 {
     match last {

@@ -26,6 +26,20 @@ $var wire 16 N er_max [15:0] $end
 $var wire 16 O or_min [15:0] $end
 $var wire 16 P or_max [15:0] $end
 $var wire 1 Q exec $end
+$var wire 16 R sp [15:0] $end
+$var wire 16 S sr [15:0] $end
+$var wire 16 T r4 [15:0] $end
+$var wire 16 U r5 [15:0] $end
+$var wire 16 V r6 [15:0] $end
+$var wire 16 W r7 [15:0] $end
+$var wire 16 X r8 [15:0] $end
+$var wire 16 Y r9 [15:0] $end
+$var wire 16 Z r10 [15:0] $end
+$var wire 16 [ r11 [15:0] $end
+$var wire 16 \\ r12 [15:0] $end
+$var wire 16 ] r13 [15:0] $end
+$var wire 16 ^ r14 [15:0] $end
+$var wire 16 _ r15 [15:0] $end
 $upscope $end
 $enddefinitions $end
 ";

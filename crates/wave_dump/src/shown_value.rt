@@ -2,16 +2,17 @@ ghost use Rattle.std.specs.Prelude.{◌≡◌, ◌≤◌, length};
 ghost use Rattle.word_arith.specs.Number.{bit_of};
 ghost use Rattle.wave_dump.specs.WireValue.{access_data, access_letter, access_place, of_access, rule_number, text_number, wire_value};
 
+use crate::sample::Sample;
 use crate::wire::Wire;
 use bus_signals::{Access, Rule};
 use named_value::Named;
-use trace_line::TraceLine;
 use word_arith::Size;
 
-/// What a wire shows of a line, `None` where nothing drives it.
-pub fn wire_value(wire: Wire, line: &TraceLine) -> Option<u32>
-    ensures { result ≡ wire_value wire line.now }
+/// What a wire shows of a step, `None` where nothing drives it.
+pub fn wire_value(wire: Wire, sample: &Sample) -> Option<u32>
+    ensures { result ≡ wire_value wire sample.now }
 {
+    let line = &sample.line;
     match wire {
         Wire::Pc => Some(u32::from(line.pc)),
         Wire::StepKind => Some(text_number(line.kind.name().as_bytes())),
@@ -30,6 +31,20 @@ pub fn wire_value(wire: Wire, line: &TraceLine) -> Option<u32>
         Wire::OrMin => Some(u32::from(line.bounds.or_min)),
         Wire::OrMax => Some(u32::from(line.bounds.or_max)),
         Wire::Exec => Some(u32::from(line.exec)),
+        Wire::Sp => Some(u32::from(sample.registers[1])),
+        Wire::Sr => Some(u32::from(sample.registers[2])),
+        Wire::R4 => Some(u32::from(sample.registers[4])),
+        Wire::R5 => Some(u32::from(sample.registers[5])),
+        Wire::R6 => Some(u32::from(sample.registers[6])),
+        Wire::R7 => Some(u32::from(sample.registers[7])),
+        Wire::R8 => Some(u32::from(sample.registers[8])),
+        Wire::R9 => Some(u32::from(sample.registers[9])),
+        Wire::R10 => Some(u32::from(sample.registers[10])),
+        Wire::R11 => Some(u32::from(sample.registers[11])),
+        Wire::R12 => Some(u32::from(sample.registers[12])),
+        Wire::R13 => Some(u32::from(sample.registers[13])),
+        Wire::R14 => Some(u32::from(sample.registers[14])),
+        Wire::R15 => Some(u32::from(sample.registers[15])),
     }
 }
 

@@ -31,10 +31,25 @@ pub enum Wire {
     OrMax,
     /// The EXEC flag before the step, as the bounds.
     Exec,
+    /// The registers but PC and the constant generator, at the last boundary before the step.
+    Sp,
+    Sr,
+    R4,
+    R5,
+    R6,
+    R7,
+    R8,
+    R9,
+    R10,
+    R11,
+    R12,
+    R13,
+    R14,
+    R15,
 }
 
-/// The wires in the order in which they are declared.
-pub const WIRES: [Wire; 17] = [
+/// The wires of a trace line, in the order in which they are declared.
+pub const LINE_WIRES: [Wire; 17] = [
     Wire::Pc,
     Wire::StepKind,
     Wire::Irq,
@@ -52,6 +67,24 @@ pub const WIRES: [Wire; 17] = [
     Wire::OrMin,
     Wire::OrMax,
     Wire::Exec,
+];
+
+/// The wires of the registers, which are declared behind them.
+pub const REGISTER_WIRES: [Wire; 14] = [
+    Wire::Sp,
+    Wire::Sr,
+    Wire::R4,
+    Wire::R5,
+    Wire::R6,
+    Wire::R7,
+    Wire::R8,
+    Wire::R9,
+    Wire::R10,
+    Wire::R11,
+    Wire::R12,
+    Wire::R13,
+    Wire::R14,
+    Wire::R15,
 ];
 
 impl Wire {
@@ -84,6 +117,20 @@ impl Wire {
             Wire::OrMin => b'O',
             Wire::OrMax => b'P',
             Wire::Exec => b'Q',
+            Wire::Sp => b'R',
+            Wire::Sr => b'S',
+            Wire::R4 => b'T',
+            Wire::R5 => b'U',
+            Wire::R6 => b'V',
+            Wire::R7 => b'W',
+            Wire::R8 => b'X',
+            Wire::R9 => b'Y',
+            Wire::R10 => b'Z',
+            Wire::R11 => b'[',
+            Wire::R12 => b'\\',
+            Wire::R13 => b']',
+            Wire::R14 => b'^',
+            Wire::R15 => b'_',
         }
     }
 }

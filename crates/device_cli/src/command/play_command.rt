@@ -40,7 +40,8 @@ impl<'a, T: Telling> Task<'a> for PlayCommand<'a, T> {
     ghost outcome = { λ command values. T.outcome (play_with command.arguments.steps values.0.0
         (byte_in values.0.1) values.1) };
 
-    ghost is_prepared = { λ command values device. HeldStandsFor ⟦<Sha256Digest as Digest32>⟧.hash ⟦<IsrFlag as TraceFlag>⟧.flag device
+    ghost is_prepared = { λ command values device. HeldStandsFor
+        ⟦<Sha256Digest as Digest32>⟧.hash ⟦<IsrFlag as TraceFlag>⟧.flag device
         (start_of values.0.0 (byte_in values.0.1)) [] };
 
     ghost once_put = { T.once_put };

@@ -1,10 +1,8 @@
 ghost use Rattle.std.specs.Prelude.{◌≡◌};
 
-use crate::kind::key::Key;
-use crate::kind::script::Script;
 use device_core::{Device, Held};
 use hmac_core::Sha256Digest;
-use input_files::{File, Image};
+use input_files::{File, Image, Key, Script};
 use isr_flag::IsrFlag;
 
 /// The files of a play, in the order in which they are read.

@@ -1,9 +1,8 @@
 use crate::command_end::CommandEnd;
 use crate::ending::Ending;
-use crate::kind::key::Key;
 use crate::task::Task;
 use device_play::PutFault;
-use input_files::{File, Inputs, Refusal};
+use input_files::{File, Inputs, Key, Refusal};
 use outside_edge::{Shelf, Sink};
 use report_text::print_request;
 use report_verifier::token;

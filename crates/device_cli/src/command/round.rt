@@ -49,7 +49,8 @@ impl<'a> Task<'a> for Round<'a> {
     ghost outcome = { λ round values. round_outcome round.steps values.0.0.0
         (byte_in values.0.0.1) values.0.1 values.1 };
 
-    ghost is_prepared = { λ round values device. HeldStandsFor ⟦<Sha256Digest as Digest32>⟧.hash ⟦<IsrFlag as TraceFlag>⟧.flag device
+    ghost is_prepared = { λ round values device. HeldStandsFor
+        ⟦<Sha256Digest as Digest32>⟧.hash ⟦<IsrFlag as TraceFlag>⟧.flag device
         (start_of values.0.0.0 (byte_in values.0.0.1)) [] };
 
     ghost once_put = { λ outcome. Unit {0} };

@@ -1,12 +1,11 @@
 use crate::command_end::CommandEnd;
 use crate::ending::Ending;
-use crate::kind::key::Key;
 use crate::kind::reports::Reports;
 use crate::task::Task;
 use crate::verdict::verdict_text::print_verdicts;
 use device_play::PutFault;
 use hmac_core::Sha256Digest;
-use input_files::{File, Image, Inputs, Policy, Refusal};
+use input_files::{File, Image, Inputs, Key, Policy, Refusal};
 use outside_edge::{Shelf, Sink};
 use report_text::Report;
 use report_verifier::Verifier;

@@ -1,4 +1,4 @@
-ghost use Rattle.std.specs.Prelude.{◌≡◌, IfOk};
+ghost use Rattle.std.specs.Prelude.{IfOk};
 ghost use Rattle.device_cli.specs.Load.{load_text};
 ghost use Rattle.device_cli.specs.TextSummary.{IsSummaryOf};
 

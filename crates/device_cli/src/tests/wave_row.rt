@@ -27,6 +27,20 @@ $var wire 16 N er_max [15:0] $end\n\
 $var wire 16 O or_min [15:0] $end\n\
 $var wire 16 P or_max [15:0] $end\n\
 $var wire 1 Q exec $end\n\
+$var wire 16 R sp [15:0] $end\n\
+$var wire 16 S sr [15:0] $end\n\
+$var wire 16 T r4 [15:0] $end\n\
+$var wire 16 U r5 [15:0] $end\n\
+$var wire 16 V r6 [15:0] $end\n\
+$var wire 16 W r7 [15:0] $end\n\
+$var wire 16 X r8 [15:0] $end\n\
+$var wire 16 Y r9 [15:0] $end\n\
+$var wire 16 Z r10 [15:0] $end\n\
+$var wire 16 [ r11 [15:0] $end\n\
+$var wire 16 \\ r12 [15:0] $end\n\
+$var wire 16 ] r13 [15:0] $end\n\
+$var wire 16 ^ r14 [15:0] $end\n\
+$var wire 16 _ r15 [15:0] $end\n\
 $upscope $end\n\
 $enddefinitions $end\n\
 #0\n\
@@ -48,6 +62,20 @@ b0 N\n\
 b0 O\n\
 b0 P\n\
 0Q\n\
+b0 R\n\
+b0 S\n\
+b0 T\n\
+b0 U\n\
+b0 V\n\
+b0 W\n\
+b0 X\n\
+b0 Y\n\
+b0 Z\n\
+b0 [\n\
+b0 \\\n\
+b0 ]\n\
+b0 ^\n\
+b0 _\n\
 $end\n\
 #1\n\
 b1100000000000000 A\n\

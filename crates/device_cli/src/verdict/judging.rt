@@ -1,11 +1,4 @@
-ghost use Rattle.std.specs.Prelude.{◌≡◌, ◌<◌, ◌∷◌, List, OnOk, length};
-ghost use Rattle.bus_signals.specs.declared.event.Event.{Event};
-ghost use Rattle.outside_edge.specs.Sink.{Puts};
-ghost use Rattle.device_trace.specs.Play.{Play};
-ghost use Rattle.device_trace.specs.Start.{Start};
-ghost use Rattle.device_core.specs.Device.{LiveStandsFor};
-ghost use Rattle.device_play.specs.Cuts.{CountsWriteFaults, StopsOnlyAt};
-ghost use Rattle.device_play.specs.Limit.{most_steps};
+ghost use Rattle.std.specs.Prelude.{◌≡◌};
 
 use crate::verdict::judgement::{Tally, judge_last};
 use bus_signals::TraceFlag;

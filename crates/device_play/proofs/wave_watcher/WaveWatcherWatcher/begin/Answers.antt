@@ -1,6 +1,6 @@
 use Rattle.std.proofs.Common.{append-nil}
 use Rattle.wave_dump.specs.WaveText.{header, steps_text}
-use Rattle.clean_trace.specs.TraceText.{trace_lines}
+use Rattle.clean_trace.specs.WaveSamples.{wave_samples}
 use Rattle.device_play.proofs.GoesOn.{wave-goes_on}
 use Rattle.device_play.proofs.wave_watcher.WaveWatcherWatcher.begin.Goals as goal
 
@@ -11,11 +11,11 @@ pub returns-clause-goes_on : goal.returns-clause-goes_on
 returns-clause-goes_on g c = λ digest. wave-goes_on
 
 pub returns-clause-tally : goal.returns-clause-tally
-unfolding trace_lines
+unfolding wave_samples
 returns-clause-tally g c = λ digest start. c.new-wave.ensures.stands
 
 pub returns-clause-puts : goal.returns-clause-puts
-unfolding trace_lines steps_text
+unfolding wave_samples steps_text
 returns-clause-puts g c = λ digest start. record {
   all = rw (append-nil header) c.in_ok-begin.ensures.puts.all;
   prefix = tt;

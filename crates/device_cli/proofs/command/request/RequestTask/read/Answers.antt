@@ -1,4 +1,4 @@
-use Rattle.device_cli.specs.FileKind.{key_kind}
+use Rattle.input_files.specs.FileKind.{key_kind}
 use Rattle.device_cli.specs.Request.{request_text}
 use Rattle.device_cli.specs.Row.{plain, put}
 use Rattle.device_cli.specs.LawfulPlay.{IsPutLawfully}

@@ -1,5 +1,5 @@
-use Rattle.input_files.specs.FileKind.{image_kind, policy_kind}
-use Rattle.device_cli.specs.FileKind.{key_kind, reports_kind}
+use Rattle.input_files.specs.FileKind.{image_kind, key_kind, policy_kind}
+use Rattle.device_cli.specs.FileKind.{reports_kind}
 use Rattle.report_verifier.specs.Judge.{judge_with}
 use Rattle.device_cli.specs.Row.{put}
 use Rattle.device_cli.specs.Verify.{verdicts, verdicts_outcome}

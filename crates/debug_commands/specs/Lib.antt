@@ -1,0 +1,4 @@
+pub mod Action
+pub mod Command
+pub mod Number
+pub mod Request

@@ -1,0 +1,3 @@
+pub mod StopReply
+pub mod Stops
+pub mod Watched

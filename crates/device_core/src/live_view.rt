@@ -1,0 +1,54 @@
+ghost use Rattle.std.specs.Prelude.{◌≡◌};
+ghost use Rattle.word_arith.specs.declared.size.Size.TheVariants.{Byte};
+ghost use Rattle.device_trace.specs.Logs.{aux_of};
+ghost use Rattle.device_trace.specs.Progress.{last_registers};
+ghost use Rattle.device_trace.specs.Signals.{number_read};
+ghost use Rattle.device_trace.specs.Trace.{logs_after};
+ghost use Rattle.device_core.specs.Device.{OfLive};
+ghost use Rattle.device_core.specs.LiveView.{is_at_boundary};
+
+use crate::access::number_read;
+use crate::live::Live;
+use bus_signals::TraceFlag;
+use hmac_core::Digest32;
+use word_arith::Size;
+
+/// What a debugger looks at.
+impl<D: Digest32, G: TraceFlag> Live<D, G> {
+    /// The registers at the last boundary, all 0 after power-on and after a reset.
+    pub fn registers(&self) -> &[u16; 16]
+        ensures { OfLive D.hash G.flag self.now (λ start play.
+            result.now ≡ last_registers (logs_after start play).progress) }
+    {
+        self.machine().processor.registers()
+    }
+
+    /// Whether the processor runs and neither an instruction nor an interrupt entry is in progress.
+    pub fn is_at_boundary(&self) -> bool
+        ensures { OfLive D.hash G.flag self.now (λ start play.
+            result ≡ is_at_boundary (logs_after start play).progress) }
+    {
+        match self {
+            Live::Held(_) | Live::InRom(_) => false,
+            Live::Running(device) => device.machine.processor.at_boundary(),
+        }
+    }
+
+    /// The second flag as the memory shows it.
+    pub fn aux(&self) -> bool
+        ensures { OfLive D.hash G.flag self.now (λ start play.
+            result ≡ aux_of start (logs_after start play)) }
+    {
+        self.machine().bus.memory.shows_aux()
+    }
+
+    /// The byte that a read at a place would give, of a secret too, without what the read does
+    /// besides.
+    pub fn peek(&self, place: u16) -> u16
+        ensures { OfLive D.hash G.flag self.now (λ start play.
+            result ≡ number_read start (logs_after start play) place Byte) }
+    {
+        let bus = &self.machine().bus;
+        number_read(&bus.memory, &bus.peripherals, place, Size::Byte)
+    }
+}

@@ -1,0 +1,44 @@
+use Rattle.std.proofs.Common.{◌++◌, ℕ, List, sym, ◌∙◌, ap, append_assoc}
+use Rattle.std.proofs.Math.Path.{subst}
+use Rattle.hex.specs.Hex.{encode_lower}
+use Rattle.outside_edge.specs.Sink.{TakesPrefix}
+use Rattle.outside_edge.proofs.SinkLemmas.{prefix_after, prefix_of_more, puts_after, puts-failed, takes_both}
+use Rattle.report_text.proofs.HexPieces.{encode_lower-pieces}
+use Rattle.report_text.proofs.printed_digits.print_hex.Goals as goal
+
+pub returns-in_err-print_piece-clause-puts : goal.returns-in_err-print_piece-clause-puts
+returns-in_err-print_piece-clause-puts g c =
+    let prefix = c.loop-rest.invariant in
+    let piece : List ℕ = c.split_at.result.0.now in
+    let later : List ℕ = c.split_at.result.1.now in
+    puts-failed g.W.Sink.stands _ _ _ c.from_residual.result c.from_residual.ensures.0
+    (subst (λ all. TakesPrefix g.W.Sink.stands c.args.sink.now c.print_piece.new.sink all)
+    (ap (λ digits. prefix.0 ++ digits) (encode_lower-pieces 32 c.loop-rest.rest.now piece later
+    c.split_at.ensures.front c.split_at.ensures.back) ∙ prefix.1)
+    (prefix_after g.W.Sink.stands _ _ _ prefix.0 (encode_lower piece ++ encode_lower later) prefix.2
+    (prefix_of_more g.W.Sink.stands _ _ (encode_lower piece) (encode_lower later)
+    c.in_err-print_piece.ensures.puts.prefix)))
+
+pub loop-rest-preserved : goal.loop-rest-preserved
+loop-rest-preserved g c =
+    let prefix = c.loop-rest.invariant in
+    let piece : List ℕ = c.split_at.result.0.now in
+    let later : List ℕ = c.split_at.result.1.now in (
+      prefix.0 ++ encode_lower piece,
+      append_assoc prefix.0 (encode_lower piece) (encode_lower later)
+          ∙ ap (λ digits. prefix.0 ++ digits)
+          (encode_lower-pieces 32 c.loop-rest.rest.now piece later c.split_at.ensures.front
+          c.split_at.ensures.back)
+          ∙ prefix.1,
+      takes_both g.W.Sink.stands _ _ _ prefix.0 (encode_lower piece) prefix.2
+          c.in_ok-print_piece.ensures.puts.all,
+      c.in_ok-print_piece.ensures.counts.quiet ∙ prefix.3,
+    )
+
+pub returns-clause-puts : goal.returns-clause-puts
+returns-clause-puts g c =
+    let prefix = c.loop-rest.invariant in
+    rw (sym prefix.1)
+    (puts_after g.W.Sink.stands _ _ _ prefix.0 (encode_lower c.loop-rest.rest.now)
+    c.print_piece-2.result prefix.2
+    c.print_piece-2.ensures.puts)
