@@ -17,9 +17,9 @@ use hmac_core::Digest32;
 use outside_edge::Sink;
 use play_script::{Playback, Script};
 
-// Makes steps up to the next one that is shown: that of the next event, or one that has a line, or
-// any, where every step is shown. At most so many are made then.
-fn play_to_shown<O: Watcher, D: Digest32, G: TraceFlag>(
+/// Makes steps up to the next one that is shown to a watcher: that of the next event, or one that
+/// has a line, or any, where every step is shown. At most so many are made then.
+pub fn play_to_shown<O: Watcher, D: Digest32, G: TraceFlag>(
     live: Live<D, G>,
     playback: &mut Playback<'_>,
     steps: u64,

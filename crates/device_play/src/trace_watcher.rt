@@ -1,5 +1,5 @@
-use crate::last_trace_line::last_trace_line;
 use crate::put_fault::PutFault;
+use crate::traced_line::last_trace_line;
 use crate::watcher::Watcher;
 use bus_signals::TraceFlag;
 use device_core::Live;

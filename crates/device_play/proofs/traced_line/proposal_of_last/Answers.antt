@@ -1,7 +1,7 @@
 use Rattle.std.proofs.Common.{◌∙◌, ℕ, false, Some, ap, sym}
 use Rattle.std.specs.Prelude.{option_copied}
 use Rattle.device_play.proofs.TracedStep.{made-proposal, refused-proposal}
-use Rattle.device_play.proofs.last_trace_line.proposal_of_last.Goals as goal
+use Rattle.device_play.proofs.traced_line.proposal_of_last.Goals as goal
 
 pub returns-in-Some : goal.returns-in-Some
 returns-in-Some g c = λ start play stands value.
