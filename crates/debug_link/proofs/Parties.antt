@@ -102,9 +102,9 @@ module _ {T Session W : Type 0} (stands : T → Session → Type 0) (w : sink.Gh
           record {
             reads = reads;
             session = put.all.stood;
-            last = put.all.last ∙ rw so.last refl;
+            last = put.all.puts.last ∙ rw so.last refl;
             put = takes_both w.stands first old.packets.sink new.packets.sink talk.put
-                (packets_of answer.packets) so.put put.all.put;
+                (packets_of answer.packets) so.put put.all.puts.takes;
           },
         );
         prefix = tt;
@@ -192,8 +192,7 @@ module _ {T Session W : Type 0} (stands : T → Session → Type 0) (w : sink.Gh
         all = record {
           connection_is = refl;
           stood = stood;
-          put = rw one_packet put;
-          last = last;
+          puts = record { takes = rw one_packet put; last = last };
         };
         prefix = tt;
       })

@@ -15,12 +15,8 @@ use Rattle.debug_link.specs.declared.connection.Connection.{Connection}
 use Rattle.debug_link.specs.declared.connection.Connection.TheVariants.{Open, Closed}
 use Rattle.debug_link.specs.declared.served.Served.{Served}
 use Rattle.debug_link.specs.declared.served.Served.TheVariants.{Done, Spent, ReadFault, WriteFault, Memory}
+use Rattle.debug_link.proofs.Faults.{rose_since}
 use Rattle.debug_link.proofs.Parties.{GoesOnBy, by_more, by_none}
-
--- a count that rose since, rose from an earlier one too
-rose_since : (first mid last : ℕ) → first ≤ mid → Rose mid last → Rose first last
-rose_since first mid last rises (inl more) = inl (omega (arith, rises, more))
-rose_since first mid last rises (inr full) = inr full
 
 -- one take after another, of the bytes that are told
 left_both : (left : Option (List ℕ)) (one two : List ℕ)

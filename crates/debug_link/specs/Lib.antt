@@ -1,3 +1,4 @@
+pub mod Console
 pub mod Conversation
 pub mod HeldBody
 pub mod Link

@@ -1,5 +1,5 @@
 -- Packets that are put into a sink.
-use Rattle.std.specs.Prelude.{◌≡◌, ◌≤◌, ℕ, List, Result, OnErr, IfOk, IfErr}
+use Rattle.std.specs.Prelude.{◌≡◌, ◌≤◌, ℕ, List, Result, OnErr, OnOk, IfOk, IfErr}
 use Rattle.outside_edge.specs.Count.{Rose}
 use Rattle.outside_edge.specs.Sink.{Takes, TakesPrefix}
 use Rattle.outside_edge.specs.declared.sink.Sink as sink
@@ -14,14 +14,25 @@ pub record PacketSink (W : Type 0) : Type 0 where
   pub sink : W
   pub last : List ℕ
 
+-- the packets of these bodies were put
+pub record HasPut {W : Type 0} (w : sink.Ghosts W) (old new : PacketSink W)
+    (bodies : List (List ℕ)) : Type 0 where
+  pub takes : Takes w.stands old.sink new.sink (packets_of bodies)
+  pub last : new.last ≡ last_packet old.last bodies
+
+-- they were, or a prefix of them
+pub record PutsPackets {W V E : Type 0} (w : sink.Ghosts W) (old new : PacketSink W)
+    (bodies : List (List ℕ)) (result : Result V E) : Type 0 where
+  pub all : OnOk result (HasPut w old new bodies)
+  pub prefix : OnErr result (TakesPrefix w.stands old.sink new.sink (packets_of bodies))
+
 -- a packet's body was answered: the packets were put, and the answerer stands where the answer says
 pub record HasAnswered {T Session W : Type 0} (stands : T → Session → Type 0)
     (w : sink.Ghosts W) (old new : PacketSink W) (answerer : T) (answer : Answer Session)
     (connection : Connection) : Type 0 where
   pub connection_is : connection ≡ answer.connection
   pub stood : stands answerer answer.session
-  pub put : Takes w.stands old.sink new.sink (packets_of answer.packets)
-  pub last : new.last ≡ last_packet old.last answer.packets
+  pub puts : HasPut w old new answer.packets
 
 -- it was, or a prefix of the packets was put
 pub record Answers {T Session W : Type 0} (stands : T → Session → Type 0)

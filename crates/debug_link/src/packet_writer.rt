@@ -1,4 +1,4 @@
-ghost use Rattle.std.specs.Prelude.{◌≡◌, ◌≤◌, ◌++◌, [], ◌∷◌, codes, length};
+ghost use Rattle.std.specs.Prelude.{◌≡◌, ◌≤◌, [], ◌∷◌, codes, length};
 ghost use Rattle.hex.specs.Hex.{encode_lower};
 ghost use Rattle.outside_edge.specs.Sink.{Puts, CountsFaults};
 ghost use Rattle.debug_link.specs.Conversation.{LONGEST_BODY as longest};
@@ -56,6 +56,22 @@ impl<W: Sink + Drop> PacketWriter<W> {
     {
         write_packet(body, &mut self.last);
         self.put_again()
+    }
+
+    /// Puts the packet of bytes as hexadecimal digits of lower case.
+    pub fn put_digits(&mut self, bytes: &[u8]) -> Result<(), Failed>
+        requires short { length bytes.now ≤ 2048 }
+        ensures puts { Puts W.stands self.old.sink self.new.sink
+            (packet_of (encode_lower bytes.now)) result }
+        ensures last { self.new.last ≡ packet_of (encode_lower bytes.now) }
+        ensures counts { CountsFaults W.faults self.old.sink self.new.sink result }
+    {
+        let mut room = [0; LONGEST_BODY];
+        let digits = &mut room[..2 * bytes.len()];
+        match hex::encode_to_slice(bytes, digits) {
+            Ok(()) => self.put(digits),
+            Err(_) => unreachable!(),
+        }
     }
 
     /// Puts the last packet, where there was one.

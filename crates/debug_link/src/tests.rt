@@ -2,7 +2,7 @@
 
 ghost use Rattle.std.specs.Prelude.{◌≤◌};
 
-use crate::{AnswerFault, Answerer, Connection, PacketWriter, Served, serve};
+use crate::{AnswerFault, Answerer, Connection, PacketWriter, Served, put_text, serve};
 use outside_edge::{MemSink, MemSource, Sink};
 use std::alloc::{AllocError, Global};
 use std::test::Fail;
@@ -104,5 +104,33 @@ fn faults_of_the_outside_end_it(rt: HostRuntime) -> Result<(), Fail> {
     let (end, text) = served(alloc, bytes, 5, &[], &[4])?;
     assert_eq!(rt; end, Served::WriteFault);
     assert_eq!(rt; text.as_slice(), b"+$OK#9a+".as_slice());
+    Ok(())
+}
+
+#[test]
+fn text_is_put_in_pieces(rt: HostRuntime) -> Result<(), Fail> {
+    let alloc = rt.alloc();
+    // How many bytes of text there are; and for each packet how many, and the packet's end.
+    let rows: [(usize, &[(usize, &[u8])]); 4] = [
+        (0, &[]),
+        (1, &[(1, b"#b6")]),
+        (1_024, &[(1_024, b"#4f")]),
+        (1_025, &[(1_024, b"#4f"), (1, b"#b6")]),
+    ];
+    for (count, pieces) in rows {
+        let mut put = Vec::new(alloc);
+        for (bytes, end) in pieces {
+            put.extend_from_slice(b"$O")?;
+            for _ in 0..*bytes {
+                put.extend_from_slice(b"61")?;
+            }
+            put.extend_from_slice(end)?;
+        }
+        let sink = MemSink::new(Vec::new(alloc), 4_096, 4_096, Vec::new(alloc))?;
+        let mut packets = PacketWriter::new(sink);
+        let text = vec![in alloc; b'a'; count]?;
+        assert_eq!(rt; put_text(&text, &mut packets), Ok(()));
+        assert_eq!(rt; packets.into_sink().held(), put.as_slice());
+    }
     Ok(())
 }

@@ -1,0 +1,8 @@
+pub mod Cause
+pub mod Going
+pub mod Level
+pub mod Monitor
+pub mod Place
+pub mod Session
+pub mod Shown
+pub mod Watching

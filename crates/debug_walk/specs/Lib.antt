@@ -1,0 +1,4 @@
+pub mod Levels
+pub mod PlayedRun
+pub mod Seen
+pub mod Walk

@@ -1,0 +1,74 @@
+ghost use Rattle.std.specs.Prelude.{◌≡◌, ◌≤◌, ◌<◌, min, length, true};
+ghost use Rattle.arrayvec.specs.ArrayVec.{array_vec_len};
+ghost use Rattle.debug_session.specs.Place.{registers_at};
+ghost use Rattle.debug_session.specs.Shown.{byte_shown, bytes_shown, is_shown, registers_bytes};
+ghost use Rattle.debug_walk.specs.Walk.{OfWalk};
+
+use crate::walk::Walk;
+use arrayvec::ArrayVec;
+use bus_signals::{KR, TraceFlag, XS};
+use hmac_core::Digest32;
+use isr_flag::IsrFlag;
+
+/// The most bytes that are shown at once.
+pub const MOST_BYTES: usize = 2_048;
+
+/// Whether a place has a byte that may be shown.
+pub fn is_shown(place: u32) -> bool
+    ensures { result ≡ is_shown place }
+{
+    if place > 0xFFFF {
+        return false;
+    }
+    let place = place as u16;
+    !KR.contains(place) && !XS.contains(place)
+}
+
+fn shown_byte<D: Digest32>(walk: &Walk<'_, D>, at: u16) -> u8
+    ensures { OfWalk D.hash ⟦<IsrFlag as TraceFlag>⟧.flag walk.now (λ run place.
+        result ≡ byte_shown run place at) }
+{
+    (walk.live().peek(at) % 256) as u8
+}
+
+/// The bytes of at most so many addresses, up to the first that has none.
+pub fn shown_bytes<D: Digest32>(
+    walk: &Walk<'_, D>,
+    first: u32,
+    size: u32,
+) -> ArrayVec<u8, MOST_BYTES>
+    ensures { OfWalk D.hash ⟦<IsrFlag as TraceFlag>⟧.flag walk.now (λ run place.
+        result.items ≡ bytes_shown run place first (min size 2048)) }
+{
+    let mut bytes = ArrayVec::new();
+    let count = size.min(MOST_BYTES as u32);
+    for at in first..first.saturating_add(count) {
+        if !is_shown(at) {
+            return bytes;
+        }
+        bytes.push(shown_byte(walk, at as u16));
+    }
+    bytes
+}
+
+/// The sixteen registers, each with four bytes, the low one first.
+pub fn shown_registers<D: Digest32>(walk: &Walk<'_, D>) -> ArrayVec<u8, 64>
+    ensures { OfWalk D.hash ⟦<IsrFlag as TraceFlag>⟧.flag walk.now (λ run place.
+        result.items ≡ registers_bytes (registers_at run place)) }
+{
+    registers_bytes(walk.live().registers())
+}
+
+fn registers_bytes(registers: &[u16; 16]) -> ArrayVec<u8, 64>
+    ensures { result.items ≡ registers_bytes registers.now }
+{
+    let mut bytes = ArrayVec::new();
+    for register in registers {
+        let [low, high] = register.to_le_bytes();
+        bytes.push(low);
+        bytes.push(high);
+        bytes.push(0);
+        bytes.push(0);
+    }
+    bytes
+}

@@ -1,0 +1,106 @@
+ghost use Rattle.std.specs.Prelude.{◌≡◌, ◌≤◌, ℕ, List, [], min, IfOk};
+ghost use Rattle.bus_signals.specs.declared.event.Event.{Event};
+ghost use Rattle.device_trace.specs.Start.{Start};
+ghost use Rattle.debug_commands.specs.Request.{most_steps};
+ghost use Rattle.debug_session.specs.Level.{level};
+ghost use Rattle.play_script.specs.Script.{events_of};
+ghost use Rattle.device_core.specs.Device.{HeldStandsFor, steps_made, steps_of};
+ghost use Rattle.device_play.specs.Midway.{IsMidway};
+ghost use Rattle.debug_walk.specs.PlayedRun.{played_run, start_of};
+ghost use Rattle.debug_walk.specs.Walk.{WalkStandsFor, place_of};
+ghost use Rattle.debug_walk.specs.Seen.{MayBeginAt};
+
+use crate::step_seen::LevelPlace;
+use crate::walk::Walk;
+use bus_signals::TraceFlag;
+use debug_commands::MOST_STEPS;
+use device_core::{Device, Held, Live, power_on};
+use device_play::{LineWatcher, play_to_shown};
+use hmac_core::Digest32;
+use isr_flag::IsrFlag;
+use mem_map::Image;
+use play_script::{Playback, Script};
+use std::alloc::{AllocError, Global};
+
+/// What is played: the key and the image that a device is powered on with, and a script.
+#[derive(Clone, Copy)]
+pub struct Run<'a> {
+    key: &'a [u8; 64],
+    image: &'a Image,
+    script: &'a Script,
+}
+
+impl<'a> Run<'a> {
+    pub fn new(key: &'a [u8; 64], image: &'a Image, script: &'a Script) -> Run<'a>
+        ensures key { result.key.now ≡ key.now }
+        ensures image { result.image.now ≡ image.now }
+        ensures script { result.script.now ≡ script.now }
+    {
+        Run { key, image, script }
+    }
+
+    // The device at power-on.
+    fn device<D: Digest32>(&self, alloc: Global) -> Result<Device<Held, D, IsrFlag>, AllocError>
+        ensures stands { IfOk result (λ device.
+            HeldStandsFor D.hash ⟦<IsrFlag as TraceFlag>⟧.flag device
+            (start_of D.hash ⟦<IsrFlag as TraceFlag>⟧.flag self.now) []) }
+        ensures steps { IfOk result (λ device. steps_of device ≡ 0) }
+    {
+        power_on::<D, IsrFlag>(alloc, self.key, self.image, IsrFlag::new())
+    }
+
+    /// A device that has played up to a place, to the last one at most, with the events that are
+    /// left.
+    pub fn live_at<D: Digest32>(
+        &self,
+        alloc: Global,
+        place: u64,
+    ) -> Result<(Live<D, IsrFlag>, Playback<'a>), AllocError>
+        ensures midway { IfOk result (λ end.
+            IsMidway D.hash ⟦<IsrFlag as TraceFlag>⟧.flag
+            (start_of D.hash ⟦<IsrFlag as TraceFlag>⟧.flag self.now) (events_of self.now.script.now)
+            end.0 end.1) }
+        ensures place { IfOk result (λ end. steps_made end.0 ≡ min place most_steps) }
+    {
+        let device = self.device(alloc)?;
+        let mut playback = self.script.playback();
+        let live = play_up_to(Live::Held(device), &mut playback, place.min(MOST_STEPS));
+        Ok((live, playback))
+    }
+
+    /// A walk that stands at a place whose level is given, at the last one at most.
+    pub fn walk_to<D: Digest32>(
+        &self,
+        alloc: Global,
+        at: LevelPlace,
+    ) -> Result<Walk<'a, D>, AllocError>
+        ensures stands { IfOk result (λ walk. at.place ≤ most_steps
+            → at.level ≡ level (played_run D.hash ⟦<IsrFlag as TraceFlag>⟧.flag self.now) at.place
+            → MayBeginAt (played_run D.hash ⟦<IsrFlag as TraceFlag>⟧.flag self.now) at.place
+            → WalkStandsFor D.hash ⟦<IsrFlag as TraceFlag>⟧.flag walk
+            (played_run D.hash ⟦<IsrFlag as TraceFlag>⟧.flag self.now)) }
+        ensures place { IfOk result (λ walk. place_of walk ≡ min at.place most_steps) }
+    {
+        let (live, playback) = self.live_at(alloc, at.place)?;
+        Ok(Walk::at(live, playback, at.level))
+    }
+}
+
+// Plays on up to a place.
+fn play_up_to<D: Digest32, G: TraceFlag>(
+    mut live: Live<D, G>,
+    playback: &mut Playback<'_>,
+    place: u64,
+) -> Live<D, G>
+    requires ahead { steps_made live ≤ place }
+    requires few { place ≤ most_steps }
+    ensures made { steps_made result ≡ place }
+    ensures plays { (start : Start) (events_at : ℕ → List Event)
+        → IsMidway D.hash G.flag start events_at live playback.old
+        → IsMidway D.hash G.flag start events_at result playback.new }
+{
+    while live.steps() < place {
+        live = play_to_shown::<LineWatcher, D, G>(live, playback, place);
+    }
+    live
+}
