@@ -1,0 +1,3 @@
+pub mod FirstStops
+pub mod LastStops
+pub mod ToldPieces

@@ -1,0 +1,5 @@
+use Rattle.debug_laws.proofs.LastStops.{stops-last}
+use Rattle.debug_laws.proofs.law.last_stop_is_last.Goals as goal
+
+pub returns : goal.returns
+returns c = stops-last

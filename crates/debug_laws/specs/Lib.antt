@@ -1,0 +1,3 @@
+pub mod FirstStop
+pub mod LastStop
+pub mod ToldLines
