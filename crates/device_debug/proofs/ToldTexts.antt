@@ -1,0 +1,173 @@
+-- Texts that wait, and the packets of them that are put.
+use Rattle.std.proofs.Common.{◌≡◌, ◌<◌, ◌+◌, ◌∙◌, ◌++◌, ℕ, suc, true, false, List, [], ◌∷◌, Result, Ok, Err, length, get_or, take, drop, refl, ap, sym, subst, append_assoc, append-nil, ⊎_elim}
+use Rattle.std.specs.Prelude.{IsErr, OnOk, is_ok, if◌then◌else◌}
+use Rattle.std.proofs.lemmas.Bool.{cases_Bool, false≢true}
+use Rattle.std.proofs.lemmas.List.{take_more, take-append-drop}
+use Rattle.std.proofs.lemmas.Result.{on_ok_weaker}
+use Rattle.bus_signals.specs.TraceFlag.{Flag}
+use Rattle.hmac_core.specs.Hash.{Hash}
+use Rattle.outside_edge.specs.Sink.{TakesPrefix}
+use Rattle.outside_edge.specs.declared.sink.Sink as sink
+use Rattle.device_core.specs.Device.{LiveStandsFor}
+use Rattle.device_core.specs.declared.live.Live.{Live}
+use Rattle.device_trace.specs.Trace.{play_of}
+use Rattle.device_play.proofs.WriteCounts.{nothing-begun}
+use Rattle.debug_link.specs.Console.{console}
+use Rattle.debug_link.specs.Packet.{packets_of}
+use Rattle.debug_link.specs.Writing.{HasPut, PacketSink, PutsPackets}
+use Rattle.debug_link.proofs.Bodies.{put_both, put_none, puts_behind, puts_failed, puts_less}
+use Rattle.debug_session.specs.Place.{Run, is_boundary}
+use Rattle.debug_walk.specs.Walk.{SecondFlag, WalkStandsFor, place_of}
+use Rattle.debug_walk.specs.declared.walk.Walk.{Walk}
+use Rattle.device_debug.specs.GrownText.{GrownText}
+use Rattle.device_debug.specs.Telling.{TellsStep, bodies_of, step_bodies}
+
+-- the packets of texts, one list behind another
+pub bodies-both : (xs ys : List GrownText) → bodies_of (xs ++ ys) ≡ bodies_of xs ++ bodies_of ys
+bodies-both [] ys = refl
+bodies-both (text ∷ xs) ys =
+    ap (λ (rest : List (List ℕ)). console text.bytes ++ rest) (bodies-both xs ys)
+    ∙ sym (append_assoc (console text.bytes) (bodies_of xs) (bodies_of ys))
+
+-- of one text more
+pub bodies-more : (texts : List GrownText) (text : GrownText)
+    → bodies_of (texts ++ text ∷ []) ≡ bodies_of texts ++ console text.bytes
+bodies-more texts text =
+    bodies-both texts (text ∷ [])
+    ∙ ap (λ (last : List (List ℕ)). bodies_of texts ++ last) (append-nil (console text.bytes))
+
+-- a list of texts behind a push
+pub kept-is : {V E : Type 0} (old inside new : List GrownText) (value text : GrownText)
+    (result : Result V E)
+    → new ≡ (if is_ok result then inside ++ value ∷ [] else inside)
+    → is_ok result ≡ true → inside ≡ old → value ≡ text
+    → bodies_of new ≡ bodies_of old ++ console text.bytes
+kept-is old inside new value text (Ok done) pushed ok same is =
+    ap bodies_of pushed ∙ bodies-more inside value
+    ∙ ap (λ (texts : List GrownText). bodies_of texts ++ console value.bytes) same
+    ∙ ap (λ (one : GrownText). bodies_of old ++ console one.bytes) is
+kept-is old inside new value text (Err error) pushed ok same is = absurd (false≢true ok)
+
+pub bodies-next : (texts : List GrownText) (n : ℕ) (text : GrownText)
+    → n < length texts → text ≡ get_or texts n text
+    → bodies_of (take (n + 1) texts) ≡ bodies_of (take n texts) ++ console text.bytes
+bodies-next texts n text within is =
+    ap bodies_of (take_more texts n text within)
+    ∙ bodies-more (take n texts) (get_or texts n text)
+    ∙ ap (λ (one : GrownText). bodies_of (take n texts) ++ console one.bytes) (sym is)
+
+pub bodies-rest : (texts : List GrownText) (n : ℕ)
+    → bodies_of texts ≡ bodies_of (take n texts) ++ bodies_of (drop n texts)
+bodies-rest texts n =
+    ap bodies_of (sym (take-append-drop n texts)) ∙ bodies-both (take n texts) (drop n texts)
+
+module _ {W : Type 0} (w : sink.Ghosts W) where
+  -- the call of one text failed, behind those before it
+  pub texts-failed : {V U E F : Type 0} (old mid new : PacketSink W) (texts : List GrownText)
+      (n : ℕ) (text : GrownText) (error : E) (result : Result V F)
+      → n < length texts → text ≡ get_or texts n text
+      → IsErr result
+      → HasPut w old mid (bodies_of (take n texts))
+      → PutsPackets {V = U} w mid new (console text.bytes) (Err error)
+      → PutsPackets w old new (bodies_of texts) result
+  texts-failed {U = U} old mid new texts n text error result within is failed put puts =
+      let whole : bodies_of texts
+      ≡ (bodies_of (take n texts) ++ console text.bytes) ++ bodies_of (drop (n + 1) texts) =
+      bodies-rest texts (n + 1)
+      ∙ ap (λ (front : List (List ℕ)). front ++ bodies_of (drop (n + 1) texts))
+      (bodies-next texts n text within is) in
+      let less = puts_less w {V = U} old new (bodies_of (take n texts) ++ console text.bytes)
+      (bodies_of (drop (n + 1) texts)) error
+      (puts_behind w {V = U} old mid new (bodies_of (take n texts)) (console text.bytes)
+      (Err error) put puts) in
+      puts_failed w old new (bodies_of texts) result failed
+      (subst (λ (bodies : List (List ℕ)). TakesPrefix w.stands old.sink new.sink
+      (packets_of bodies)) (sym whole) less.prefix)
+
+  -- one text more was put
+  pub texts-next : (old mid new : PacketSink W) (texts : List GrownText) (n : ℕ)
+      (text : GrownText)
+      → n < length texts → text ≡ get_or texts n text
+      → HasPut w old mid (bodies_of (take n texts))
+      → HasPut w mid new (console text.bytes)
+      → HasPut w old new (bodies_of (take (n + 1) texts))
+  texts-next old mid new texts n text within is put more =
+      subst (HasPut w old new) (sym (bodies-next texts n text within is))
+      (put_both w old mid new (bodies_of (take n texts)) (console text.bytes) put more)
+
+  -- behind a step nothing was put, since there was no memory for its lines
+  pub tells-none : {V E : Type 0} (now : PacketSink W) (waiting new : List GrownText) (run : Run)
+      (step : ℕ) (result : Result V E)
+      → IsErr result → TellsStep w now now waiting new run step result
+  tells-none now waiting new run step (Ok value) failed = absurd (false≢true failed)
+  tells-none now waiting new run step (Err error) failed =
+      let all : List (List ℕ) = bodies_of waiting ++ step_bodies run step in
+      ⊎_elim
+      (λ here. record {
+        put = all;
+        later = [];
+        whole = append-nil all;
+        has_put = tt;
+        prefix = nothing-begun w.stands now.sink (packets_of all);
+        waits = tt;
+        none_waits = λ same. refl;
+        none_put = λ away. absurd (false≢true (sym away ∙ here));
+      })
+      (λ away. record {
+        put = [];
+        later = all;
+        whole = refl;
+        has_put = tt;
+        prefix = nothing-begun w.stands now.sink (packets_of []);
+        waits = tt;
+        none_waits = λ here. absurd (false≢true (sym away ∙ here));
+        none_put = λ same. refl;
+      })
+      (cases_Bool (is_boundary run (suc step)))
+
+  -- at a boundary all is put
+  pub tells-all : {V E : Type 0} (old new : PacketSink W) (waiting mid left : List GrownText)
+      (run : Run) (step : ℕ) (result : Result V E)
+      → bodies_of mid ≡ bodies_of waiting ++ step_bodies run step
+      → is_boundary run (suc step) ≡ true
+      → PutsPackets w old new (bodies_of mid) result → OnOk result (left ≡ [])
+      → TellsStep w old new waiting left run step result
+  tells-all old new waiting mid left run step result whole here puts emptied =
+      record {
+        put = bodies_of mid;
+        later = [];
+        whole = append-nil (bodies_of mid) ∙ whole;
+        has_put = puts.all;
+        prefix = puts.prefix;
+        waits = on_ok_weaker result (λ (is : left ≡ []). sym (ap bodies_of is)) emptied;
+        none_waits = λ same. refl;
+        none_put = λ away. absurd (false≢true (sym away ∙ here));
+      }
+
+  -- and elsewhere it waits
+  pub tells-later : {V E : Type 0} (now : PacketSink W) (waiting mid : List GrownText) (run : Run)
+      (step : ℕ) (value : V)
+      → bodies_of mid ≡ bodies_of waiting ++ step_bodies run step
+      → is_boundary run (suc step) ≡ false
+      → TellsStep {E = E} w now now waiting mid run step (Ok value)
+  tells-later now waiting mid run step value whole away =
+      record {
+        put = [];
+        later = bodies_of mid;
+        whole = whole;
+        has_put = put_none w now;
+        prefix = tt;
+        waits = refl;
+        none_waits = λ here. absurd (false≢true (sym away ∙ here));
+        none_put = λ same. refl;
+      }
+
+-- the last step of a walk, as its device stands for it
+pub last-stands : {D : Type 0} {hash : Hash D} {flag : Flag SecondFlag} (run : Run)
+    (walk : Walk D) (live : Live D SecondFlag) (step : ℕ)
+    → live ≡ walk.live → WalkStandsFor hash flag walk run → place_of walk ≡ suc step
+    → LiveStandsFor hash flag live run.start (play_of run.events_at (suc step))
+last-stands {hash = hash} {flag = flag} run walk live step same walks made =
+    rw same
+    (subst (λ (steps : ℕ). LiveStandsFor hash flag walk.live run.start
+    (play_of run.events_at steps)) made walks.midway.stands)

@@ -1,0 +1,27 @@
+use Rattle.std.proofs.Common.{refl}
+use Rattle.debug_session.specs.Going.{back_to}
+use Rattle.debug_walk.specs.PlayedRun.{played_run}
+use Rattle.device_debug.proofs.Answering.{none-said}
+use Rattle.device_debug.proofs.Gone.{went-back}
+use Rattle.device_debug.proofs.SecondFlag.{second_flag}
+use Rattle.device_debug.proofs.debugger.Debugger.back.Goals as goal
+
+pub returns-in_err-walk-clause-gives : goal.returns-in_err-walk-clause-gives
+returns-in_err-walk-clause-gives g c =
+    none-said _ _ _ _ _ _ _ _ c.from_residual.ensures.0 (rw c.take_walk.ensures.rest refl)
+
+pub returns-in_err-walk-2-clause-gives : goal.returns-in_err-walk-2-clause-gives
+returns-in_err-walk-2-clause-gives g c =
+    none-said _ _ _ _ _ _ _ _ c.from_residual-in_err-walk-2.ensures.0
+    (rw c.take_walk.ensures.rest refl)
+
+pub returns-clause-gives : goal.returns-clause-gives
+returns-clause-gives g c =
+    went-back _ _ _ _ _ c.args.self.now _ _
+    (λ stops place.
+    back_to (played_run g.D.Digest32.hash second_flag c.args.self.now.run) stops place
+    c.args.steps)
+    _ _ c.in_ok-walk.ensures.walk
+    (rw c.take_walk.ensures.rest at c.in_ok-walk-2.ensures)
+    (rw c.take_walk.ensures.rest at c.stand.ensures.gives)
+    (rw c.take_walk.ensures.rest at c.stand.ensures.same_run)

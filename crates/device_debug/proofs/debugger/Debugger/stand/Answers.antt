@@ -1,0 +1,8 @@
+use Rattle.std.proofs.Common.{◌∙◌}
+use Rattle.device_debug.proofs.Gone.{stood}
+use Rattle.device_debug.proofs.debugger.Debugger.stand.Goals as goal
+
+pub returns-clause-gives : goal.returns-clause-gives
+returns-clause-gives g c = λ now arrived session stops.
+    stood _ _ _ _ _ c.args.self.now c.args.walk c.args.stop now session _ _
+    (c.as_slice.ensures ∙ c.reply.ensures.text) arrived stops c.say.ensures.gives

@@ -1,0 +1,34 @@
+-- The lines of steps that a debugger is told, and those that wait.
+use Rattle.std.specs.Prelude.{◌≡◌, ◌++◌, ℕ, suc, true, false, List, [], ◌∷◌, Result, OnErr, OnOk}
+use Rattle.outside_edge.specs.Sink.{TakesPrefix}
+use Rattle.outside_edge.specs.declared.sink.Sink as sink
+use Rattle.device_trace.specs.Text.{lines_of_step}
+use Rattle.debug_link.specs.Console.{console}
+use Rattle.debug_link.specs.Packet.{packets_of}
+use Rattle.debug_link.specs.Writing.{HasPut, PacketSink}
+use Rattle.debug_session.specs.Place.{Run, is_boundary, play_to}
+use Rattle.device_debug.specs.GrownText.{GrownText}
+
+-- the packets of the lines of a step
+abbrev pub step_bodies : Run → ℕ → List (List ℕ)
+step_bodies run step =
+    console (lines_of_step run.start (run.events_at step) (play_to run step))
+
+-- and of texts that wait
+abbrev pub bodies_of : List GrownText → List (List ℕ)
+bodies_of [] = []
+bodies_of (text ∷ texts) = console text.bytes ++ bodies_of texts
+
+-- behind a step some of the packets that waited and of its own were put, and the others wait: all
+-- were put at a boundary, and none elsewhere
+pub record TellsStep {W V E : Type 0} (w : sink.Ghosts W) (old new : PacketSink W)
+    (waiting waiting_new : List GrownText) (run : Run) (step : ℕ) (result : Result V E)
+    : Type 0 where
+  pub put : List (List ℕ)
+  pub later : List (List ℕ)
+  pub whole : put ++ later ≡ bodies_of waiting ++ step_bodies run step
+  pub has_put : OnOk result (HasPut w old new put)
+  pub prefix : OnErr result (TakesPrefix w.stands old.sink new.sink (packets_of put))
+  pub waits : OnOk result (later ≡ bodies_of waiting_new)
+  pub none_waits : is_boundary run (suc step) ≡ true → later ≡ []
+  pub none_put : is_boundary run (suc step) ≡ false → put ≡ []
