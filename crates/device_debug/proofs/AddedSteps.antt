@@ -1,5 +1,5 @@
 -- The texts of steps that are added to a text for the console, one after the other.
-use Rattle.std.proofs.Common.{◌≡◌, ◌≤◌, ◌<◌, ◌+◌, ◌-◌, ◌∙◌, ◌++◌, ℕ, suc, List, Result, IsErr, ap, sym, subst, arith}
+use Rattle.std.proofs.Common.{◌≡◌, ◌≤◌, ◌<◌, ◌-◌, ◌∙◌, ◌++◌, ℕ, suc, List, Result, IsErr, ap, sym, subst, arith}
 use Rattle.outside_edge.specs.declared.sink.Sink as sink
 use Rattle.debug_link.specs.Console.{AddsText, HasAdded}
 use Rattle.debug_link.specs.Writing.{PacketSink}

@@ -1,12 +1,11 @@
 -- What a debugger answers from another place, and behind lines that it told.
-use Rattle.std.proofs.Common.{◌≡◌, ◌≤◌, ◌∙◌, ◌++◌, ℕ, Bool, List, [], ◌∷◌, Some, Result, Ok, Err, IsErr, refl, ap, sym, subst}
+use Rattle.std.proofs.Common.{◌≡◌, ◌≤◌, ◌∙◌, ℕ, List, [], Some, Result, Ok, Err, IsErr, refl, ap, sym, subst}
 use Rattle.std.specs.Prelude.{codes}
 use Rattle.bus_signals.specs.TraceFlag.{Flag}
 use Rattle.hmac_core.specs.Hash.{Hash}
 use Rattle.outside_edge.specs.declared.sink.Sink as sink
 use Rattle.debug_link.specs.Console.{console}
 use Rattle.debug_link.specs.Conversation.{Answer}
-use Rattle.debug_link.specs.Packet.{packets_of}
 use Rattle.debug_link.specs.Writing.{Answers, PacketSink, PutsPackets}
 use Rattle.debug_link.specs.declared.answer_fault.AnswerFault.{AnswerFault}
 use Rattle.debug_link.specs.declared.connection.Connection.{Connection}
@@ -16,7 +15,7 @@ use Rattle.debug_commands.specs.declared.request.Request.TheVariants.{Until}
 use Rattle.debug_session.specs.Going.{Standing}
 use Rattle.debug_session.specs.Monitor.{request_text}
 use Rattle.debug_session.specs.Place.{Run}
-use Rattle.debug_session.specs.Session.{Session, after_request, lines_to, monitored, says, stands_at, until_of}
+use Rattle.debug_session.specs.Session.{Session, after_request, lines_to, monitored, says, stands_at}
 use Rattle.debug_stops.specs.StopReply.{stop_reply}
 use Rattle.debug_stops.specs.Stops.{Stops}
 use Rattle.debug_stops.specs.declared.stop.Stop.{Stop}

@@ -12,7 +12,7 @@ use Rattle.debug_stops.specs.Stops.{Stops, is_due}
 use Rattle.debug_stops.specs.Watched.{first_hit, hits_of, seen_accesses}
 use Rattle.debug_stops.specs.declared.seen_accesses.SeenAccesses.{SeenAccesses}
 use Rattle.debug_stops.specs.declared.stop.Stop.{Stop}
-use Rattle.debug_stops.specs.declared.stop.Stop.TheVariants.{Plain, Stepped, Watched, Refused}
+use Rattle.debug_stops.specs.declared.stop.Stop.TheVariants.{Refused}
 use Rattle.debug_stops.specs.declared.watch.Hit.{Hit}
 use Rattle.debug_stops.specs.declared.watch.Watch.{Watch}
 use Rattle.debug_stops.proofs.Hits.{first_of_both}
@@ -20,7 +20,7 @@ use Rattle.debug_session.specs.Cause.{is_broken_at, is_due_first, is_plain, refu
 use Rattle.debug_session.specs.Cause.{refusal_of as refused_in}
 use Rattle.debug_session.specs.Going.{Standing, first_stop, standing_at}
 use Rattle.debug_session.specs.Level.{begun_level}
-use Rattle.debug_session.specs.Place.{Run, earlier_boundary, ends, is_boundary, is_refused, last_boundary, logs_at, stands_at_boundary, step_at}
+use Rattle.debug_session.specs.Place.{Run, earlier_boundary, ends, is_boundary, is_refused, last_boundary, stands_at_boundary, step_at}
 use Rattle.debug_session.specs.Watching.{aux_changes, exec_changes, hits_at, hits_before}
 use Rattle.debug_walk.specs.Seen.{MayBeginAt, with_level}
 use Rattle.device_debug.specs.Way.{hit_behind, refusal_of, steps_here, stop_behind, way_behind}

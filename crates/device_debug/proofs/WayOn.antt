@@ -1,5 +1,5 @@
 -- A walk that goes on, from step to step: what was put, and where it stops.
-use Rattle.std.proofs.Common.{◌≡◌, ◌≤◌, ◌<◌, ◌+◌, ◌-◌, ◌∙◌, ◌++◌, ◌⊎◌, inl, inr, ℕ, suc, Bool, true, false, List, [], Option, Some, None, Result, Ok, Err, refl, ap, sym, subst, arith, append_assoc, append-nil, nat_lt, option_map, ⊎_elim}
+use Rattle.std.proofs.Common.{◌≡◌, ◌≤◌, ◌<◌, ◌-◌, ◌∙◌, ◌++◌, ◌⊎◌, inl, inr, ℕ, suc, Bool, true, false, List, [], Option, Some, None, Result, Ok, Err, refl, ap, sym, subst, arith, append_assoc, append-nil, nat_lt, option_map, ⊎_elim}
 use Rattle.std.specs.Prelude.{◌&&◌, ◌||◌, IfSome, IsErr, codes, is_some, length, not, if◌then◌else◌}
 use Rattle.std.proofs.lemmas.Bool.{cases_Bool, false≢true, ltb-true}
 use Rattle.std.proofs.Math.Seq.{take-length}

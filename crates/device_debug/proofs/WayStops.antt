@@ -1,8 +1,7 @@
 -- Why a walk stops behind a step, from what was seen of the place.
-use Rattle.std.proofs.Common.{◌≡◌, ◌∙◌, ℕ, Bool, true, false, Option, Some, None, refl, ap}
+use Rattle.std.proofs.Common.{◌≡◌, ℕ, Bool, true, false, Option, Some, None, refl}
 use Rattle.std.specs.Prelude.{◌&&◌, ◌||◌, not, if◌then◌else◌}
 use Rattle.debug_stops.specs.Stops.{Stops, is_due}
-use Rattle.debug_stops.specs.declared.stop.Stop.{Stop}
 use Rattle.debug_stops.specs.declared.stop.Stop.TheVariants.{Stepped}
 use Rattle.debug_stops.specs.declared.watch.Hit.{Hit}
 use Rattle.debug_session.specs.Cause.{is_broken_at, stop_of}

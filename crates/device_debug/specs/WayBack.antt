@@ -1,5 +1,5 @@
 -- What a walk from the beginning keeps, and the last place so far where a debugger stops.
-use Rattle.std.specs.Prelude.{◌≡◌, ℕ, ◌==◌, ◌&&◌, ◌||◌, Bool, true, false, Option, Some, None, nat_le, not, if◌then◌else◌}
+use Rattle.std.specs.Prelude.{◌≡◌, ℕ, ◌==◌, ◌&&◌, ◌||◌, Bool, false, Option, Some, None, nat_le, not, if◌then◌else◌}
 use Rattle.bus_signals.specs.declared.rule.Rule.{Rule}
 use Rattle.debug_stops.specs.Stops.{Stops, is_due}
 use Rattle.debug_stops.specs.Watched.{hits_of, last_hit}

@@ -1,4 +1,4 @@
-use Rattle.std.proofs.Common.{◌≡◌, ℕ, Ok, Err, arith, sym, ◌∙◌}
+use Rattle.std.proofs.Common.{Ok, arith, sym, ◌∙◌}
 use Rattle.part_definitions.specs.TrustedFlag.{aux}
 use Rattle.bus_signals.specs.TraceFlag.{Flag}
 use Rattle.exec_automaton.specs.RunFlag.{flag_of_run}

@@ -1,4 +1,4 @@
-use Rattle.std.proofs.Common.{◌≡◌, ◌∙◌, ◌++◌, ℕ, List, codes}
+use Rattle.std.proofs.Common.{◌≡◌, ◌∙◌, ◌++◌, codes}
 use Rattle.printed_lines.specs.Line.{reset_line}
 use Rattle.device_debug.proofs.RefusalText.{has-both, puts-failed, puts-none}
 use Rattle.device_debug.proofs.forwards.tell_refusal.Goals as goal

@@ -1,4 +1,4 @@
-use Rattle.std.proofs.Common.{◌≡◌, ◌≤◌, inl, inr, refl, arith}
+use Rattle.std.proofs.Common.{inl, inr, refl, arith}
 use Rattle.device_debug.proofs.Beginning.{level-first}
 use Rattle.device_debug.proofs.debugger.Debugger.new.Goals as goal
 
