@@ -8,7 +8,9 @@ from sample_files import read
 from trial import ROOT
 
 # The commands that cases are of.
-TRIED = ("play", "dump", "trace", "request", "verify", "round", "desk", "audit")
+TRIED = ("play", "dump", "trace", "request", "verify", "round", "desk", "audit", "debug")
+# The end of what stands on standard input, by the command that reads it.
+INPUTS = {"desk": "lines", "debug": "packets"}
 
 
 class Case:
@@ -48,9 +50,9 @@ class Case:
         return [command, *(self.file(ends.get(word, word)) if word in kinds.files
                            else self.read(word).decode().strip() for word in kinds.words)]
 
-    def input(self):
-        """What stands on standard input, which is read by a desk alone."""
-        return self.read("lines") if self.has("lines") else None
+    def input(self, command):
+        """What stands on standard input, where the command reads it."""
+        return self.read(INPUTS[command]) if command in INPUTS else None
 
     def text(self, command):
         """What the command prints; of a dump the beginning."""

@@ -96,6 +96,7 @@ def examples(trial):
     for name in ("letter-a", "echo", "attest", "sensor", "meter"):
         try_image(name, name, [source for source in os.listdir(f"{EXAMPLES}/{name}")
                                if source.endswith((".c", ".h", ".s"))])
+    try_image("tour", "tour", ["tour.c"], "CFLAGS=-O0")
     source = read(f"{EXAMPLES}/sensor/sensor.c").replace(b"= P1IN", b"= P1IN * 10")
     if image_of(trial, {"sensor.c": source}) != read(f"{EXAMPLES}/fleet/next/image.hex"):
         trial.fault("fleet/next: not the image that firmware/Makefile makes")

@@ -17,7 +17,8 @@ import memory_faults  # noqa: E402
 import mistaken_files  # noqa: E402
 import reference_texts  # noqa: E402
 from readers import READERS  # noqa: E402
-from reference import COMMANDS, FAULTS, FILES, STATUSES, VALUES, said_of  # noqa: E402
+from reference import (COMMANDS, FAULTS, FILES, STATUSES, VALUES, WITH_INPUT,  # noqa: E402
+                       said_of)
 
 WIDTH = 76
 
@@ -180,10 +181,10 @@ def explanation(status, line, words):
     if status == 2:
         return [wrong_words(words), *usage_of(words[0] if words else None).splitlines()]
     if status in (3, 4):
-        is_desk = words[0] == "desk"
-        return [unread_file(words) or ("standard input cannot be read" if is_desk else None)]
+        has_input = words[0] in WITH_INPUT
+        return [unread_file(words) or ("standard input cannot be read" if has_input else None)]
     if status == 15:
-        return [STATUSES[status].remedy.replace("`", "")]
+        return [said_of(words[:1], STATUSES[status].remedy).replace("`", "")]
     if status in memory_faults.OWN_STATUSES:
         return memory_faults.explanation(status, line, names_of(words))
     return file_fault(line, words)

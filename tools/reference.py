@@ -93,6 +93,15 @@ COMMANDS = {command.name: command for command in (
             "Runs the firmware for STEPS bus steps and prints a trace file: a line for each step, "
             "in which what lies in the key or in the exclusive stack stands as 0.",
             "trace image.hex script.txt key.txt 5000 > trace.txt"),
+    Command("debug", ("image", "script", "key"),
+            "the answers to GDB, which drives the device by packets on standard input, forwards "
+            "and backwards",
+            "Answers the packets of GDB's remote protocol on standard input, each at once: GDB "
+            "drives the run that `play` prints, by instructions and source lines, breakpoints and "
+            "watches, forwards and backwards, and stops before the instruction that would reset "
+            "the device. Nothing that it asks changes the run. In GDB its command is `target "
+            "remote | foldgneiss debug image.hex script.txt key.txt`.",
+            "debug image.hex script.txt key.txt", "debug_cli"),
     Command("wave", ("image", "script", "key", "steps"),
             "the same, and the registers, as a waveform, for GTKWave and other viewers",
             "Prints what trace says of a run, and the registers, as a value change dump (IEEE "
@@ -160,7 +169,14 @@ COMMANDS = {command.name: command for command in (
             "work 7"),
 )}
 
-PROGRAMS = ("device_cli", "desk_cli")
+PROGRAMS = ("device_cli", "desk_cli", "debug_cli")
+
+
+def named_by_program():
+    """The names of the commands of each program."""
+    return {program: [name for name, command in COMMANDS.items() if command.program == program]
+            for program in PROGRAMS}
+
 
 # In the order in which they are read.
 FILES = {
@@ -232,14 +248,18 @@ class Part(NamedTuple):
     text: str
 
 
+OR = "; or "  # what a part begins with that may stand first
+
+
 def said_of(words, text):
     """The text, which may be a tuple with parts in it, as it is said of these commands and
     arguments; of none that are named, the whole text.
     """
     parts = [Part("", text)] if isinstance(text, str) else [
         Part("", part) if isinstance(part, str) else part for part in text]
-    return "".join(part.text for part in parts
+    said = "".join(part.text for part in parts
                    if words is None or not part.word or part.word in words)
+    return said[len(OR):] if said.startswith(OR) else said
 
 
 class Status(NamedTuple):
@@ -250,6 +270,7 @@ class Status(NamedTuple):
 
 
 WITH_MEMORY = tuple(name for name, command in COMMANDS.items() if "memory" in command.all_words)
+WITH_INPUT = ("desk", "debug")  # those that read standard input
 
 STATUSES = {
     0: Status("", "all of the text was printed", ""),
@@ -269,14 +290,16 @@ STATUSES = {
     4: Status("reading failed",
               ("a file is there and cannot be read: a folder, a path through a file, a lack of "
                "rights, a broken disk",
-               Part("desk", "; or standard input of `desk` cannot be read")), "likewise"),
+               Part("desk", "; or standard input of `desk` cannot be read"),
+               Part("debug", "; or standard input of `debug` cannot be read")), "likewise"),
     5: Status("writing failed", "standard output took only a prefix of the text",
               "free space, or keep the pipe open"),
     6: Status("no memory",
               ("the system refused memory; nothing was printed",
                Part("round", ", or in `round` a prefix that ends before a `collision` line"),
                Part("desk", ", or in `desk` the replies to all lines before a report, or to some "
-                            "lines where it was refused for MEMORY")),
+                            "lines where it was refused for MEMORY"),
+               Part("debug", ", or in `debug` a prefix of the answers")),
               "the program needs a few MiB, and for the largest sources some 40, the largest "
               "trace files some 70"),
     7: Status("bad key: line L: K", "the key is not 128 hexadecimal digits in one line",
@@ -288,8 +311,11 @@ STATUSES = {
     12: Status("bad source: line L: K", "the source's first fault", "likewise"),
     13: Status("bad trace: line L: K", "the first fault of the trace file", "likewise"),
     14: Status("bad keys: line L: K", "the first fault of a desk's keys", "likewise"),
-    15: Status("input is too long", "`desk` took 1,073,741,824 bytes of standard input",
-               "start the desk anew with its memory: `docs/desk.md`", ("desk",)),
+    15: Status("input is too long",
+               (Part("desk", "`desk` took 1,073,741,824 bytes of standard input"),
+                Part("debug", "; or `debug` took 1,073,741,824 bytes of standard input")),
+               (Part("desk", "start the desk anew with its memory: `docs/desk.md`"),
+                Part("debug", "; or connect GDB anew")), WITH_INPUT),
     16: Status("bad memory: M",
                "MEMORY is no memory of a desk, or is damaged; or a key of KEYS stands under "
                "another name in it; or `remember` was to make it, and it has devices",

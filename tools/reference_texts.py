@@ -144,7 +144,7 @@ def command_table():
 def status_table():
     return table(("Code", "Line on standard error", "Cause", "Remedy"),
                  *((str(code), f"`{status.line}`" if status.line else "none",
-                    said_of(None, status.cause), status.remedy)
+                    said_of(None, status.cause), said_of(None, status.remedy))
                    for code, status in STATUSES.items()))
 
 

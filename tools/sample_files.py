@@ -73,12 +73,12 @@ def remove_memory(name):
             os.remove(each)
 
 
-class DeskCall(NamedTuple):
-    """A call of the desk's program, and what it prints."""
+class Call(NamedTuple):
+    """A call of the desk's program or of the debugger, and what it prints."""
     words: tuple
     text: bytes
-    lines: bytes = None  # its input
-    replies: bytes = b""  # those that may be out before memory runs out
+    input: bytes = None
+    begun: tuple = ()  # what may be out before memory runs out
     made: str = None  # the memory that it makes anew
 
 
@@ -207,11 +207,19 @@ class SampleFiles:
         words, lines, replies = self.desk_call()
         text, memory = b"".join(replies), self["memory"]
         return [
-            DeskCall(words, text, lines, replies[0]),
-            DeskCall((*words, memory), text, lines, replies[0], memory),
-            DeskCall(("remember", self["states"], memory), b"", made=memory),
-            DeskCall(("states", memory), read(self["states"])),
+            Call(words, text, lines, replies[:1]),
+            Call((*words, memory), text, lines, replies[:1], memory),
+            Call(("remember", self["states"], memory), b"", made=memory),
+            Call(("states", memory), read(self["states"])),
         ]
+
+    @staticmethod
+    def debug_call():
+        """A debugger that goes forwards and backwards and asks for texts."""
+        stem = f"{ROOT}/conformance/cases/debug-monitors"
+        text = read(f"{stem}.debug")
+        return Call(("debug", f"{stem}.hex", f"{stem}.script", f"{stem}.key"), text,
+                    read(f"{stem}.packets"), tuple(text[:at] for at in range(len(text))))
 
     @staticmethod
     def letter_image():

@@ -27,16 +27,17 @@ class Answer(NamedTuple):
 
 
 class Programs:
-    """That of the device, and that of the desk."""
+    """That of the device, that of the desk, and the debugger."""
 
     def __init__(self, name, paths):
         paths = [*paths, *PROVED[len(paths):]]
-        self.device, self.desk = (program_of(name, [path]) for path in paths)
+        self.all = dict(zip(PROGRAMS, (program_of(name, [path]) for path in paths)))
+        self.device, self.desk, self.debugger = self.all.values()
 
     def that_has(self, words):
         """The one that has the command of these words."""
         command = COMMANDS.get(words[0]) if words else None
-        return self.desk if command and command.program == "desk_cli" else self.device
+        return self.all[command.program] if command else self.device
 
 
 class Trial:
@@ -45,6 +46,7 @@ class Trial:
     def __init__(self, name, paths, seconds=60):
         self.name, self.programs, self.seconds = name, Programs(name, paths), seconds
         self.program, self.desk = self.programs.device, self.programs.desk
+        self.debugger = self.programs.debugger
         self.part = ""  # that is tried now
         self.tries, self.wrong = 0, 0
 

@@ -1,0 +1,68 @@
+-- The run that a debugger is given is that of its files.
+use Rattle.std.proofs.Common.{◌≡◌, ◌∙◌, ℕ, List, [], ◌++◌, Option, Some, None, refl, ap, arith}
+use Rattle.std.specs.Prelude.{option_map}
+use Rattle.std.proofs.lemmas.List.{append-nil}
+use Rattle.bus_signals.specs.TraceFlag.{Flag}
+use Rattle.hmac_core.specs.Hash.{Hash}
+use Rattle.mem_map.specs.Image.{byte_in, image_byte}
+use Rattle.mem_map.specs.declared.image.Image.{Image}
+use Rattle.play_script.specs.Script.{TimedEvent, events_of}
+use Rattle.device_trace.specs.Start.{with_key}
+use Rattle.outside_edge.specs.declared.sink.Sink as sink
+use Rattle.outside_edge.specs.declared.source.Source as source
+use Rattle.debug_link.specs.Serving.{Serves}
+use Rattle.debug_link.specs.declared.served.Served.TheVariants.{Memory}
+use Rattle.debug_session.specs.Place.{Run}
+use Rattle.debug_session.specs.Session.{first_session}
+use Rattle.debug_walk.specs.PlayedRun.{played_run}
+use Rattle.debug_walk.specs.Walk.{SecondFlag}
+use Rattle.debug_walk.specs.declared.run.Run.{Run as GivenRun}
+use Rattle.device_debug.specs.Session.{DebuggerStandsFor, StandsInRun, run_reply}
+use Rattle.device_debug.specs.declared.debugger.Debugger.{Debugger}
+use Rattle.debug_cli.specs.Debug.{first_of}
+
+-- the run of these files, by any digest and any second flag
+abbrev pub files_run :
+    {D G : Type 0} → Hash D → Flag G → List ℕ → Image → List TimedEvent → Run
+files_run hash flag key image script =
+    record {
+      start = with_key flag.value hash.digest_of key (image_byte (byte_in image));
+      events_at = events_of script;
+    }
+
+played-files : {D G : Type 0} (hash : Hash D) (flag : Flag G) (run : GivenRun) (key : List ℕ)
+    (image : Image) (script : List TimedEvent)
+    → run.key.now ≡ key → run.image.now ≡ image → run.script.now ≡ script
+    → played_run hash flag run ≡ files_run hash flag key image script
+played-files hash flag run key image script key_is image_is script_is =
+    rw (← key_is, ← image_is, ← script_is) refl
+
+-- a debugger of this run stands where its first session does
+pub stands-first : {D : Type 0} (hash : Hash D) (flag : Flag SecondFlag) (debugger : Debugger D)
+    (run : GivenRun) (key : List ℕ) (image : Image) (script : List TimedEvent)
+    → debugger.run ≡ run
+    → run.key.now ≡ key → run.image.now ≡ image → run.script.now ≡ script
+    → DebuggerStandsFor hash flag debugger first_session
+    → StandsInRun hash flag debugger (first_of (files_run hash flag key image script))
+stands-first hash flag debugger run key image script run_is key_is image_is script_is stands = (
+  ap (λ (given : GivenRun). played_run hash flag given) run_is
+      ∙ played-files hash flag run key image script key_is image_is script_is,
+  stands,
+)
+
+left-same : (left : Option (List ℕ)) → left ≡ option_map (λ (rest : List ℕ). [] ++ rest) left
+left-same None = refl
+left-same (Some left) = refl
+
+-- nothing was taken and put: there was no memory for a debugger
+pub none-served : {R W : Type 0} (r : source.Ghosts R) (w : sink.Ghosts W) (run : Run)
+    (source : R) (sink : W)
+    → Serves r w run_reply (first_of run) source source sink sink Memory
+none-served r w run source sink =
+    record {
+      taken = [];
+      gave = record { told = left-same (r.left source); count = omega arith };
+      few = omega arith;
+      puts = (0, omega arith, λ before holds. rw (append-nil before) holds);
+      cause = tt;
+    }

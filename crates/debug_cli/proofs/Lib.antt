@@ -1,0 +1,3 @@
+pub mod DebugAnswer
+pub mod DebugRun
+pub mod DebugServed

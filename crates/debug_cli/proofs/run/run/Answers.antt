@@ -1,0 +1,26 @@
+use Rattle.std.proofs.Common.{Ok, refl}
+use Rattle.mem_map.specs.Image.{byte_in}
+use Rattle.debug_session.specs.Place.{Run}
+use Rattle.debug_cli.specs.Debug.{run_with}
+use Rattle.debug_cli.proofs.DebugAnswer.{debug_end, refused-answer, served-answer}
+use Rattle.debug_cli.proofs.run.run.Goals as goal
+
+pub returns-in-Ok : goal.returns-in-Ok
+returns-in-Ok g c =
+    let found = c.in-Ok.values in
+    let run : Run = run_with found.0 (byte_in found.1.0) found.1.1 in
+    let reads = c.in-Ok.ensures debug_end in
+    let served = c.serve_run.ensures in
+    served-answer g.S.Shelf g.R.Source g.W.Sink c.args.shelf.now c.read.new.shelf
+    (record { source = c.args.source.now; sink = c.args.sink })
+    (record { source = c.serve_run.new.source; sink = c.serve_run.result.1 }) _ _ run
+    c.serve_run.result.0 c.in-Some.ensures
+    (reads.values.reaches (Ok run) (refl {a = Ok run})) reads.kept served.served
+    served.source_faults served.sink_faults
+
+pub returns-in-Err : goal.returns-in-Err
+returns-in-Err g c =
+    rw c.of_refusal.ensures
+    (refused-answer g.S.Shelf g.R.Source g.W.Sink c.args.shelf.now c.read.new.shelf
+    (record { source = c.args.source.now; sink = c.args.sink }) _ _ _ c.in-Err.refusal
+    c.in-Some.ensures (c.in-Err.ensures debug_end))

@@ -1,0 +1,3 @@
+pub mod Debug
+pub mod Edge
+pub mod Status
