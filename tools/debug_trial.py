@@ -8,6 +8,7 @@ steps; and packets that are damaged, cut off or asked for again change no answer
 import os
 import random
 import shlex
+import socket
 import subprocess
 import sys
 import time
@@ -80,6 +81,28 @@ def acknowledges_at_once(words):
     if debugger.end() != 0:
         raise ValueError("it does not end with status 0")
     return took, ran
+
+
+def acknowledged_lines(words, patience=20.0):
+    """Lets a run put a line every five steps, and acknowledges each by a write of its own, as GDB
+    does over a socket: how many, up to its reply; TimeoutError where it stands still."""
+    ours, theirs = socket.socketpair()
+    ours.settimeout(patience)
+    put, lines = b"", 0
+    with subprocess.Popen(words, stdin=theirs, stdout=theirs) as ran, ours:
+        theirs.close()
+        try:
+            ours.sendall(packet(b"qRcmd," + b"until 20000".hex().encode()) + packet(b"c"))
+            while b"$T05#" not in put:
+                put = put[-5:] + ours.recv(65536)
+                for _ in range(put.count(b"$O", 4)):
+                    ours.sendall(b"+")
+                    lines += 1
+            ours.sendall(b"+" + packet(b"k"))
+        except TimeoutError:
+            ran.kill()
+            raise
+    return lines
 
 
 def changed(rng, taken):

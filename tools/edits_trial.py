@@ -1,5 +1,5 @@
-"""Trials of the must-fail edits without the prover: how many there are, and that each is one of
-code and applies.
+"""Trials of the edits that the prover has to refuse, without the prover: how many the gate tries,
+and that each, of these and of those that tools/try-edits tries, is one of code and applies.
 """
 import glob
 import os
@@ -8,7 +8,7 @@ import re
 from sample_files import read
 from trial import ROOT
 
-MOST_OF_A_CRATE, MOST = 5, 140
+MOST_OF_A_CRATE, MOST = 5, 90
 
 
 def fault_of(crate, text):
@@ -29,17 +29,18 @@ def fault_of(crate, text):
 
 
 def edits(trial, files):
-    """No crate has more of them than CONTRIBUTING.md says, nor have all, and each applies."""
+    """No crate has more of them than CONTRIBUTING.md says, nor has the gate, and each applies."""
     count = 0
     for crate in sorted(glob.glob(f"{ROOT}/crates/*")):
         names = sorted(glob.glob(f"{crate}/must-fail/*.edit"))
-        if len(names) > MOST_OF_A_CRATE:
-            trial.fault(f"{os.path.relpath(crate, ROOT)}: {len(names)} must-fail edits")
-        for name in names:
+        later = sorted(glob.glob(f"{crate}/edits/*.edit"))
+        if len(names + later) > MOST_OF_A_CRATE:
+            trial.fault(f"{os.path.relpath(crate, ROOT)}: {len(names + later)} edits")
+        for name in names + later:
             fault = fault_of(crate, read(name).decode())
             if fault:
                 trial.fault(f"{os.path.relpath(name, ROOT)}: {fault}")
+        trial.tries += len(names + later)
         count += len(names)
-    trial.tries += count
     if not 0 < count <= MOST:
-        trial.fault(f"{count} must-fail edits, where there may be {MOST}")
+        trial.fault(f"{count} edits in the gate, where there may be {MOST}")

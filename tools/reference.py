@@ -14,7 +14,7 @@ class Command(NamedTuple):
     prints: str
     about: str
     example: str
-    program: str = "device_cli"
+    program: str = "device_main"
     last: tuple = ()  # an argument behind all others that may be left out
 
     @property
@@ -101,7 +101,7 @@ COMMANDS = {command.name: command for command in (
             "watches, forwards and backwards, and stops before the instruction that would reset "
             "the device. Nothing that it asks changes the run. In GDB its command is `target "
             "remote | foldgneiss debug image.hex script.txt key.txt`.",
-            "debug image.hex script.txt key.txt", "debug_cli"),
+            "debug image.hex script.txt key.txt", "debug_main"),
     Command("wave", ("image", "script", "key", "steps"),
             "the same, and the registers, as a waveform, for GTKWave and other viewers",
             "Prints what trace says of a run, and the registers, as a value change dump (IEEE "
@@ -137,18 +137,18 @@ COMMANDS = {command.name: command for command in (
             "`give NAME R report2 ..` by a verdict on the report, `verdict NAME R V`. What it must "
             "not forget is in MEMORY before a reply is out, and a desk that is started anew with "
             "it goes on; without MEMORY it is forgotten at the end.",
-            "desk keys.txt image.hex policy.txt desk.db", "desk_cli", ("memory",)),
+            "desk keys.txt image.hex policy.txt desk.db", "desk_main", ("memory",)),
     Command("states", ("memory",),
             "the state of each device in a desk's memory, one a line",
             "Prints a line for each device in MEMORY, the oldest first, `state NAME key H32 count "
             "N outstanding N last R ANSWER`: the mark of its key, how many requests were made, the "
             "counter of the outstanding one, and the last line's number and answer; `none` where "
             "there is none. No desk may run over MEMORY meanwhile.",
-            "states desk.db > states.txt", "desk_cli"),
+            "states desk.db > states.txt", "desk_main"),
     Command("remember", ("states", "memory"),
             "nothing: a new memory of a desk is made of such lines",
             "Makes the new MEMORY of lines as states prints them.",
-            "remember states.txt desk.db", "desk_cli"),
+            "remember states.txt desk.db", "desk_main"),
     Command("audit", ("trace",),
             "whether each line of a trace file names the right rule and EXEC",
             "Prints `clean N` where each of the N lines of TRACE names the first rule that its "
@@ -169,7 +169,7 @@ COMMANDS = {command.name: command for command in (
             "work 7"),
 )}
 
-PROGRAMS = ("device_cli", "desk_cli", "debug_cli")
+PROGRAMS = ("device_main", "desk_main", "debug_main")
 
 
 def named_by_program():

@@ -110,7 +110,7 @@ def help_on(commands):
 
 
 def help_text():
-    """What ./foldgneiss --help says: of the commands of both programs."""
+    """What ./foldgneiss --help says: of the commands of all programs."""
     return help_on(list(COMMANDS.values()))
 
 

@@ -4,8 +4,8 @@
 set -eu
 folder=$(dirname "$(readlink -f "$0")")
 crates=$folder/../../crates
-program=$(readlink -f "${1:-$crates/device_cli/out/device_cli}")
-desk=$(readlink -f "${2:-$crates/desk_cli/out/desk_cli}")
+program=$(readlink -f "${1:-$crates/device_main/out/device_main}")
+desk=$(readlink -f "${2:-$crates/desk_main/out/desk_main}")
 cd "$folder"
 image=../round/image.hex
 work=$(mktemp -d)

@@ -10,7 +10,7 @@ if [ $# -lt 2 ]; then
     sed -n 2,7p "$0"
     exit 2
 fi
-desk=$(readlink -f "${3:-$(dirname "$(readlink -f "$0")")/../../crates/desk_cli/out/desk_cli}")
+desk=$(readlink -f "${3:-$(dirname "$(readlink -f "$0")")/../../crates/desk_main/out/desk_main}")
 cd "$1"
 umask 077
 

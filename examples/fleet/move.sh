@@ -10,7 +10,7 @@ if [ $# -lt 3 ]; then
     exit 2
 fi
 old=$(readlink -m "$1") new=$(readlink -m "$2") devices=$(readlink -m "$3")
-desk=$(readlink -f "${4:-$(dirname "$(readlink -f "$0")")/../../crates/desk_cli/out/desk_cli}")
+desk=$(readlink -f "${4:-$(dirname "$(readlink -f "$0")")/../../crates/desk_main/out/desk_main}")
 umask 077
 
 # refuse STATUS TEXT: ends it before anything was done

@@ -7,8 +7,8 @@
 set -eu
 folder=$(dirname "$(readlink -f "$0")")
 crates=$folder/../../crates
-program=$(readlink -f "${1:-$crates/device_cli/out/device_cli}")
-desk=$(readlink -f "${2:-$crates/desk_cli/out/desk_cli}")
+program=$(readlink -f "${1:-$crates/device_main/out/device_main}")
+desk=$(readlink -f "${2:-$crates/desk_main/out/desk_main}")
 devices=${DEVICES:-1000} port=${PORT:-18830} desks=4 gateways=4
 PATH=$PATH:/usr/sbin
 umask 077

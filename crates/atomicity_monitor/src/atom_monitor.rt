@@ -4,8 +4,8 @@ ghost use Rattle.part_definitions.specs.MonitorRule.{breaks_a1, breaks_a2, break
 
 use bus_signals::{CR, KR, Kind, ROM_ENTRY, ROM_EXIT, Rule, Signals, XS, some_reads, some_touches};
 
-/// The rules A1 to A4. They look at one step and at the `pc` of the record before it, so the
-/// monitor keeps nothing.
+/// The rules on the ROM's atomicity (A). They look at one step and at the `pc` of the record before
+/// it, so the monitor keeps nothing.
 #[derive(Clone, Copy, Debug)]
 pub struct AtomMonitor;
 
@@ -14,7 +14,7 @@ impl AtomMonitor {
         AtomMonitor
     }
 
-    /// The first of A3, A2, A1 and A4 that a step breaks after a record with this `pc`.
+    /// The first of them that a step breaks after a record with this `pc`.
     #[inline(always)]
     #[tactic(auto, unfolding(part_definitions::specs::MonitorRule::atomicity_rule))]
     pub fn check(&self, last: Option<u16>, now: &Signals) -> Option<Rule>

@@ -1,3 +1,4 @@
 pub mod DebugAnswer
 pub mod DebugRun
 pub mod DebugServed
+pub mod NoFault

@@ -1,3 +1,5 @@
 pub mod FirstStop
 pub mod LastStop
+pub mod ShownPlay
+pub mod StepBack
 pub mod ToldLines

@@ -1,5 +1,5 @@
 -- What is asked to stop a device: breakpoints, watches, and a number of steps.
-use Rattle.std.specs.Prelude.{ℕ, ◌==◌, ◌&&◌, ◌++◌, Bool, true, false, List, [], ◌∷◌, Option, Some, None, length, nat_le, nat_lt, not, if◌then◌else◌}
+use Rattle.std.specs.Prelude.{ℕ, ◌==◌, ◌&&◌, ◌++◌, Bool, true, false, List, [], ◌∷◌, Option, Some, None, is_none, length, nat_le, nat_lt, not, if◌then◌else◌}
 use Rattle.std.specs.List.{filter, list_any}
 use Rattle.debug_stops.specs.declared.watch.Watch.{Watch}
 use Rattle.debug_stops.specs.declared.watch.WatchKind.{WatchKind}
@@ -12,6 +12,11 @@ pub record Stops : Type 0 where
 
 abbrev pub no_stops : Stops
 no_stops = record { breakpoints = []; watches = []; until = None }
+
+-- nothing is asked
+abbrev pub is_empty : Stops → Bool
+is_empty stops =
+    (length stops.breakpoints == 0) && (length stops.watches == 0) && is_none stops.until
 
 -- at most so many are held
 abbrev pub MOST_BREAKPOINTS : ℕ

@@ -1,6 +1,6 @@
 ghost use Rattle.std.specs.Prelude.{◌≡◌, ◌==◌, MatchOption, true, false, not};
 ghost use Rattle.std.specs.List.{filter};
-ghost use Rattle.debug_stops.specs.Stops.{no_stops, has_breakpoint, has_watch, is_due, same_watch};
+ghost use Rattle.debug_stops.specs.Stops.{no_stops, has_breakpoint, has_watch, is_due, is_empty, same_watch};
 ghost use Rattle.debug_stops.specs.Stops.{with_breakpoint, with_watch, without_breakpoint, without_watch};
 
 use crate::watch::{Watch, same_watch};
@@ -40,6 +40,13 @@ impl StopList {
             watches: ArrayVec::new(),
             until: None,
         }
+    }
+
+    /// Whether nothing is asked to stop a device.
+    pub fn is_empty(&self) -> bool
+        ensures { result ≡ is_empty self.now }
+    {
+        self.breakpoints.is_empty() && self.watches.is_empty() && self.until.is_none()
     }
 
     pub fn watches(&self) -> &[Watch]

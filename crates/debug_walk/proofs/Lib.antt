@@ -1,4 +1,5 @@
 pub mod Begins
+pub mod Halts
 pub mod LevelSteps
 pub mod Options
 pub mod Places

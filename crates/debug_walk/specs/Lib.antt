@@ -1,3 +1,4 @@
+pub mod Halted
 pub mod Levels
 pub mod PlayedRun
 pub mod Seen

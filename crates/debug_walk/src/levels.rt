@@ -4,8 +4,8 @@ ghost use Rattle.debug_walk.specs.Levels.{goes_on_returning, level_begun, level_
 
 use bus_signals::{BusRecord, Kind};
 
-// The opcode of RETI.
-const RETI: u16 = 0x1300;
+/// The opcode of RETI.
+pub const RETI: u16 = 0x1300;
 
 /// How many handlers were entered and not left.
 #[derive(Clone, Copy, Debug, PartialEq, Eq)]

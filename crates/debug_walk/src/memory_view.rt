@@ -2,9 +2,9 @@ ghost use Rattle.std.specs.Prelude.{◌≡◌, ◌≤◌, ◌<◌, min, length, 
 ghost use Rattle.arrayvec.specs.ArrayVec.{array_vec_len};
 ghost use Rattle.debug_session.specs.Place.{registers_at};
 ghost use Rattle.debug_session.specs.Shown.{byte_shown, bytes_shown, is_shown, registers_bytes};
-ghost use Rattle.debug_walk.specs.Walk.{OfWalk};
+ghost use Rattle.debug_walk.specs.Halted.{OfHalted};
 
-use crate::walk::Walk;
+use crate::halted::Halted;
 use arrayvec::ArrayVec;
 use bus_signals::{KR, TraceFlag, XS};
 use hmac_core::Digest32;
@@ -24,20 +24,20 @@ pub fn is_shown(place: u32) -> bool
     !KR.contains(place) && !XS.contains(place)
 }
 
-fn shown_byte<D: Digest32>(walk: &Walk<'_, D>, at: u16) -> u8
-    ensures { OfWalk D.hash ⟦<IsrFlag as TraceFlag>⟧.flag walk.now (λ run place.
+fn shown_byte<D: Digest32>(halted: &Halted<'_, D>, at: u16) -> u8
+    ensures { OfHalted D.hash ⟦<IsrFlag as TraceFlag>⟧.flag halted.now (λ run place.
         result ≡ byte_shown run place at) }
 {
-    (walk.live().peek(at) % 256) as u8
+    (halted.live().peek(at) % 256) as u8
 }
 
 /// The bytes of at most so many addresses, up to the first that has none.
 pub fn shown_bytes<D: Digest32>(
-    walk: &Walk<'_, D>,
+    halted: &Halted<'_, D>,
     first: u32,
     size: u32,
 ) -> ArrayVec<u8, MOST_BYTES>
-    ensures { OfWalk D.hash ⟦<IsrFlag as TraceFlag>⟧.flag walk.now (λ run place.
+    ensures { OfHalted D.hash ⟦<IsrFlag as TraceFlag>⟧.flag halted.now (λ run place.
         result.items ≡ bytes_shown run place first (min size 2048)) }
 {
     let mut bytes = ArrayVec::new();
@@ -46,17 +46,17 @@ pub fn shown_bytes<D: Digest32>(
         if !is_shown(at) {
             return bytes;
         }
-        bytes.push(shown_byte(walk, at as u16));
+        bytes.push(shown_byte(halted, at as u16));
     }
     bytes
 }
 
 /// The sixteen registers, each with four bytes, the low one first.
-pub fn shown_registers<D: Digest32>(walk: &Walk<'_, D>) -> ArrayVec<u8, 64>
-    ensures { OfWalk D.hash ⟦<IsrFlag as TraceFlag>⟧.flag walk.now (λ run place.
+pub fn shown_registers<D: Digest32>(halted: &Halted<'_, D>) -> ArrayVec<u8, 64>
+    ensures { OfHalted D.hash ⟦<IsrFlag as TraceFlag>⟧.flag halted.now (λ run place.
         result.items ≡ registers_bytes (registers_at run place)) }
 {
-    registers_bytes(walk.live().registers())
+    registers_bytes(halted.live().registers())
 }
 
 fn registers_bytes(registers: &[u16; 16]) -> ArrayVec<u8, 64>

@@ -6,10 +6,12 @@ ghost use Rattle.debug_session.specs.Level.{level};
 ghost use Rattle.play_script.specs.Script.{events_of};
 ghost use Rattle.device_core.specs.Device.{HeldStandsFor, steps_made, steps_of};
 ghost use Rattle.device_play.specs.Midway.{IsMidway};
+ghost use Rattle.debug_walk.specs.Halted.{HaltedStandsFor, IsLevelAt, halted_at};
 ghost use Rattle.debug_walk.specs.PlayedRun.{played_run, start_of};
 ghost use Rattle.debug_walk.specs.Walk.{WalkStandsFor, place_of};
 ghost use Rattle.debug_walk.specs.Seen.{MayBeginAt};
 
+use crate::halted::Halted;
 use crate::step_seen::LevelPlace;
 use crate::walk::Walk;
 use bus_signals::TraceFlag;
@@ -83,6 +85,77 @@ impl<'a> Run<'a> {
     {
         let (live, playback) = self.live_at(alloc, at.place)?;
         Ok(Walk::at(live, playback, at.level))
+    }
+
+    // A walk that came to a place step by step, to the last one at most.
+    fn walk_over<D: Digest32>(&self, alloc: Global, place: u64) -> Result<Walk<'a, D>, AllocError>
+        ensures stands { IfOk result (λ walk. WalkStandsFor D.hash ⟦<IsrFlag as TraceFlag>⟧.flag
+            walk (played_run D.hash ⟦<IsrFlag as TraceFlag>⟧.flag self.now)) }
+        ensures place { IfOk result (λ walk. place_of walk ≡ min place most_steps) }
+    {
+        let mut walk = self.walk_to(alloc, LevelPlace { place: 0, level: 0 })?;
+        for _ in 0..place.min(MOST_STEPS) {
+            let (next, _) = walk.step();
+            walk = next;
+        }
+        Ok(walk)
+    }
+
+    /// The level of a place, of the last one at most.
+    pub fn level_at<D: Digest32>(&self, alloc: Global, place: u64) -> Result<u64, AllocError>
+        ensures { IfOk result (λ told. told
+            ≡ level (played_run D.hash ⟦<IsrFlag as TraceFlag>⟧.flag self.now)
+            (min place most_steps)) }
+    {
+        let walk = self.walk_over::<D>(alloc, place)?;
+        Ok(walk.level())
+    }
+
+    /// A device that is halted at a place, at the last one at most; its level is told where it is
+    /// known.
+    pub fn halt_at<D: Digest32>(
+        &self,
+        alloc: Global,
+        place: u64,
+        level: Option<u64>,
+    ) -> Result<Halted<'a, D>, AllocError>
+        ensures stands { IfOk result (λ halted. place ≤ most_steps
+            → IsLevelAt (played_run D.hash ⟦<IsrFlag as TraceFlag>⟧.flag self.now) place level
+            → HaltedStandsFor D.hash ⟦<IsrFlag as TraceFlag>⟧.flag halted
+            (played_run D.hash ⟦<IsrFlag as TraceFlag>⟧.flag self.now)) }
+        ensures place { IfOk result (λ halted. halted_at halted ≡ min place most_steps) }
+    {
+        let (live, playback) = self.live_at(alloc, place)?;
+        Ok(Halted::new(live, playback, level))
+    }
+
+    /// A walk from where a device is halted.
+    pub fn walk_from<D: Digest32>(
+        &self,
+        alloc: Global,
+        halted: Halted<'a, D>,
+    ) -> Result<Walk<'a, D>, AllocError>
+        ensures stands { IfOk result (λ walk. halted_at halted.entry ≤ most_steps
+            → MayBeginAt (played_run D.hash ⟦<IsrFlag as TraceFlag>⟧.flag self.now)
+            (halted_at halted.entry)
+            → HaltedStandsFor D.hash ⟦<IsrFlag as TraceFlag>⟧.flag halted.entry
+            (played_run D.hash ⟦<IsrFlag as TraceFlag>⟧.flag self.now)
+            → WalkStandsFor D.hash ⟦<IsrFlag as TraceFlag>⟧.flag walk
+            (played_run D.hash ⟦<IsrFlag as TraceFlag>⟧.flag self.now)) }
+        ensures place { IfOk result (λ walk. halted_at halted.entry ≤ most_steps
+            → place_of walk ≡ halted_at halted.entry) }
+    {
+        match halted.level() {
+            Some(level) => {
+                let (live, playback) = halted.into_parts();
+                Ok(Walk::at(live, playback, level))
+            }
+            None => {
+                let place = halted.place();
+                drop(halted);
+                self.walk_over(alloc, place)
+            }
+        }
     }
 }
 

@@ -1,19 +1,22 @@
 ghost use Rattle.std.specs.Prelude.{◌≡◌, ◌<◌, ◌+◌, ◌&&◌, option_map};
-ghost use Rattle.part_definitions.specs.CpuRegister.{is_asleep, pc_of};
+ghost use Rattle.part_definitions.specs.CpuRegister.{pc_of};
 ghost use Rattle.device_core.specs.Device.{steps_made};
 ghost use Rattle.device_play.specs.Midway.{IsMidway};
 ghost use Rattle.debug_commands.specs.Request.{most_steps};
 ghost use Rattle.debug_session.specs.Cause.{is_broken_at};
 ghost use Rattle.debug_session.specs.Level.{level as level_at};
-ghost use Rattle.debug_session.specs.Place.{Run, is_awake, is_boundary, is_instruction};
+ghost use Rattle.debug_session.specs.Place.{Run, is_boundary, is_instruction};
 ghost use Rattle.debug_session.specs.Place.{last_boundary, registers_at};
 ghost use Rattle.debug_session.specs.Watching.{differs};
 ghost use Rattle.debug_walk.specs.Seen.{IsSeenAt, MayBeginAt, boundary_after, ended_level, with_level};
+ghost use Rattle.debug_walk.specs.Halted.{HaltedStandsFor, halted_at};
 ghost use Rattle.debug_walk.specs.Walk.{OfWalk, WalkStandsFor, place_of};
 
+use crate::breakpoint::is_at_breakpoint;
+use crate::halted::Halted;
 use crate::levels::{Levels, is_instruction};
 use crate::step_seen::{LevelPlace, StepSeen};
-use bus_signals::{BusRecord, Kind, ROM_ENTRY, TraceFlag};
+use bus_signals::{BusRecord, Kind, TraceFlag};
 use debug_stops::{SeenAccesses, StopList};
 use device_core::Live;
 use device_play::{TraceWatcher, play_to_shown};
@@ -97,21 +100,21 @@ impl<'a, D: Digest32> Walk<'a, D> {
         self.live.registers()[0]
     }
 
-    /// The processor doesn't sleep, or a call of the ROM begins.
-    fn is_awake(&self) -> bool
-        ensures { OfWalk D.hash ⟦<IsrFlag as TraceFlag>⟧.flag self.now (λ run place.
-            result ≡ is_awake run place) }
-    {
-        let registers = self.live.registers();
-        !is_asleep(registers) || registers[0] == ROM_ENTRY
-    }
-
     /// At a breakpoint, awake.
     pub fn is_broken(&self, stops: &StopList) -> bool
         ensures { OfWalk D.hash ⟦<IsrFlag as TraceFlag>⟧.flag self.now (λ run place.
             result ≡ is_broken_at run stops.now place) }
     {
-        self.is_awake() && stops.has_breakpoint(self.pc())
+        is_at_breakpoint(&self.live, stops)
+    }
+
+    /// Halts here.
+    pub fn halt(self) -> Halted<'a, D>
+        ensures stands { OfWalk D.hash ⟦<IsrFlag as TraceFlag>⟧.flag self.entry (λ run place.
+            HaltedStandsFor D.hash ⟦<IsrFlag as TraceFlag>⟧.flag result run) }
+        ensures place { halted_at result ≡ place_of self.entry }
+    {
+        Halted::new(self.live, self.playback, Some(self.levels.now))
     }
 
     /// Goes one step on.
@@ -154,13 +157,6 @@ impl<'a, D: Digest32> Walk<'a, D> {
         };
         (walk, seen)
     }
-}
-
-// CPUOFF is bit 4 of SR: the processor sleeps.
-fn is_asleep(registers: &[u16; 16]) -> bool
-    ensures { result ≡ is_asleep registers.now }
-{
-    registers[2] / 16 % 2 == 1
 }
 
 fn differs(before: bool, after: bool) -> bool

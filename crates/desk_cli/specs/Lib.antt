@@ -1,7 +1,6 @@
 pub mod Desk
 pub mod Edge
 pub mod FileKind
-pub mod MemFiles
 pub mod MemoryFiles
 pub mod ReadBack
 pub mod Remember

@@ -23,7 +23,7 @@ standing-behind : (place least : ℕ) (stop : Option Stop) (later : Standing)
 standing-behind place least (Some stop) later here behind = here
 standing-behind place least None later here behind = behind
 
-first-behind : (run : Run) (stops : Stops) (highest : Option ℕ) (from place left : ℕ)
+pub first-behind : (run : Run) (stops : Stops) (highest : Option ℕ) (from place left : ℕ)
     → place ≤ (first_stop run stops highest from place left).place
 first-behind run stops highest from place zero = omega arith
 first-behind run stops highest from place (suc left) =

@@ -74,7 +74,8 @@ module _ {T S W : Type 0} (stands : T → S → Type 0) (w : sink.Ghosts W) wher
       → Answers stands w old new answerer
       (record answer { packets = bodies ++ answer.packets }) result
   failed-before old new answerer answer bodies result is prefix =
-      half-answered old new answerer (record answer { packets = bodies ++ answer.packets }) result is
+      half-answered old new answerer (record answer { packets = bodies ++ answer.packets }) result
+      is
       (rw (packets-both bodies answer.packets)
       (prefix_of_more w.stands old.sink new.sink (packets_of bodies) (packets_of answer.packets)
       prefix))

@@ -20,32 +20,33 @@ use Rattle.debug_session.specs.Place.{Run}
 use Rattle.debug_session.specs.Session.{Session, after_request, answer_of, closes, reply, says, with_stops}
 use Rattle.debug_stops.specs.Stops.{Stops}
 use Rattle.debug_walk.specs.PlayedRun.{played_run}
-use Rattle.debug_walk.specs.Walk.{OfWalk, SecondFlag}
-use Rattle.debug_walk.specs.declared.walk.Walk.{Walk}
-use Rattle.device_debug.specs.Forwards.{WalkStandsAt}
-use Rattle.device_debug.specs.Session.{DebuggerStandsFor, Gives, RunSession, StandsInRun, in_run, run_reply}
+use Rattle.debug_walk.specs.Halted.{OfHalted}
+use Rattle.debug_walk.specs.Walk.{SecondFlag}
+use Rattle.debug_walk.specs.declared.halted.Halted.{Halted}
+use Rattle.device_debug.specs.Forwards.{HaltedAt}
+use Rattle.device_debug.specs.Session.{DebuggerStandsFor, GivesBy, RunSession, StandsInRun, in_run, run_reply}
 use Rattle.device_debug.specs.declared.debugger.Debugger.{Debugger}
 use Rattle.device_debug.proofs.Answered.{all-answered, half-answered, half-put, none-answered, one-put}
 
 module _ {D : Type 0} (hash : Hash D) (flag : Flag SecondFlag) where
-  -- its walk stands there
-  pub walk-here : (debugger : Debugger D) (session : Session) (walk : Walk D)
-      → debugger.walk ≡ Some walk → DebuggerStandsFor hash flag debugger session
-      → WalkStandsAt hash flag (played_run hash flag debugger.run) session.place walk
-  walk-here debugger session walk is stands =
-      subst (λ (one : Walk D).
-      WalkStandsAt hash flag (played_run hash flag debugger.run) session.place one)
-      (same_Some stands.walk walk (sym stands.walk_is ∙ is)) stands.stands
+  -- its device is halted there
+  pub halted-here : (debugger : Debugger D) (session : Session) (halted : Halted D)
+      → debugger.halted ≡ Some halted → DebuggerStandsFor hash flag debugger session
+      → HaltedAt hash flag (played_run hash flag debugger.run) session.place halted
+  halted-here debugger session halted is stands =
+      subst (λ (one : Halted D).
+      HaltedAt hash flag (played_run hash flag debugger.run) session.place one)
+      (same_Some stands.halted halted (sym stands.halted_is ∙ is)) stands.stands
 
-  -- so what holds of the walk's place holds of the session's
-  pub holds-here : (debugger : Debugger D) (session : Session) (walk : Walk D)
+  -- so what holds of the device's place holds of the session's
+  pub holds-here : (debugger : Debugger D) (session : Session) (halted : Halted D)
       (holds : Run → ℕ → Type 0)
-      → debugger.walk ≡ Some walk → DebuggerStandsFor hash flag debugger session
-      → OfWalk hash flag walk holds → holds (played_run hash flag debugger.run) session.place
-  holds-here debugger session walk holds is stands of_walk =
-      let here = walk-here debugger session walk is stands in
+      → debugger.halted ≡ Some halted → DebuggerStandsFor hash flag debugger session
+      → OfHalted hash flag halted holds → holds (played_run hash flag debugger.run) session.place
+  holds-here debugger session halted holds is stands of_halted =
+      let here = halted-here debugger session halted is stands in
       subst (λ (place : ℕ). holds (played_run hash flag debugger.run) place) here.place_is
-      (of_walk (played_run hash flag debugger.run) here.walks)
+      (of_halted (played_run hash flag debugger.run) here.stands)
 
   -- with other stops it stands for a session with other stops
   pub other-stops : (debugger : Debugger D) (session : Session) (one other : Stops)
@@ -54,8 +55,8 @@ module _ {D : Type 0} (hash : Hash D) (flag : Flag SecondFlag) where
       (record session { stops = other })
   other-stops debugger session one other same stands =
       record {
-        walk = stands.walk;
-        walk_is = stands.walk_is;
+        halted = stands.halted;
+        halted_is = stands.halted_is;
         stands = stands.stands;
         stops = same;
         stop = stands.stop;
@@ -73,7 +74,7 @@ module _ {D W : Type 0} (hash : Hash D) (flag : Flag SecondFlag) (w : sink.Ghost
   -- one packet is put
   pub said : (old new : PacketSink W) (debugger : Debugger D) (body : List ℕ)
       → Takes w.stands old.sink new.sink (packet_of body) → new.last ≡ packet_of body
-      → Gives hash flag w old new debugger debugger (λ session. says session body) (Ok Open)
+      → GivesBy hash flag w old new debugger debugger (λ session. says session body) (Ok Open)
   said old new debugger body takes last =
       record {
         answers = λ session stands.
@@ -86,7 +87,7 @@ module _ {D W : Type 0} (hash : Hash D) (flag : Flag SecondFlag) (w : sink.Ghost
   pub half-said : (old new : PacketSink W) (debugger : Debugger D) (body : List ℕ)
       (result : Result Connection AnswerFault)
       → IsErr result → TakesPrefix w.stands old.sink new.sink (packet_of body)
-      → Gives hash flag w old new debugger debugger (λ session. says session body) result
+      → GivesBy hash flag w old new debugger debugger (λ session. says session body) result
   half-said old new debugger body result is prefix =
       record {
         answers = λ session stands.
@@ -98,7 +99,7 @@ module _ {D W : Type 0} (hash : Hash D) (flag : Flag SecondFlag) (w : sink.Ghost
   -- nothing is put
   pub none-said : (same : PacketSink W) (old new : Debugger D) (answer : Session → Answer Session)
       (result : Result Connection AnswerFault)
-      → IsErr result → new.run ≡ old.run → Gives hash flag w same same old new answer result
+      → IsErr result → new.run ≡ old.run → GivesBy hash flag w same same old new answer result
   none-said same old new answer result is run =
       record {
         answers = λ session stands.
@@ -109,7 +110,7 @@ module _ {D W : Type 0} (hash : Hash D) (flag : Flag SecondFlag) (w : sink.Ghost
   -- the connection is closed behind a packet, and without one
   pub closed-behind : (old new : PacketSink W) (debugger : Debugger D) (body : List ℕ)
       → Takes w.stands old.sink new.sink (packet_of body) → new.last ≡ packet_of body
-      → Gives hash flag w old new debugger debugger (λ session. closes session (body ∷ []))
+      → GivesBy hash flag w old new debugger debugger (λ session. closes session (body ∷ []))
       (Ok Closed)
   closed-behind old new debugger body takes last =
       record {
@@ -122,7 +123,7 @@ module _ {D W : Type 0} (hash : Hash D) (flag : Flag SecondFlag) (w : sink.Ghost
   pub half-closed : (old new : PacketSink W) (debugger : Debugger D) (body : List ℕ)
       (result : Result Connection AnswerFault)
       → IsErr result → TakesPrefix w.stands old.sink new.sink (packet_of body)
-      → Gives hash flag w old new debugger debugger (λ session. closes session (body ∷ [])) result
+      → GivesBy hash flag w old new debugger debugger (λ session. closes session (body ∷ [])) result
   half-closed old new debugger body result is prefix =
       record {
         answers = λ session stands.
@@ -132,7 +133,7 @@ module _ {D W : Type 0} (hash : Hash D) (flag : Flag SecondFlag) (w : sink.Ghost
       }
 
   pub closed-silently : (same : PacketSink W) (debugger : Debugger D)
-      → Gives hash flag w same same debugger debugger (λ session. closes session []) (Ok Closed)
+      → GivesBy hash flag w same same debugger debugger (λ session. closes session []) (Ok Closed)
   closed-silently same debugger =
       record {
         answers = λ session stands.
@@ -150,8 +151,8 @@ module _ {D W : Type 0} (hash : Hash D) (flag : Flag SecondFlag) (w : sink.Ghost
       → DebuggerStandsFor hash flag changed (change session))
       → ((session : Session) → DebuggerStandsFor hash flag before session
       → said (change session) ≡ answer session)
-      → Gives hash flag w old new changed after said result
-      → Gives hash flag w old new before after answer result
+      → GivesBy hash flag w old new changed after said result
+      → GivesBy hash flag w old new before after answer result
   behind-change old new before changed after change answer said result run stands same gives =
       record {
         answers = λ session here.
@@ -165,8 +166,8 @@ module _ {D W : Type 0} (hash : Hash D) (flag : Flag SecondFlag) (w : sink.Ghost
   pub said-so : (old new : PacketSink W) (debugger after : Debugger D) (body : List ℕ)
       (text : Session → List ℕ) (result : Result Connection AnswerFault)
       → ((session : Session) → DebuggerStandsFor hash flag debugger session → body ≡ text session)
-      → Gives hash flag w old new debugger after (λ session. says session body) result
-      → Gives hash flag w old new debugger after (λ session. says session (text session)) result
+      → GivesBy hash flag w old new debugger after (λ session. says session body) result
+      → GivesBy hash flag w old new debugger after (λ session. says session (text session)) result
   said-so old new debugger after body text result same gives =
       behind-change old new debugger debugger after (λ session. session)
       (λ session. says session (text session)) (λ session. says session body) result refl
@@ -177,9 +178,9 @@ module _ {D W : Type 0} (hash : Hash D) (flag : Flag SecondFlag) (w : sink.Ghost
   pub stops-changed : (old new : PacketSink W) (debugger after : Debugger D) (stops : Stops)
       (asked : Stops → Stops) (result : Result Connection AnswerFault)
       → stops ≡ asked debugger.stops
-      → Gives hash flag w old new (record debugger { stops = stops }) after
+      → GivesBy hash flag w old new (record debugger { stops = stops }) after
       (λ session. says session (codes "OK")) result
-      → Gives hash flag w old new debugger after
+      → GivesBy hash flag w old new debugger after
       (λ session. with_stops session (Some (asked session.stops))) result
   stops-changed old new debugger after stops asked result is gives =
       behind-change old new debugger (record debugger { stops = stops }) after
@@ -194,9 +195,9 @@ module _ {D W : Type 0} (hash : Hash D) (flag : Flag SecondFlag) (w : sink.Ghost
   stops-kept : (old new : PacketSink W) (debugger after : Debugger D) (stops : Stops)
       (asked : Stops → Option Stops) (result : Result Connection AnswerFault)
       → asked debugger.stops ≡ None → stops ≡ debugger.stops
-      → Gives hash flag w old new (record debugger { stops = stops }) after
+      → GivesBy hash flag w old new (record debugger { stops = stops }) after
       (λ session. says session (codes "E01")) result
-      → Gives hash flag w old new debugger after
+      → GivesBy hash flag w old new debugger after
       (λ session. with_stops session (asked session.stops)) result
   stops-kept old new debugger after stops asked result none is gives =
       behind-change old new debugger (record debugger { stops = stops }) after
@@ -209,9 +210,9 @@ module _ {D W : Type 0} (hash : Hash D) (flag : Flag SecondFlag) (w : sink.Ghost
   stops-fit : (old new : PacketSink W) (debugger after : Debugger D) (stops found : Stops)
       (asked : Stops → Option Stops) (result : Result Connection AnswerFault)
       → asked debugger.stops ≡ Some found → stops ≡ found
-      → Gives hash flag w old new (record debugger { stops = stops }) after
+      → GivesBy hash flag w old new (record debugger { stops = stops }) after
       (λ session. says session (codes "OK")) result
-      → Gives hash flag w old new debugger after
+      → GivesBy hash flag w old new debugger after
       (λ session. with_stops session (asked session.stops)) result
   stops-fit old new debugger after stops found asked result some is gives =
       behind-change old new debugger (record debugger { stops = stops }) after
@@ -228,9 +229,9 @@ module _ {D W : Type 0} (hash : Hash D) (flag : Flag SecondFlag) (w : sink.Ghost
       → asked debugger.stops ≡ found
       → MatchOption found ((is_set ≡ false) × (stops ≡ debugger.stops))
       (λ other. (is_set ≡ true) × (stops ≡ other))
-      → Gives hash flag w old new (record debugger { stops = stops }) after
+      → GivesBy hash flag w old new (record debugger { stops = stops }) after
       (λ session. says session (if is_set then codes "OK" else codes "E01")) result
-      → Gives hash flag w old new debugger after
+      → GivesBy hash flag w old new debugger after
       (λ session. with_stops session (asked session.stops)) result
   stops-said old new debugger after stops asked None is_set result found is gives =
       stops-kept old new debugger after stops asked result found is.1 (rw is.0 at gives)
@@ -241,9 +242,9 @@ module _ {D W : Type 0} (hash : Hash D) (flag : Flag SecondFlag) (w : sink.Ghost
       (asked : Stops → Option Stops) (is_set : Bool) (result : Result Connection AnswerFault)
       → MatchOption (asked debugger.stops) ((is_set ≡ false) × (stops ≡ debugger.stops))
       (λ other. (is_set ≡ true) × (stops ≡ other))
-      → Gives hash flag w old new (record debugger { stops = stops }) after
+      → GivesBy hash flag w old new (record debugger { stops = stops }) after
       (λ session. says session (if is_set then codes "OK" else codes "E01")) result
-      → Gives hash flag w old new debugger after
+      → GivesBy hash flag w old new debugger after
       (λ session. with_stops session (asked session.stops)) result
   stops-asked old new debugger after stops asked is_set result is gives =
       stops-said old new debugger after stops asked (asked debugger.stops) is_set result refl is
@@ -252,7 +253,7 @@ module _ {D W : Type 0} (hash : Hash D) (flag : Flag SecondFlag) (w : sink.Ghost
   -- what is answered is answered in its run
   answered-in_run : (old new : PacketSink W) (before after : Debugger D)
       (answer : Run → Session → Answer Session) (result : Result Connection AnswerFault)
-      → Gives hash flag w old new before after
+      → GivesBy hash flag w old new before after
       (λ session. answer (played_run hash flag before.run) session) result
       → (now : RunSession) → StandsInRun hash flag before now
       → Answers (StandsInRun hash flag) w old new after
@@ -277,7 +278,7 @@ module _ {D W : Type 0} (hash : Hash D) (flag : Flag SecondFlag) (w : sink.Ghost
   -- and so a body is
   pub replied : (old new : PacketSink W) (before after : Debugger D) (body : List ℕ)
       (result : Result Connection AnswerFault)
-      → Gives hash flag w old new before after
+      → GivesBy hash flag w old new before after
       (λ session. answer_of (played_run hash flag before.run) session (command_of body)) result
       → (now : RunSession) → StandsInRun hash flag before now
       → Answers (StandsInRun hash flag) w old new after (run_reply now body) result

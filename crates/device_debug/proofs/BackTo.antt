@@ -1,29 +1,29 @@
 -- Where a debugger goes back to, a walk may begin, at the level that was found.
-use Rattle.std.proofs.Common.{◌≡◌, ◌≤◌, ◌+◌, ◌-◌, ◌∙◌, inl, inr, ⊎_elim, ℕ, zero, suc, Bool, true, false, Option, Some, None, min, refl, ap, sym, subst, arith, option_map}
-use Rattle.std.specs.Prelude.{◌&&◌, IfSome, if◌then◌else◌}
-use Rattle.std.proofs.lemmas.Bool.{cases_Bool}
-use Rattle.bus_signals.specs.Kind.{is_irq}
+use Rattle.std.proofs.Common.{◌≡◌, ◌≤◌, ◌-◌, ◌∙◌, inl, inr, ⊎_elim, ℕ, zero, suc, Bool, true, false, Option, Some, None, min, refl, ap, sym, subst, arith, option_map}
+use Rattle.std.specs.Prelude.{IfSome}
+use Rattle.std.proofs.lemmas.Bool.{cases_Bool, false≢true, true≢false}
 use Rattle.bus_signals.specs.TraceFlag.{Flag}
 use Rattle.hmac_core.specs.Hash.{Hash}
-use Rattle.device_trace.specs.Logs.{vector_of}
-use Rattle.device_trace.specs.Progress.{Progress, kind_of}
 use Rattle.debug_commands.specs.Request.{most_steps}
 use Rattle.debug_stops.specs.Stops.{Stops}
 use Rattle.debug_stops.specs.declared.stop.Stop.{Stop}
 use Rattle.debug_session.specs.Cause.{backward_cause}
 use Rattle.debug_session.specs.Going.{Standing, back_to, highest_of, last_stop, standing_at}
-use Rattle.debug_session.specs.Level.{is_returning, level}
-use Rattle.debug_session.specs.Place.{Run, is_boundary, is_refused, last_boundary, logs_at, step_at}
+use Rattle.debug_session.specs.Level.{level}
+use Rattle.debug_session.specs.Place.{Run, is_boundary, last_boundary}
 use Rattle.debug_walk.specs.Seen.{IsSeenAt, MayBeginAt, with_level}
-use Rattle.debug_walk.specs.Walk.{SecondFlag, WalkStandsFor, place_of}
+use Rattle.debug_walk.specs.Halted.{HaltedStandsFor, IsLevelAt, halted_at}
+use Rattle.debug_walk.specs.Walk.{SecondFlag}
+use Rattle.debug_walk.specs.declared.halted.Halted.{Halted}
 use Rattle.debug_walk.specs.declared.step_seen.LevelPlace.{LevelPlace}
 use Rattle.debug_walk.specs.declared.step_seen.StepSeen.{StepSeen}
-use Rattle.debug_walk.specs.declared.walk.Walk.{Walk}
-use Rattle.debug_walk.proofs.Places.{heard_at, held-first, step-kind}
-use Rattle.device_debug.specs.Forwards.{HasArrived}
+use Rattle.device_debug.specs.Forwards.{HasHalted}
+use Rattle.device_debug.specs.NearStop.{IsNearStop}
 use Rattle.device_debug.specs.WayBack.{IsStanding, found_or_begin, passes, sees}
+use Rattle.device_debug.specs.declared.near_stop.NearStop.{NearStop}
 use Rattle.device_debug.specs.declared.way_back.Found.{Found}
 use Rattle.device_debug.specs.declared.way_back.WayBack.{WayBack}
+use Rattle.device_debug.proofs.Beginning.{level-first}
 use Rattle.device_debug.proofs.OnWayBack.{IsOnWayBack, cause-none, found_or, goes-back, last-found, last_found, standing_of}
 
 -- a walk may begin at this place of a play
@@ -75,29 +75,12 @@ last-level run stops highest from (suc (suc place)) =
     found-level run (suc place) (backward_cause run stops highest (suc place) (from - suc place))
     (last_found run stops highest from (suc place)) (last-level run stops highest from (suc place))
 
--- at place 1 no handler was entered
-quiet-level : (refused here enters leaves : Bool) → enters ≡ false → leaves ≡ false
-    → (if refused then 0 else if here && enters then 0 + 1 else if here && leaves then 0 - 1
-    else 0) ≡ 0
-quiet-level true here enters leaves none stays = refl
-quiet-level false false enters leaves none stays = refl
-quiet-level false true enters leaves none stays = rw (none, stays) refl
-
-first-level : (run : Run) → level run 1 ≡ 0
-first-level run =
-    quiet-level (is_refused (step_at run 0)) (is_boundary run 1) (is_irq (step_at run 0).kind)
-    (is_returning (logs_at run 0).progress)
-    (ap is_irq (step-kind run 0)
-    ∙ ap (λ (progress : Progress). is_irq (kind_of progress (vector_of (heard_at run 0))))
-    (held-first run))
-    (ap is_returning (held-first run))
-
 standing-found : (run : Run) (found : Option Found) (now : Standing)
     → standing_of found ≡ now → IsLevelled run found → IsStanding run (found_or_begin found) now
 standing-found run (Some one) now is levelled =
     rw (← is) (record { place_is = refl; level_is = levelled; stop_is = refl })
 standing-found run None now is levelled =
-    rw (← is) (record { place_is = refl; level_is = sym (first-level run); stop_is = refl })
+    rw (← is) (record { place_is = refl; level_is = level-first run; stop_is = refl })
 
 -- what a walk has found that came to the place from which to go back
 pub all-found : (run : Run) (stops : Stops) (steps : Bool) (way : WayBack) (place : ℕ)
@@ -112,16 +95,27 @@ all-found run stops steps way place is =
     (last-level run stops highest place place))
 
 -- what a way has found at the place from which to go back
-pub found-there : (run : Run) (stops : Stops) (steps : Bool) (way : WayBack)
-    (place from level_from : ℕ) (found : Found)
-    → place ≡ from → level_from ≡ level run from
-    → IsOnWayBack run stops (if steps then Some level_from else None) way place
+pub found-there : (run : Run) (stops : Stops) (steps : Bool) (way : WayBack) (place from : ℕ)
+    (highest : Option ℕ) (found : Found)
+    → place ≡ from → highest ≡ highest_of steps run from
+    → IsOnWayBack run stops highest way place
     → found ≡ found_or_begin way.found
     → IsStanding run found (back_to run stops from steps)
-found-there run stops steps way place from level_from found same is_level back is_found =
+found-there run stops steps way place from highest found same is_highest back is_found =
     let there : IsOnWayBack run stops (highest_of steps run from) way from =
-    rw (same, is_level) at back in
+    rw (same, is_highest) at back in
     rw is_found (all-found run stops steps way from there)
+
+-- where a step stops too
+pub highest-known : (run : Run) (place : ℕ) (steps : Bool) (told : ℕ)
+    → steps ≡ true → told ≡ level run place → Some told ≡ highest_of steps run place
+highest-known run place true told is same = ap Some same
+highest-known run place false told is same = absurd (false≢true is)
+
+pub none-higher : (run : Run) (place : ℕ) (steps : Bool)
+    → steps ≡ false → None ≡ highest_of steps run place
+none-higher run place true is = absurd (true≢false is)
+none-higher run place false is = refl
 
 -- and behind a step
 pub back-step : (run : Run) (stops : Stops) (highest : Option ℕ) (way passed seen_way : WayBack)
@@ -142,30 +136,71 @@ back-step run stops highest way passed seen_way place stood next level_here seen
     rw (is_seen, is_passed, is_level, is_last, is_next, same)
     (goes-back run stops highest way place is seen here.begins_is here.refused_is here.hits_are)
 
--- a walk that was made there
-pub gone-back : {D : Type 0} {hash : Hash D} {flag : Flag SecondFlag} (run : Run) (stops : Stops)
-    (steps : Bool) (place from : ℕ) (found : Found) (walk : Walk D)
-    → from ≡ place → place ≤ most_steps
-    → IsStanding run found (back_to run stops from steps)
-    → (found.at.place ≤ most_steps → found.at.level ≡ level run found.at.place
-    → MayBeginAt run found.at.place → WalkStandsFor hash flag walk run)
-    → place_of walk ≡ min found.at.place most_steps
-    → HasArrived hash flag run walk found.stop (back_to run stops place steps)
-gone-back run stops steps place from found walk same within standing stands is_at =
-    let now : Standing = back_to run stops place steps in
-    let is : IsStanding run found now = rw same at standing in
-    let may : MayStandAt run now.place =
-    last-stands run stops (highest_of steps run place) place place within in
-    let there : MayStandAt run found.at.place =
-    subst (MayStandAt run) (sym is.place_is) may in
-    record {
-      stands = record {
-        walks = stands there.0 (rw is.place_is is.level_is) there.1;
-        place_is = omega (arith, is_at, there.0, is.place_is);
-        settled = (may.0, inl may.1);
-      };
-      stop_is = is.stop_is;
-    }
+-- a level that is known is that of another place too
+known-there : (run : Run) (one other : ℕ) (known : Option ℕ)
+    → level run other ≡ level run one → IsLevelAt run one known → IsLevelAt run other known
+known-there run one other None same is = tt
+known-there run one other (Some told) same is = is ∙ sym same
+
+-- the level of a halted device is known at its place
+pub level-here : {D : Type 0} (run : Run) (halted : Halted D) (place : ℕ) (known : Option ℕ)
+    → place ≡ halted_at halted → known ≡ halted.level
+    → IsLevelAt run (halted_at halted) halted.level → IsLevelAt run place known
+level-here run halted place known here same is =
+    subst (λ (at : ℕ). IsLevelAt run at known) (sym here)
+    (subst (IsLevelAt run (halted_at halted)) (sym same) is)
+
+module _ {D : Type 0} {hash : Hash D} {flag : Flag SecondFlag} (run : Run) (stops : Stops)
+    (place from : ℕ) (halted : Halted D) (same : from ≡ place) (within : place ≤ most_steps) where
+  -- a device that was halted at a place to which one goes back
+  halted-back : (steps : Bool) (at : ℕ) (known : Option ℕ) (stop : Stop)
+      → at ≡ (back_to run stops place steps).place → stop ≡ (back_to run stops place steps).stop
+      → IsLevelAt run at known
+      → (at ≤ most_steps → IsLevelAt run at known → HaltedStandsFor hash flag halted run)
+      → halted_at halted ≡ min at most_steps
+      → HasHalted hash flag run halted stop (back_to run stops place steps)
+  halted-back steps at known stop here stops_so told stands is_at =
+      let may : MayStandAt run (back_to run stops place steps).place =
+      last-stands run stops (highest_of steps run place) place place within in
+      let there : at ≤ most_steps = omega (arith, may.0, here) in
+      record {
+        stands = record {
+          stands = stands there told;
+          place_is = omega (arith, is_at, there, here);
+          settled = (may.0, inl may.1);
+        };
+        stop_is = stops_so;
+      }
+
+  -- where that was found by a walk
+  pub gone-back : (steps : Bool) (found : Found)
+      → IsStanding run found (back_to run stops from steps)
+      → (found.at.place ≤ most_steps
+      → IsLevelAt run found.at.place (Some found.at.level)
+      → HaltedStandsFor hash flag halted run)
+      → halted_at halted ≡ min found.at.place most_steps
+      → HasHalted hash flag run halted found.stop (back_to run stops place steps)
+  gone-back steps found standing stands is_at =
+      let is : IsStanding run found (back_to run stops place steps) = rw same at standing in
+      halted-back steps found.at.place (Some found.at.level) found.stop is.place_is is.stop_is
+      (rw is.place_is is.level_is) stands is_at
+
+  -- and where it is near
+  pub gone-near : (steps : Bool) (found : NearStop) (known : Option ℕ)
+      → steps ≡ true → IsLevelAt run from known
+      → IsNearStop run stops from found
+      → (found.place ≤ most_steps → IsLevelAt run found.place known
+      → HaltedStandsFor hash flag halted run)
+      → halted_at halted ≡ min found.place most_steps
+      → HasHalted hash flag run halted found.stop (back_to run stops place steps)
+  gone-near steps found known stepping told near stands is_at =
+      let now : back_to run stops place steps
+      ≡ record { place = found.place; stop = found.stop } =
+      ap (back_to run stops place) stepping
+      ∙ ap (λ (one : ℕ). back_to run stops one true) (sym same) ∙ near.stands in
+      halted-back steps found.place known found.stop
+      (sym (ap (λ (one : Standing). one.place) now)) (sym (ap (λ (one : Standing). one.stop) now))
+      (known-there run from found.place known near.level_is told) stands is_at
 
 -- at the beginning
 pub back-begun : (run : Run) (stops : Stops) (highest : Option ℕ) (way : WayBack) (place : ℕ)

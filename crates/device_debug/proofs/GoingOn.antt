@@ -1,5 +1,5 @@
 -- A walk that goes on, and on again while PC is in a range.
-use Rattle.std.proofs.Common.{◌≡◌, ◌≤◌, ◌<◌, ◌-◌, ◌+◌, ◌∙◌, ◌++◌, ℕ, zero, suc, Bool, true, false, List, [], Option, Some, None, Result, Ok, Err, IsErr, refl, ap, sym, subst, arith, append_assoc}
+use Rattle.std.proofs.Common.{◌≡◌, ◌≤◌, ◌<◌, ◌-◌, ◌+◌, ◌∙◌, ◌++◌, ℕ, zero, suc, Bool, true, false, List, [], Result, Ok, Err, IsErr, refl, ap, sym, subst, arith, append_assoc}
 use Rattle.std.specs.Prelude.{◌&&◌, if◌then◌else◌}
 use Rattle.std.proofs.lemmas.Bool.{false≢true, true≢false}
 use Rattle.std.proofs.lemmas.List.{append-nil}
@@ -17,33 +17,20 @@ use Rattle.debug_link.proofs.Bodies.{put_both, puts_behind, puts_less}
 use Rattle.debug_stops.specs.Stops.{Stops}
 use Rattle.debug_stops.specs.declared.stop.Stop.{Stop}
 use Rattle.debug_stops.specs.declared.stop.Stop.TheVariants.{Stepped}
-use Rattle.debug_session.specs.Cause.{forward_cause}
-use Rattle.debug_session.specs.Going.{Standing, first_stop, goes_again, going_on, highest_of, is_step, standing_at, stepping_in, where_to}
+use Rattle.debug_session.specs.Going.{Standing, goes_again, going_on, highest_of, is_step, stepping_in, where_to}
 use Rattle.debug_session.specs.Place.{Run}
 use Rattle.debug_session.specs.Session.{lines_to, told, warning, warning_of}
 use Rattle.debug_walk.specs.Walk.{SecondFlag, place_of}
 use Rattle.debug_walk.specs.declared.walk.Walk.{Walk}
-use Rattle.device_debug.specs.Forwards.{GoesTo, WalkStandsAt, stops_at_steps, turns_again}
+use Rattle.device_debug.specs.Forwards.{GoesTo, HasArrived, WalkStandsAt, stops_at_steps, turns_again}
+use Rattle.device_debug.proofs.Ahead.{first-behind}
 use Rattle.device_debug.proofs.Told.{told-both}
 
 -- where it stops is not before where it looked from
-standing-past : (from at : ℕ) (cause : Option Stop) (rest : Standing)
-    → from ≤ at → from ≤ rest.place → from ≤ (standing_at at cause rest).place
-standing-past from at (Some stop) rest here later = here
-standing-past from at None rest here later = later
-
-first-past : (run : Run) (stops : Stops) (highest : Option ℕ) (from place left : ℕ)
-    → place ≤ (first_stop run stops highest from place left).place
-first-past run stops highest from place zero = omega arith
-first-past run stops highest from place (suc left) =
-    let later = first-past run stops highest from (suc place) left in
-    standing-past place (suc place) (forward_cause run stops highest from (suc place) left)
-    (first_stop run stops highest from (suc place) left) (omega arith) (omega (arith, later))
-
 pub going-past : (run : Run) (stops : Stops) (place : ℕ) (steps : Bool)
     → place ≤ (going_on run stops place steps).place
 going-past run stops place steps =
-    first-past run stops (highest_of steps run place) place place (most_steps - place)
+    first-behind run stops (highest_of steps run place) place place (most_steps - place)
 
 -- a step was made, where it goes on again
 both-left : (one other : Bool) → (one && other) ≡ true → one ≡ true
@@ -74,7 +61,8 @@ module _ (run : Run) (from : ℕ) where
   lines-both : (at : ℕ) (now : Standing) → from ≤ at → at ≤ now.place
       → told run from (at - from) ++ lines_to run at now ≡ lines_to run from now
   lines-both at now earlier later =
-      sym (append_assoc (told run from (at - from)) (told run at (now.place - at)) (warning run now))
+      sym (append_assoc (told run from (at - from)) (told run at (now.place - at))
+      (warning run now))
       ∙ ap (λ (front : List (List ℕ)). front ++ warning run now)
       (sym (told-both run from (at - from) (now.place - at) (now.place - from) at
       (omega (arith, earlier, later)) (omega (arith, earlier))))
@@ -145,7 +133,7 @@ abbrev pub again_from : Run → Stops → Going → ℕ → Bool
 again_from run stops going at =
     turns_again run going (next_stop run stops going at).place (next_stop run stops going at).stop
 
-leads-first : (run : Run) (stops : Stops) (place : ℕ) (going : Going)
+pub leads-first : (run : Run) (stops : Stops) (place : ℕ) (going : Going)
     → where_to run stops place going ≡ leads_to run stops going most_steps place
 leads-first run stops place On = refl
 leads-first run stops place Step = refl
@@ -163,7 +151,7 @@ leads-again run stops (Range first end) turns left at is again =
     ∙ if-so (goes_again run first end now)
     (stepping_in run stops first end left (going_on run stops now.place true)) now again
 
-leads-here : (run : Run) (stops : Stops) (going : Going) (turns at : ℕ)
+pub leads-here : (run : Run) (stops : Stops) (going : Going) (turns at : ℕ)
     → again_from run stops going at ≡ false
     → leads_to run stops going turns at ≡ next_stop run stops going at
 leads-here run stops On turns at none = refl
@@ -236,17 +224,18 @@ module _ {D W : Type 0} (hash : Hash D) (flag : Flag SecondFlag) (w : sink.Ghost
   pub told-stop : (mid new : PacketSink W) (at : ℕ) (steps : Bool)
       (result : Result (Walk D × Stop) AnswerFault)
       → steps ≡ stops_at_steps going
-      → GoesTo hash flag w mid new run at (going_on run stops at steps) result
-      → GoesTo hash flag w mid new run at (next_stop run stops going at) result
+      → GoesTo (HasArrived hash flag run) w mid new run at (going_on run stops at steps) result
+      → GoesTo (HasArrived hash flag run) w mid new run at (next_stop run stops going at) result
   told-stop mid new at steps result same goes =
-      subst (λ (one : Bool). GoesTo hash flag w mid new run at (going_on run stops at one) result)
-      same goes
+      subst (λ (one : Bool). GoesTo (HasArrived hash flag run) w mid new run at
+      (going_on run stops at one) result) same goes
 
   module _ (old mid new : PacketSink W) (walk : Walk D)
       (so : IsGoingOn hash flag w old mid run stops going place walk) where
     -- one turn more
     pub goes-again : (next : Walk D) (stop : Stop)
-        → GoesTo hash flag w mid new run so.at (next_stop run stops going so.at) (Ok (next, stop))
+        → GoesTo (HasArrived hash flag run) w mid new run so.at
+        (next_stop run stops going so.at) (Ok (next, stop))
         → turns_again run going (place_of next) stop ≡ true
         → place_of walk < place_of next → place_of next ≤ most_steps
         → IsGoingOn hash flag w old new run stops going place next
@@ -277,9 +266,11 @@ module _ {D W : Type 0} (hash : Hash D) (flag : Flag SecondFlag) (w : sink.Ghost
 
     -- it stands where the going leads
     pub goes-there : (next : Walk D) (stop : Stop)
-        → GoesTo hash flag w mid new run so.at (next_stop run stops going so.at) (Ok (next, stop))
+        → GoesTo (HasArrived hash flag run) w mid new run so.at
+        (next_stop run stops going so.at) (Ok (next, stop))
         → turns_again run going (place_of next) stop ≡ false
-        → GoesTo hash flag w old new run place (where_to run stops place going) (Ok (next, stop))
+        → GoesTo (HasArrived hash flag run) w old new run place
+        (where_to run stops place going) (Ok (next, stop))
     goes-there next stop goes is =
         let now : Standing = next_stop run stops going so.at in
         let none : turns_again run going now.place now.stop ≡ false =
@@ -288,8 +279,8 @@ module _ {D W : Type 0} (hash : Hash D) (flag : Flag SecondFlag) (w : sink.Ghost
         let later : so.at ≤ now.place = going-past run stops so.at (stops_at_steps going) in
         let end : where_to run stops place going ≡ now =
         so.leads ∙ leads-here run stops going so.turns so.at none in
-        subst (λ (one : Standing). GoesTo hash flag w old new run place one (Ok (next, stop)))
-        (sym end)
+        subst (λ (one : Standing). GoesTo (HasArrived hash flag run) w old new run place one
+        (Ok (next, stop))) (sym end)
         (record {
           arrived = goes.arrived;
           put = subst (HasPut w old new) (lines-both run place so.at now so.passed later)
@@ -315,9 +306,11 @@ module _ {D W : Type 0} (hash : Hash D) (flag : Flag SecondFlag) (w : sink.Ghost
 
     -- it failed on the way
     pub goes-failed : (fault : AnswerFault) (result : Result (Walk D × Stop) AnswerFault)
-        → GoesTo hash flag w mid new run so.at (next_stop run stops going so.at) (Err fault)
+        → GoesTo (HasArrived hash flag run) w mid new run so.at
+        (next_stop run stops going so.at) (Err fault)
         → IsErr result
-        → GoesTo hash flag w old new run place (where_to run stops place going) result
+        → GoesTo (HasArrived hash flag run) w old new run place
+        (where_to run stops place going) result
     goes-failed fault (Ok end) goes is = absurd (false≢true is)
     goes-failed fault (Err error) goes is =
         let first : List (List ℕ) = told run place (so.at - place) in

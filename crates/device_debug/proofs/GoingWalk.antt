@@ -21,7 +21,7 @@ use Rattle.debug_walk.specs.Walk.{SecondFlag, WalkStandsFor, place_of}
 use Rattle.debug_walk.specs.declared.step_seen.LevelPlace.{LevelPlace}
 use Rattle.debug_walk.specs.declared.step_seen.StepSeen.{StepSeen}
 use Rattle.debug_walk.specs.declared.walk.Walk.{Walk}
-use Rattle.device_debug.specs.Forwards.{GoesOnTo, GoesTo, WalkStandsAt}
+use Rattle.device_debug.specs.Forwards.{GoesOnTo, GoesTo, HasArrived, WalkStandsAt}
 use Rattle.device_debug.specs.GrownText.{GrownText}
 use Rattle.device_debug.specs.Telling.{TellsStep, bodies_of}
 use Rattle.device_debug.specs.Way.{refusal_of, stop_behind, way_behind}
@@ -78,7 +78,7 @@ module _ {D W : Type 0} (hash : Hash D) (flag : Flag SecondFlag) (w : sink.Ghost
 
     pub going-ends : {V E : Type 0} (value : V) → most_steps ≤ place_of walk
         → PutsPackets {E = E} w mid new (bodies_of waiting) (Ok value)
-        → GoesTo hash flag w old new run from aim (Ok (walk, End))
+        → GoesTo (HasArrived hash flag run) w old new run from aim (Ok (walk, End))
     going-ends value last puts =
         come-end hash flag w run stops (highest_of steps run from) from aim old mid new
         (place_of walk) way waiting walk value (at-end last) puts going.walks refl
@@ -87,7 +87,7 @@ module _ {D W : Type 0} (hash : Hash D) (flag : Flag SecondFlag) (w : sink.Ghost
     pub end-fails : {V E : Type 0} (error : E) (result : Result (Walk D × Stop) AnswerFault)
         → IsErr result → most_steps ≤ place_of walk
         → PutsPackets {V = V} w mid new (bodies_of waiting) (Err error)
-        → GoesTo hash flag w old new run from aim result
+        → GoesTo (HasArrived hash flag run) w old new run from aim result
     end-fails error result failed last puts =
         end-failed hash flag w run stops (highest_of steps run from) from aim old mid new
         (place_of walk) way waiting error result failed (at-end last) puts
@@ -127,17 +127,17 @@ module _ {D W : Type 0} (hash : Hash D) (flag : Flag SecondFlag) (w : sink.Ghost
           → Some (at, rule) ≡ refusal_of way.from before seen.refused
           → number ≡ place_of walk
           → (at.place ≤ most_steps → at.level ≡ level run at.place → MayBeginAt run at.place
-          → GoesOnTo hash flag w mid new run
+          → GoesOnTo (HasArrived hash flag run) w mid new
           (console (codes "stops before " ++ reset_line number rule))
           (record { place = at.place; stop = Refused rule }) result)
-          → GoesTo hash flag w old new run from aim result
+          → GoesTo (HasArrived hash flag run) w old new run from aim result
       going-back before at rule number result same is numbered goes =
           come-before hash flag w run stops (highest_of steps run from) from aim old mid new
           (place_of walk) (most_steps - place_of next) way waiting before-step seen stepped.1 at
           rule result (told-is before (Some (at, rule)) same is) few
           (subst (λ (one : ℕ). at.place ≤ most_steps → at.level ≡ level run at.place
           → MayBeginAt run at.place
-          → GoesOnTo hash flag w mid new run
+          → GoesOnTo (HasArrived hash flag run) w mid new
           (console (codes "stops before " ++ reset_line one rule))
           (record { place = at.place; stop = Refused rule }) result) numbered goes)
 
@@ -145,7 +145,7 @@ module _ {D W : Type 0} (hash : Hash D) (flag : Flag SecondFlag) (w : sink.Ghost
         pub step-fails : {V E : Type 0} (error : E) (result : Result (Walk D × Stop) AnswerFault)
             → IsErr result
             → TellsStep {V = V} w mid new waiting waiting_new run (place_of next - 1) (Err error)
-            → GoesTo hash flag w old new run from aim result
+            → GoesTo (HasArrived hash flag run) w old new run from aim result
         step-fails {V = V} error result failed tells =
             come-failed hash flag w run stops (highest_of steps run from) from aim old mid new
             (place_of walk) (most_steps - place_of next) way waiting before-step seen stepped.1
@@ -156,7 +156,7 @@ module _ {D W : Type 0} (hash : Hash D) (flag : Flag SecondFlag) (w : sink.Ghost
         pub going-to : {V E : Type 0} (stop : Stop) (value : V)
             → TellsStep {E = E} w mid new waiting waiting_new run (place_of next - 1) (Ok value)
             → Some stop ≡ stop_behind run stops seen way (place_of next)
-            → GoesTo hash flag w old new run from aim (Ok (next, stop))
+            → GoesTo (HasArrived hash flag run) w old new run from aim (Ok (next, stop))
         going-to {E = E} stop value tells stopped =
             come-to hash flag w run stops (highest_of steps run from) from aim old mid new
             (place_of walk) (most_steps - place_of next) way waiting before-step seen stepped.1

@@ -137,14 +137,16 @@ stands_before told = record { place = told.0.place; stop = Refused told.1 }
 
 module _ (run : Run) (from : ℕ) (at : LevelPlace) (rule : Rule) where
   some_told : (one : ℕ) (told : Option Rule) (rest : Standing)
-      → option_map {U = LevelPlace × Rule} (λ (it : Rule). (with_level run one, it)) told ≡ Some (at, rule)
+      → option_map {U = LevelPlace × Rule} (λ (it : Rule). (with_level run one, it)) told
+      ≡ Some (at, rule)
       → standing_at one (option_map Refused told) rest
       ≡ record { place = at.place; stop = Refused rule }
   some_told one None rest is = absurd (cc (is))
   some_told one (Some it) rest is = ap stands_before (some-same is)
 
   told_past : (past : Bool) (one : ℕ) (told : Option Rule) (rest : Standing)
-      → (if past then option_map {U = LevelPlace × Rule} (λ (it : Rule). (with_level run one, it)) told else None)
+      → (if past then option_map {U = LevelPlace × Rule}
+      (λ (it : Rule). (with_level run one, it)) told else None)
       ≡ Some (at, rule)
       → (if past then standing_at one (option_map Refused told) rest else rest)
       ≡ record { place = at.place; stop = Refused rule }
@@ -168,7 +170,8 @@ same-none from false later rest = refl
 -- none is told: a refusal that was passed over, or none
 module _ (run : Run) (from : ℕ) where
   untold_past : (past : Bool) (one : ℕ) (told : Option Rule) (rest : Standing)
-      → (if past then option_map {U = LevelPlace × Rule} (λ (it : Rule). (with_level run one, it)) told else None) ≡ None
+      → (if past then option_map {U = LevelPlace × Rule}
+      (λ (it : Rule). (with_level run one, it)) told else None) ≡ None
       → (if past then standing_at one (option_map Refused told) rest else rest) ≡ rest
   untold_past true one None rest is = refl
   untold_past true one (Some it) rest is = absurd (cc (is))
@@ -255,7 +258,8 @@ waits_here : (from place : ℕ) (last : Option ℕ) (here : Bool) (refusal : Opt
 waits_here from place last true refusal rest is past = rw (lt-ltb from place past) refl
 waits_here from place last false refusal rest is past = absurd (false≢true is)
 
-pub cause-at : (here : Bool) (cause : Option Stop) → here ≡ true → (if here then cause else None) ≡ cause
+pub cause-at : (here : Bool) (cause : Option Stop) → here ≡ true
+    → (if here then cause else None) ≡ cause
 cause-at true cause is = refl
 cause-at false cause is = absurd (false≢true is)
 
@@ -308,8 +312,8 @@ module _ (run : Run) (stops : Stops) (highest : Option ℕ) (from : ℕ) (way : 
       (step_at run place).reset ≡ None
       → seen.hits ≡ seen_accesses (step_at run place) (exec_changes run place)
       (aux_changes run place)
-      → IsOnWay run stops highest from (way_behind stops seen way (suc place) false) (suc place) left
-      stands
+      → IsOnWay run stops highest from (way_behind stops seen way (suc place) false) (suc place)
+      left stands
   goes-past none untold hits =
       record {
         waits = is.waits

@@ -147,7 +147,8 @@ told_causes : (run : Run) (place : ℕ) (old : Option Found) (plain steps : Bool
     (with_level run place) Stepped
     else (if plain then found_at (with_level run place) Plain else old))
     ≡ found_or run place (stop_of None plain steps told) old
-told_causes run place old true true None below = or-found_at run place (Some Plain) old Stepped below
+told_causes run place old true true None below =
+    or-found_at run place (Some Plain) old Stepped below
 told_causes run place old true true (Some rule) below =
     rw (or-found_at run place (Some Plain) old Stepped below)
     (or-found_at run place (Some Plain) old (Refused rule) below)
@@ -421,8 +422,8 @@ module _ (run : Run) (stops : Stops) (highest : Option ℕ) (way : WayBack) (pla
       let hits : List Hit = hits_at run stops.watches place in
       let before : backward_cause run stops highest at steps ≡ stop_of hit plain back None =
       cause-at (is_boundary run at) (stop_of hit plain back (refusal_from run at steps)) here
-      ∙ ap (λ (told : Option Rule). stop_of hit plain back told) (none-refused_yet run at steps free)
-      in
+      ∙ ap (λ (told : Option Rule). stop_of hit plain back told)
+      (none-refused_yet run at steps free) in
       let behind : backward_cause run stops highest at (suc place - at)
       ≡ stop_of (last_hit hit hits) plain back (told_of reset) =
       ap (backward_cause run stops highest at) more

@@ -1,4 +1,4 @@
--- What a debugger shows of where its walk stands.
+-- What a debugger shows of where its device is halted.
 use Rattle.std.proofs.Common.{◌≡◌, ◌∙◌, ℕ, true, false, List, [], Some, Result, ap, sym}
 use Rattle.std.specs.Prelude.{◌==◌, codes, min, if◌then◌else◌}
 use Rattle.std.proofs.lemmas.Bool.{cond-false, cond-true, eq-eqb, ne_eqb}
@@ -13,9 +13,10 @@ use Rattle.debug_session.specs.Place.{Run, registers_at}
 use Rattle.debug_session.specs.Session.{memory_body, says}
 use Rattle.debug_session.specs.Shown.{bytes_shown, is_shown, registers_bytes, registers_shown}
 use Rattle.debug_walk.specs.PlayedRun.{played_run}
-use Rattle.debug_walk.specs.Walk.{OfWalk, SecondFlag}
-use Rattle.debug_walk.specs.declared.walk.Walk.{Walk}
-use Rattle.device_debug.specs.Session.{Gives}
+use Rattle.debug_walk.specs.Halted.{OfHalted}
+use Rattle.debug_walk.specs.Walk.{SecondFlag}
+use Rattle.debug_walk.specs.declared.halted.Halted.{Halted}
+use Rattle.device_debug.specs.Session.{GivesBy}
 use Rattle.device_debug.specs.declared.debugger.Debugger.{Debugger}
 use Rattle.device_debug.proofs.Answering.{holds-here, said-so}
 
@@ -50,20 +51,20 @@ module _ (run : Run) (place first size : ℕ) where
 
 module _ {D W : Type 0} (hash : Hash D) (flag : Flag SecondFlag) (w : sink.Ghosts W) where
   -- its registers were put
-  pub registers-said : (old new : PacketSink W) (debugger : Debugger D) (walk : Walk D)
+  pub registers-said : (old new : PacketSink W) (debugger : Debugger D) (halted : Halted D)
       (bytes items : List ℕ) (result : Result Connection AnswerFault)
-      → bytes ≡ items → debugger.walk ≡ Some walk
-      → OfWalk hash flag walk (λ run place. items ≡ registers_bytes (registers_at run place))
-      → Gives hash flag w old new debugger debugger (λ session. says session (encode_lower bytes))
+      → bytes ≡ items → debugger.halted ≡ Some halted
+      → OfHalted hash flag halted (λ run place. items ≡ registers_bytes (registers_at run place))
+      → GivesBy hash flag w old new debugger debugger (λ session. says session (encode_lower bytes))
       result
-      → Gives hash flag w old new debugger debugger
+      → GivesBy hash flag w old new debugger debugger
       (λ session. says session (registers_shown (played_run hash flag debugger.run) session.place))
       result
-  registers-said old new debugger walk bytes items result are is shown gives =
+  registers-said old new debugger halted bytes items result are is shown gives =
       said-so hash flag w old new debugger debugger (encode_lower bytes)
       (λ session. registers_shown (played_run hash flag debugger.run) session.place) result
       (λ session stands. ap (λ (one : List ℕ). encode_lower one)
-      (are ∙ holds-here hash flag debugger session walk
+      (are ∙ holds-here hash flag debugger session halted
       (λ run place. items ≡ registers_bytes (registers_at run place)) is stands shown))
       gives
 
@@ -72,13 +73,13 @@ module _ {D W : Type 0} (hash : Hash D) (flag : Flag SecondFlag) (w : sink.Ghost
     -- what was put is what its memory shows
     abbrev pub SaysMemory : Type 0
     SaysMemory =
-        Gives hash flag w old new debugger debugger
+        GivesBy hash flag w old new debugger debugger
         (λ session. says session (memory_body (played_run hash flag debugger.run) session.place
         first size)) result
 
     -- no bytes were asked for
     pub nothing-shown : size ≡ 0
-        → Gives hash flag w old new debugger debugger (λ session. says session []) result
+        → GivesBy hash flag w old new debugger debugger (λ session. says session []) result
         → SaysMemory
     nothing-shown none gives =
         said-so hash flag w old new debugger debugger []
@@ -89,7 +90,8 @@ module _ {D W : Type 0} (hash : Hash D) (flag : Flag SecondFlag) (w : sink.Ghost
 
     -- the first can't be shown
     pub secret-refused : (size ≡ 0 → ⊥) → is_shown first ≡ false
-        → Gives hash flag w old new debugger debugger (λ session. says session (codes "E01")) result
+        → GivesBy hash flag w old new debugger debugger
+        (λ session. says session (codes "E01")) result
         → SaysMemory
     secret-refused some secret gives =
         said-so hash flag w old new debugger debugger (codes "E01")
@@ -99,18 +101,19 @@ module _ {D W : Type 0} (hash : Hash D) (flag : Flag SecondFlag) (w : sink.Ghost
         gives
 
     -- it can, and bytes were put
-    pub memory-said : (walk : Walk D) (bytes items : List ℕ)
+    pub memory-said : (halted : Halted D) (bytes items : List ℕ)
         → (size ≡ 0 → ⊥) → is_shown first ≡ true
-        → bytes ≡ items → debugger.walk ≡ Some walk
-        → OfWalk hash flag walk (λ run place. items ≡ bytes_shown run place first (min size 2048))
-        → Gives hash flag w old new debugger debugger
+        → bytes ≡ items → debugger.halted ≡ Some halted
+        → OfHalted hash flag halted
+        (λ run place. items ≡ bytes_shown run place first (min size 2048))
+        → GivesBy hash flag w old new debugger debugger
         (λ session. says session (encode_lower bytes)) result
         → SaysMemory
-    memory-said walk bytes items some shown are is of_walk gives =
+    memory-said halted bytes items some shown are is of_halted gives =
         said-so hash flag w old new debugger debugger (encode_lower bytes)
         (λ session. memory_body (played_run hash flag debugger.run) session.place first size) result
         (λ session stands. shown-body (played_run hash flag debugger.run) session.place first size
         bytes some shown
-        (are ∙ holds-here hash flag debugger session walk
-        (λ run place. items ≡ bytes_shown run place first (min size 2048)) is stands of_walk))
+        (are ∙ holds-here hash flag debugger session halted
+        (λ run place. items ≡ bytes_shown run place first (min size 2048)) is stands of_halted))
         gives

@@ -13,8 +13,9 @@ use Rattle.trace_line.specs.declared.trace_line.TraceLine.{TraceLine}
 use Rattle.clean_trace.specs.TraceText.{last_line, next_line}
 use Rattle.device_play.specs.Accounts.{end_line_of}
 use Rattle.device_play.proofs.IdlePlay.{length-play_of}
-use Rattle.debug_walk.specs.Walk.{SecondFlag, WalkStandsFor, place_of}
-use Rattle.debug_walk.specs.declared.walk.Walk.{Walk}
+use Rattle.debug_walk.specs.Halted.{HaltedStandsFor, halted_at}
+use Rattle.debug_walk.specs.Walk.{SecondFlag}
+use Rattle.debug_walk.specs.declared.halted.Halted.{Halted}
 use Rattle.debug_walk.proofs.Options.{some-same}
 use Rattle.debug_session.specs.Monitor.{last_lines}
 use Rattle.debug_session.specs.Place.{Run, logs_at, play_to}
@@ -93,13 +94,13 @@ play-texts run place =
     ap (λ (front : List ℕ). front ++ end_line_of run.start (play_to run place))
     (lines-texts run place ∙ ap (texts_from Lines run 0) all)
 
--- the device of a walk stands for the steps up to the walk's place
-pub walk-stands : {D : Type 0} (hash : Hash D) (flag : Flag SecondFlag) (run : Run) (walk : Walk D)
-    (live : Live D SecondFlag)
-    → live ≡ walk.live → WalkStandsFor hash flag walk run
-    → LiveStandsFor hash flag live run.start (play_to run (place_of walk))
-walk-stands {D} hash flag run walk live same stands =
+-- a device that is halted stands for the steps up to its place
+pub halted-stands : {D : Type 0} (hash : Hash D) (flag : Flag SecondFlag) (run : Run)
+    (halted : Halted D) (live : Live D SecondFlag)
+    → live ≡ halted.live → HaltedStandsFor hash flag halted run
+    → LiveStandsFor hash flag live run.start (play_to run (halted_at halted))
+halted-stands {D} hash flag run halted live same stands =
     subst
     (λ (one : Live D SecondFlag). LiveStandsFor hash flag one run.start
-    (play_to run (place_of walk)))
+    (play_to run (halted_at halted)))
     (sym same) stands.midway.stands

@@ -1,13 +1,12 @@
 -- A walk that goes on, from step to step: what was put, and where it stops.
 use Rattle.std.proofs.Common.{◌≡◌, ◌≤◌, ◌<◌, ◌-◌, ◌∙◌, ◌++◌, ◌⊎◌, inl, inr, ℕ, suc, Bool, true, false, List, [], Option, Some, None, Result, Ok, Err, refl, ap, sym, subst, arith, append_assoc, append-nil, nat_lt, option_map, ⊎_elim}
-use Rattle.std.specs.Prelude.{◌&&◌, ◌||◌, IfSome, IsErr, codes, is_some, length, not, if◌then◌else◌}
-use Rattle.std.proofs.lemmas.Bool.{cases_Bool, false≢true, ltb-true}
-use Rattle.std.proofs.Math.Seq.{take-length}
+use Rattle.std.specs.Prelude.{◌&&◌, ◌||◌, IfSome, IsErr, codes, is_some, not, if◌then◌else◌}
+use Rattle.std.proofs.lemmas.Bool.{cases_Bool, ltb-true}
 use Rattle.bus_signals.specs.TraceFlag.{Flag}
 use Rattle.bus_signals.specs.declared.rule.Rule.{Rule}
 use Rattle.hmac_core.specs.Hash.{Hash}
 use Rattle.printed_lines.specs.Line.{reset_line}
-use Rattle.outside_edge.specs.Sink.{Takes, TakesPrefix}
+use Rattle.outside_edge.specs.Sink.{TakesPrefix}
 use Rattle.outside_edge.specs.declared.sink.Sink as sink
 use Rattle.debug_commands.specs.Request.{most_steps}
 use Rattle.debug_link.specs.Console.{console}
@@ -30,12 +29,13 @@ use Rattle.debug_walk.specs.declared.step_seen.LevelPlace.{LevelPlace}
 use Rattle.debug_walk.specs.declared.step_seen.StepSeen.{StepSeen}
 use Rattle.debug_walk.specs.declared.walk.Walk.{Walk}
 use Rattle.debug_walk.proofs.Options.{none-is-some, some-same}
-use Rattle.device_debug.specs.Forwards.{GoesOnTo, GoesTo, WalkStandsAt}
+use Rattle.device_debug.specs.Forwards.{GoesOnTo, GoesTo, HasArrived}
 use Rattle.device_debug.specs.GrownText.{GrownText}
 use Rattle.device_debug.specs.Telling.{TellsStep, bodies_of}
 use Rattle.device_debug.specs.Way.{hit_behind, refusal_of, steps_here, stop_behind, way_behind}
 use Rattle.device_debug.specs.declared.way.Way.{Way}
 use Rattle.device_debug.proofs.Ahead.{IsAhead, step-ahead}
+use Rattle.device_debug.proofs.Goes.{goes-behind, goes-failed, goes-there}
 use Rattle.device_debug.proofs.OnWay.{IsOnWay, begins-way, goes-on, goes-past, last-within, none-refused, stops-before, stops-here}
 use Rattle.device_debug.proofs.Told.{IsTold, boundary-of, refused-is, told-step, unrefused-since}
 
@@ -117,58 +117,6 @@ stop-parts run stops seen way place stop stopped =
     in
     (parts.0, unwarned run place hit plain steps stop parts.1)
 
--- a text that was taken is a prefix of itself
-all-prefix : {S : Type 0} (stands : S → List ℕ → Type 0) (old new : S) (text : List ℕ)
-    → Takes stands old new text → TakesPrefix stands old new text
-all-prefix stands old new text takes =
-    (length text, omega arith, subst (Takes stands old new) (sym (take-length text)) takes)
-
-module _ {D W : Type 0} (hash : Hash D) (flag : Flag SecondFlag) (w : sink.Ghosts W)
-    (run : Run) where
-  -- behind packets that were put
-  goes-behind : (old mid new : PacketSink W) (put lines : List (List ℕ)) (now : Standing)
-      (result : Result (Walk D × Stop) AnswerFault)
-      → HasPut w old mid put → GoesOnTo hash flag w mid new run lines now result
-      → GoesOnTo hash flag w old new run (put ++ lines) now result
-  goes-behind old mid new put lines now (Ok end) first goes =
-      record {
-        arrived = goes.arrived;
-        put = put_both w old mid new put lines first goes.put;
-        prefix = tt;
-      }
-  goes-behind old mid new put lines now (Err fault) first goes =
-      let behind : PutsPackets {V = Walk D × Stop} w old new (put ++ lines) (Err fault) =
-      puts_behind w old mid new put lines (Err fault) first
-      (record { all = tt; prefix = goes.prefix }) in
-      record { arrived = tt; put = tt; prefix = behind.prefix }
-
-  -- a call failed on the way
-  pub goes-failed : (old new : PacketSink W) (lines : List (List ℕ)) (now : Standing)
-      (result : Result (Walk D × Stop) AnswerFault)
-      → IsErr result → TakesPrefix w.stands old.sink new.sink (packets_of lines)
-      → GoesOnTo hash flag w old new run lines now result
-  goes-failed old new lines now (Ok end) failed prefix = absurd (false≢true failed)
-  goes-failed old new lines now (Err fault) failed prefix =
-      record { arrived = tt; put = tt; prefix = prefix }
-
-  -- all was put, and then a call failed
-  pub goes-nowhere : (old new : PacketSink W) (lines : List (List ℕ)) (now : Standing)
-      (result : Result (Walk D × Stop) AnswerFault)
-      → IsErr result → HasPut w old new lines
-      → GoesOnTo hash flag w old new run lines now result
-  goes-nowhere old new lines now result failed put =
-      goes-failed old new lines now result failed
-      (all-prefix w.stands old.sink new.sink (packets_of lines) put.takes)
-
-  -- it stands where it has to
-  pub goes-there : (old new : PacketSink W) (lines : List (List ℕ)) (walk : Walk D)
-      (place : ℕ) (stop : Stop)
-      → HasPut w old new lines → WalkStandsAt hash flag run place walk
-      → GoesOnTo hash flag w old new run lines (record { place = place; stop = stop })
-      (Ok (walk, stop))
-  goes-there old new lines walk place stop put stands =
-      record { arrived = record { stands = stands; stop_is = refl }; put = put; prefix = tt }
-
 -- a walk has come to a place, with so many steps left and no stop on the way
 pub record HasCome {W : Type 0} (w : sink.Ghosts W) (run : Run) (stops : Stops)
     (highest : Option ℕ) (from : ℕ) (stands : Standing) (old now : PacketSink W)
@@ -213,11 +161,12 @@ module _ {D W : Type 0} (hash : Hash D) (flag : Flag SecondFlag) (w : sink.Ghost
   other-lines : (old new : PacketSink W) (lines : List (List ℕ)) (now : Standing)
       (result : Result (Walk D × Stop) AnswerFault)
       → stands ≡ now → lines_to run from now ≡ lines
-      → GoesOnTo hash flag w old new run lines now result
-      → GoesTo hash flag w old new run from stands result
+      → GoesOnTo (HasArrived hash flag run) w old new lines now result
+      → GoesTo (HasArrived hash flag run) w old new run from stands result
   other-lines old new lines now result is same goes =
-      subst (λ (one : Standing). GoesTo hash flag w old new run from one result) (sym is)
-      (subst (λ (one : List (List ℕ)). GoesOnTo hash flag w old new run one now result)
+      subst (λ (one : Standing). GoesTo (HasArrived hash flag run) w old new run from one result)
+      (sym is)
+      (subst (λ (one : List (List ℕ)). GoesOnTo (HasArrived hash flag run) w old new one now result)
       (sym same) goes)
 
   -- with these packets more it has put some of all
@@ -226,14 +175,15 @@ module _ {D W : Type 0} (hash : Hash D) (flag : Flag SecondFlag) (w : sink.Ghost
       → IsErr result → HasPut w old mid put
       → PutsPackets {V = V} w mid new more (Err error)
       → IsAhead (put ++ more) (told run from (stands.place - from))
-      → GoesTo hash flag w old new run from stands result
+      → GoesTo (HasArrived hash flag run) w old new run from stands result
   fails-ahead {V = V} old mid new put more error result failed has_put puts ahead =
       let less = puts_less w {V = V} old new (put ++ more) (ahead.0 ++ warning run stands) error
       (puts_behind w {V = V} old mid new put more (Err error) has_put puts) in
       let same : lines_to run from stands ≡ (put ++ more) ++ (ahead.0 ++ warning run stands) =
       ap (λ (front : List (List ℕ)). front ++ warning run stands) ahead.1
       ∙ append_assoc (put ++ more) ahead.0 (warning run stands) in
-      goes-failed hash flag w run old new (lines_to run from stands) stands result failed
+      goes-failed (HasArrived hash flag run) w old new (lines_to run from stands) stands result
+      failed
       (subst (λ (one : List (List ℕ)). TakesPrefix w.stands old.sink new.sink (packets_of one))
       (sym same) less.prefix)
 
@@ -255,31 +205,35 @@ module _ {D W : Type 0} (hash : Hash D) (flag : Flag SecondFlag) (w : sink.Ghost
         → HasCome w run stops highest from stands old mid place 0 way waiting
         → PutsPackets {E = E} w mid new (bodies_of waiting) (Ok value)
         → WalkStandsFor hash flag walk run → place_of walk ≡ place → place ≡ most_steps
-        → GoesTo hash flag w old new run from stands (Ok (walk, End))
+        → GoesTo (HasArrived hash flag run) w old new run from stands (Ok (walk, End))
     come-end walk value come puts walks there last =
         other-lines old new (come.put ++ bodies_of waiting) (record { place = place; stop = End })
         (Ok (walk, End)) (ends-here way place come.on_way) (ends-lines come.put come.told)
-        (goes-there hash flag w run old new (come.put ++ bodies_of waiting) walk place End
+        (goes-there (HasArrived hash flag run) w old new (come.put ++ bodies_of waiting)
+        (record { place = place; stop = End }) walk End
         (put_both w old mid new come.put (bodies_of waiting) come.has_put puts.all)
         (record {
-          walks = walks;
-          place_is = there;
-          settled = (omega (arith, last), inr last);
+          stands = record {
+            walks = walks;
+            place_is = there;
+            settled = (omega (arith, last), inr last);
+          };
+          stop_is = refl;
         }))
 
     pub end-failed : {V E : Type 0} (error : E) (result : Result (Walk D × Stop) AnswerFault)
         → IsErr result
         → HasCome w run stops highest from stands old mid place 0 way waiting
         → PutsPackets {V = V} w mid new (bodies_of waiting) (Err error)
-        → GoesTo hash flag w old new run from stands result
+        → GoesTo (HasArrived hash flag run) w old new run from stands result
     end-failed {V = V} error result failed come puts =
         let lines : List (List ℕ) = come.put ++ bodies_of waiting in
         let behind = puts_behind w {V = V} old mid new come.put (bodies_of waiting) (Err error)
         come.has_put puts in
         other-lines old new lines (record { place = place; stop = End }) result
         (ends-here way place come.on_way) (ends-lines come.put come.told)
-        (goes-failed hash flag w run old new lines (record { place = place; stop = End }) result
-        failed behind.prefix)
+        (goes-failed (HasArrived hash flag run) w old new lines
+        (record { place = place; stop = End }) result failed behind.prefix)
 
   module _ (old mid new : PacketSink W) (place left : ℕ) (way : Way) (waiting : List GrownText)
       (come : HasCome w run stops highest from stands old mid place (suc left) way waiting)
@@ -309,10 +263,10 @@ module _ {D W : Type 0} (hash : Hash D) (flag : Flag SecondFlag) (w : sink.Ghost
         (step_at run place).reset ≡ Some (at, rule)
         → place < most_steps
         → (at.place ≤ most_steps → at.level ≡ level run at.place → MayBeginAt run at.place
-        → GoesOnTo hash flag w mid new run
+        → GoesOnTo (HasArrived hash flag run) w mid new
         (console (codes "stops before " ++ reset_line place rule))
         (record { place = at.place; stop = Refused rule }) result)
-        → GoesTo hash flag w old new run from stands result
+        → GoesTo (HasArrived hash flag run) w old new run from stands result
     come-before at rule result refused few goes =
         let to = to-stop run from at rule place (rw come.on_way.from_is at refused) in
         let within = rw to.last at (last-within run place) in
@@ -322,7 +276,7 @@ module _ {D W : Type 0} (hash : Hash D) (flag : Flag SecondFlag) (w : sink.Ghost
         (stops-before run stops highest from way place left stands come.on_way seen at rule
         refused)
         (before-lines at rule to few)
-        (goes-behind hash flag w run old mid new come.put lines
+        (goes-behind (HasArrived hash flag run) w old mid new come.put lines
         (record { place = at.place; stop = Refused rule }) result come.has_put
         (goes (omega (arith, within, few)) to.level_is
         (inl (boundary-of run place at.place to.last))))
@@ -352,7 +306,7 @@ module _ {D W : Type 0} (hash : Hash D) (flag : Flag SecondFlag) (w : sink.Ghost
       pub come-failed : (error : E) (result : Result (Walk D × Stop) AnswerFault)
           → IsErr result
           → TellsStep {V = V} w mid new waiting waiting_new run place (Err error)
-          → GoesTo hash flag w old new run from stands result
+          → GoesTo (HasArrived hash flag run) w old new run from stands result
       come-failed error result failed tells =
           fails-ahead {V = V} old mid new come.put tells.put error result failed come.has_put
           (record { all = tt; prefix = tells.prefix })
@@ -364,7 +318,7 @@ module _ {D W : Type 0} (hash : Hash D) (flag : Flag SecondFlag) (w : sink.Ghost
           → TellsStep {E = E} w mid new waiting waiting_new run place (Ok value)
           → stop_behind run stops seen way (suc place) ≡ Some stop
           → WalkStandsFor hash flag walk run → place_of walk ≡ suc place → suc place ≤ most_steps
-          → GoesTo hash flag w old new run from stands (Ok (walk, stop))
+          → GoesTo (HasArrived hash flag run) w old new run from stands (Ok (walk, stop))
       come-to walk stop value tells stopped walks there few =
           let parts = stop-parts run stops seen way (suc place) stop stopped in
           let put : List (List ℕ) = come.put ++ tells.put in
@@ -379,9 +333,17 @@ module _ {D W : Type 0} (hash : Hash D) (flag : Flag SecondFlag) (w : sink.Ghost
           other-lines old new put (record { place = suc place; stop = stop }) (Ok (walk, stop))
           (stops-here run stops highest from way place left stands come.on_way seen stop stopped
           parts.0 sees.hits_are sees.ended_is) lines
-          (goes-there hash flag w run old new put walk (suc place) stop
+          (goes-there (HasArrived hash flag run) w old new put
+          (record { place = suc place; stop = stop }) walk stop
           (put_both w old mid new come.put tells.put come.has_put tells.has_put)
-          (record { walks = walks; place_is = there; settled = (few, inl (inl parts.0)) }))
+          (record {
+            stands = record {
+              walks = walks;
+              place_is = there;
+              settled = (few, inl (inl parts.0));
+            };
+            stop_is = refl;
+          }))
 
       -- it goes on
       pub come-next : (way_new : Way) (value : V)

@@ -19,7 +19,7 @@ IsClosed run place (suc steps) =
     (is_boundary run (suc place) ≡ true) ⊎ (is_refused (step_at run place) ≡ true)
     ⊎ IsClosed run (suc place) steps
 
-abbrev chosen : {A : Type 0} → Bool → Bool → A → A → A
+abbrev pub chosen : {A : Type 0} → Bool → Bool → A → A → A
 chosen here refused none more = if here then none else if refused then none else more
 
 same-chosen : {A : Type 0} (here refused : Bool) (none one other : A)
@@ -45,7 +45,8 @@ hits-closed run watches place (suc steps) closed =
 
 refusal-chosen : (reset one other : Option Rule) (here : Bool)
     → (here ≡ true) ⊎ (is_some reset ≡ true) ⊎ (one ≡ other)
-    → refusal_of reset (if here then None else one) ≡ refusal_of reset (if here then None else other)
+    → refusal_of reset (if here then None else one)
+    ≡ refusal_of reset (if here then None else other)
 refusal-chosen (Some rule) one other here is = refl
 refusal-chosen None one other true is = refl
 refusal-chosen None one other false (inl is) = absurd (cc (is))
@@ -111,7 +112,7 @@ open-since run at place (suc steps) until same is from = (
   open-since run at (suc place) steps until (omega (arith, same)) is (omega (arith, from)),
 )
 
-none-chosen : (here refused : Bool) (hits : List Hit)
+pub none-chosen : (here refused : Bool) (hits : List Hit)
     → hits ++ chosen here refused [] [] ≡ hits
 none-chosen true refused hits = append-nil hits
 none-chosen false true hits = append-nil hits
@@ -145,7 +146,7 @@ hits-open run watches place (suc steps) until same free =
     ∙ ap (λ (more : List Hit). (first ++ more) ++ hits_at run watches until)
     (sym (all-chosen here refused later free.0 free.1))
 
-none-there : (reset : Option Rule) → is_some reset ≡ false → reset ≡ None
+pub none-there : (reset : Option Rule) → is_some reset ≡ false → reset ≡ None
 none-there None is = refl
 none-there (Some rule) is = absurd (cc (is))
 

@@ -14,8 +14,10 @@ use Rattle.debug_stops.specs.declared.stop.Stop.{Stop}
 use Rattle.debug_session.specs.Going.{Standing, goes_again}
 use Rattle.debug_session.specs.Place.{Run}
 use Rattle.debug_session.specs.Session.{lines_to}
+use Rattle.debug_walk.specs.Halted.{HaltedStandsFor, halted_at}
 use Rattle.debug_walk.specs.Walk.{SecondFlag, WalkStandsFor, place_of}
 use Rattle.debug_walk.specs.Seen.{MayBeginAt}
+use Rattle.debug_walk.specs.declared.halted.Halted.{Halted}
 use Rattle.debug_walk.specs.declared.walk.Walk.{Walk}
 
 -- a session stands between two instructions, or at the end
@@ -35,19 +37,31 @@ pub record HasArrived {D : Type 0} (hash : Hash D) (flag : Flag SecondFlag) (run
   pub stands : WalkStandsAt hash flag run now.place walk
   pub stop_is : stop ≡ now.stop
 
--- a walk went on to this place, and these lines were put, or a prefix of them
-pub record GoesOnTo {D W : Type 0} (hash : Hash D) (flag : Flag SecondFlag) (w : sink.Ghosts W)
-    (old new : PacketSink W) (run : Run) (lines : List (List ℕ)) (now : Standing)
-    (result : Result (Walk D × Stop) AnswerFault) : Type 0 where
-  pub arrived : IfOk result (λ end. HasArrived hash flag run end.0 end.1 now)
+-- a device that is halted at this place of a run, and why
+pub record HaltedAt {D : Type 0} (hash : Hash D) (flag : Flag SecondFlag) (run : Run)
+    (place : ℕ) (halted : Halted D) : Type 0 where
+  pub stands : HaltedStandsFor hash flag halted run
+  pub place_is : halted_at halted ≡ place
+  pub settled : IsSettledAt run place
+
+pub record HasHalted {D : Type 0} (hash : Hash D) (flag : Flag SecondFlag) (run : Run)
+    (halted : Halted D) (stop : Stop) (now : Standing) : Type 0 where
+  pub stands : HaltedAt hash flag run now.place halted
+  pub stop_is : stop ≡ now.stop
+
+-- it went on to where it has arrived, and these lines were put, or a prefix of them
+pub record GoesOnTo {A W : Type 0} (arrived_at : A → Stop → Standing → Type 0)
+    (w : sink.Ghosts W) (old new : PacketSink W) (lines : List (List ℕ)) (now : Standing)
+    (result : Result (A × Stop) AnswerFault) : Type 0 where
+  pub arrived : IfOk result (λ end. arrived_at end.0 end.1 now)
   pub put : OnOk result (HasPut w old new lines)
   pub prefix : OnErr result (TakesPrefix w.stands old.sink new.sink (packets_of lines))
 
 -- going on from a place to another one, with the lines of the steps between
-abbrev pub GoesTo : {D W : Type 0} → Hash D → Flag SecondFlag → sink.Ghosts W → PacketSink W
-    → PacketSink W → Run → ℕ → Standing → Result (Walk D × Stop) AnswerFault → Type 0
-GoesTo hash flag w old new run place now result =
-    GoesOnTo hash flag w old new run (lines_to run place now) now result
+abbrev pub GoesTo : {A W : Type 0} → (A → Stop → Standing → Type 0) → sink.Ghosts W
+    → PacketSink W → PacketSink W → Run → ℕ → Standing → Result (A × Stop) AnswerFault → Type 0
+GoesTo arrived_at w old new run place now result =
+    GoesOnTo arrived_at w old new (lines_to run place now) now result
 
 -- whether it stops where a step does, too
 abbrev pub stops_at_steps : Going → Bool

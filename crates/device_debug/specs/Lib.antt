@@ -1,6 +1,8 @@
 pub mod Forwards
 pub mod GrownText
+pub mod NearStop
 pub mod Session
+pub mod Skim
 pub mod StepText
 pub mod Telling
 pub mod Way

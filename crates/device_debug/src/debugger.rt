@@ -6,20 +6,17 @@ ghost use Rattle.debug_session.specs.Going.{Standing, back_to};
 ghost use Rattle.debug_session.specs.Session.{Session, after_request, answer_of, first_session, gone_on, memory_body, monitored, says, stands_at, until_of, with_stops};
 ghost use Rattle.debug_session.specs.Shown.{registers_shown};
 ghost use Rattle.debug_stops.specs.Stops.{with_breakpoint, with_watch, without_breakpoint, without_watch};
-ghost use Rattle.debug_walk.specs.PlayedRun.{played_run};
-ghost use Rattle.device_debug.specs.Forwards.{HasArrived};
-ghost use Rattle.device_debug.specs.Session.{DebuggerStandsFor, Gives};
+ghost use Rattle.device_debug.specs.Forwards.{HasHalted};
+ghost use Rattle.device_debug.specs.Session.{DebuggerStandsFor, Gives, run_of, second_flag};
 
 use crate::backwards::go_back;
 use crate::forwards::go_on;
 use crate::monitor::tell;
-use bus_signals::TraceFlag;
 use debug_commands::{Command, Going, Request, read_command};
 use debug_link::{AnswerFault, Answerer, Connection, PacketWriter};
 use debug_stops::{Stop, StopList, Watch};
-use debug_walk::{LevelPlace, Run, Walk, is_shown, shown_bytes, shown_registers};
+use debug_walk::{Halted, Run, is_shown, shown_bytes, shown_registers};
 use hmac_core::Digest32;
-use isr_flag::IsrFlag;
 use outside_edge::Sink;
 use std::alloc::{AllocError, Global};
 
@@ -29,7 +26,7 @@ pub struct Debugger<'a, D: Digest32> {
     alloc: Global,
     run: Run<'a>,
     // None once memory ran out on the way to another place.
-    walk: Option<Walk<'a, D>>,
+    halted: Option<Halted<'a, D>>,
     stops: StopList,
     stop: Stop,
 }
@@ -39,13 +36,13 @@ impl<'a, D: Digest32> Debugger<'a, D> {
     pub fn new(alloc: Global, run: Run<'a>) -> Result<Debugger<'a, D>, AllocError>
         ensures { IfOk result (λ debugger.
             (debugger.run ≡ run.entry)
-            × DebuggerStandsFor D.hash ⟦<IsrFlag as TraceFlag>⟧.flag debugger first_session) }
+            × DebuggerStandsFor D.hash second_flag debugger first_session) }
     {
-        let walk = run.walk_to(alloc, LevelPlace { place: 1, level: 0 })?;
+        let halted = run.halt_at(alloc, 1, Some(0))?;
         Ok(Debugger {
             alloc,
             run,
-            walk: Some(walk),
+            halted: Some(halted),
             stops: StopList::new(),
             stop: Stop::Plain,
         })
@@ -58,8 +55,8 @@ impl<'a, D: Digest32> Debugger<'a, D> {
         packets: &mut PacketWriter<W>,
     ) -> Result<Connection, AnswerFault>
         requires { length body.now ≤ LONGEST_BODY }
-        ensures gives { Gives D.hash ⟦<IsrFlag as TraceFlag>⟧.flag W.Sink packets.old packets.new
-            self.now self.now (λ session. says session body.now) result }
+        ensures gives { Gives D.hash W.Sink packets.old packets.new self.now self.now
+            (λ session. says session body.now) result }
         ensures counts { CountsWriteFaults W.faults packets.old.sink packets.new.sink result }
     {
         packets.put(body)?;
@@ -71,8 +68,7 @@ impl<'a, D: Digest32> Debugger<'a, D> {
         is_so: bool,
         packets: &mut PacketWriter<W>,
     ) -> Result<Connection, AnswerFault>
-        ensures gives { Gives D.hash ⟦<IsrFlag as TraceFlag>⟧.flag W.Sink packets.old packets.new
-            self.now self.now
+        ensures gives { Gives D.hash W.Sink packets.old packets.new self.now self.now
             (λ session. says session (if is_so then codes "OK" else codes "E01")) result }
         ensures counts { CountsWriteFaults W.faults packets.old.sink packets.new.sink result }
     {
@@ -83,23 +79,23 @@ impl<'a, D: Digest32> Debugger<'a, D> {
         }
     }
 
-    fn walk(&self) -> Result<&Walk<'a, D>, AnswerFault>
-        ensures walk { IfOk result (λ walk. self.now.walk ≡ Some walk.now) }
-        ensures fault { IfErr result (λ fault. (fault ≡ Memory) × (self.now.walk ≡ None)) }
+    fn halted(&self) -> Result<&Halted<'a, D>, AnswerFault>
+        ensures halted { IfOk result (λ halted. self.now.halted ≡ Some halted.now) }
+        ensures fault { IfErr result (λ fault. (fault ≡ Memory) × (self.now.halted ≡ None)) }
     {
-        match &self.walk {
-            Some(walk) => Ok(walk),
+        match &self.halted {
+            Some(halted) => Ok(halted),
             None => Err(AnswerFault::Memory),
         }
     }
 
-    fn take_walk(&mut self) -> Result<Walk<'a, D>, AnswerFault>
-        ensures walk { IfOk result (λ walk. self.old.walk ≡ Some walk) }
-        ensures fault { IfErr result (λ fault. (fault ≡ Memory) × (self.old.walk ≡ None)) }
-        ensures rest { self.new ≡ record self.old { walk = None } }
+    fn take_halted(&mut self) -> Result<Halted<'a, D>, AnswerFault>
+        ensures halted { IfOk result (λ halted. self.old.halted ≡ Some halted) }
+        ensures fault { IfErr result (λ fault. (fault ≡ Memory) × (self.old.halted ≡ None)) }
+        ensures rest { self.new ≡ record self.old { halted = None } }
     {
-        match self.walk.take() {
-            Some(walk) => Ok(walk),
+        match self.halted.take() {
+            Some(halted) => Ok(halted),
             None => Err(AnswerFault::Memory),
         }
     }
@@ -108,13 +104,12 @@ impl<'a, D: Digest32> Debugger<'a, D> {
         &self,
         packets: &mut PacketWriter<W>,
     ) -> Result<Connection, AnswerFault>
-        ensures gives { Gives D.hash ⟦<IsrFlag as TraceFlag>⟧.flag W.Sink packets.old packets.new
-            self.now self.now
-            (λ session. says session (registers_shown
-            (played_run D.hash ⟦<IsrFlag as TraceFlag>⟧.flag self.now.run) session.place)) result }
+        ensures gives { Gives D.hash W.Sink packets.old packets.new self.now self.now
+            (λ session. says session (registers_shown (run_of D.hash self.now) session.place))
+            result }
         ensures counts { CountsWriteFaults W.faults packets.old.sink packets.new.sink result }
     {
-        packets.put_digits(&shown_registers(self.walk()?))?;
+        packets.put_digits(&shown_registers(self.halted()?))?;
         Ok(Connection::Open)
     }
 
@@ -125,17 +120,15 @@ impl<'a, D: Digest32> Debugger<'a, D> {
         size: u32,
         packets: &mut PacketWriter<W>,
     ) -> Result<Connection, AnswerFault>
-        ensures gives { Gives D.hash ⟦<IsrFlag as TraceFlag>⟧.flag W.Sink packets.old packets.new
-            self.now self.now
-            (λ session. says session (memory_body
-            (played_run D.hash ⟦<IsrFlag as TraceFlag>⟧.flag self.now.run) session.place first
+        ensures gives { Gives D.hash W.Sink packets.old packets.new self.now self.now
+            (λ session. says session (memory_body (run_of D.hash self.now) session.place first
             size)) result }
         ensures counts { CountsWriteFaults W.faults packets.old.sink packets.new.sink result }
     {
         if size == 0 {
             self.say(b"", packets)
         } else if is_shown(first) {
-            packets.put_digits(&shown_bytes(self.walk()?, first, size))?;
+            packets.put_digits(&shown_bytes(self.halted()?, first, size))?;
             Ok(Connection::Open)
         } else {
             self.say(b"E01", packets)
@@ -147,8 +140,7 @@ impl<'a, D: Digest32> Debugger<'a, D> {
         place: u16,
         packets: &mut PacketWriter<W>,
     ) -> Result<Connection, AnswerFault>
-        ensures gives { Gives D.hash ⟦<IsrFlag as TraceFlag>⟧.flag W.Sink packets.old packets.new
-            self.old self.new
+        ensures gives { Gives D.hash W.Sink packets.old packets.new self.old self.new
             (λ session. with_stops session (with_breakpoint session.stops place)) result }
         ensures counts { CountsWriteFaults W.faults packets.old.sink packets.new.sink result }
     {
@@ -161,10 +153,8 @@ impl<'a, D: Digest32> Debugger<'a, D> {
         place: u16,
         packets: &mut PacketWriter<W>,
     ) -> Result<Connection, AnswerFault>
-        ensures gives { Gives D.hash ⟦<IsrFlag as TraceFlag>⟧.flag W.Sink packets.old packets.new
-            self.old self.new
-            (λ session. with_stops session (Some (without_breakpoint session.stops place)))
-            result }
+        ensures gives { Gives D.hash W.Sink packets.old packets.new self.old self.new
+            (λ session. with_stops session (Some (without_breakpoint session.stops place))) result }
         ensures counts { CountsWriteFaults W.faults packets.old.sink packets.new.sink result }
     {
         self.stops.clear_breakpoint(place);
@@ -176,8 +166,7 @@ impl<'a, D: Digest32> Debugger<'a, D> {
         watch: Watch,
         packets: &mut PacketWriter<W>,
     ) -> Result<Connection, AnswerFault>
-        ensures gives { Gives D.hash ⟦<IsrFlag as TraceFlag>⟧.flag W.Sink packets.old packets.new
-            self.old self.new
+        ensures gives { Gives D.hash W.Sink packets.old packets.new self.old self.new
             (λ session. with_stops session (with_watch session.stops watch)) result }
         ensures counts { CountsWriteFaults W.faults packets.old.sink packets.new.sink result }
     {
@@ -190,10 +179,8 @@ impl<'a, D: Digest32> Debugger<'a, D> {
         watch: &Watch,
         packets: &mut PacketWriter<W>,
     ) -> Result<Connection, AnswerFault>
-        ensures gives { Gives D.hash ⟦<IsrFlag as TraceFlag>⟧.flag W.Sink packets.old packets.new
-            self.old self.new
-            (λ session. with_stops session (Some (without_watch session.stops watch.now)))
-            result }
+        ensures gives { Gives D.hash W.Sink packets.old packets.new self.old self.new
+            (λ session. with_stops session (Some (without_watch session.stops watch.now))) result }
         ensures counts { CountsWriteFaults W.faults packets.old.sink packets.new.sink result }
     {
         self.stops.clear_watch(watch);
@@ -203,21 +190,20 @@ impl<'a, D: Digest32> Debugger<'a, D> {
     // Stands here now, and puts why.
     fn stand<W: Sink + Drop>(
         &mut self,
-        walk: Walk<'a, D>,
+        halted: Halted<'a, D>,
         stop: Stop,
         packets: &mut PacketWriter<W>,
     ) -> Result<Connection, AnswerFault>
         ensures gives { (now : Standing)
-            → HasArrived D.hash ⟦<IsrFlag as TraceFlag>⟧.flag
-            (played_run D.hash ⟦<IsrFlag as TraceFlag>⟧.flag self.old.run) walk.entry stop now
+            → HasHalted D.hash second_flag (run_of D.hash self.old) halted.entry stop now
             → (session : Session)
             → self.old.stops ≡ session.stops
-            → Answers (DebuggerStandsFor D.hash ⟦<IsrFlag as TraceFlag>⟧.flag) W.Sink packets.old
-            packets.new self.new (stands_at session now []) result }
+            → Answers (DebuggerStandsFor D.hash second_flag) W.Sink packets.old packets.new self.new
+            (stands_at session now []) result }
         ensures same_run { self.new.run ≡ self.old.run }
         ensures counts { CountsWriteFaults W.faults packets.old.sink packets.new.sink result }
     {
-        self.walk = Some(walk);
+        self.halted = Some(halted);
         self.stop = stop;
         self.say(stop.reply().as_slice(), packets)
     }
@@ -227,15 +213,13 @@ impl<'a, D: Digest32> Debugger<'a, D> {
         going: Going,
         packets: &mut PacketWriter<W>,
     ) -> Result<Connection, AnswerFault>
-        ensures gives { Gives D.hash ⟦<IsrFlag as TraceFlag>⟧.flag W.Sink packets.old packets.new
-            self.old self.new
-            (λ session. gone_on (played_run D.hash ⟦<IsrFlag as TraceFlag>⟧.flag self.old.run)
-            session going) result }
+        ensures gives { Gives D.hash W.Sink packets.old packets.new self.old self.new
+            (λ session. gone_on (run_of D.hash self.old) session going) result }
         ensures counts { CountsWriteFaults W.faults packets.old.sink packets.new.sink result }
     {
-        let walk = self.take_walk()?;
-        let (walk, stop) = go_on(self.alloc, &self.run, &self.stops, walk, going, packets)?;
-        self.stand(walk, stop, packets)
+        let halted = self.take_halted()?;
+        let (halted, stop) = go_on(self.alloc, &self.run, &self.stops, halted, going, packets)?;
+        self.stand(halted, stop, packets)
     }
 
     fn back<W: Sink + Drop>(
@@ -243,24 +227,21 @@ impl<'a, D: Digest32> Debugger<'a, D> {
         steps: bool,
         packets: &mut PacketWriter<W>,
     ) -> Result<Connection, AnswerFault>
-        ensures gives { Gives D.hash ⟦<IsrFlag as TraceFlag>⟧.flag W.Sink packets.old packets.new
-            self.old self.new
-            (λ session. stands_at session
-            (back_to (played_run D.hash ⟦<IsrFlag as TraceFlag>⟧.flag self.old.run) session.stops
+        ensures gives { Gives D.hash W.Sink packets.old packets.new self.old self.new
+            (λ session. stands_at session (back_to (run_of D.hash self.old) session.stops
             session.place steps) []) result }
         ensures counts { CountsWriteFaults W.faults packets.old.sink packets.new.sink result }
     {
-        let walk = self.take_walk()?;
-        let (walk, stop) = go_back(self.alloc, &self.run, &self.stops, walk, steps)?;
-        self.stand(walk, stop, packets)
+        let halted = self.take_halted()?;
+        let (halted, stop) = go_back(self.alloc, &self.run, &self.stops, halted, steps)?;
+        self.stand(halted, stop, packets)
     }
 
     // Keeps what a request asks for: a number of steps that stops the device too.
     fn keep_request(&mut self, request: Request)
         ensures keeps { (session : Session)
-            → DebuggerStandsFor D.hash ⟦<IsrFlag as TraceFlag>⟧.flag self.old session
-            → DebuggerStandsFor D.hash ⟦<IsrFlag as TraceFlag>⟧.flag self.new
-            (after_request session request) }
+            → DebuggerStandsFor D.hash second_flag self.old session
+            → DebuggerStandsFor D.hash second_flag self.new (after_request session request) }
         ensures same_run { self.new.run ≡ self.old.run }
     {
         if let Request::Until(number) = request {
@@ -273,14 +254,12 @@ impl<'a, D: Digest32> Debugger<'a, D> {
         request: Request,
         packets: &mut PacketWriter<W>,
     ) -> Result<Connection, AnswerFault>
-        ensures gives { Gives D.hash ⟦<IsrFlag as TraceFlag>⟧.flag W.Sink packets.old packets.new
-            self.old self.new
-            (λ session. monitored (played_run D.hash ⟦<IsrFlag as TraceFlag>⟧.flag self.old.run)
-            session request) result }
+        ensures gives { Gives D.hash W.Sink packets.old packets.new self.old self.new
+            (λ session. monitored (run_of D.hash self.old) session request) result }
         ensures counts { CountsWriteFaults W.faults packets.old.sink packets.new.sink result }
     {
         self.keep_request(request);
-        tell(self.alloc, &self.run, self.walk()?, request, packets)?;
+        tell(self.alloc, &self.run, self.halted()?, request, packets)?;
         self.say(b"OK", packets)
     }
 
@@ -289,10 +268,8 @@ impl<'a, D: Digest32> Debugger<'a, D> {
         command: Command,
         packets: &mut PacketWriter<W>,
     ) -> Result<Connection, AnswerFault>
-        ensures gives { Gives D.hash ⟦<IsrFlag as TraceFlag>⟧.flag W.Sink packets.old packets.new
-            self.old self.new
-            (λ session. answer_of (played_run D.hash ⟦<IsrFlag as TraceFlag>⟧.flag self.old.run)
-            session command) result }
+        ensures gives { Gives D.hash W.Sink packets.old packets.new self.old self.new
+            (λ session. answer_of (run_of D.hash self.old) session command) result }
         ensures counts { CountsWriteFaults W.faults packets.old.sink packets.new.sink result }
     {
         match command {
@@ -335,7 +312,7 @@ impl<D: Digest32> Answerer for Debugger<'_, D> {
 
     ghost Session = { RunSession };
 
-    ghost stands = { StandsInRun D.hash ⟦<IsrFlag as TraceFlag>⟧.flag };
+    ghost stands = { StandsInRun D.hash second_flag };
 
     ghost reply = { run_reply };
 

@@ -9,17 +9,18 @@ ghost use Rattle.printed_lines.specs.Line.{reset_line};
 ghost use Rattle.debug_walk.specs.PlayedRun.{played_run};
 ghost use Rattle.debug_walk.specs.Seen.{MayBeginAt};
 ghost use Rattle.debug_walk.specs.Walk.{OfWalk, place_of};
-ghost use Rattle.device_debug.specs.Forwards.{GoesOnTo, GoesTo, WalkStandsAt};
+ghost use Rattle.device_debug.specs.Forwards.{GoesOnTo, GoesTo, HaltedAt, HasArrived, HasHalted, WalkStandsAt};
 ghost use Rattle.device_debug.specs.Forwards.{stops_at_steps, turns_again};
 
 use crate::grown_text::{GrownText, grown};
+use crate::skim::skim;
 use crate::waiting_lines::WaitingLines;
 use crate::way::Way;
 use bus_signals::{Rule, TraceFlag};
 use debug_commands::{Going, MOST_STEPS};
 use debug_link::{AnswerFault, PacketWriter, put_text};
 use debug_stops::{Stop, StopList};
-use debug_walk::{LevelPlace, Run, Walk};
+use debug_walk::{Halted, LevelPlace, Run, Walk};
 use hmac_core::Digest32;
 use isr_flag::IsrFlag;
 use outside_edge::{Sink, put_all};
@@ -32,6 +33,36 @@ pub fn go_on<'a, D: Digest32, W: Sink + Drop>(
     alloc: Global,
     run: &Run<'a>,
     stops: &StopList,
+    halted: Halted<'a, D>,
+    going: Going,
+    packets: &mut PacketWriter<W>,
+) -> Result<(Halted<'a, D>, Stop), AnswerFault>
+    ensures goes_on { (place : ℕ)
+        → HaltedAt D.hash ⟦<IsrFlag as TraceFlag>⟧.flag
+        (played_run D.hash ⟦<IsrFlag as TraceFlag>⟧.flag run.now) place halted.entry
+        → GoesTo (HasHalted D.hash ⟦<IsrFlag as TraceFlag>⟧.flag
+        (played_run D.hash ⟦<IsrFlag as TraceFlag>⟧.flag run.now)) W.Sink packets.old packets.new
+        (played_run D.hash ⟦<IsrFlag as TraceFlag>⟧.flag run.now) place
+        (where_to (played_run D.hash ⟦<IsrFlag as TraceFlag>⟧.flag run.now) stops.now place going)
+        result }
+    ensures counts { CountsWriteFaults W.faults packets.old.sink packets.new.sink result }
+{
+    if halted.place() >= MOST_STEPS {
+        return Ok((halted, Stop::End));
+    }
+    if !stops_at_steps(going) && stops.is_empty() {
+        return skim(alloc, run, halted, packets);
+    }
+    let walk = run.walk_from(alloc, halted)?;
+    let (walk, stop) = walk_on(alloc, run, stops, walk, going, packets)?;
+    Ok((walk.halt(), stop))
+}
+
+// Likewise, with a look at each step.
+fn walk_on<'a, D: Digest32, W: Sink + Drop>(
+    alloc: Global,
+    run: &Run<'a>,
+    stops: &StopList,
     mut walk: Walk<'a, D>,
     going: Going,
     packets: &mut PacketWriter<W>,
@@ -39,7 +70,8 @@ pub fn go_on<'a, D: Digest32, W: Sink + Drop>(
     ensures goes_on { (place : ℕ)
         → WalkStandsAt D.hash ⟦<IsrFlag as TraceFlag>⟧.flag
         (played_run D.hash ⟦<IsrFlag as TraceFlag>⟧.flag run.now) place walk.entry
-        → GoesTo D.hash ⟦<IsrFlag as TraceFlag>⟧.flag W.Sink packets.old packets.new
+        → GoesTo (HasArrived D.hash ⟦<IsrFlag as TraceFlag>⟧.flag
+        (played_run D.hash ⟦<IsrFlag as TraceFlag>⟧.flag run.now)) W.Sink packets.old packets.new
         (played_run D.hash ⟦<IsrFlag as TraceFlag>⟧.flag run.now) place
         (where_to (played_run D.hash ⟦<IsrFlag as TraceFlag>⟧.flag run.now) stops.now place going)
         result }
@@ -92,7 +124,8 @@ fn go_once<'a, D: Digest32, W: Sink + Drop>(
     ensures goes_on { (place : ℕ)
         → WalkStandsAt D.hash ⟦<IsrFlag as TraceFlag>⟧.flag
         (played_run D.hash ⟦<IsrFlag as TraceFlag>⟧.flag run.now) place walk.entry
-        → GoesTo D.hash ⟦<IsrFlag as TraceFlag>⟧.flag W.Sink packets.old packets.new
+        → GoesTo (HasArrived D.hash ⟦<IsrFlag as TraceFlag>⟧.flag
+        (played_run D.hash ⟦<IsrFlag as TraceFlag>⟧.flag run.now)) W.Sink packets.old packets.new
         (played_run D.hash ⟦<IsrFlag as TraceFlag>⟧.flag run.now) place
         (going_on (played_run D.hash ⟦<IsrFlag as TraceFlag>⟧.flag run.now) stops.now place steps)
         result }
@@ -130,8 +163,8 @@ fn stop_before<'a, D: Digest32, W: Sink + Drop>(
     ensures stops { at.place ≤ most_steps
         → at.level ≡ level (played_run D.hash ⟦<IsrFlag as TraceFlag>⟧.flag run.now) at.place
         → MayBeginAt (played_run D.hash ⟦<IsrFlag as TraceFlag>⟧.flag run.now) at.place
-        → GoesOnTo D.hash ⟦<IsrFlag as TraceFlag>⟧.flag W.Sink packets.old packets.new
-        (played_run D.hash ⟦<IsrFlag as TraceFlag>⟧.flag run.now)
+        → GoesOnTo (HasArrived D.hash ⟦<IsrFlag as TraceFlag>⟧.flag
+        (played_run D.hash ⟦<IsrFlag as TraceFlag>⟧.flag run.now)) W.Sink packets.old packets.new
         (console (codes "stops before " ++ reset_line step rule))
         (record { place = at.place; stop = Refused rule }) result }
     ensures refused { IfOk result (λ end. end.1 ≡ Refused rule) }
@@ -142,8 +175,8 @@ fn stop_before<'a, D: Digest32, W: Sink + Drop>(
     Ok((walk, Stop::Refused(rule)))
 }
 
-// Tells of a step before which a device stops.
-fn tell_refusal<W: Sink + Drop>(
+/// Tells of a step before which a device stops.
+pub fn tell_refusal<W: Sink + Drop>(
     alloc: Global,
     step: u64,
     rule: Rule,

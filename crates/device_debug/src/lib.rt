@@ -10,6 +10,8 @@ mod debugger;
 mod forwards;
 mod grown_text;
 mod monitor;
+mod near_stop;
+mod skim;
 mod step_text;
 mod waiting_lines;
 mod way;

@@ -7,7 +7,7 @@ ghost use Rattle.debug_link.specs.declared.answer_fault.AnswerFault.TheVariants.
 ghost use Rattle.debug_session.specs.Monitor.{request_text};
 ghost use Rattle.debug_session.specs.Place.{Run as PlayedRun, play_to};
 ghost use Rattle.debug_walk.specs.PlayedRun.{played_run};
-ghost use Rattle.debug_walk.specs.Walk.{OfWalk, WalkStandsFor, place_of};
+ghost use Rattle.debug_walk.specs.Halted.{HaltedStandsFor, OfHalted, halted_at};
 ghost use Rattle.device_play.specs.Accounts.{end_line_of};
 ghost use Rattle.device_debug.specs.StepText.{texts_from};
 
@@ -16,7 +16,7 @@ use crate::step_text::StepText;
 use bus_signals::TraceFlag;
 use debug_commands::{MOST_STEPS, Request};
 use debug_link::{AnswerFault, ConsoleText, PacketWriter, put_text};
-use debug_walk::{Run, Walk};
+use debug_walk::{Halted, Run};
 use device_play::{TraceWatcher, play_to_shown, print_end_of};
 use hmac_core::Digest32;
 use isr_flag::IsrFlag;
@@ -35,23 +35,23 @@ monitor until N   continue and reverse-continue stop at N steps too; 0 takes thi
 pub fn tell<'a, D: Digest32, W: Sink + Drop>(
     alloc: Global,
     run: &Run<'a>,
-    walk: &Walk<'a, D>,
+    halted: &Halted<'a, D>,
     request: Request,
     packets: &mut PacketWriter<W>,
 ) -> Result<(), AnswerFault>
-    ensures tells { WalkStandsFor D.hash ⟦<IsrFlag as TraceFlag>⟧.flag walk.now
+    ensures tells { HaltedStandsFor D.hash ⟦<IsrFlag as TraceFlag>⟧.flag halted.now
         (played_run D.hash ⟦<IsrFlag as TraceFlag>⟧.flag run.now)
-        → place_of walk.now ≤ most_steps
+        → halted_at halted.now ≤ most_steps
         → PutsPackets W.Sink packets.old packets.new
         (console (request_text (played_run D.hash ⟦<IsrFlag as TraceFlag>⟧.flag run.now)
-        (place_of walk.now) request)) result }
+        (halted_at halted.now) request)) result }
     ensures counts { CountsWriteFaults W.faults packets.old.sink packets.new.sink result }
 {
     match request {
-        Request::Steps => tell_text(steps_line(walk.place()).as_slice(), packets),
-        Request::Flags => tell_text(flags_line(walk).as_slice(), packets),
-        Request::Play => tell_play(alloc, run, walk, packets),
-        Request::Trace(lines) => tell_trace::<D, W>(alloc, run, walk.place(), lines, packets),
+        Request::Steps => tell_text(steps_line(halted.place()).as_slice(), packets),
+        Request::Flags => tell_text(flags_line(halted).as_slice(), packets),
+        Request::Play => tell_play(alloc, run, halted, packets),
+        Request::Trace(lines) => tell_trace::<D, W>(alloc, run, halted.place(), lines, packets),
         Request::Until(_) => Ok(()),
         Request::Help => tell_text(HELP, packets),
         Request::Other => tell_text(b"no such command: monitor help\n", packets),
@@ -78,15 +78,15 @@ fn steps_line(place: u64) -> LineBuffer
     line
 }
 
-fn flags_line<D: Digest32>(walk: &Walk<'_, D>) -> LineBuffer
-    ensures { OfWalk D.hash ⟦<IsrFlag as TraceFlag>⟧.flag walk.now (λ run place.
+fn flags_line<D: Digest32>(halted: &Halted<'_, D>) -> LineBuffer
+    ensures { OfHalted D.hash ⟦<IsrFlag as TraceFlag>⟧.flag halted.now (λ run place.
         result ≡ request_text run place Flags) }
 {
     let mut line = LineBuffer::new();
     line.push(b"exec ");
-    line.push(flag_digit(walk.live().exec()));
+    line.push(flag_digit(halted.live().exec()));
     line.push(b" aux ");
-    line.push(flag_digit(walk.live().aux()));
+    line.push(flag_digit(halted.live().aux()));
     line.push(b"\n");
     line
 }
@@ -95,24 +95,24 @@ fn flags_line<D: Digest32>(walk: &Walk<'_, D>) -> LineBuffer
 fn tell_play<'a, D: Digest32, W: Sink + Drop>(
     alloc: Global,
     run: &Run<'a>,
-    walk: &Walk<'a, D>,
+    halted: &Halted<'a, D>,
     packets: &mut PacketWriter<W>,
 ) -> Result<(), AnswerFault>
-    ensures tells { WalkStandsFor D.hash ⟦<IsrFlag as TraceFlag>⟧.flag walk.now
+    ensures tells { HaltedStandsFor D.hash ⟦<IsrFlag as TraceFlag>⟧.flag halted.now
         (played_run D.hash ⟦<IsrFlag as TraceFlag>⟧.flag run.now)
-        → place_of walk.now ≤ most_steps
+        → halted_at halted.now ≤ most_steps
         → PutsPackets W.Sink packets.old packets.new
         (console (request_text (played_run D.hash ⟦<IsrFlag as TraceFlag>⟧.flag run.now)
-        (place_of walk.now) Play)) result }
+        (halted_at halted.now) Play)) result }
     ensures counts { CountsWriteFaults W.faults packets.old.sink packets.new.sink result }
 {
-    let end = end_text(alloc, walk)?;
+    let end = end_text(alloc, halted)?;
     let mut text = ConsoleText::new();
     add_texts::<D, W>(
         alloc,
         run,
         0,
-        walk.place(),
+        halted.place(),
         StepText::Lines,
         &mut text,
         packets,
@@ -123,13 +123,13 @@ fn tell_play<'a, D: Digest32, W: Sink + Drop>(
 }
 
 // The end line of `play`.
-fn end_text<D: Digest32>(alloc: Global, walk: &Walk<'_, D>) -> Result<GrownText, AnswerFault>
-    ensures text { IfOk result (λ text. OfWalk D.hash ⟦<IsrFlag as TraceFlag>⟧.flag walk.now
+fn end_text<D: Digest32>(alloc: Global, halted: &Halted<'_, D>) -> Result<GrownText, AnswerFault>
+    ensures text { IfOk result (λ text. OfHalted D.hash ⟦<IsrFlag as TraceFlag>⟧.flag halted.now
         (λ run place. text.bytes ≡ end_line_of run.start (play_to run place))) }
     ensures fault { IfErr result (λ fault. fault ≡ Memory) }
 {
     let mut text = GrownText::new(alloc);
-    grown(print_end_of(walk.live(), &mut text))?;
+    grown(print_end_of(halted.live(), &mut text))?;
     Ok(text)
 }
 

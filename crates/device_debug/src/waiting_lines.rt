@@ -63,9 +63,10 @@ impl WaitingLines {
         }
     }
 
-    // One more text waits, where it is not empty.
-    fn keep(&mut self, text: GrownText) -> Result<(), AnswerFault>
-        ensures waits { OnOk result (bodies_of self.new ≡ bodies_of self.old ++ console text.bytes) }
+    /// One more text waits, where it is not empty.
+    pub fn keep(&mut self, text: GrownText) -> Result<(), AnswerFault>
+        ensures waits { OnOk result
+            (bodies_of self.new ≡ bodies_of self.old ++ console text.bytes) }
         ensures fault { IfErr result (λ fault. fault ≡ Memory) }
     {
         if text.as_slice().is_empty() {

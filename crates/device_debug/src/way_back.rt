@@ -1,4 +1,4 @@
-ghost use Rattle.std.specs.Prelude.{◌≡◌, false, None, Some, if◌then◌else◌};
+ghost use Rattle.std.specs.Prelude.{◌≡◌, false, None, Some};
 ghost use Rattle.debug_walk.specs.Walk.{OfWalk};
 ghost use Rattle.device_debug.specs.WayBack.{cause_at, found_or_begin, or_found, passes, passes_boundary, sees, stepped_at};
 
@@ -26,16 +26,11 @@ pub struct WayBack {
 impl WayBack {
     /// At the beginning. A step also goes back to where an instruction begins at this level, or
     /// below it.
-    pub fn new(level: u64, steps: bool) -> WayBack
-        ensures { result
-            ≡ record {
-              highest = if steps then Some level else None;
-              is_due = false;
-              found = None;
-            } }
+    pub fn new(highest: Option<u64>) -> WayBack
+        ensures { result ≡ record { highest = highest; is_due = false; found = None } }
     {
         WayBack {
-            highest: if steps { Some(level) } else { None },
+            highest,
             is_due: false,
             found: None,
         }

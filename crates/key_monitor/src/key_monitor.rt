@@ -6,7 +6,8 @@ ghost use Rattle.part_definitions.specs.MonitorRule.{breaks_k1, breaks_k2, break
 use bus_signals::{Access, CR, KR, MR, Region, Rule, Signals, XS, some_touches, some_writes};
 use word_arith::Size;
 
-/// The rules K1 to K6. They look at one step alone, so the monitor keeps nothing.
+/// The rules on key and exclusive stack (K). They look at one step alone, so the monitor keeps
+/// nothing.
 #[derive(Clone, Copy, Debug)]
 pub struct KeyMonitor;
 

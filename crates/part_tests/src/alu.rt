@@ -37,7 +37,7 @@ fn two_operands_from_clear_flags(rt: HostRuntime) {
         (And, Word, 0xF0F0, 0xFF00, 0xF000, flags(1, 0, 1, 0)),
         (And, Byte, 0x000F, 0x00F0, 0x0000, flags(0, 1, 0, 0)),
     ];
-    for (op, size, src, dst, outcome, after) in rows {
+    for &(op, size, src, dst, outcome, after) in &rows {
         let answer = alu(op, size, src, dst, flags(0, 0, 0, 0));
         assert_eq!(rt; answer, (outcome, after), "{op:?} {src} {dst}");
     }
@@ -63,7 +63,7 @@ fn two_operands_from_set_flags(rt: HostRuntime) {
         (Xor, Word, 0xAAAA, 0xAAAA, 0x0000, flags(0, 1, 0, 1)),
         (And, Word, 0x0001, 0x0002, 0x0000, flags(0, 1, 0, 0)),
     ];
-    for (op, size, src, dst, outcome, after) in rows {
+    for &(op, size, src, dst, outcome, after) in &rows {
         let answer = alu(op, size, src, dst, flags(1, 1, 1, 1));
         assert_eq!(rt; answer, (outcome, after), "{op:?} {src} {dst}");
     }
@@ -87,7 +87,7 @@ fn one_operand(rt: HostRuntime) {
         (Sxt, Word, 0xFF00, clear, 0x0000, flags(0, 1, 0, 0)),
         (Sxt, Word, 0x007F, all, 0x007F, flags(1, 0, 0, 0)),
     ];
-    for (op, size, dst, before, outcome, after) in rows {
+    for &(op, size, dst, before, outcome, after) in &rows {
         assert_eq!(rt;
             shift(op, size, dst, before),
             (outcome, after),

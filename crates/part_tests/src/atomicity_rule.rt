@@ -34,7 +34,7 @@ fn entry_and_exit(rt: HostRuntime) {
         (Some(0xC000), Kind::Cpu, 0x9FFE, None),
         (None, Kind::Boot, 0x0000, None),
     ];
-    for (last, kind, pc, rule) in rows {
+    for &(last, kind, pc, rule) in &rows {
         let answer = rule_of(last, kind, pc, Some(Read(0x0300, Word)), false);
         assert_eq!(rt; answer, rule, "{kind:?} at {pc:x} after {last:?}");
     }
@@ -51,7 +51,7 @@ fn interrupts(rt: HostRuntime) {
         (Some(0xBFFE), 0xC000, None),
         (Some(0xA002), 0xC000, Some(A1)),
     ];
-    for (last, pc, rule) in rows {
+    for &(last, pc, rule) in &rows {
         let answer = rule_of(last, Kind::Rom, pc, None, true);
         assert_eq!(rt; answer, rule, "at {pc:x} after {last:?}");
     }
@@ -73,7 +73,7 @@ fn return_read(rt: HostRuntime) {
         (0xA000, 0xA002, Read(0x6A00, Word), None),
         (0xC000, 0xBFFE, Read(0x6A00, Word), Some(A2)),
     ];
-    for (last, pc, access, rule) in rows {
+    for &(last, pc, access, rule) in &rows {
         let answer = rule_of(Some(last), Kind::Rom, pc, Some(access), false);
         assert_eq!(rt; answer, rule, "{access:?} at {pc:x}");
     }

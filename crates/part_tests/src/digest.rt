@@ -18,7 +18,7 @@ const VECTORS: [([&[u8]; 2], &str); 2] = [
 
 #[test]
 fn digest_vectors(rt: HostRuntime) -> Result<(), Fail> {
-    for (pieces, hash) in VECTORS {
+    for &(pieces, hash) in &VECTORS {
         let mut digest = Sha256Digest::begin();
         for piece in pieces {
             digest.update(piece);

@@ -164,7 +164,7 @@ fn transfers_by_their_starts(rt: HostRuntime) {
 #[test]
 fn registers_keep_what_is_written(rt: HostRuntime) {
     let mut dma = Dma::new();
-    for (place, number) in [(DSRC, 0x1235), (DDST, 0x5679), (DLEN, 0x9ABC)] {
+    for &(place, number) in &[(DSRC, 0x1235), (DDST, 0x5679), (DLEN, 0x9ABC)] {
         dma.write(place, Word, number);
         assert_eq!(rt; dma.read(place, Word), number);
         assert_eq!(rt; dma.read(place, Byte), number % 0x100);

@@ -70,7 +70,7 @@ fn rises(rt: HostRuntime) {
             false,
         ),
     ];
-    for (entry, is_set) in rows {
+    for &(entry, is_set) in &rows {
         assert_eq!(rt;
             flag_after(&BOUNDS, &[fetch(0xC000), entry]).value(),
             is_set,
@@ -100,7 +100,7 @@ fn rises_with_valid_bounds_alone(rt: HostRuntime) {
         ((0xC020, 0xC026, 0x0290, 0x2200), false),
         ((0xC020, 0xC026, 0x4000, 0x4000), false),
     ];
-    for ((er_min, er_max, or_min, or_max), is_set) in rows {
+    for &((er_min, er_max, or_min, or_max), is_set) in &rows {
         let bounds = Bounds {
             er_min,
             er_max,
@@ -151,7 +151,7 @@ fn stays_or_falls_inside(rt: HostRuntime) {
         (refusal, false),
         (fetch(0xC000), false),
     ];
-    for (entry, is_set) in rows {
+    for &(entry, is_set) in &rows {
         assert_eq!(rt;
             flag_after(&BOUNDS, &[fetch(0xC020), entry]).value(),
             is_set,
@@ -189,7 +189,7 @@ fn stays_or_falls_outside(rt: HostRuntime) {
         (fetch(0xC022), false),
         (record(Kind::Idle, 0xC020, None, None), true),
     ];
-    for (entry, is_set) in rows {
+    for &(entry, is_set) in &rows {
         let entries = [fetch(0xC020), fetch(0xC026), fetch(0xC004), entry];
         assert_eq!(rt; flag_after(&BOUNDS, &entries).value(), is_set, "{entry:?}");
     }
@@ -203,7 +203,7 @@ fn left_from_the_last_instruction(rt: HostRuntime) {
         (0xC027, false),
         (0xC020, false),
     ];
-    for (last, is_set) in rows {
+    for &(last, is_set) in &rows {
         let entries = [
             fetch(0xC020),
             record(Kind::Cpu, last, None, None),
@@ -243,7 +243,7 @@ fn stays_set(rt: HostRuntime) {
         (&from_outside, dma_read, false),
         (&[], fetch(0xC022), true),
     ];
-    for (before, entry, is_left) in rows {
+    for &(before, entry, is_left) in &rows {
         let flag = flag_after(&BOUNDS, before);
         let last = before.last().map(|entry| entry.pc);
         assert_eq!(rt; stays(&flag, last, &entry, &BOUNDS), is_left, "{entry:?}");

@@ -134,7 +134,7 @@ fn two_operand_words(rt: HostRuntime) {
             ),
         ),
     ];
-    for (words, instr) in rows {
+    for &(words, instr) in &rows {
         assert!(rt; row_agrees(words, instr), "{instr:?}");
     }
 }
@@ -192,7 +192,7 @@ fn one_operand_words_and_jumps(rt: HostRuntime) {
         (&[0x3FFE], Instr::Jump(Always, -2)),
         (&[0x3FFF], Instr::Jump(Always, -1)),
     ];
-    for (words, instr) in rows {
+    for &(words, instr) in &rows {
         assert!(rt; row_agrees(words, instr), "{instr:?}");
     }
 }
@@ -204,7 +204,7 @@ fn illegal_words(rt: HostRuntime) {
         0x10C5, 0x11C5, 0x12C5, // bytes of SWPB, SXT and CALL
         0x1030, 0x1130, 0x10A2, 0x11B2, 0x1103, 0x1053, // results to a value
     ];
-    for word in words {
+    for &word in &words {
         assert_eq!(rt; decode(word), None, "{word}");
     }
 }
@@ -235,7 +235,7 @@ fn faults_in_their_order(rt: HostRuntime) {
         (Instr::Jump(Always, 512), EncodeFault::OffsetRange),
         (Instr::Jump(Always, -513), EncodeFault::OffsetRange),
     ];
-    for (instr, fault) in rows {
+    for &(instr, fault) in &rows {
         assert!(rt;
             encode(&instr).is_err_and(|answer| answer == fault),
             "{instr:?}"

@@ -72,7 +72,7 @@ fn processor_at_the_edges(rt: HostRuntime) {
         (0xA002, Write(0x43FD, Word, 1), None),
         (0xA002, Write(0x43FF, Word, 1), Some(K3)),
     ];
-    for (pc, access, rule) in rows {
+    for &(pc, access, rule) in &rows {
         assert_eq!(rt;
             rule_of(pc, Some(access), None),
             rule,
@@ -99,7 +99,7 @@ fn dma_at_the_edges(rt: HostRuntime) {
         (0xBFFE, Write(0x0300, Word, 1), Some(K6)),
         (0xC000, Read(0x0300, Word), None),
     ];
-    for (pc, access, rule) in rows {
+    for &(pc, access, rule) in &rows {
         assert_eq!(rt;
             rule_of(pc, None, Some(access)),
             rule,
@@ -117,7 +117,7 @@ fn first_of_several(rt: HostRuntime) {
         (0xA002, Write(0x0200, Word, 1), Read(0x6A00, Word), Some(K4)),
         (0xC000, Read(0x0300, Word), Read(0x0300, Word), None),
     ];
-    for (pc, cpu, dma, rule) in rows {
+    for &(pc, cpu, dma, rule) in &rows {
         assert_eq!(rt;
             rule_of(pc, Some(cpu), Some(dma)),
             rule,

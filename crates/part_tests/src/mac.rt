@@ -46,7 +46,7 @@ const VECTORS: [(&[u8], &[u8], &str); 7] = [
 
 #[test]
 fn hmac_vectors(rt: HostRuntime) -> Result<(), Fail> {
-    for (key, message, tag) in VECTORS {
+    for &(key, message, tag) in &VECTORS {
         let code = hex::encode(rt.alloc(), hmac::<Sha256Digest>(key, message))?;
         assert!(rt; code.as_str().starts_with(tag), "{code}");
     }

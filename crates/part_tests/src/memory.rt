@@ -20,7 +20,7 @@ fn image_of_six(alloc: Global) -> Result<Image, AllocError> {
 #[test]
 fn an_image_takes_bytes_of_ram_program_and_vectors(rt: HostRuntime) -> Result<(), Fail> {
     let mut image = Image::new(rt.alloc())?;
-    for (place, is_place) in [
+    for &(place, is_place) in &[
         (0x01FF, false),
         (0x0200, true),
         (0x21FF, true),
@@ -42,7 +42,7 @@ fn each_region_reads_as_at_power_on(rt: HostRuntime) -> Result<(), Fail> {
     key[0] = 0x11;
     key[63] = 0x22;
     let memory = Memory::new(alloc, &key, &image_of_six(alloc)?)?;
-    for (place, size, want) in [
+    for &(place, size, want) in &[
         (0x0000, Size::Word, 0),
         (0x01FF, Size::Byte, 0),
         (0x0200, Size::Word, 1),
@@ -72,7 +72,7 @@ fn writes_stay_where_the_map_takes_them(rt: HostRuntime) -> Result<(), Fail> {
     let alloc = rt.alloc();
     let mut memory = Memory::new(alloc, &[0; 64], &Image::new(alloc)?)?;
     memory.set_exec(true);
-    for (place, size, value, want) in [
+    for &(place, size, value, want) in &[
         (0x01FE, Size::Word, 0x1234, 0),
         (0x0260, Size::Word, 0x1234, 0x1234),
         (0x0263, Size::Byte, 0x34, 0x0034),

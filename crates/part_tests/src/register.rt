@@ -13,7 +13,7 @@ fn writes_of_words_and_bytes(rt: HostRuntime) {
         (0x0166, Word, 0x0001, 0x7856),
         (0x0165, Word, 0x9ABC, 0x9ABC),
     ];
-    for (place, size, number, after) in writes {
+    for &(place, size, number, after) in &writes {
         register.write(place, size, number);
         assert_eq!(rt; register.word(), after, "{place}");
     }
@@ -21,7 +21,7 @@ fn writes_of_words_and_bytes(rt: HostRuntime) {
 
 #[test]
 fn parts_of_a_word(rt: HostRuntime) {
-    for (place, size, part) in [
+    for &(place, size, part) in &[
         (0x0164, Word, 0x1234),
         (0x0165, Word, 0x1234),
         (0x0164, Byte, 0x0034),
@@ -31,7 +31,7 @@ fn parts_of_a_word(rt: HostRuntime) {
         assert_eq!(rt; register_place(place), 0x0164, "{place}");
     }
     // the low byte of a register is covered by words and by its own byte
-    for (place, size, answer) in [
+    for &(place, size, answer) in &[
         (0x0164, Word, true),
         (0x0165, Word, true),
         (0x0164, Byte, true),

@@ -94,7 +94,7 @@ fn answers_in_order(rt: HostRuntime) -> Result<(), Fail> {
             Read(SRXD, Word, 0),
         ],
     ];
-    for acts in rows {
+    for &acts in &rows {
         let mut port = Serial::new(rt.alloc())?;
         for act in acts {
             assert!(rt; has_answer(&mut port, *act), "{act:?} of {acts:?}");

@@ -78,7 +78,7 @@ fn counts_steps_since_the_last_write(rt: HostRuntime) {
         (&[to_nine, run, Ticks(10), Accept, Ticks(1)], 0, true),
         (&[to_nine, run, Ticks(14), Clear, Ticks(3)], 0, false),
     ];
-    for (acts, count, requests) in rows {
+    for &(acts, count, requests) in &rows {
         let timer = timer_after(acts);
         assert_eq!(rt; timer.read(TCNT, Word), count, "{acts:?}");
         assert_eq!(rt; timer.request(), requests, "{acts:?}");
@@ -116,7 +116,7 @@ fn reads_of_registers(rt: HostRuntime) {
         (&[compare, Clear], TCMP, Word, 0),
         (&[control, compare], TCMP + 2, Word, 0),
     ];
-    for (acts, place, size, number) in rows {
+    for &(acts, place, size, number) in &rows {
         assert_eq!(rt; timer_after(acts).read(place, size), number, "{acts:?}");
     }
 }

@@ -71,7 +71,7 @@ fn the_first_fault_of_the_first_faulty_line_is_answered(rt: HostRuntime) -> Resu
             FaultKind::RecordType,
         ),
     ];
-    for (text, line, kind) in rows {
+    for &(text, line, kind) in &rows {
         let fault = TextFault::At(FaultAt { line, kind });
         assert_eq!(rt;
             read_hex(rt.alloc(), text).err(),
@@ -138,7 +138,7 @@ fn images_that_other_tools_wrote_are_read(rt: HostRuntime) -> Result<(), Fail> {
         ("srec_cat, segments", SREC_CAT_SEGMENTS, 0x0200),
         ("srec_cat, linear", SREC_CAT_LINEAR, 0x0200),
     ];
-    for (tool, text, first) in texts {
+    for &(tool, text, first) in &texts {
         assert!(rt; holds(rt.alloc(), text, first, bytes)?, "of {tool}");
     }
     // The base 0C00 times 16, then 0 again; the byte that was placed last counts; a record of no

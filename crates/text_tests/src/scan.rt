@@ -17,7 +17,7 @@ fn faults_show_their_line_and_kind(rt: HostRuntime) -> Result<(), Fail> {
         format!(in rt.alloc(); "{}", TextFault::At(fault))?.as_str(),
         "line 3: Check"
     );
-    for (kind, name) in [
+    for &(kind, name) in &[
         (FaultKind::TooLong, "TooLong"),
         (FaultKind::Utf8, "Utf8"),
         (FaultKind::Word, "Word"),
@@ -53,8 +53,11 @@ fn makes_bytes(rt: HostRuntime) -> Result<(), Fail> {
         Bytes::join(rt.alloc(), b"ab", b"c")?.as_slice(),
         b"abc".as_slice()
     );
-    match Bytes::from_hex(rt.alloc(), b"0aFf") {
-        Ok(bytes) => assert_eq!(rt; bytes.as_slice(), [10, 255].as_slice()),
+    match Bytes::from_hex(rt.alloc(), b"0123456789abcdefABCDEF") {
+        Ok(bytes) => assert_eq!(rt;
+            bytes.as_slice(),
+            b"\x01\x23\x45\x67\x89\xAB\xCD\xEF\xAB\xCD\xEF".as_slice()
+        ),
         Err(_) => panic!(rt; "the word has bytes"),
     }
     Ok(())
@@ -63,15 +66,9 @@ fn makes_bytes(rt: HostRuntime) -> Result<(), Fail> {
 #[test]
 fn long_words_and_empty_halves_have_their_bytes(rt: HostRuntime) -> Result<(), Fail> {
     let alloc = rt.alloc();
-    let mut bytes = Vec::new(alloc);
-    let mut digits = Vec::new(alloc);
-    for number in 0..30_000u16 {
-        let [byte, _] = (number / 256).wrapping_add(number).to_le_bytes();
-        bytes.push(byte)?;
-        digits.push(b"0123456789abcdef"[usize::from(byte / 16)])?;
-        digits.push(b"0123456789ABCDEF"[usize::from(byte % 16)])?;
-    }
-    for (first, second) in [(bytes.as_slice(), b"".as_slice()), (b"", bytes.as_slice())] {
+    let bytes = vec![in alloc; 0xAA; 30_000]?;
+    let digits = vec![in alloc; b'a'; 60_000]?;
+    for &(first, second) in &[(bytes.as_slice(), b"".as_slice()), (b"", bytes.as_slice())] {
         assert!(rt; Bytes::join(alloc, first, second)?.as_slice() == bytes.as_slice());
     }
     assert!(rt; Words::new(digits.as_slice()).next() == Some(digits.as_slice()));
@@ -86,7 +83,7 @@ fn long_words_and_empty_halves_have_their_bytes(rt: HostRuntime) -> Result<(), F
 fn lines_end_at_lf_or_crlf(rt: HostRuntime) {
     let lines: [(u64, &[u8]); 5] = [(1, b"a"), (2, b"b"), (3, b""), (4, b"c\rd"), (5, b"e\r")];
     let mut reader = Lines::new(b"a\r\nb\n\nc\rd\ne\r");
-    for line in lines {
+    for &line in &lines {
         assert!(rt; reader.next() == Some(line));
     }
     assert!(rt; reader.next().is_none());
@@ -94,7 +91,7 @@ fn lines_end_at_lf_or_crlf(rt: HostRuntime) {
 
 #[test]
 fn decimals_have_ten_digits(rt: HostRuntime) {
-    for (word, value) in [
+    for &(word, value) in &[
         ("0", Ok(0)),
         ("007", Ok(7)),
         ("0000000005", Ok(5)),
@@ -112,7 +109,7 @@ fn decimals_have_ten_digits(rt: HostRuntime) {
 #[test]
 fn a_key_is_one_line(rt: HostRuntime) -> Result<(), Fail> {
     assert_eq!(rt; read_key(&KEY), Ok([0xAA; 64]));
-    for (end, kind) in [
+    for &(end, kind) in &[
         ("\n", None),
         ("\r\n", None),
         ("\r", Some(FaultKind::Extra)),

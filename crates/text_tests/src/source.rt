@@ -14,7 +14,7 @@ fn fault_of(alloc: Global, text: &[u8]) -> Option<FaultAt> {
 
 #[test]
 fn faults_of_one_line(rt: HostRuntime) {
-    for (line, kind) in [
+    for &(line, kind) in &[
         ("r4,r5 mov", FaultKind::Syntax),
         ("5 r4", FaultKind::Syntax),
         (",", FaultKind::Syntax),
@@ -123,7 +123,7 @@ fn faults_of_one_line(rt: HostRuntime) {
 
 #[test]
 fn lines_that_are_read(rt: HostRuntime) {
-    for line in [
+    for &line in &[
         "",
         " \t",
         ";",
@@ -280,7 +280,7 @@ fn the_first_fault_of_the_first_faulty_line_counts(rt: HostRuntime) {
         (b"foo\r\n;\xC3\n", 2, FaultKind::Utf8),
         (b"\n\nfoo @r2,(", 3, FaultKind::Syntax),
     ];
-    for (text, line, kind) in rows {
+    for &(text, line, kind) in &rows {
         let fault = fault_of(rt.alloc(), text);
         assert_eq!(rt;
             fault,
@@ -288,7 +288,7 @@ fn the_first_fault_of_the_first_faulty_line_counts(rt: HostRuntime) {
             "for {kind} in line {line}"
         );
     }
-    for (letters, fault) in [
+    for &(letters, fault) in &[
         ("", None),
         (
             "b",

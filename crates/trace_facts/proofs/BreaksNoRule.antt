@@ -1,6 +1,7 @@
--- A step that is not refused breaks none of the twelve rules.
-use Rattle.std.proofs.Common.{◌≡◌, ℕ, Bool, true, false, Option, Some, None, refl}
+-- What a step breaks, by its first rule: no rule where it has none, A1 or K3 where that is it.
+use Rattle.std.proofs.Common.{◌≡◌, ℕ, Bool, true, false, ◌⊎◌, inl, inr, Option, Some, None, refl, arith}
 use Rattle.std.specs.Prelude.{if◌then◌else◌}
+use Rattle.std.proofs.lemmas.Bool.Decides.{nat_tests}
 use Rattle.bus_signals.specs.declared.rule.Rule.{Rule}
 use Rattle.bus_signals.specs.declared.rule.Rule.TheVariants.{X0, A1, A2, A3, A4, K1, K2, K3, K4, K5, K6, I1}
 use Rattle.bus_signals.specs.declared.signals.Signals.{Signals}
@@ -72,3 +73,92 @@ first_rule-none last now none =
       key = key_rule-none now key.0;
       i1 = (if_none (breaks_i1 now) I1 None key.1).0;
     }
+
+-- which rule a chain of tests names
+names_a1 : (a3 a2 a1 a4 : Bool)
+    → (if a3 then Some A3 else if a2 then Some A2 else if a1 then Some A1
+    else if a4 then Some A4 else None) ≡ Some A1
+    → a1 ≡ true
+names_a1 a3 a2 a1 a4 name = grind (arith, nat_tests)
+
+names_no_k3 : (a3 a2 a1 a4 : Bool)
+    → (if a3 then Some A3 else if a2 then Some A2 else if a1 then Some A1
+    else if a4 then Some A4 else None) ≡ Some K3 → ⊥
+names_no_k3 a3 a2 a1 a4 name = grind (arith, nat_tests)
+
+abbrev key_chain : Bool → Bool → Bool → Bool → Bool → Bool → Option Rule
+key_chain k1 k2 k3 k4 k5 k6 =
+    if k1 then Some K1
+    else if k2 then Some K2
+    else if k3 then Some K3
+    else if k4 then Some K4
+    else if k5 then Some K5
+    else if k6 then Some K6
+    else None
+
+names_k3 : (k1 k2 k3 k4 k5 k6 : Bool) → key_chain k1 k2 k3 k4 k5 k6 ≡ Some K3 → k3 ≡ true
+names_k3 k1 k2 k3 k4 k5 k6 name = grind (arith, nat_tests)
+
+names_no_a1 : (k1 k2 k3 k4 k5 k6 : Bool) → key_chain k1 k2 k3 k4 k5 k6 ≡ Some A1 → ⊥
+names_no_a1 k1 k2 k3 k4 k5 k6 name = grind (arith, nat_tests)
+
+or_else-some : (first second : Option Rule) (rule : Rule)
+    → option_or first second ≡ Some rule
+    → (first ≡ Some rule) ⊎ ((first ≡ None) × (second ≡ Some rule))
+or_else-some None second rule name = inr (refl, name)
+or_else-some (Some earlier) second rule name = inl name
+
+other_rule : (test : Bool) (name other : Rule) → rule_where test name ≡ Some other → name ≡ other
+other_rule true name other is = cc
+other_rule false name other is = absurd (cc)
+
+-- a first rule that is neither X0 nor I1
+first_rule-in : (last : Option ℕ) (now : Signals) (rule : Rule)
+    → (X0 ≡ rule → ⊥)
+    → (I1 ≡ rule → ⊥)
+    → first_rule last now ≡ Some rule
+    → (atomicity_rule last now ≡ Some rule)
+    ⊎ ((atomicity_rule last now ≡ None) × (key_rule now ≡ Some rule))
+unfolding first_rule
+first_rule-in last now rule no_x0 no_i1 name =
+    elim (or_else-some (rule_where (breaks_x0 now) X0) _ rule name) [
+      | inl x0 ↦ absurd (no_x0 (other_rule (breaks_x0 now) X0 rule x0))
+      | inr later ↦
+          elim (or_else-some (atomicity_rule last now) _ rule later.1) [
+            | inl atomicity ↦ inl atomicity
+            | inr rest ↦
+                elim (or_else-some (key_rule now) (rule_where (breaks_i1 now) I1) rule rest.1) [
+                  | inl key ↦ inr (rest.0, key)
+                  | inr i1 ↦ absurd (no_i1 (other_rule (breaks_i1 now) I1 rule i1.1))
+                ]
+          ]
+    ]
+
+-- where the first rule is A1 or K3, its test holds, and the earlier rules of the ROM's entry do not
+pub first_rule-a1 : (last : Option ℕ) (now : Signals) → first_rule last now ≡ Some A1
+    → breaks_a1 last now ≡ true
+unfolding atomicity_rule key_rule
+first_rule-a1 last now name =
+    elim (first_rule-in last now A1 (λ same. cc) (λ same. cc) name) [
+      | inl atomicity ↦
+          names_a1 (breaks_a3 now) (breaks_a2 last now) (breaks_a1 last now) (breaks_a4 now)
+          atomicity
+      | inr key ↦
+          absurd (names_no_a1 (breaks_k1 now) (breaks_k2 now) (breaks_k3 now) (breaks_k4 now)
+          (breaks_k5 now) (breaks_k6 now) key.1)
+    ]
+
+pub first_rule-k3 : (last : Option ℕ) (now : Signals)
+    → first_rule last now ≡ Some K3 → (atomicity_rule last now ≡ None) × (breaks_k3 now ≡ true)
+unfolding atomicity_rule key_rule
+first_rule-k3 last now name =
+    elim (first_rule-in last now K3 (λ same. cc) (λ same. cc) name) [
+      | inl atomicity ↦
+          absurd (names_no_k3 (breaks_a3 now) (breaks_a2 last now) (breaks_a1 last now)
+          (breaks_a4 now) atomicity)
+      | inr key ↦ (
+        key.0,
+        names_k3 (breaks_k1 now) (breaks_k2 now) (breaks_k3 now) (breaks_k4 now) (breaks_k5 now)
+            (breaks_k6 now) key.1,
+      )
+    ]

@@ -49,7 +49,7 @@ fn memory_of(alloc: Global, code: &[u8], token: [u8; 32]) -> Result<Memory, Allo
     for (place, byte) in (0x0270..0x0290).zip(token) {
         memory.write(place, Size::Byte, u16::from(byte));
     }
-    for (place, word) in [
+    for &(place, word) in &[
         (0x0260, 0xC040),
         (0x0262, 0xC046),
         (0x0264, 0x0300),
@@ -113,7 +113,7 @@ fn own_bytes_are_compared_with_those_expected(rt: HostRuntime) -> Result<(), Fai
     let other = [0x93, 0x42, 0x20, 0x00, 0x00, 0x03, 0x30, 0x41];
     let same = exhibit_of::<Sha256Digest>(&rt, alloc, &CODE, TOKEN, true)?;
     assert!(rt; matches!(same, Exhibit::Same));
-    for (code, token, exec) in [
+    for &(code, token, exec) in &[
         (other, TOKEN, true),
         (CODE, [0; 32], true),
         (CODE, TOKEN, false),

@@ -18,7 +18,7 @@ fn with_zeros(alloc: Global, text: &str) -> Result<Vec<u8>, AllocError> {
 
 #[test]
 fn faulty_policies(rt: HostRuntime) -> Result<(), Fail> {
-    for (text, line, kind) in [
+    for &(text, line, kind) in &[
         ("", 0, FaultKind::Missing),
         ("# nothing\n\n", 2, FaultKind::Missing),
         ("er c020 c022", 1, FaultKind::Missing),
@@ -70,7 +70,7 @@ fn faulty_policies(rt: HostRuntime) -> Result<(), Fail> {
 
 #[test]
 fn faulty_policies_of_version_two(rt: HostRuntime) -> Result<(), Fail> {
-    for (text, line, kind) in [
+    for &(text, line, kind) in &[
         ("version", 1, FaultKind::Missing),
         ("# two\n\nversion 2", 3, FaultKind::Missing),
         ("version 2\ner c020 c022", 2, FaultKind::Missing),
@@ -202,7 +202,7 @@ fn output_behind_the_metadata_of_version_one(rt: HostRuntime) {
 // Requests differ where challenge or counter does. In version 1 a challenge may come again.
 #[test]
 fn requests_that_differ(rt: HostRuntime) -> Result<(), Fail> {
-    for text in [
+    for &text in &[
         "version 2\ner c020 c022\nor 0300 0300\nflag exec\nask @ 1\nask @ 2\n\
          ask 0000000000000000000000000000000000000000000000000000000000000001 1",
         "er c020 c022\nor 0300 0300\nchal @\nchal @",
@@ -218,7 +218,7 @@ fn requests_that_differ(rt: HostRuntime) -> Result<(), Fail> {
 
 #[test]
 fn faulty_lines_of_version_two(rt: HostRuntime) -> Result<(), Fail> {
-    for (line, kind) in [
+    for &(line, kind) in &[
         ("", FaultKind::Missing),
         ("# note", FaultKind::Word),
         ("report 1 exec 1", FaultKind::Word),
@@ -261,7 +261,7 @@ fn faulty_lines_of_version_two(rt: HostRuntime) -> Result<(), Fail> {
 
 #[test]
 fn faulty_report_files(rt: HostRuntime) -> Result<(), Fail> {
-    for (text, line, kind) in [
+    for &(text, line, kind) in &[
         ("note 1", 1, FaultKind::Word),
         ("Tx 1 41", 1, FaultKind::Word),
         (

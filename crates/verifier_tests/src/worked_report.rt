@@ -68,7 +68,7 @@ fn the_first_verdict_that_holds(rt: HostRuntime) {
         "report 557 exec 1 chal 000102030405060708090a0b0c0d0e0f101112131415161718191a1b1c1d1e1f \
          er c040 c046 or 0300 0300 data 3413 mac \
          284a196506045ee45937fae57138147665e982308b52f63a952bbf1f9e18063c\n";
-    for (policy, report, decision) in [
+    for &(policy, report, decision) in &[
         (POLICY, REPORT, Decision::Accept),
         (
             "er C040 C046\nor 0300 0300\n",
@@ -125,7 +125,7 @@ const ASK_LATER: &str =
 #[test]
 fn the_first_verdict_that_holds_in_version_two(rt: HostRuntime) -> Result<(), Fail> {
     let other_chal = "ask ffffffffffffffffffffffffffffffffffffffffffffffffffffffffffffffff 1\n";
-    for (regions, flag, ask, report, decision) in [
+    for &(regions, flag, ask, report, decision) in &[
         ("or 0300 0300", "exec", ASK, REPORT2, Decision::Accept),
         ("or 0300 0300", "plain", ASK, REPORT2, Decision::Accept),
         ("or 0300 0300", "plain", ASK, EXEC_ZERO, Decision::Accept),

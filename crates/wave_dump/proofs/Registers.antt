@@ -1,8 +1,10 @@
 -- The wires of the registers apart from the others.
-use Rattle.std.proofs.Common.{◌≡◌, ℕ, ◌++◌, ◌||◌, Bool, false, List, [], ◌∷◌, Some, Option, eq-eqb, flat_map, refl, sym, ap}
+use Rattle.std.proofs.Common.{◌≡◌, ◌∙◌, ℕ, ◌+◌, ◌<◌, ◌++◌, ◌||◌, Bool, false, List, [], ◌∷◌, Some, Option, eq-eqb, flat_map, take, drop, get_or, refl, sym, ap, arith}
 use Rattle.std.specs.Prelude.{not, slice_index, if◌then◌else◌}
 use Rattle.std.specs.List.{list_any}
 use Rattle.std.proofs.lemmas.Bool.{or_parts}
+use Rattle.std.proofs.lemmas.Grind.{get_or_after_one}
+use Rattle.std.proofs.lemmas.List.{get_or-take}
 use Rattle.std.proofs.lemmas.List.Folds.{list_any-append}
 use Rattle.std.proofs.lemmas.List.Concat.{flat_map-append}
 use Rattle.wave_dump.specs.declared.sample.Sample.{Sample}
@@ -10,7 +12,6 @@ use Rattle.wave_dump.specs.declared.wire.Wire.{Wire}
 use Rattle.wave_dump.specs.Wire.{line_wires, register_wires, wires}
 use Rattle.wave_dump.specs.WireValue.{is_same_value, register_value, wire_value}
 use Rattle.wave_dump.specs.WaveText.{change_of, change_text, is_any_told, is_told, wires_text}
-use Rattle.wave_dump.specs.ToldRegisters.{TellsRegisters}
 
 pub text_in_two : (last : Option Sample) (now : Sample)
     → wires_text last now wires
@@ -24,7 +25,7 @@ pub any_in_two : (last : Option Sample) (now : Sample)
 unfolding is_any_told
 any_in_two last now = list_any-append (is_told last now) line_wires register_wires
 
--- the same registers tell nothing
+-- the same registers tell nothing, whatever PC is
 
 none_of_any : (told : Wire → Bool) (text : Wire → List ℕ) (ws : List Wire)
     → list_any told ws ≡ false
@@ -34,40 +35,51 @@ none_of_any told text (wire ∷ ws) none =
     let both = or_parts (told wire) (list_any told ws) none in
     rw both.0 (none_of_any told text ws both.1)
 
-untold-register : (last now : Sample) → last.registers ≡ now.registers → (number : ℕ)
-    → not (is_same_value (register_value number last) (register_value number now)) ≡ false
-untold-register last now same number =
-    ap not (eq-eqb (slice_index last.registers number) (slice_index now.registers number)
-    (ap (λ (registers : List ℕ). slice_index registers number) same))
+pub untold_text : (last : Option Sample) (now : Sample) (ws : List Wire)
+    → is_any_told last now ws ≡ false → wires_text last now ws ≡ []
+unfolding is_any_told wires_text
+untold_text last now ws none =
+    none_of_any (is_told last now) (λ wire. change_text wire (wire_value wire now)) ws none
 
-untold-registers : (last now : Sample) → last.registers ≡ now.registers
-    → list_any (is_told (Some last) now) register_wires ≡ false
-untold-registers last now same =
+-- R1 to R15
+abbrev pub registers_but_pc : Sample → List ℕ
+registers_but_pc sample = take 15 (drop 1 sample.registers)
+
+register-at : (sample : Sample) (number : ℕ) → number < 15
+    → get_or (registers_but_pc sample) number 0 ≡ slice_index sample.registers (1 + number)
+register-at sample number within =
+    get_or-take 15 (drop 1 sample.registers) number 0 within
+    ∙ get_or_after_one sample.registers number 0
+
+untold-register : (last now : Sample) → registers_but_pc last ≡ registers_but_pc now
+    → (number : ℕ) → number < 15
+    → not (is_same_value (register_value (1 + number) last) (register_value (1 + number) now))
+    ≡ false
+untold-register last now same number within =
+    ap not (eq-eqb (slice_index last.registers (1 + number))
+    (slice_index now.registers (1 + number))
+    (sym (register-at last number within)
+    ∙ ap (λ (registers : List ℕ). get_or registers number 0) same
+    ∙ register-at now number within))
+
+pub untold_registers : (last now : Sample) → registers_but_pc last ≡ registers_but_pc now
+    → is_any_told (Some last) now register_wires ≡ false
+unfolding is_any_told
+untold_registers last now same =
     let untold = untold-register last now same in
     rw (
-      untold 1,
-      untold 2,
-      untold 4,
-      untold 5,
-      untold 6,
-      untold 7,
-      untold 8,
-      untold 9,
-      untold 10,
-      untold 11,
-      untold 12,
-      untold 13,
-      untold 14,
-      untold 15,
+      untold 0 (omega arith),
+      untold 1 (omega arith),
+      untold 3 (omega arith),
+      untold 4 (omega arith),
+      untold 5 (omega arith),
+      untold 6 (omega arith),
+      untold 7 (omega arith),
+      untold 8 (omega arith),
+      untold 9 (omega arith),
+      untold 10 (omega arith),
+      untold 11 (omega arith),
+      untold 12 (omega arith),
+      untold 13 (omega arith),
+      untold 14 (omega arith),
     ) refl
-
-pub none_told : (last now : Sample) → last.registers ≡ now.registers
-    → TellsRegisters (Some last) now []
-unfolding is_any_told wires_text
-none_told last now same =
-    let none = untold-registers last now same in
-    record {
-      same_text = sym (none_of_any (is_told (Some last) now)
-          (λ wire. change_text wire (wire_value wire now)) register_wires none);
-      same_any = sym none;
-    }

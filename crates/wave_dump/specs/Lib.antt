@@ -1,7 +1,6 @@
 pub mod Wire
 pub mod WireValue
 pub mod WaveText
-pub mod ToldRegisters
 pub mod Wave
 pub mod WaveReader
 pub mod ReadBack

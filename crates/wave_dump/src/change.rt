@@ -1,10 +1,9 @@
-ghost use Rattle.std.specs.Prelude.{◌≡◌, ◌≤◌, ◌+◌, ◌++◌, false, length, None, Some, option_copied};
+ghost use Rattle.std.specs.Prelude.{◌≡◌, ◌≤◌, ◌+◌, ◌++◌, true, false, length, None, Some, option_copied};
 ghost use Rattle.std.specs.Fmt.{digits};
 ghost use Rattle.outside_edge.specs.Sink.{Puts, CountsFaults};
 ghost use Rattle.line_buffer.specs.declared.line_buffer.TheConstants.{ROOM};
-ghost use Rattle.wave_dump.specs.Wire.{wires};
+ghost use Rattle.wave_dump.specs.Wire.{register_wires, wires};
 ghost use Rattle.wave_dump.specs.WaveText.{change_of, change_text, changes_text, digits_text, dump_text, is_any_told, is_told, next_text, step_text, time_text, told_text, wires_text};
-ghost use Rattle.wave_dump.specs.ToldRegisters.{TellsRegisters};
 
 use crate::sample::Sample;
 use crate::shown_value::wire_value;
@@ -92,16 +91,22 @@ fn print_changes<W: Sink>(last: Option<&Sample>, now: &Sample, sink: &mut W) -> 
     ensures counts { CountsFaults W.faults sink.old sink.new result }
 {
     print_wires(&LINE_WIRES, last, now, sink)?;
-    print_wires(register_wires(last, now), last, now, sink)
+    if has_same_registers(last, now) {
+        Ok(())
+    } else {
+        print_wires(&REGISTER_WIRES, last, now, sink)
+    }
 }
 
-// The wires of the registers, of which none is told where the step before has the same registers.
-fn register_wires(last: Option<&Sample>, now: &Sample) -> &'static [Wire]
-    ensures { TellsRegisters (option_copied last.entry) now.now result.now }
+// Whether the step before has the same registers, PC aside: it is another at each boundary, and has
+// no wire among theirs.
+fn has_same_registers(last: Option<&Sample>, now: &Sample) -> bool
+    ensures { result ≡ true
+        → is_any_told (option_copied last.entry) now.now register_wires ≡ false }
 {
     match last {
-        Some(last) if last.registers == now.registers => &[],
-        _ => &REGISTER_WIRES,
+        None => false,
+        Some(last) => last.registers[1..] == now.registers[1..],
     }
 }
 
@@ -142,7 +147,8 @@ fn print_if_told<W: Sink>(
 fn has_change(last: Option<&Sample>, now: &Sample) -> bool
     ensures { result ≡ is_any_told (option_copied last.entry) now.now wires }
 {
-    is_any_told(&LINE_WIRES, last, now) || is_any_told(register_wires(last, now), last, now)
+    is_any_told(&LINE_WIRES, last, now)
+        || (!has_same_registers(last, now) && is_any_told(&REGISTER_WIRES, last, now))
 }
 
 #[tactic(auto, unfolding(crate::specs::WaveText::is_any_told))]

@@ -56,16 +56,13 @@ impl Wave {
         ensures told { steps_told self.new ≡ steps_told self.old + 1 }
         ensures counts { CountsFaults W.faults sink.old sink.new result }
     {
-        let step = self.steps;
-        let last = self.last;
         let now = self.shown(&sample.line);
-        *self = Wave {
-            steps: step + 1,
-            last: Some(now),
-            exec: sample.line.exec,
-            registers: sample.registers,
-        };
-        print_step(step, last.as_ref(), &now, sink)
+        let result = print_step(self.steps, self.last.as_ref(), &now, sink);
+        self.steps += 1;
+        self.last = Some(now);
+        self.exec = sample.line.exec;
+        self.registers = sample.registers;
+        result
     }
 
     #[inline(always)]

@@ -7,7 +7,7 @@ use crate::{FileOpener, SystemFile};
 use std::io;
 use std::io::{Error, ErrorKind, Read, Seek, SeekFrom};
 
-/// What an opener gives in turn to those that ask for this name: a file, or the error of a number.
+/// What an opener gives to one that asks for this name: a file, or the error of a number.
 #[derive(Clone, Copy)]
 pub struct Opening<'a> {
     pub name: &'a str,
@@ -26,10 +26,10 @@ pub struct FakeFile<'a> {
     pub seek_fault: Option<i32>,
 }
 
-/// Each opening is given once; a name of which none is left is not found.
-#[derive(Drop)]
+/// The openings are given in their order; a name that is not that of the next one is not found.
+#[derive(Clone, Copy)]
 pub struct FakeFiles<'a> {
-    pub openings: Vec<Opening<'a>>,
+    pub openings: &'a [Opening<'a>],
 }
 
 impl<'a> FakeFile<'a> {
@@ -44,11 +44,25 @@ impl<'a> FakeFile<'a> {
         }
     }
 
-    /// A pipe, which can't be sought (ESPIPE).
-    pub fn pipe(bytes: &'a [u8], most: usize) -> FakeFile<'a> {
+    /// A file that has the error of this number behind its bytes.
+    pub fn torn(bytes: &'a [u8], number: i32) -> FakeFile<'a> {
         FakeFile {
-            seek_fault: Some(29),
-            ..FakeFile::new(bytes, most)
+            bytes,
+            at: 0,
+            most: 4_096,
+            break_off: Some(number),
+            seek_fault: None,
+        }
+    }
+
+    /// A pipe, which gives the error of this number where it is sought.
+    pub fn pipe(bytes: &'a [u8], number: i32) -> FakeFile<'a> {
+        FakeFile {
+            bytes,
+            at: 0,
+            most: 1_000,
+            break_off: None,
+            seek_fault: Some(number),
         }
     }
 }
@@ -59,16 +73,16 @@ impl<'a> FileOpener for FakeFiles<'a> {
     ghost files = { λ _. None };
 
     fn open(&mut self, name: &str) -> io::Result<SystemFile<FakeFile<'a>>> {
-        let Some(index) = self
-            .openings
-            .iter()
-            .position(|opening| opening.name == name)
-        else {
-            return Err(Error::from(ErrorKind::NotFound));
-        };
-        match self.openings.remove(index).file {
-            Ok(file) => Ok(SystemFile::new(file)),
-            Err(number) => Err(error_of(number)),
+        let openings = self.openings;
+        match openings {
+            [first, rest @ ..] if first.name == name => {
+                self.openings = rest;
+                match first.file {
+                    Ok(file) => Ok(SystemFile::new(file)),
+                    Err(number) => Err(error_of(number)),
+                }
+            }
+            _ => Err(Error::from(ErrorKind::NotFound)),
         }
     }
 }

@@ -1,7 +1,7 @@
 use Rattle.std.proofs.Common.{◌≡◌, ◌≤◌, ◌<◌, ◌+◌, ◌-◌, ◌∙◌, ◌⊎◌, inl, inr, ⊎_elim, ap, refl, sym, arith}
 use Rattle.std.proofs.lemmas.Bool.{cases_lt}
 use Rattle.debug_session.specs.Shown.{bytes_shown}
-use Rattle.debug_walk.specs.Walk.{place_of}
+use Rattle.debug_walk.specs.Halted.{halted_at}
 use Rattle.debug_walk.proofs.ShownBytes.{all-shown, shown-end, shown-more}
 use Rattle.debug_walk.proofs.memory_view.shown_bytes.Goals as goal
 
@@ -26,7 +26,7 @@ loop-at-preserved g c =
     record {
       size = omega (arith, c.push.ensures.len, c.loop-at.invariant.size, c.loop-at.auto.at);
       bytes = λ run stands.
-          let place = place_of c.args.walk.now in
+          let place = halted_at c.args.halted.now in
           rw (c.push.ensures.items, less)
           (shown-more run place c.loop-at.bytes.items (bytes_shown run place first count) at
           (count - (at - first)) c.shown_byte.result (sym c.if-not-is_shown.ensures) some
@@ -35,7 +35,7 @@ loop-at-preserved g c =
 
 pub returns-then-not-is_shown : goal.returns-then-not-is_shown
 returns-then-not-is_shown g c = λ run stands.
-    let place = place_of c.args.walk.now in
+    let place = halted_at c.args.halted.now in
     let at = c.loop-at.at in
     let first = c.args.first in
     let count = c.min-count.result in
@@ -46,7 +46,7 @@ returns-then-not-is_shown g c = λ run stands.
 
 pub returns : goal.returns
 returns g c = λ run stands.
-    let place = place_of c.args.walk.now in
+    let place = halted_at c.args.halted.now in
     let at = c.loop-at.at in
     let first = c.args.first in
     let count = c.min-count.result in

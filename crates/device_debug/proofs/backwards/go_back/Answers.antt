@@ -1,20 +1,31 @@
-use Rattle.std.proofs.Common.{◌≡◌, ◌∙◌, arith}
-use Rattle.bus_signals.specs.TraceFlag.{Flag}
-use Rattle.part_definitions.specs.TrustedFlag.{aux}
-use Rattle.exec_automaton.specs.RunFlag.{flag_of_run}
+use Rattle.std.proofs.Common.{◌≡◌, ◌∙◌, ◌≤◌, arith}
+use Rattle.debug_commands.specs.Request.{most_steps}
 use Rattle.debug_session.specs.Place.{Run}
 use Rattle.debug_walk.specs.PlayedRun.{played_run}
-use Rattle.debug_walk.specs.Walk.{SecondFlag}
-use Rattle.device_debug.proofs.BackTo.{gone-back}
+use Rattle.device_debug.proofs.BackTo.{gone-back, gone-near, level-here}
+use Rattle.device_debug.proofs.SecondFlag.{second_flag}
 use Rattle.device_debug.proofs.backwards.go_back.Goals as goal
 
+pub returns-in-Some : goal.returns-in-Some
+returns-in-Some g c = λ place at.
+    let run : Run = played_run g.D.Digest32.hash second_flag c.args.run.now in
+    let same : c.place-place.result ≡ place = c.place-place.ensures ∙ at.place_is in
+    let within : c.place-place.result ≤ most_steps = omega (arith, same, at.settled.0) in
+    gone-near run c.args.stops.now place c.place-place.result c.in_ok-halt_at.field-0 same
+    at.settled.0 c.args.steps c.in-Some.near c.level-level.result c.if-steps.true
+    (level-here run c.args.now c.place-place.result c.level-level.result c.place-place.ensures
+    c.level-level.ensures at.stands.level)
+    (rw c.in-Some.is at c.in_ok-near.ensures within)
+    c.in_ok-halt_at.ensures.stands c.in_ok-halt_at.ensures.place
+
 pub returns : goal.returns
-returns g c = λ place stands.
-    let flag : Flag SecondFlag = flag_of_run aux in
-    let run : Run = played_run g.D.Digest32.hash flag c.args.run.now in
-    let same : c.place.result ≡ place = c.place.ensures ∙ stands.place_is in
-    gone-back run c.args.stops.now c.args.steps place c.place.result c.in_ok-found.found
-    c.in_ok-walk.walk same stands.settled.0
-    (c.in_ok-found.ensures (omega (arith, same, stands.settled.0))
-    (rw c.place.ensures (c.level.ensures run stands.walks)))
-    c.in_ok-walk.ensures.stands c.in_ok-walk.ensures.place
+returns g c = λ place at.
+    let run : Run = played_run g.D.Digest32.hash second_flag c.args.run.now in
+    let same : c.place-place.result ≡ place = c.place-place.ensures ∙ at.place_is in
+    let within : c.place-place.result ≤ most_steps = omega (arith, same, at.settled.0) in
+    let known = level-here run c.args.now c.place-place.result c.level-level.result
+    c.place-place.ensures c.level-level.ensures at.stands.level in
+    gone-back run c.args.stops.now place c.place-place.result c.in_ok-halted.halted same
+    at.settled.0 c.args.steps c.in_ok-found.found
+    (c.in_ok-found.ensures c.args.steps within (c.in_ok-highest.ensures within known))
+    c.in_ok-halted.ensures.stands c.in_ok-halted.ensures.place

@@ -1,75 +1,57 @@
-use Rattle.std.proofs.Common.{Ok, arith, sym, ◌∙◌}
-use Rattle.part_definitions.specs.TrustedFlag.{aux}
-use Rattle.bus_signals.specs.TraceFlag.{Flag}
-use Rattle.exec_automaton.specs.RunFlag.{flag_of_run}
+use Rattle.std.proofs.Common.{◌∙◌, arith, sym}
+use Rattle.debug_link.proofs.Faults.{counts_memory}
 use Rattle.debug_session.specs.Place.{Run}
 use Rattle.debug_walk.specs.PlayedRun.{played_run}
-use Rattle.debug_walk.specs.Walk.{SecondFlag}
-use Rattle.device_debug.proofs.GoingOn.{begins-going, goes-again, goes-failed, goes-there, told-stop}
+use Rattle.device_debug.proofs.Goes.{goes-unbegun}
+use Rattle.device_debug.proofs.GoingHalted.{none-stops, stays-there, walk-begins, walk-failed, walk-halts}
+use Rattle.device_debug.proofs.SecondFlag.{second_flag}
 use Rattle.device_debug.proofs.forwards.go_on.Goals as goal
 
-pub loop-next-init : goal.loop-next-init
-loop-next-init g c =
+pub returns-then-place-ge-MOST_STEPS-clause-goes_on :
+    goal.returns-then-place-ge-MOST_STEPS-clause-goes_on
+returns-then-place-ge-MOST_STEPS-clause-goes_on g c = λ place at.
     let hash = g.D.Digest32.hash in
-    let flag : Flag SecondFlag = flag_of_run aux in
-    let run : Run = played_run hash flag c.args.run.now in
-    record {
-      goes = λ place stands. begins-going hash flag g.W.Sink run c.args.stops.now c.args.going
-          place c.args.packets.now c.args.walk stands;
-      rises = omega arith;
-    }
+    let run : Run = played_run hash second_flag c.args.run.now in
+    stays-there hash second_flag g.W.Sink run place c.args.stops.now c.args.going
+    c.args.packets.now c.args.halted at
+    (omega (arith, c.if-place-ge-MOST_STEPS.true, c.place.ensures))
 
-pub returns-in_err-next-clause-goes_on : goal.returns-in_err-next-clause-goes_on
-returns-in_err-next-clause-goes_on g c = λ place stands.
+pub returns-then-is_empty-clause-goes_on : goal.returns-then-is_empty-clause-goes_on
+returns-then-is_empty-clause-goes_on g c = λ place at.
     let hash = g.D.Digest32.hash in
-    let flag : Flag SecondFlag = flag_of_run aux in
-    let run : Run = played_run hash flag c.args.run.now in
-    let so = c.loop-next.invariant.goes place stands in
-    goes-failed hash flag g.W.Sink run c.args.stops.now c.args.going place _ _ _ _ so
-    c.in_err-next.field-0.0 c.from_residual.result
-    (told-stop hash flag g.W.Sink run c.args.stops.now c.args.going place _ _ so.at _ _
-    c.stops_at_steps-steps.ensures (c.in_err-next.ensures.goes_on so.at so.stands))
-    c.from_residual.ensures.0
+    let run : Run = played_run hash second_flag c.args.run.now in
+    none-stops hash second_flag g.W.Sink run place c.args.stops.now c.args.going
+    c.args.packets.now c.skim.new.packets c.skim.result
+    (sym c.stops_at_steps.ensures ∙ c.if-not-stops_at_steps.true)
+    (sym c.is_empty.ensures ∙ c.if-is_empty.true) (c.skim.ensures.goes_on place at)
 
-pub returns-then-not-turns_again-clause-goes_on : goal.returns-then-not-turns_again-clause-goes_on
-returns-then-not-turns_again-clause-goes_on g c = λ place stands.
+pub returns-in_err-walk-clause-goes_on : goal.returns-in_err-walk-clause-goes_on
+returns-in_err-walk-clause-goes_on g c = λ place at.
+    goes-unbegun _ g.W.Sink _ _ _ c.from_residual.result c.from_residual.ensures.0
+
+pub returns-in_err-walk-clause-counts : goal.returns-in_err-walk-clause-counts
+returns-in_err-walk-clause-counts g c =
+    counts_memory g.W.Sink.faults c.args.packets.now.sink c.args.packets.now.sink
+    c.from_residual.result c.from_residual.ensures.1 (omega arith)
+
+pub returns-in_err-walk-2-clause-goes_on : goal.returns-in_err-walk-2-clause-goes_on
+returns-in_err-walk-2-clause-goes_on g c = λ place at.
     let hash = g.D.Digest32.hash in
-    let flag : Flag SecondFlag = flag_of_run aux in
-    let run : Run = played_run hash flag c.args.run.now in
-    let so = c.loop-next.invariant.goes place stands in
-    let goes = told-stop hash flag g.W.Sink run c.args.stops.now c.args.going place _ _ so.at _
-    (Ok (c.in_ok-next.next, c.in_ok-next.stop)) c.stops_at_steps-steps.ensures
-    (c.in_ok-next.ensures.goes_on so.at so.stands) in
-    goes-there hash flag g.W.Sink run c.args.stops.now c.args.going place _ _ _ _ so
-    c.in_ok-next.next c.in_ok-next.stop goes
-    (sym (c.turns_again.ensures.again run goes.arrived.stands.walks)
-    ∙ c.if-not-turns_again.true)
+    let run : Run = played_run hash second_flag c.args.run.now in
+    let begins = walk-begins hash second_flag g.W.Sink run place c.args.halted c.in_ok-walk.walk at
+    (omega (arith, c.if-place-ge-MOST_STEPS.false, c.place.ensures)) c.in_ok-walk.ensures.stands
+    c.in_ok-walk.ensures.place in
+    walk-failed hash second_flag g.W.Sink run place _ _ c.args.packets.now
+    c.walk_on.new.packets c.in_err-walk-2.field-0.0 c.from_residual-in_err-walk-2.result
+    c.from_residual-in_err-walk-2.ensures.0 (c.in_err-walk-2.ensures.goes_on place begins)
 
-pub loop-next-smaller : goal.loop-next-smaller
-loop-next-smaller g c =
-    let stepped = c.turns_again.ensures.stepped c.if-not-turns_again.false in
-    omega (arith, c.in_ok-next.ensures.goes_far stepped, c.in_ok-next.ensures.within stepped)
-
-pub loop-next-preserved : goal.loop-next-preserved
-loop-next-preserved g c =
+pub returns-clause-goes_on : goal.returns-clause-goes_on
+returns-clause-goes_on g c = λ place at.
     let hash = g.D.Digest32.hash in
-    let flag : Flag SecondFlag = flag_of_run aux in
-    let run : Run = played_run hash flag c.args.run.now in
-    let stepped = c.turns_again.ensures.stepped c.if-not-turns_again.false in
-    record {
-      goes = λ place stands.
-          let so = c.loop-next.invariant.goes place stands in
-          let goes = told-stop hash flag g.W.Sink run c.args.stops.now c.args.going place _ _
-          so.at _ (Ok (c.in_ok-next.next, c.in_ok-next.stop)) c.stops_at_steps-steps.ensures
-          (c.in_ok-next.ensures.goes_on so.at so.stands) in
-          goes-again hash flag g.W.Sink run c.args.stops.now c.args.going place _ _ _ _ so
-          c.in_ok-next.next c.in_ok-next.stop goes
-          (sym (c.turns_again.ensures.again run goes.arrived.stands.walks)
-          ∙ c.if-not-turns_again.false)
-          (c.in_ok-next.ensures.goes_far stepped) (c.in_ok-next.ensures.within stepped);
-      rises = omega (
-        arith,
-        c.loop-next.invariant.rises,
-        c.in_ok-next.ensures.counts.counted,
-      );
-    }
+    let run : Run = played_run hash second_flag c.args.run.now in
+    let begins = walk-begins hash second_flag g.W.Sink run place c.args.halted c.in_ok-walk.walk at
+    (omega (arith, c.if-place-ge-MOST_STEPS.false, c.place.ensures)) c.in_ok-walk.ensures.stands
+    c.in_ok-walk.ensures.place in
+    walk-halts hash second_flag g.W.Sink run place _ _ c.args.packets.now
+    c.walk_on.new.packets c.in_ok-walk-2.walk c.in_ok-walk-2.stop c.halt.result
+    c.halt.ensures.stands c.halt.ensures.place (c.in_ok-walk-2.ensures.goes_on place begins)

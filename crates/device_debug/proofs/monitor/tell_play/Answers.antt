@@ -5,7 +5,7 @@ use Rattle.debug_link.proofs.Bodies.{puts_failed}
 use Rattle.debug_link.proofs.Faults.{counts_passed, counts_unwritten}
 use Rattle.debug_session.specs.Place.{Run, play_to}
 use Rattle.debug_walk.specs.PlayedRun.{played_run}
-use Rattle.debug_walk.specs.Walk.{place_of}
+use Rattle.debug_walk.specs.Halted.{halted_at}
 use Rattle.device_debug.proofs.AskedTexts.{PutsPlay, play_cut, play_cut_late, play_finished, play_here, play_unbegun}
 use Rattle.device_debug.proofs.SecondFlag.{second_flag}
 use Rattle.device_debug.proofs.monitor.tell_play.Goals as goal
@@ -13,8 +13,8 @@ use Rattle.device_debug.proofs.monitor.tell_play.Goals as goal
 pub returns-in_err-end-clause-tells : goal.returns-in_err-end-clause-tells
 returns-in_err-end-clause-tells g c = λ stands few.
     let run : Run = played_run g.D.Digest32.hash second_flag c.args.run.now in
-    play_unbegun g.W.Sink run (place_of c.args.walk.now) c.args.packets.now c.from_residual.result
-    c.from_residual.ensures.0
+    play_unbegun g.W.Sink run (halted_at c.args.halted.now) c.args.packets.now
+    c.from_residual.result c.from_residual.ensures.0
 
 pub returns-in_err-end-clause-counts : goal.returns-in_err-end-clause-counts
 returns-in_err-end-clause-counts g c =
@@ -101,7 +101,7 @@ pub returns-clause-tells : goal.returns-clause-tells
 returns-clause-tells g c = λ stands few.
     let run : Run = played_run g.D.Digest32.hash second_flag c.args.run.now in
     let within : c.place.result ≤ most_steps = omega (arith, c.place.ensures, few) in
-    play_here g.W.Sink run (place_of c.args.walk.now) c.place.result c.args.packets.now
+    play_here g.W.Sink run (halted_at c.args.halted.now) c.place.result c.args.packets.now
     c.finish.new.packets _ c.place.ensures
     (play_finished g.W.Sink run c.place.result c.args.packets.now c.add_texts.new.packets
     c.add.new.packets c.finish.new.packets c.new-text.result c.add_texts.new.text c.add.new.self

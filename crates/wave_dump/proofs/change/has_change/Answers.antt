@@ -11,12 +11,21 @@ returns-then-is_any_told c =
       c.if-is_any_told.true,
     ) refl
 
-pub returns-else-is_any_told : goal.returns-else-is_any_told
-returns-else-is_any_told c =
+pub returns-then-not-has_same_registers : goal.returns-then-not-has_same_registers
+returns-then-not-has_same_registers c =
     rw (
       any_in_two (option_copied c.args.last) c.args.now.now,
       ← c.is_any_told.ensures,
       c.if-is_any_told.false,
-      ← c.register_wires.ensures.same_any,
     )
-    c.is_any_told-else-is_any_told.ensures
+    c.is_any_told-then-not-has_same_registers.ensures
+
+pub returns-else-not-has_same_registers : goal.returns-else-not-has_same_registers
+returns-else-not-has_same_registers c =
+    rw (
+      any_in_two (option_copied c.args.last) c.args.now.now,
+      ← c.is_any_told.ensures,
+      c.if-is_any_told.false,
+      c.has_same_registers.ensures c.if-not-has_same_registers.false,
+      c.if-not-has_same_registers.false,
+    ) refl

@@ -6,19 +6,19 @@ use Rattle.device_debug.proofs.Gone.{failed-on, went-on}
 use Rattle.device_debug.proofs.SecondFlag.{second_flag}
 use Rattle.device_debug.proofs.debugger.Debugger.go.Goals as goal
 
-pub returns-in_err-walk-clause-gives : goal.returns-in_err-walk-clause-gives
-returns-in_err-walk-clause-gives g c =
-    none-said _ _ _ _ _ _ _ _ c.from_residual.ensures.0 (rw c.take_walk.ensures.rest refl)
+pub returns-in_err-halted-clause-gives : goal.returns-in_err-halted-clause-gives
+returns-in_err-halted-clause-gives g c =
+    none-said _ _ _ _ _ _ _ _ c.from_residual.ensures.0 (rw c.take_halted.ensures.rest refl)
 
-pub returns-in_err-walk-2-clause-gives : goal.returns-in_err-walk-2-clause-gives
-returns-in_err-walk-2-clause-gives g c =
+pub returns-in_err-halted-2-clause-gives : goal.returns-in_err-halted-2-clause-gives
+returns-in_err-halted-2-clause-gives g c =
     failed-on _ _ _ _ _ c.args.self.now _ _
     (λ stops place.
     where_to (played_run g.D.Digest32.hash second_flag c.args.self.now.run) stops place
     c.args.going)
-    _ _ c.from_residual-in_err-walk-2.ensures.0 c.in_ok-walk.ensures.walk
-    (rw c.take_walk.ensures.rest at c.in_err-walk-2.ensures.goes_on)
-    (rw c.take_walk.ensures.rest refl)
+    _ _ c.from_residual-in_err-halted-2.ensures.0 c.in_ok-halted.ensures.halted
+    (rw c.take_halted.ensures.rest at c.in_err-halted-2.ensures.goes_on)
+    (rw c.take_halted.ensures.rest refl)
 
 pub returns-clause-gives : goal.returns-clause-gives
 returns-clause-gives g c =
@@ -26,7 +26,7 @@ returns-clause-gives g c =
     (λ stops place.
     where_to (played_run g.D.Digest32.hash second_flag c.args.self.now.run) stops place
     c.args.going)
-    _ _ c.in_ok-walk.ensures.walk
-    (rw c.take_walk.ensures.rest at c.in_ok-walk-2.ensures.goes_on)
-    (rw c.take_walk.ensures.rest at c.stand.ensures.gives)
-    (rw c.take_walk.ensures.rest at c.stand.ensures.same_run)
+    _ _ c.in_ok-halted.ensures.halted
+    (rw c.take_halted.ensures.rest at c.in_ok-halted-2.ensures.goes_on)
+    (rw c.take_halted.ensures.rest at c.stand.ensures.gives)
+    (rw c.take_halted.ensures.rest at c.stand.ensures.same_run)

@@ -6,11 +6,11 @@ pub returns : goal.returns
 returns g c = (
   refl,
   record {
-    walk = c.in_ok-walk.walk;
-    walk_is = refl;
+    halted = c.in_ok-halted.halted;
+    halted_is = refl;
     stands = record {
-      walks = c.in_ok-walk.ensures.stands (omega arith) (level-first _) (inr (omega arith));
-      place_is = c.in_ok-walk.ensures.place;
+      stands = c.in_ok-halted.ensures.stands (omega arith) (level-first _);
+      place_is = c.in_ok-halted.ensures.place;
       settled = (omega arith, inl (inr (omega arith)));
     };
     stops = c.new.ensures;
