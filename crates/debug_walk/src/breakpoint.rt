@@ -1,7 +1,5 @@
-ghost use Rattle.std.specs.Prelude.{◌≡◌, ℕ, List};
-ghost use Rattle.bus_signals.specs.declared.event.Event.{Event};
+ghost use Rattle.std.specs.Prelude.{◌≡◌};
 ghost use Rattle.part_definitions.specs.CpuRegister.{is_asleep};
-ghost use Rattle.device_core.specs.Device.{steps_made};
 ghost use Rattle.debug_session.specs.Cause.{is_broken_at};
 ghost use Rattle.debug_session.specs.Place.{is_awake};
 ghost use Rattle.debug_walk.specs.Walk.{OfMidway};

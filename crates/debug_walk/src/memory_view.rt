@@ -1,5 +1,4 @@
-ghost use Rattle.std.specs.Prelude.{◌≡◌, ◌≤◌, ◌<◌, min, length, true};
-ghost use Rattle.arrayvec.specs.ArrayVec.{array_vec_len};
+ghost use Rattle.std.specs.Prelude.{◌≡◌, ◌<◌, min};
 ghost use Rattle.debug_session.specs.Place.{registers_at};
 ghost use Rattle.debug_session.specs.Shown.{byte_shown, bytes_shown, is_shown, registers_bytes};
 ghost use Rattle.debug_walk.specs.Halted.{OfHalted};

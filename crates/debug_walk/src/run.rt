@@ -124,6 +124,7 @@ impl<'a> Run<'a> {
             → HaltedStandsFor D.hash ⟦<IsrFlag as TraceFlag>⟧.flag halted
             (played_run D.hash ⟦<IsrFlag as TraceFlag>⟧.flag self.now)) }
         ensures place { IfOk result (λ halted. halted_at halted ≡ min place most_steps) }
+        ensures level { IfOk result (λ halted. halted.level ≡ level) }
     {
         let (live, playback) = self.live_at(alloc, place)?;
         Ok(Halted::new(live, playback, level))
@@ -159,8 +160,8 @@ impl<'a> Run<'a> {
     }
 }
 
-// Plays on up to a place.
-fn play_up_to<D: Digest32, G: TraceFlag>(
+/// Plays on up to a place.
+pub fn play_up_to<D: Digest32, G: TraceFlag>(
     mut live: Live<D, G>,
     playback: &mut Playback<'_>,
     place: u64,

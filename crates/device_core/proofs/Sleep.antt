@@ -1,5 +1,5 @@
 -- Steps of sleep in a row.
-use Rattle.std.proofs.Common.{◌≡◌, ◌∙◌, ◌≤◌, ◌∷◌, ℕ, zero, suc, Bool, true, false, map, Option, None, Some, is_some, if◌then◌else◌, refl, sym, ap, subst, arith, List}
+use Rattle.std.proofs.Common.{◌≡◌, ◌∙◌, ◌<◌, ◌≤◌, ◌∷◌, ℕ, zero, suc, Bool, true, false, map, Option, None, Some, is_some, if◌then◌else◌, refl, sym, ap, subst, arith, List}
 use Rattle.bus_signals.specs.declared.bounds.Bounds.{Bounds}
 use Rattle.bus_signals.specs.declared.bus_record.BusRecord.{BusRecord}
 use Rattle.bus_signals.specs.declared.kind.Kind.TheVariants.{Cpu, Idle, Irq, Rom}
@@ -11,7 +11,7 @@ use Rattle.part_definitions.specs.CpuState.{Boundary}
 use Rattle.part_definitions.specs.Dma.{dma_access}
 use Rattle.part_definitions.specs.FirstRule.{first_rule}
 use Rattle.device_trace.specs.Blank.{blank_seen}
-use Rattle.device_trace.specs.Logs.{Logs, aux_of, flags_of, flags_shown, logged_bounds, vector_of, with_record}
+use Rattle.device_trace.specs.Logs.{Logs, aux_of, flags_of, flags_shown, logged_bounds, vector_of, with_events, with_record}
 use Rattle.device_trace.specs.Peripherals.{requests}
 use Rattle.bus_signals.specs.declared.signals.Signals.{Signals}
 use Rattle.hmac_core.specs.Hash.{Hash}
@@ -20,7 +20,8 @@ use Rattle.device_trace.specs.Trace.{last_signals, logs_after}
 use Rattle.device_trace.specs.Progress.{Progress, Runs, boundary_kind, last_registers}
 use Rattle.device_trace.specs.Signals.{signals_at, signals_of, step_kind}
 use Rattle.device_trace.specs.Start.{Start}
-use Rattle.device_trace.specs.Step.{record_from, record_of}
+use Rattle.device_trace.specs.Step.{next_record, record_from, record_of}
+use Rattle.device_core.specs.Asleep.{AreAsleep, IsAsleep}
 use Rattle.device_core.specs.Bus.{BusStandsFor, KeepsSignals, LastStandsFor, logs_after_step}
 use Rattle.device_core.specs.FlagsKept.{LeavesFlags}
 use Rattle.part_definitions.specs.Memory.{MemoryWrite, ShownFlags, byte_at}
@@ -32,7 +33,7 @@ use Rattle.device_core.specs.declared.last_step.LastStep.{LastStep}
 use Rattle.device_core.specs.declared.machine.Machine.{Machine}
 use Rattle.device_core.specs.declared.stage.Stage.TheVariants.{Running}
 use Rattle.device_core.specs.Monitors.{MonitorsStandFor}
-use Rattle.device_core.specs.Sleep.{SleepsAt, Rests, Sleeps, idle_signals, logs_idle, rested}
+use Rattle.device_core.specs.Sleep.{IsSleepStep, SleepsAt, Rests, Sleeps, idle_signals, logs_idle, rested}
 use Rattle.device_core.specs.declared.bus.Bus.{Bus}
 use Rattle.device_core.proofs.FlagsShown.{flags-kept}
 use Rattle.device_core.proofs.Idle.{idle-logs, silent-unkept}
@@ -234,6 +235,20 @@ module _ {G : Type 0} (flag : Flag G) (bus : Bus G) (start : Start) (first : Log
         (sleeps-on steps (λ some few. alike some (omega arith)))
         (alike steps (omega arith))
 
+    pub asleep-step :
+        (steps : ℕ) → AsksAlike steps first → IsSleepStep start (logs_idle start steps first)
+    asleep-step steps alike =
+        let regs = last_registers first.progress in
+        let logs = logs_idle start steps first in
+        let on = sleeps-on steps alike in
+        let same =
+        record-asleep start logs regs (still-idle steps logs on (alike steps (omega arith)))
+        (here.repeats.unbroken logs.records on.same_monitors) in
+        record {
+          idle = ap (λ (entry : BusRecord). entry.kind) same;
+          unrefused = ap (λ (entry : BusRecord). entry.reset) same;
+        }
+
     pub asleep :
         (steps : ℕ) → AsksAlike steps first → Sleeps first (logs_idle start steps first)
     asleep steps alike =
@@ -253,7 +268,7 @@ idle-logs-all start (suc steps) play =
     idle-logs start (with_idle steps play)
     ∙ ap (λ logs. logs_after_step start logs false) (idle-logs-all start steps play)
 
-no-signals :
+pub no-signals :
     (last : Option LastStep) (now : Option Signals) → last ≡ None → KeepsSignals last now
 no-signals None now none = tt
 no-signals (Some step) now none = absurd cc
@@ -302,4 +317,38 @@ silent-asleep start play (suc steps) sleeps = (
       (sleeps (suc steps) (omega arith)).same_last)
       refl,
   silent-asleep start play steps (λ some few. sleeps some (omega arith)),
+)
+
+-- so are they all
+next-asleep :
+    (start : Start) (play : Play) (steps : ℕ)
+    → IsSleepStep start (logs_idle start steps (logs_after start play))
+    → Sleeps (logs_after start play) (logs_idle start steps (logs_after start play))
+    → Sleeps (logs_after start play) (logs_idle start (suc steps) (logs_after start play))
+    → IsAsleep start (with_idle steps play)
+unfolding next_record with_events
+next-asleep start play steps is here next =
+    let same = idle-logs-all start steps play in
+    let later = idle-logs-all start (suc steps) play in
+    record {
+      idle = ap (λ (logs : Logs). (record_of start logs false).kind) same ∙ is.idle;
+      unrefused = ap (λ (logs : Logs). (record_of start logs false).reset) same ∙ is.unrefused;
+      same_progress =
+          ap (λ (logs : Logs). logs.progress) later
+          ∙ (next.same_progress ∙ sym here.same_progress)
+          ∙ ap (λ (logs : Logs). logs.progress) (sym same);
+    }
+
+pub all-asleep :
+    (start : Start) (play : Play) (steps : ℕ)
+    → ((some : ℕ) → some < steps → IsSleepStep start (logs_idle start some (logs_after start play)))
+    → ((some : ℕ) → some ≤ steps
+    → Sleeps (logs_after start play) (logs_idle start some (logs_after start play)))
+    → AreAsleep start steps play
+all-asleep start play zero is sleeps = tt
+all-asleep start play (suc steps) is sleeps = (
+  next-asleep start play steps (is steps (omega arith)) (sleeps steps (omega arith))
+      (sleeps (suc steps) (omega arith)),
+  all-asleep start play steps (λ some few. is some (omega (arith, few)))
+      (λ some few. sleeps some (omega (arith, few))),
 )

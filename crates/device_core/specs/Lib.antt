@@ -3,6 +3,7 @@ pub mod Device
 pub mod Step
 pub mod StepLine
 pub mod Silence
+pub mod Asleep
 pub mod Refusal
 pub mod KeptCounter
 pub mod ForEachKey

@@ -17,6 +17,7 @@ use Rattle.device_trace.specs.Peripherals.{Peripherals}
 use Rattle.device_trace.specs.Progress.{last_registers}
 use Rattle.device_trace.specs.Signals.{step_kind}
 use Rattle.device_trace.specs.Start.{Start}
+use Rattle.device_trace.specs.Step.{record_of}
 use Rattle.device_core.specs.Bus.{LastStandsFor, logs_after_step}
 use Rattle.device_core.specs.FlagsKept.{LeavesFlags}
 use Rattle.device_core.specs.Machine.{DecisionStandsFor, IsAtBoundary}
@@ -66,6 +67,11 @@ pub record Repeats {G : Type 0} (flag : Flag G) (monitors : Monitors G) (now : S
       → MonitorsStandFor flag monitors records
       → IsRecordOf now entry
       → LeavesFlags flag (record { entry = entry; bounds = bounds }) records
+
+-- the next step is one of sleep, and is not refused
+pub record IsSleepStep (start : Start) (logs : Logs) : Type 0 where
+  pub idle : (record_of start logs false).kind ≡ Idle
+  pub unrefused : (record_of start logs false).reset ≡ None
 
 -- and the bus as it is, but for the timer
 pub record Rests {G : Type 0} (flag : Flag G) (bus : Bus G) (now : Signals) (start : Start)

@@ -1,4 +1,4 @@
-ghost use Rattle.std.specs.Prelude.{◌≡◌, ◌≤◌, ◌∷◌, [], ℕ, true, false, List, Option, IfOk, IfSome, IsSome, None, Some, is_none, map, if◌then◌else◌};
+ghost use Rattle.std.specs.Prelude.{◌≡◌, ◌<◌, ◌≤◌, ◌∷◌, [], ℕ, true, false, List, Option, IfOk, IfSome, IsSome, None, Some, is_none, map, if◌then◌else◌};
 ghost use Rattle.bus_signals.specs.declared.event.Event.{Event};
 ghost use Rattle.bus_signals.specs.Bounds.{executable_region};
 ghost use Rattle.bus_signals.specs.TraceFlag.{IsRecordOf};
@@ -18,14 +18,14 @@ ghost use Rattle.device_trace.specs.Signals.{signals_of, word_fetched, value_rea
 ghost use Rattle.device_trace.specs.Step.{is_reset, asks_reset, record_from};
 ghost use Rattle.device_core.specs.Bus.{TurnStandsFor, logs_after_step};
 ghost use Rattle.device_core.specs.Silence.{has_line};
-ghost use Rattle.device_core.specs.Sleep.{SleepsAt, idle_signals, logs_idle};
+ghost use Rattle.device_core.specs.Sleep.{IsSleepStep, SleepsAt, idle_signals, logs_idle};
 
 use crate::access::{value_read, word_fetched};
 use crate::calm::{ABOVE_ROM, is_above_rom, is_calm};
 use crate::last_step::{LastStep, keep_none};
 use crate::monitors::Monitors;
 use crate::peripherals::Peripherals;
-use crate::record::{goes_on_in_call, is_kept, record_of_refusal, record_of_step};
+use crate::record::{goes_on_in_call, has_line, is_kept, record_of_refusal, record_of_step};
 use crate::turn::Turn;
 use bus_signals::{Access, BusMaster, BusRecord, CR, Event, Kind, Region, Signals, TraceFlag};
 use mem_map::{Image, Memory, exchange};
@@ -186,12 +186,32 @@ impl<G: TraceFlag> Bus<G> {
             → SleepsAt pc logs
             → steps ≤ result
             → Sleeps logs (logs_idle start steps logs) }
+        ensures idle { (start : Start) (logs : Logs) (steps : ℕ)
+            → BusStandsFor G.flag self.old start logs
+            → SleepsAt pc logs
+            → steps < result
+            → IsSleepStep start (logs_idle start steps logs) }
     {
         if self.rests(&idle_signals(pc)) {
             self.peripherals.rest(most)
         } else {
             0
         }
+    }
+
+    /// Keeps the last step no longer, where it has no line. Whether none is kept.
+    pub fn forget_last(&mut self) -> bool
+        ensures none { result ≡ true → self.new.last ≡ None }
+        ensures stays { result ≡ false → self.new ≡ self.old }
+        ensures stands { (start : Start) (logs : Logs)
+            → BusStandsFor G.flag self.old start logs
+            → BusStandsFor G.flag self.new start logs }
+    {
+        if self.last.is_some_and(|step| has_line(&step.entry)) {
+            return false;
+        }
+        self.last = None;
+        true
     }
 
     // Whether steps that are about to do this leave the bus as it is, but for the timer: the DMA
@@ -522,5 +542,24 @@ impl<G: TraceFlag> Bus<G> {
             self.refuse(regs, now);
             None
         }
+    }
+}
+
+impl<G: TraceFlag + Copy> Bus<G> {
+    ghost use Rattle.device_core.specs.Bus.{BusStandsFor};
+
+    /// A bus at which the same happened.
+    pub fn try_clone(&self, alloc: Global) -> Result<Bus<G>, AllocError>
+        ensures stands { (start : Start) (logs : Logs)
+            → BusStandsFor G.flag self.now start logs
+            → IfOk result (λ other. BusStandsFor G.flag other start logs) }
+        ensures last { IfOk result (λ other. other.last ≡ self.now.last) }
+    {
+        Ok(Bus {
+            memory: self.memory.try_clone(alloc)?,
+            peripherals: self.peripherals.try_clone(alloc)?,
+            monitors: self.monitors.copied(),
+            last: self.last,
+        })
     }
 }

@@ -1,5 +1,5 @@
 -- Where a debugger goes back to, a walk may begin, at the level that was found.
-use Rattle.std.proofs.Common.{◌≡◌, ◌≤◌, ◌-◌, ◌∙◌, inl, inr, ⊎_elim, ℕ, zero, suc, Bool, true, false, Option, Some, None, min, refl, ap, sym, subst, arith, option_map}
+use Rattle.std.proofs.Common.{◌≡◌, ◌≤◌, ◌<◌, ◌+◌, ◌-◌, ◌∙◌, inl, inr, ⊎_elim, ℕ, zero, suc, Bool, true, false, Option, Some, None, min, refl, ap, sym, subst, arith, option_map}
 use Rattle.std.specs.Prelude.{IfSome}
 use Rattle.std.proofs.lemmas.Bool.{cases_Bool, false≢true, true≢false}
 use Rattle.bus_signals.specs.TraceFlag.{Flag}
@@ -15,12 +15,13 @@ use Rattle.debug_walk.specs.Seen.{IsSeenAt, MayBeginAt, with_level}
 use Rattle.debug_walk.specs.Halted.{HaltedStandsFor, IsLevelAt, halted_at}
 use Rattle.debug_walk.specs.Walk.{SecondFlag}
 use Rattle.debug_walk.specs.declared.halted.Halted.{Halted}
+use Rattle.debug_walk.proofs.LevelSteps.{level-small}
 use Rattle.debug_walk.specs.declared.step_seen.LevelPlace.{LevelPlace}
 use Rattle.debug_walk.specs.declared.step_seen.StepSeen.{StepSeen}
 use Rattle.device_debug.specs.Forwards.{HasHalted}
-use Rattle.device_debug.specs.NearStop.{IsNearStop}
+use Rattle.device_debug.specs.NearStop.{IsNear}
 use Rattle.device_debug.specs.WayBack.{IsStanding, found_or_begin, passes, sees}
-use Rattle.device_debug.specs.declared.near_stop.NearStop.{NearStop}
+use Rattle.device_debug.specs.declared.near_way.NearStop.{NearStop}
 use Rattle.device_debug.specs.declared.way_back.Found.{Found}
 use Rattle.device_debug.specs.declared.way_back.WayBack.{WayBack}
 use Rattle.device_debug.proofs.Beginning.{level-first}
@@ -136,12 +137,6 @@ back-step run stops highest way passed seen_way place stood next level_here seen
     rw (is_seen, is_passed, is_level, is_last, is_next, same)
     (goes-back run stops highest way place is seen here.begins_is here.refused_is here.hits_are)
 
--- a level that is known is that of another place too
-known-there : (run : Run) (one other : ℕ) (known : Option ℕ)
-    → level run other ≡ level run one → IsLevelAt run one known → IsLevelAt run other known
-known-there run one other None same is = tt
-known-there run one other (Some told) same is = is ∙ sym same
-
 -- the level of a halted device is known at its place
 pub level-here : {D : Type 0} (run : Run) (halted : Halted D) (place : ℕ) (known : Option ℕ)
     → place ≡ halted_at halted → known ≡ halted.level
@@ -185,22 +180,55 @@ module _ {D : Type 0} {hash : Hash D} {flag : Flag SecondFlag} (run : Run) (stop
       halted-back steps found.at.place (Some found.at.level) found.stop is.place_is is.stop_is
       (rw is.place_is is.level_is) stands is_at
 
-  -- and where it is near
-  pub gone-near : (steps : Bool) (found : NearStop) (known : Option ℕ)
-      → steps ≡ true → IsLevelAt run from known
-      → IsNearStop run stops from found
-      → (found.place ≤ most_steps → IsLevelAt run found.place known
+-- the level of what was found on a way
+level-found : (run : Run) (from depth : ℕ) (found : NearStop) (known : Option ℕ)
+    → from ≤ most_steps
+    → level run found.place + depth ≡ level run from + found.depth
+    → found.place < from
+    → depth ≤ level run from
+    → IsLevelAt run from known
+    → IsLevelAt run found.place
+    (option_map (λ told. min (told + found.depth) 18446744073709551615 - depth) known)
+level-found run from depth found None within is before shallow told = tt
+level-found run from depth found (Some told) within levels before shallow is =
+    let here : level run from ≤ from = level-small run from in
+    let there : level run found.place ≤ found.place = level-small run found.place in
+    omega (arith, is, shallow, here, there, within, levels, before)
+
+-- where that was
+module _ {D : Type 0} {hash : Hash D} {flag : Flag SecondFlag} (run : Run) (stops : Stops)
+    (from first depth : ℕ) (found : NearStop) (halted : Halted D) (within : from ≤ most_steps)
+    (near : IsNear run stops first from (level run from) (level run from) depth found) where
+  pub gone-near : (known : Option ℕ) (stop : Stop) (place : ℕ)
+      → depth ≤ level run from
+      → IsLevelAt run from known
+      → place ≡ found.place
+      → stop ≡ found.stop
+      → (IsLevelAt run place
+      (option_map (λ told. min (told + found.depth) 18446744073709551615 - depth) known)
       → HaltedStandsFor hash flag halted run)
-      → halted_at halted ≡ min found.place most_steps
-      → HasHalted hash flag run halted found.stop (back_to run stops place steps)
-  gone-near steps found known stepping told near stands is_at =
-      let now : back_to run stops place steps
-      ≡ record { place = found.place; stop = found.stop } =
-      ap (back_to run stops place) stepping
-      ∙ ap (λ (one : ℕ). back_to run stops one true) (sym same) ∙ near.stands in
-      halted-back steps found.place known found.stop
-      (sym (ap (λ (one : Standing). one.place) now)) (sym (ap (λ (one : Standing). one.stop) now))
-      (known-there run from found.place known near.level_is told) stands is_at
+      → halted_at halted ≡ place
+      → HasHalted hash flag run halted stop (back_to run stops from true)
+  gone-near known stop place shallow told there stopped stands at =
+      let now : back_to run stops from true
+      ≡ record { place = found.place; stop = found.stop } = near.stands in
+      let here : place ≡ (back_to run stops from true).place =
+      there ∙ sym (ap (λ (one : Standing). one.place) now) in
+      let may : MayStandAt run (back_to run stops from true).place =
+      last-stands run stops (highest_of true run from) from from within in
+      record {
+        stands = record {
+          stands = stands
+              (subst (λ (at : ℕ). IsLevelAt run at
+              (option_map (λ told. min (told + found.depth) 18446744073709551615 - depth) known))
+              (sym there)
+              (level-found run from depth found known within near.level_is near.before shallow
+              told));
+          place_is = at ∙ here;
+          settled = (may.0, inl may.1);
+        };
+        stop_is = stopped ∙ sym (ap (λ (one : Standing). one.stop) now);
+      }
 
 -- at the beginning
 pub back-begun : (run : Run) (stops : Stops) (highest : Option ℕ) (way : WayBack) (place : ℕ)

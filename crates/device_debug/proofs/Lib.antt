@@ -12,12 +12,13 @@ pub mod GoingOn
 pub mod GoingWalk
 pub mod Gone
 pub mod GrownTexts
+pub mod Looks
+pub mod NearSleep
 pub mod NearStops
 pub mod NearWays
 pub mod OnWay
 pub mod OnWayBack
 pub mod RefusalText
-pub mod SameLevels
 pub mod SecondFlag
 pub mod Showing
 pub mod SkimBoundaries

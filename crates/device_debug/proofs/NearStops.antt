@@ -1,7 +1,7 @@
 -- Where a step back stops when no watch is set, from one place and from the next.
-use Rattle.std.proofs.Common.{◌≡◌, ◌≤◌, ◌+◌, ◌-◌, ◌∙◌, ◌++◌, ℕ, zero, suc, Bool, true, false, List, [], Option, Some, None, nat_le, refl, ap, sym, arith}
-use Rattle.std.specs.Prelude.{◌&&◌, ◌||◌, if◌then◌else◌}
-use Rattle.std.proofs.lemmas.Bool.{le-leb}
+use Rattle.std.proofs.Common.{◌≡◌, ◌≤◌, ◌<◌, ◌+◌, ◌-◌, ◌∙◌, ◌++◌, ℕ, zero, suc, Bool, true, false, List, [], Option, Some, None, nat_le, refl, ap, sym, arith}
+use Rattle.std.specs.Prelude.{◌&&◌, if◌then◌else◌}
+use Rattle.std.proofs.lemmas.Bool.{le-leb, lt-leb}
 use Rattle.bus_signals.specs.declared.access.Access.{Access}
 use Rattle.bus_signals.specs.declared.rule.Rule.{Rule}
 use Rattle.debug_stops.specs.Stops.{Stops}
@@ -11,10 +11,10 @@ use Rattle.debug_stops.specs.declared.stop.Stop.{Stop}
 use Rattle.debug_stops.specs.declared.stop.Stop.TheVariants.{Plain, Stepped}
 use Rattle.debug_stops.specs.declared.watch.Hit.{Hit}
 use Rattle.debug_stops.specs.declared.watch.Watch.{Watch}
-use Rattle.debug_session.specs.Cause.{backward_cause, is_broken_at, is_due_first, is_plain, refusal_from, refusal_of, steps_back_to, stop_of}
+use Rattle.debug_session.specs.Cause.{backward_cause, is_plain, refusal_from, refusal_of, steps_back_to, stop_of}
 use Rattle.debug_session.specs.Going.{Standing, last_stop, standing_at}
 use Rattle.debug_session.specs.Level.{level}
-use Rattle.debug_session.specs.Place.{Run, earlier_boundary, is_boundary, is_instruction, is_refused, stands_at_boundary, step_at}
+use Rattle.debug_session.specs.Place.{Run, is_boundary, is_instruction, is_refused, stands_at_boundary, step_at}
 use Rattle.debug_session.specs.Watching.{aux_changes, exec_changes, hits_from}
 use Rattle.debug_walk.proofs.Options.{same-choice}
 use Rattle.debug_walk.proofs.Places.{held-first}
@@ -113,46 +113,70 @@ next-stop run stops highest from (suc before) = refl
 
 -- what stops a step at a place, whatever its level
 abbrev pub near_cause : Bool → Bool → Bool → Option Stop
-near_cause here broken begins =
-    if here && broken then Some Plain else if here && begins then Some Stepped else None
+near_cause here plain begins =
+    if here && plain then Some Plain else if here && begins then Some Stepped else None
 
-pub near-here : (here broken begins : Bool) (stop : Stop)
-    → near_cause here broken begins ≡ Some stop → here ≡ true
-near-here true broken begins stop is = refl
-near-here false broken begins stop is = absurd (cc (is))
-
-plain-cause : (broken begins : Bool)
-    → stop_of None (broken || false) (begins && true) None ≡ near_cause true broken begins
+plain-cause : (plain begins : Bool)
+    → stop_of None plain (begins && true) None ≡ near_cause true plain begins
 plain-cause true begins = refl
 plain-cause false true = refl
 plain-cause false false = refl
 
-cause-near : (here broken due begins least : Bool) (refusal : Option Rule)
-    → (here ≡ true → due ≡ false) → least ≡ true → refusal ≡ None
-    → (if here then stop_of None (broken || due) (here && begins && least) refusal else None)
-    ≡ near_cause here broken begins
-cause-near true broken due begins least refusal undue is made =
-    rw (undue refl, is, made) (plain-cause broken begins)
-cause-near false broken due begins least refusal undue is made = refl
+cause-near : (here plain begins least : Bool) (refusal : Option Rule)
+    → least ≡ true → refusal ≡ None
+    → (if here then stop_of None plain (here && begins && least) refusal else None)
+    ≡ near_cause here plain begins
+cause-near true plain begins least refusal is made = rw (is, made) (plain-cause plain begins)
+cause-near false plain begins least refusal is made = refl
 
 abbrev pub near_stop_at : Run → Stops → ℕ → Option Stop
-near_stop_at run stops place = stop_near (near_place run stops place) (step_at run place)
+near_stop_at run stops place =
+    stop_near (near_place run stops place) (is_boundary run place && is_plain run stops place)
+    (step_at run place)
 
--- so it does where the level is that of the place from which it goes
-pub cause-here : (run : Run) (stops : Stops) (place : ℕ)
-    → stops.watches ≡ [] → is_refused (step_at run place) ≡ false
-    → (is_boundary run place ≡ true
-    → is_due_first stops (earlier_boundary run place) place ≡ false)
-    → backward_cause run stops (Some (level run place)) place (suc place - place)
+-- so it does where its level is not above that of the step
+pub cause-here : (run : Run) (stops : Stops) (place highest : ℕ)
+    → stops.watches ≡ [] → is_refused (step_at run place) ≡ false → level run place ≤ highest
+    → backward_cause run stops (Some highest) place (suc place - place)
     ≡ near_stop_at run stops place
-cause-here run stops place none made undue =
-    let highest : Option ℕ = Some (level run place) in
+cause-here run stops place highest none made above =
     let one : suc place - place ≡ suc zero = omega arith in
-    ap (backward_cause run stops highest place) one
-    ∙ unwatched run stops highest place (suc zero) none
-    ∙ cause-near (is_boundary run place) (is_broken_at run stops place)
-    (is_due_first stops (earlier_boundary run place) place)
-    (is_instruction (step_at run place).kind) (nat_le (level run place) (level run place))
-    (refusal_from run place (suc zero)) undue
-    (le-leb (level run place) (level run place) (omega arith))
+    ap (backward_cause run stops (Some highest) place) one
+    ∙ unwatched run stops (Some highest) place (suc zero) none
+    ∙ cause-near (is_boundary run place) (is_plain run stops place)
+    (is_instruction (step_at run place).kind) (nat_le (level run place) highest)
+    (refusal_from run place (suc zero)) (le-leb (level run place) highest above)
     (still-unrefused run place zero place (omega arith) made)
+
+none-plain : (begins : Bool) → stop_of None false (begins && false) None ≡ None
+none-plain true = refl
+none-plain false = refl
+
+cause-apart : (here plain begins least : Bool) (refusal : Option Rule)
+    → (here && plain) ≡ false → least ≡ false → refusal ≡ None
+    → (if here then stop_of None plain (here && begins && least) refusal else None) ≡ None
+cause-apart true plain begins least refusal none is made =
+    rw (none, is, made) (none-plain begins)
+cause-apart false plain begins least refusal none is made = refl
+
+-- and where it is above, it stops there for a plain cause alone
+pub cause-above : (run : Run) (stops : Stops) (place highest : ℕ)
+    → stops.watches ≡ [] → is_refused (step_at run place) ≡ false
+    → (is_boundary run place && is_plain run stops place) ≡ false
+    → highest < level run place
+    → backward_cause run stops (Some highest) place (suc place - place) ≡ None
+cause-above run stops place highest none made unplain above =
+    let one : suc place - place ≡ suc zero = omega arith in
+    ap (backward_cause run stops (Some highest) place) one
+    ∙ unwatched run stops (Some highest) place (suc zero) none
+    ∙ cause-apart (is_boundary run place) (is_plain run stops place)
+    (is_instruction (step_at run place).kind) (nat_le (level run place) highest)
+    (refusal_from run place (suc zero)) unplain (lt-leb (level run place) highest above)
+    (still-unrefused run place zero place (omega arith) made)
+
+-- a place at which nothing stops has no plain cause
+pub near-unplain : (here plain begins : Bool)
+    → near_cause here plain begins ≡ None → (here && plain) ≡ false
+near-unplain true true begins is = absurd (cc (is))
+near-unplain true false begins is = refl
+near-unplain false plain begins is = refl

@@ -23,17 +23,12 @@ use Rattle.debug_session.specs.Level.{begun_level}
 use Rattle.debug_session.specs.Place.{Run, earlier_boundary, ends, is_boundary, is_refused, last_boundary, stands_at_boundary, step_at}
 use Rattle.debug_session.specs.Watching.{aux_changes, exec_changes, hits_at, hits_before}
 use Rattle.debug_walk.specs.Seen.{MayBeginAt, with_level}
-use Rattle.device_debug.specs.Way.{hit_behind, refusal_of, steps_here, stop_behind, way_behind}
+use Rattle.device_debug.specs.Way.{hit_behind, refusal_of, steps_here, stop_behind, was_due, way_behind}
 use Rattle.debug_walk.specs.declared.step_seen.LevelPlace.{LevelPlace}
 use Rattle.debug_walk.specs.declared.step_seen.StepSeen.{StepSeen}
 use Rattle.device_debug.specs.declared.way.Way.{Way}
 use Rattle.debug_walk.proofs.Places.{held-first, step-progress}
 use Rattle.debug_walk.proofs.Options.{same-choice, some-same}
-
--- a boundary that was due
-abbrev pub was_due : Stops → Option ℕ → Bool
-was_due stops None = false
-was_due stops (Some place) = is_due stops place
 
 -- a refusal waits for the step that is refused, behind a boundary that was passed
 abbrev pub or_refused : ℕ → Option ℕ → Option Rule → Standing → Standing

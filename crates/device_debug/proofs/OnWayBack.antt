@@ -24,7 +24,8 @@ use Rattle.device_debug.specs.declared.way_back.Found.{Found}
 use Rattle.device_debug.specs.declared.way_back.WayBack.{WayBack}
 use Rattle.debug_walk.proofs.Begins.{last-here}
 use Rattle.debug_walk.proofs.Places.{held-first}
-use Rattle.device_debug.proofs.OnWay.{cause-at, due-first, last-within, was_due}
+use Rattle.device_debug.proofs.OnWay.{cause-at, due-first, last-within}
+use Rattle.device_debug.specs.Way.{was_due}
 use Rattle.device_debug.proofs.Told.{boundary-of}
 use Rattle.debug_walk.proofs.Options.{none-is-some, some-same}
 use Rattle.device_debug.proofs.Windows.{IsClosed, IsOpen, closed-between, hits-closed, hits-open, none-refused_yet, none-since_last, open-since, refusal-closed, refusal-open}

@@ -42,3 +42,8 @@ stop_behind run stops seen way place =
     (is_broken_at run stops place || (is_due stops place && not way.is_due))
     (steps_here seen.ended way.highest) None
     else None
+
+-- whether a boundary was not before the number of steps asked for
+abbrev pub was_due : Stops → Option ℕ → Bool
+was_due stops None = false
+was_due stops (Some place) = is_due stops place

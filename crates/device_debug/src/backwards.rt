@@ -36,8 +36,8 @@ pub fn go_back<'a, D: Digest32>(
     let level = now.level();
     drop(now);
     if steps {
-        if let Some(near) = near_stop::<D>(alloc, run, stops, place)? {
-            return Ok((run.halt_at(alloc, near.place, level)?, near.stop));
+        if let Some(near) = near_stop(alloc, run, stops, place, level)? {
+            return Ok(near);
         }
     }
     let highest = highest_of::<D>(alloc, run, place, level, steps)?;

@@ -5,6 +5,7 @@ use Rattle.bus_signals.specs.declared.event.Event.{Event}
 use Rattle.device_trace.specs.Play.{Play}
 use Rattle.device_trace.specs.Start.{Start}
 use Rattle.device_trace.specs.Trace.{play_of}
+use Rattle.device_core.specs.Asleep.{AreAsleep, IsAsleep}
 use Rattle.device_core.specs.Silence.{is_silent, with_idle, AreSilent}
 
 pub length-play_of :
@@ -38,4 +39,18 @@ silent-at start play (suc steps) step silent below = ⊎_elim
     (λ over.
     let same : steps ≡ step = omega arith in
     subst (λ last. is_silent start (with_idle (suc last) play) ≡ true) same silent.0)
+    (cases_lt step steps)
+
+-- and so is sleep
+pub asleep-at :
+    (start : Start) (play : Play) (steps step : ℕ)
+    → AreAsleep start steps play
+    → step < steps
+    → IsAsleep start (with_idle step play)
+asleep-at start play zero step asleep below = absurd (omega arith)
+asleep-at start play (suc steps) step asleep below = ⊎_elim
+    (λ less. asleep-at start play steps step asleep.1 less)
+    (λ over.
+    let same : steps ≡ step = omega arith in
+    subst (λ last. IsAsleep start (with_idle last play)) same asleep.0)
     (cases_lt step steps)

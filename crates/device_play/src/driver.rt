@@ -6,7 +6,7 @@ ghost use Rattle.play_script.specs.Script.{events_of};
 ghost use Rattle.device_core.specs.Device.{HasStepped, HeldStandsFor, steps_made};
 ghost use Rattle.device_play.specs.Cuts.{CountsWriteFaults};
 ghost use Rattle.device_play.specs.Limit.{most_steps};
-ghost use Rattle.device_play.specs.Midway.{IsMidway, HasGoneOn};
+ghost use Rattle.device_play.specs.Midway.{IsMidway, HasGoneOn, HasSleptOn};
 ghost use Rattle.device_play.specs.Watching.{IsPoweredOn, IsWatched};
 
 use crate::put_fault::PutFault;
@@ -41,6 +41,25 @@ pub fn play_to_shown<O: Watcher, D: Digest32, G: TraceFlag>(
     } else {
         live.play_on(next.min(steps) - step)
     }
+}
+
+/// Makes steps of sleep, behind a first one that was made, up to the next event: so many that a
+/// device made this many in all, at most.
+pub fn sleep_on<D: Digest32, G: TraceFlag>(
+    live: Live<D, G>,
+    playback: &Playback<'_>,
+    steps: u64,
+) -> Live<D, G>
+    requires ahead { steps_made live ≤ steps }
+    requires few { steps ≤ most_steps }
+    ensures within { (steps_made live ≤ steps_made result) × (steps_made result ≤ steps) }
+    ensures sleeps { (start : Start) (events_at : ℕ → List Event)
+        → IsMidway D.hash G.flag start events_at live playback.now
+        → HasSleptOn D.hash G.flag start events_at (steps_made live) result playback.now }
+{
+    let step = live.steps();
+    let next = playback.next_step();
+    live.sleep(next.min(steps).saturating_sub(step))
 }
 
 /// Plays a script's first steps on a device at power-on before a watcher. It gives the device after

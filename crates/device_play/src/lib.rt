@@ -3,7 +3,8 @@
 //! A [`Watcher`] says what is put before the first step, of each step that it is shown, and after
 //! the last one, and keeps a tally. [`play_before`] plays a script before it, over any digest and
 //! second flag; [`play_to_shown`] is one turn of it. What is put of a play is said by the watcher's
-//! account of it, and that the play obeys the laws of the device is said here once for all watchers.
+//! account of it, and that the play obeys the laws of the device is said here once for all
+//! watchers.
 #![tactic(auto)]
 
 mod driver;
@@ -16,7 +17,7 @@ mod traced_line;
 mod watcher;
 mod wave_watcher;
 
-pub use driver::{play_before, play_to_shown};
+pub use driver::{play_before, play_to_shown, sleep_on};
 pub use dump_watcher::DumpWatcher;
 pub use law::reports_tell_of_their_moments;
 pub use line_watcher::{LineWatcher, print_end_of, print_last_step};

@@ -49,6 +49,15 @@ impl Memory {
         Ok(Memory { bytes })
     }
 
+    /// A memory with the same bytes.
+    pub fn try_clone(&self, alloc: Global) -> Result<Memory, AllocError>
+        ensures { IfOk result (λ other. Writes self.now (λ writes. writes) other) }
+    {
+        let mut bytes = Vec::with_capacity(alloc, PLACES)?;
+        bytes.extend_from_slice(self.bytes.as_slice())?;
+        Ok(Memory { bytes })
+    }
+
     fn byte(&self, place: u16) -> u8
         ensures { Tells self.now (λ bytes. bytes place) result }
     {

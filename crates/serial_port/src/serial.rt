@@ -1,5 +1,5 @@
 ghost use Rattle.std.specs.Prelude.{◌≡◌, [], IfOk};
-ghost use Rattle.part_definitions.specs.Part.{Takes, Answers};
+ghost use Rattle.part_definitions.specs.Part.{Takes, Answers, Becomes};
 ghost use Rattle.part_definitions.specs.Serial.{Arrival, Load, Store, DeviceReset, waiting_bytes, oldest_byte, has_room, serial_read, serial_word, serial_status, serial_requests, byte_sent};
 
 use crate::sent_byte::byte_sent;
@@ -38,6 +38,21 @@ impl Serial {
             control: Register::new(SCTL),
             queue: HeapCircularBuffer::with_capacity(alloc, ROOM)?,
             has_dropped: false,
+        })
+    }
+
+    /// A port at which the same happened. It takes the memory of its queue too.
+    pub fn try_clone(&self, alloc: Global) -> Result<Serial, AllocError>
+        ensures { IfOk result (λ other. Becomes SerialStandsFor self.now (λ events. events) other) }
+    {
+        let mut queue = HeapCircularBuffer::with_capacity(alloc, self.queue.capacity())?;
+        let (front, back) = self.queue.as_slices();
+        queue.fill_from_slice(front);
+        queue.fill_from_slice(back);
+        Ok(Serial {
+            control: self.control,
+            queue,
+            has_dropped: self.has_dropped,
         })
     }
 

@@ -83,7 +83,8 @@ loop-alloc-preserved g c =
           let stepped = c.step-next.ensures.stands run going.walks in
           going-on hash second_flag g.W.Sink run c.args.stops.now c.args.steps place
           c.args.packets.now at.packets c.tell_step.new.packets at.walk at.way at.waiting going
-          c.step-next.result.0 c.step-next.result.1 (omega (arith, c.loop-alloc-test.true, c.place.ensures))
+          c.step-next.result.0 c.step-next.result.1
+          (omega (arith, c.loop-alloc-test.true, c.place.ensures))
           c.step-next.ensures.place stepped c.tell_step.new.self c.boundary-before.result
           c.stop_after.new.self tt (c.boundary-before.ensures run going.walks)
           (sym c.in_default.is ∙ c.refusal.ensures) (c.in_ok-tell_step.ensures.tells run stepped.0)

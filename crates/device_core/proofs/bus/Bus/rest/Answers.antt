@@ -6,7 +6,7 @@ use Rattle.device_trace.specs.Peripherals.{Peripherals}
 use Rattle.device_core.specs.Bus.{LastStandsFor}
 use Rattle.device_core.specs.Peripherals.{PeripheralsStandFor}
 use Rattle.device_core.specs.Sleep.{Sleeps, logs_idle}
-use Rattle.device_core.proofs.Sleep.{sleeps-on, asleep}
+use Rattle.device_core.proofs.Sleep.{asleep, asleep-step, sleeps-on}
 use Rattle.device_core.proofs.bus.Bus.rest.Goals as goal
 
 pub returns-then-rests-clause-stands : goal.returns-then-rests-clause-stands
@@ -54,3 +54,12 @@ returns-else-rests-clause-asleep g c = λ start logs steps stands sleeps few.
       same_last = subst (λ last. LastStandsFor last logs.records) c.requires stands.same_last;
       same_decision = λ decision same. same;
     })
+
+pub returns-then-rests-clause-idle : goal.returns-then-rests-clause-idle
+returns-then-rests-clause-idle g c = λ start logs steps stands sleeps few.
+    let rests = rw c.idle_signals.ensures at
+    (c.rests.ensures start logs stands c.if-rests.true) in
+    asleep-step g.G.TraceFlag.flag c.args.self.now start logs c.args.pc stands c.requires sleeps
+    rests steps
+    (λ some fewer. c.rest.ensures.requests logs.peripherals some stands.same_peripherals
+    (omega arith))

@@ -1,6 +1,6 @@
 use Rattle.std.proofs.Common.{arith}
 use Rattle.device_trace.specs.Trace.{logs_after}
-use Rattle.device_core.proofs.Sleep.{plays-asleep, silent-asleep}
+use Rattle.device_core.proofs.Sleep.{all-asleep, plays-asleep, silent-asleep}
 use Rattle.device_core.proofs.machine.Machine.rest.Goals as goal
 
 pub returns-in-Some-clause-plays : goal.returns-in-Some-clause-plays
@@ -14,3 +14,12 @@ returns-in-Some-clause-plays g c = λ start play stands.
       silent-asleep start play c.rest.result
           (λ some few. bus.asleep start logs some stands.same.same_bus sleeps few),
     )
+
+pub returns-in-Some-clause-asleep : goal.returns-in-Some-clause-asleep
+returns-in-Some-clause-asleep g c = λ start play stands.
+    let logs = logs_after start play in
+    let sleeps = c.in-Some.ensures start logs stands.same stands.same_stage in
+    let bus = c.rest.ensures in
+    all-asleep start play c.rest.result
+    (λ some few. bus.idle start logs some stands.same.same_bus sleeps few)
+    (λ some few. bus.asleep start logs some stands.same.same_bus sleeps few)

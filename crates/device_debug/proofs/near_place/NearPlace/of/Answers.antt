@@ -2,7 +2,7 @@ use Rattle.std.proofs.Common.{◌≡◌, ◌∙◌, false, true, refl, sym}
 use Rattle.device_core.specs.Device.{steps_made}
 use Rattle.debug_session.specs.Place.{is_boundary}
 use Rattle.debug_walk.proofs.Views.{boundary-at}
-use Rattle.device_debug.proofs.near_stop.NearPlace.of.Goals as goal
+use Rattle.device_debug.proofs.near_place.NearPlace.of.Goals as goal
 
 pub returns-then-not-is_at_boundary : goal.returns-then-not-is_at_boundary
 returns-then-not-is_at_boundary g c = λ run playback midway.

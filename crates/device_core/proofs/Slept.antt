@@ -1,0 +1,104 @@
+-- A device that slept, and one that is copied.
+use Rattle.std.proofs.Common.{◌≡◌, ◌∙◌, ◌+◌, ◌-◌, ◌≤◌, ℕ, None, refl, sym, ap, subst, arith}
+use Rattle.bus_signals.specs.TraceFlag.{Flag}
+use Rattle.hmac_core.specs.Hash.{Hash}
+use Rattle.swatt_rom.specs.RomCall.{NoCall}
+use Rattle.device_trace.specs.Logs.{Logs}
+use Rattle.device_trace.specs.Play.{Play}
+use Rattle.device_trace.specs.Progress.{Progress, Held, Runs, InCall}
+use Rattle.device_trace.specs.Start.{Start}
+use Rattle.device_trace.specs.Trace.{last_signals, logs_after}
+use Rattle.device_core.specs.Asleep.{AreAsleep, HasSlept}
+use Rattle.device_core.specs.Bus.{BusStandsFor}
+use Rattle.device_core.specs.Device.{HasPlayed, LiveStandsFor, steps_made}
+use Rattle.device_core.specs.Machine.{PlaysAt, call_of, stage_of}
+use Rattle.device_core.specs.Silence.{with_idle}
+use Rattle.device_core.specs.declared.bus.Bus.{Bus}
+use Rattle.device_core.specs.declared.device.Device.{Device}
+use Rattle.device_core.specs.declared.device.Running.{Running as RunningState}
+use Rattle.device_core.specs.declared.live.Live.{Live}
+use Rattle.device_core.specs.declared.live.Live.TheVariants.{Running}
+use Rattle.device_core.specs.declared.machine.Machine.{Machine}
+use Rattle.device_core.specs.declared.stage.Stage.{Stage}
+use Rattle.device_core.specs.declared.stage.Stage.TheVariants.{Running as RunningStage}
+use Rattle.device_core.proofs.Idle.{length-idle}
+use Rattle.device_core.proofs.Sleep.{no-signals}
+
+-- a processor that runs is in no call
+pub no-call : (progress : Progress) → RunningStage ≡ stage_of progress → call_of progress ≡ NoCall
+no-call Held runs = absurd (cc (runs))
+no-call (Runs state) runs = refl
+no-call (InCall regs words) runs = absurd (cc (runs))
+
+-- a machine whose last step is no longer kept
+pub forgotten :
+    {D G : Type 0} {hash : Hash D} {flag : Flag G} {stage : Stage} {machine : Machine D G}
+    {bus : Bus G} (start : Start) (play : Play)
+    → ((start : Start) (logs : Logs)
+    → BusStandsFor flag machine.bus start logs
+    → BusStandsFor flag bus start logs)
+    → bus.last ≡ None
+    → PlaysAt hash flag stage machine start play
+    → PlaysAt hash flag stage (record machine { bus = bus }) start play
+forgotten {bus = bus} start play bears none stands =
+    record {
+      same = record {
+        same_bus = bears start (logs_after start play) stands.same.same_bus;
+        same_progress = stands.same.same_progress;
+        same_decision = stands.same.same_decision;
+        same_word = stands.same.same_word;
+      };
+      same_stage = stands.same_stage;
+      same_signals = no-signals bus.last (last_signals start play) none;
+    }
+
+-- a device that slept
+pub has-slept :
+    {D G : Type 0} {hash : Hash D} {flag : Flag G} {old loan new : Machine D G}
+    {count steps slept : ℕ} {device : Device RunningState D G}
+    → loan ≡ old
+    → device.machine.value ≡ new
+    → device.steps ≡ count + slept
+    → slept ≤ steps
+    → ((start : Start) (play : Play)
+    → PlaysAt hash flag RunningStage loan start play
+    → PlaysAt hash flag RunningStage new start (with_idle slept play))
+    → ((start : Start) (play : Play)
+    → PlaysAt hash flag RunningStage loan start play
+    → AreAsleep start slept play)
+    → HasSlept hash flag (HasPlayed hash flag RunningStage old count) count steps (Running device)
+has-slept {hash = hash} {flag = flag} {old = old} {loan = loan} {count = count} {slept = slept}
+    {device = device} from is made few plays asleep =
+    let same : device.steps - count ≡ slept = omega arith in
+    let lent : (start : Start) (play : Play)
+    → HasPlayed hash flag RunningStage old count start play
+    → PlaysAt hash flag RunningStage loan start play =
+    λ start play stood.
+    subst (λ machine. PlaysAt hash flag RunningStage machine start play) (sym from) stood.same in
+    record {
+      from = omega arith;
+      within = omega arith;
+      stands = λ start play stood.
+          rw same
+          (record {
+            same = rw is (plays start play (lent start play stood));
+            same_steps = made
+                ∙ (ap (λ n. n + slept) stood.same_steps ∙ sym (length-idle slept play));
+          });
+      asleep = λ start play stood. rw same (asleep start play (lent start play stood));
+    }
+
+-- and one that did not
+pub none-slept :
+    {D G : Type 0} {hash : Hash D} {flag : Flag G} (steps : ℕ) (live : Live D G)
+    → HasSlept hash flag (LiveStandsFor hash flag live) (steps_made live) steps live
+none-slept {hash = hash} {flag = flag} steps live =
+    let none : steps_made live - steps_made live ≡ 0 = omega arith in
+    record {
+      from = omega arith;
+      within = omega arith;
+      stands = λ start play stood.
+          subst (λ (made : ℕ). LiveStandsFor hash flag live start (with_idle made play)) (sym none)
+          stood;
+      asleep = λ start play stood. subst (λ (made : ℕ). AreAsleep start made play) (sym none) tt;
+    }
