@@ -35,9 +35,11 @@ refused-fault files missed failed row status (inr (inr (inl memory))) no_read (i
     cc (memory, read)
 refused-fault files missed failed row status (inr (inr (inl memory))) no_read (inr write) =
     cc (memory, write)
-refused-fault files missed failed row status (inr (inr (inr (bad, is, reaches)))) no_read (inl read) =
+refused-fault files missed failed row status (inr (inr (inr (bad, is, reaches)))) no_read
+    (inl read) =
     cc (is, read)
-refused-fault files missed failed row status (inr (inr (inr (bad, is, reaches)))) no_read (inr write) =
+refused-fault files missed failed row status (inr (inr (inr (bad, is, reaches)))) no_read
+    (inr write) =
     cc (is, write)
 
 module _ {R W : Type 0} (r : source.Ghosts R) (w : sink.Ghosts W) where

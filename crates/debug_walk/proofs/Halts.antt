@@ -9,25 +9,29 @@ use Rattle.device_play.specs.Midway.{IsMidway}
 use Rattle.debug_session.specs.Level.{level}
 use Rattle.debug_session.specs.Place.{Run}
 use Rattle.debug_walk.specs.Halted.{HaltedStandsFor, IsLevelAt, halted_at}
-use Rattle.debug_walk.specs.Seen.{MayBeginAt}
+use Rattle.debug_walk.specs.Seen.{IsLevelled, MayBeginAt}
 use Rattle.debug_walk.specs.Walk.{SecondFlag}
 use Rattle.debug_walk.specs.declared.halted.Halted.{Halted}
+use Rattle.debug_walk.specs.declared.step_seen.LevelPlace.{LevelPlace}
 
 module _ {D : Type 0} {hash : Hash D} {flag : Flag SecondFlag} (run : Run) where
   -- of a device in the middle of a run, and what is known of its level
   pub halted-there : (live : Live D SecondFlag) (playback : Playback) (known : Option ℕ)
-      (place : ℕ) (halted : Halted D)
+      (before : Option LevelPlace) (place : ℕ) (halted : Halted D)
       → IsMidway hash flag run.start run.events_at live playback
-      → steps_made live ≡ place → IsLevelAt run place known
+      → steps_made live ≡ place → IsLevelAt run place known → IsLevelled run before
       → halted.live ≡ live → halted.playback ≡ playback → halted.level ≡ known
+      → halted.before_reset ≡ before
       → HaltedStandsFor hash flag halted run
-  halted-there live playback known place halted midway made told live_is playback_is known_is =
+  halted-there live playback known before place halted midway made told levelled live_is
+      playback_is known_is before_is =
       let here : halted_at halted ≡ place =
       ap (λ (one : Live D SecondFlag). steps_made one) live_is ∙ made in
       record {
         midway = rw (live_is, playback_is) midway;
         level = subst (λ (at : ℕ). IsLevelAt run at halted.level) (sym here)
             (subst (IsLevelAt run place) (sym known_is) told);
+        before_reset = subst (IsLevelled run) (sym before_is) levelled;
       }
 
   -- its parts, where its level is known and a walk may begin

@@ -1,6 +1,7 @@
 -- A walk that makes a step.
-use Rattle.std.proofs.Common.{◌≡◌, ◌<◌, ◌+◌, ◌∙◌, ℕ, suc, Bool, Some, ap, sym, subst, arith, option_map}
-use Rattle.std.specs.Prelude.{◌&&◌}
+use Rattle.std.proofs.Common.{◌≡◌, ◌<◌, ◌+◌, ◌∙◌, ℕ, suc, Bool, true, false, Option, Some, None, refl, ap, sym, subst, arith, option_map}
+use Rattle.std.specs.Option.{option_or}
+use Rattle.std.specs.Prelude.{◌&&◌, if◌then◌else◌}
 use Rattle.bus_signals.specs.TraceFlag.{Flag}
 use Rattle.bus_signals.specs.declared.bus_record.BusRecord.{BusRecord}
 use Rattle.hmac_core.specs.Hash.{Hash}
@@ -12,12 +13,13 @@ use Rattle.device_play.specs.Midway.{IsMidway}
 use Rattle.debug_commands.specs.Request.{most_steps}
 use Rattle.debug_stops.specs.Watched.{seen_accesses}
 use Rattle.debug_session.specs.Level.{level}
-use Rattle.debug_session.specs.Place.{Run, is_boundary, is_instruction, last_boundary, logs_at, step_at}
+use Rattle.debug_session.specs.Place.{Run, is_boundary, is_instruction, is_refused, last_boundary, logs_at, step_at}
 use Rattle.debug_session.specs.Watching.{differs}
 use Rattle.debug_walk.specs.Levels.{LevelsStandFor, levels_after}
-use Rattle.debug_walk.specs.Seen.{IsSeenAt, boundary_after, ended_level, with_level}
+use Rattle.debug_walk.specs.Seen.{IsLevelled, IsSeenAt, boundary_after, ended_level, with_level}
 use Rattle.debug_walk.specs.Walk.{SecondFlag, WalkStandsFor, place_of}
 use Rattle.debug_walk.specs.declared.levels.Levels.{Levels}
+use Rattle.debug_walk.specs.declared.step_seen.LevelPlace.{LevelPlace}
 use Rattle.debug_walk.specs.declared.step_seen.StepSeen.{StepSeen}
 use Rattle.debug_walk.specs.declared.walk.Walk.{Walk}
 use Rattle.debug_walk.proofs.Begins.{last-step}
@@ -42,6 +44,8 @@ pub record IsMade {D : Type 0} (hash : Hash D) (flag : Flag SecondFlag) (run : R
   pub boundary : new.boundary
       ≡ boundary_after old.boundary entry at_boundary
       (record { place = place + 1; level = new.levels.now })
+  pub before_reset : new.before_reset
+      ≡ (if is_refused entry then option_or old.boundary old.before_reset else old.before_reset)
 
 -- what the code says of it, where the flags were so before
 pub record IsSaid {D : Type 0} (hash : Hash D) (flag : Flag SecondFlag) (run : Run)
@@ -56,6 +60,22 @@ pub record IsSaid {D : Type 0} (hash : Hash D) (flag : Flag SecondFlag) (run : R
   pub ended : seen.ended ≡ ended_level entry at_boundary new.levels.begun
   pub refused : seen.refused ≡ entry.reset
   pub hits : seen.hits ≡ seen_accesses entry (differs exec exec_new) (differs aux aux_new)
+
+-- a place with its level, and another one
+levelled-at : (run : Run) (last : Option ℕ) → IsLevelled run (option_map (with_level run) last)
+levelled-at run None = tt
+levelled-at run (Some at) = refl
+
+levelled-or : (run : Run) (one other : Option LevelPlace)
+    → IsLevelled run one → IsLevelled run other → IsLevelled run (option_or one other)
+levelled-or run None other is too = too
+levelled-or run (Some at) other is too = is
+
+levelled-next : (run : Run) (refused : Bool) (boundary before : Option LevelPlace)
+    → IsLevelled run boundary → IsLevelled run before
+    → IsLevelled run (if refused then option_or boundary before else before)
+levelled-next run true boundary before is too = levelled-or run boundary before is too
+levelled-next run false boundary before is too = too
 
 module _ {D : Type 0} {hash : Hash D} {flag : Flag SecondFlag} {run : Run} {old new : Walk D}
     {entry : BusRecord} {was_boundary at_boundary : Bool}
@@ -91,6 +111,12 @@ module _ {D : Type 0} {hash : Hash D} {flag : Flag SecondFlag} {run : Run} {old 
         boundary = made.boundary
             ∙ rw (later, now, ← entry-is, boundary-is, stands.boundary) (last-step run place)
             ∙ ap (λ at. option_map (with_level run) (last_boundary run at)) (sym made.made);
+        before_reset =
+            subst (IsLevelled run) (sym made.before_reset)
+            (levelled-next run (is_refused entry) old.boundary old.before_reset
+            (subst (IsLevelled run) (sym stands.boundary)
+            (levelled-at run (last_boundary run place)))
+            stands.before_reset);
       }
 
   -- and what is said of it is so

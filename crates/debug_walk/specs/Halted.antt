@@ -6,6 +6,7 @@ use Rattle.device_core.specs.Device.{steps_made}
 use Rattle.device_play.specs.Midway.{IsMidway}
 use Rattle.debug_session.specs.Level.{level}
 use Rattle.debug_session.specs.Place.{Run}
+use Rattle.debug_walk.specs.Seen.{IsLevelled}
 use Rattle.debug_walk.specs.Walk.{SecondFlag}
 use Rattle.debug_walk.specs.declared.halted.Halted.{Halted}
 
@@ -21,6 +22,7 @@ pub record HaltedStandsFor {D : Type 0} (hash : Hash D) (flag : Flag SecondFlag)
     (halted : Halted D) (run : Run) : Type 0 where
   pub midway : IsMidway hash flag run.start run.events_at halted.live halted.playback
   pub level : IsLevelAt run (halted_at halted) halted.level
+  pub before_reset : IsLevelled run halted.before_reset
 
 -- this holds of each run that it stands for, and its place
 abbrev pub OfHalted :

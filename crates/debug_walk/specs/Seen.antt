@@ -1,5 +1,5 @@
 -- Places with their levels, and what is seen of a step.
-use Rattle.std.specs.Prelude.{◌≡◌, ◌≤◌, ◌⊎◌, ◌&&◌, ◌||◌, ℕ, suc, Bool, true, Option, Some, None, if◌then◌else◌}
+use Rattle.std.specs.Prelude.{◌≡◌, ◌≤◌, ◌⊎◌, ◌&&◌, ◌||◌, ℕ, suc, Bool, true, Option, Some, None, IfSome, if◌then◌else◌}
 use Rattle.bus_signals.specs.Kind.{is_boot}
 use Rattle.bus_signals.specs.declared.bus_record.BusRecord.{BusRecord}
 use Rattle.debug_stops.specs.Watched.{seen_accesses}
@@ -12,6 +12,10 @@ use Rattle.debug_walk.specs.declared.step_seen.StepSeen.{StepSeen}
 -- a place with its level
 abbrev pub with_level : Run → ℕ → LevelPlace
 with_level run place = record { place = place; level = level run place }
+
+-- a place is told with its level, where one is told
+abbrev pub IsLevelled : Run → Option LevelPlace → Type 0
+IsLevelled run told = IfSome told (λ at. at.level ≡ level run at.place)
 
 -- a walk may begin at a boundary, and before the first one
 abbrev pub MayBeginAt : Run → ℕ → Type 0

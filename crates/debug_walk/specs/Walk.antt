@@ -10,7 +10,7 @@ use Rattle.device_core.specs.declared.live.Live.{Live}
 use Rattle.device_play.specs.Midway.{IsMidway}
 use Rattle.debug_session.specs.Place.{Run, last_boundary}
 use Rattle.debug_walk.specs.Levels.{LevelsStandFor}
-use Rattle.debug_walk.specs.Seen.{with_level}
+use Rattle.debug_walk.specs.Seen.{IsLevelled, with_level}
 use Rattle.debug_walk.specs.declared.walk.Walk.{Walk}
 
 -- the second flag of its device
@@ -34,6 +34,7 @@ pub record WalkStandsFor {D : Type 0} (hash : Hash D) (flag : Flag SecondFlag) (
   pub midway : IsMidway hash flag run.start run.events_at walk.live walk.playback
   pub levels : LevelsStandFor walk.levels run (place_of walk)
   pub boundary : walk.boundary ≡ option_map (with_level run) (last_boundary run (place_of walk))
+  pub before_reset : IsLevelled run walk.before_reset
 
 -- this holds of each run that a walk stands for, and its place
 abbrev pub OfWalk :

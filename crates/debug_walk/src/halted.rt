@@ -1,6 +1,7 @@
 ghost use Rattle.std.specs.Prelude.{◌≡◌};
 ghost use Rattle.device_core.specs.Device.{steps_made};
 
+use crate::step_seen::LevelPlace;
 use bus_signals::TraceFlag;
 use device_core::Live;
 use hmac_core::Digest32;
@@ -13,18 +14,26 @@ pub struct Halted<'a, D: Digest32> {
     live: Live<D, IsrFlag>,
     playback: Playback<'a>,
     level: Option<u64>,
+    before_reset: Option<LevelPlace>,
 }
 
 impl<'a, D: Digest32> Halted<'a, D> {
-    pub fn new(live: Live<D, IsrFlag>, playback: Playback<'a>, level: Option<u64>) -> Halted<'a, D>
+    pub fn new(
+        live: Live<D, IsrFlag>,
+        playback: Playback<'a>,
+        level: Option<u64>,
+        before_reset: Option<LevelPlace>,
+    ) -> Halted<'a, D>
         ensures live { result.live ≡ live }
         ensures playback { result.playback ≡ playback.entry }
         ensures level { result.level ≡ level }
+        ensures before_reset { result.before_reset ≡ before_reset }
     {
         Halted {
             live,
             playback,
             level,
+            before_reset,
         }
     }
 
@@ -46,6 +55,14 @@ impl<'a, D: Digest32> Halted<'a, D> {
         ensures { result ≡ self.now.level }
     {
         self.level
+    }
+
+    /// A boundary before the last reset that was walked over, where there was one: behind a reset
+    /// levels begin anew.
+    pub fn before_reset(&self) -> Option<LevelPlace>
+        ensures { result ≡ self.now.before_reset }
+    {
+        self.before_reset
     }
 
     /// The device, and the events that are left.

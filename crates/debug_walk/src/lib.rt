@@ -20,4 +20,4 @@ pub use levels::{RETI, is_instruction};
 pub use memory_view::{MOST_BYTES, is_shown, shown_bytes, shown_registers};
 pub use run::{Run, play_up_to};
 pub use step_seen::{LevelPlace, StepSeen};
-pub use walk::Walk;
+pub use walk::{Walk, differs};

@@ -66,7 +66,7 @@ impl<'a> Run<'a> {
     {
         let device = self.device(alloc)?;
         let mut playback = self.script.playback();
-        let live = play_up_to(Live::Held(device), &mut playback, place.min(MOST_STEPS));
+        let live = play_up_to(Live::Held(device), &mut playback, place);
         Ok((live, playback))
     }
 
@@ -84,7 +84,7 @@ impl<'a> Run<'a> {
         ensures place { IfOk result (λ walk. place_of walk ≡ min at.place most_steps) }
     {
         let (live, playback) = self.live_at(alloc, at.place)?;
-        Ok(Walk::at(live, playback, at.level))
+        Ok(Walk::at(live, playback, at.level, None))
     }
 
     // A walk that came to a place step by step, to the last one at most.
@@ -127,7 +127,7 @@ impl<'a> Run<'a> {
         ensures level { IfOk result (λ halted. halted.level ≡ level) }
     {
         let (live, playback) = self.live_at(alloc, place)?;
-        Ok(Halted::new(live, playback, level))
+        Ok(Halted::new(live, playback, level, None))
     }
 
     /// A walk from where a device is halted.
@@ -148,8 +148,9 @@ impl<'a> Run<'a> {
     {
         match halted.level() {
             Some(level) => {
+                let before_reset = halted.before_reset();
                 let (live, playback) = halted.into_parts();
-                Ok(Walk::at(live, playback, level))
+                Ok(Walk::at(live, playback, level, before_reset))
             }
             None => {
                 let place = halted.place();
@@ -160,21 +161,21 @@ impl<'a> Run<'a> {
     }
 }
 
-/// Plays on up to a place.
+/// Plays on up to a place, to the last one at most. A device that is past it stays where it is.
 pub fn play_up_to<D: Digest32, G: TraceFlag>(
     mut live: Live<D, G>,
     playback: &mut Playback<'_>,
     place: u64,
 ) -> Live<D, G>
-    requires ahead { steps_made live ≤ place }
-    requires few { place ≤ most_steps }
-    ensures made { steps_made result ≡ place }
+    ensures made { steps_made live ≤ min place most_steps
+        → steps_made result ≡ min place most_steps }
     ensures plays { (start : Start) (events_at : ℕ → List Event)
         → IsMidway D.hash G.flag start events_at live playback.old
         → IsMidway D.hash G.flag start events_at result playback.new }
 {
-    while live.steps() < place {
-        live = play_to_shown::<LineWatcher, D, G>(live, playback, place);
+    let end = place.min(MOST_STEPS);
+    while live.steps() < end {
+        live = play_to_shown::<LineWatcher, D, G>(live, playback, end);
     }
     live
 }

@@ -1,14 +1,15 @@
-ghost use Rattle.std.specs.Prelude.{◌≡◌, ◌<◌, ◌+◌, ◌&&◌, option_map};
+ghost use Rattle.std.specs.Option.{option_or};
+ghost use Rattle.std.specs.Prelude.{◌≡◌, ◌<◌, ◌+◌, ◌&&◌, option_map, if◌then◌else◌};
 ghost use Rattle.part_definitions.specs.CpuRegister.{pc_of};
 ghost use Rattle.device_core.specs.Device.{steps_made};
 ghost use Rattle.device_play.specs.Midway.{IsMidway};
 ghost use Rattle.debug_commands.specs.Request.{most_steps};
 ghost use Rattle.debug_session.specs.Cause.{is_broken_at};
 ghost use Rattle.debug_session.specs.Level.{level as level_at};
-ghost use Rattle.debug_session.specs.Place.{Run, is_boundary, is_instruction};
+ghost use Rattle.debug_session.specs.Place.{Run, is_boundary, is_instruction, is_refused};
 ghost use Rattle.debug_session.specs.Place.{last_boundary, registers_at};
 ghost use Rattle.debug_session.specs.Watching.{differs};
-ghost use Rattle.debug_walk.specs.Seen.{IsSeenAt, MayBeginAt, boundary_after, ended_level, with_level};
+ghost use Rattle.debug_walk.specs.Seen.{IsLevelled, IsSeenAt, MayBeginAt, boundary_after, ended_level, with_level};
 ghost use Rattle.debug_walk.specs.Halted.{HaltedStandsFor, halted_at};
 ghost use Rattle.debug_walk.specs.Walk.{OfWalk, WalkStandsFor, place_of};
 
@@ -31,16 +32,23 @@ pub struct Walk<'a, D: Digest32> {
     playback: Playback<'a>,
     levels: Levels,
     boundary: Option<LevelPlace>,
+    before_reset: Option<LevelPlace>,
 }
 
 impl<'a, D: Digest32> Walk<'a, D> {
-    /// At the place of a device, which has this level.
-    pub fn at(live: Live<D, IsrFlag>, playback: Playback<'a>, level: u64) -> Walk<'a, D>
+    /// At the place of a device, which has this level, and came over a reset or not.
+    pub fn at(
+        live: Live<D, IsrFlag>,
+        playback: Playback<'a>,
+        level: u64,
+        before_reset: Option<LevelPlace>,
+    ) -> Walk<'a, D>
         ensures stands { (run : Run)
             → IsMidway D.hash ⟦<IsrFlag as TraceFlag>⟧.flag run.start run.events_at live
             playback.entry
             → level ≡ level_at run (steps_made live)
             → MayBeginAt run (steps_made live)
+            → IsLevelled run before_reset
             → WalkStandsFor D.hash ⟦<IsrFlag as TraceFlag>⟧.flag result run }
         ensures place { place_of result ≡ steps_made live }
     {
@@ -56,6 +64,7 @@ impl<'a, D: Digest32> Walk<'a, D> {
             playback,
             levels,
             boundary,
+            before_reset,
         }
     }
 
@@ -114,7 +123,8 @@ impl<'a, D: Digest32> Walk<'a, D> {
             HaltedStandsFor D.hash ⟦<IsrFlag as TraceFlag>⟧.flag result run) }
         ensures place { halted_at result ≡ place_of self.entry }
     {
-        Halted::new(self.live, self.playback, Some(self.levels.now))
+        let level = Some(self.levels.now);
+        Halted::new(self.live, self.playback, level, self.before_reset)
     }
 
     /// Goes one step on.
@@ -133,6 +143,7 @@ impl<'a, D: Digest32> Walk<'a, D> {
             mut playback,
             levels,
             boundary,
+            before_reset,
         } = self;
         let place = live.steps();
         let live = play_to_shown::<TraceWatcher, D, IsrFlag>(live, &mut playback, place + 1);
@@ -154,12 +165,14 @@ impl<'a, D: Digest32> Walk<'a, D> {
             playback,
             levels,
             boundary: boundary_after(boundary, &entry, is_boundary, here),
+            before_reset: before_last_reset(before_reset, &entry, boundary),
         };
         (walk, seen)
     }
 }
 
-fn differs(before: bool, after: bool) -> bool
+/// Whether a flag is not what it was.
+pub fn differs(before: bool, after: bool) -> bool
     ensures { result ≡ differs before after }
 {
     before != after
@@ -196,6 +209,21 @@ fn boundary_after(
         Some(here)
     } else if entry.reset.is_some() {
         None
+    } else {
+        before
+    }
+}
+
+// A boundary before the last reset behind a step, where there was one before the step.
+fn before_last_reset(
+    before: Option<LevelPlace>,
+    entry: &BusRecord,
+    boundary: Option<LevelPlace>,
+) -> Option<LevelPlace>
+    ensures { result ≡ (if is_refused entry.now then option_or boundary before else before) }
+{
+    if entry.reset.is_some() {
+        boundary.or(before)
     } else {
         before
     }

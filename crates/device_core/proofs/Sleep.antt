@@ -241,12 +241,16 @@ module _ {G : Type 0} (flag : Flag G) (bus : Bus G) (start : Start) (first : Log
         let regs = last_registers first.progress in
         let logs = logs_idle start steps first in
         let on = sleeps-on steps alike in
+        let next = sleeps-more steps logs on (alike steps (omega arith)) in
         let same =
         record-asleep start logs regs (still-idle steps logs on (alike steps (omega arith)))
         (here.repeats.unbroken logs.records on.same_monitors) in
         record {
           idle = ap (λ (entry : BusRecord). entry.kind) same;
           unrefused = ap (λ (entry : BusRecord). entry.reset) same;
+          no_cpu = ap (λ (entry : BusRecord). entry.cpu) same;
+          no_dma = ap (λ (entry : BusRecord). entry.dma) same;
+          same_flags = next.same_flags ∙ sym on.same_flags;
         }
 
     pub asleep :
@@ -333,6 +337,13 @@ next-asleep start play steps is here next =
     record {
       idle = ap (λ (logs : Logs). (record_of start logs false).kind) same ∙ is.idle;
       unrefused = ap (λ (logs : Logs). (record_of start logs false).reset) same ∙ is.unrefused;
+      no_cpu = ap (λ (logs : Logs). (record_of start logs false).cpu) same ∙ is.no_cpu;
+      no_dma = ap (λ (logs : Logs). (record_of start logs false).dma) same ∙ is.no_dma;
+      same_flags =
+          ap (flags_of start) (idle-logs start (with_idle steps play))
+          ∙ (ap (λ (logs : Logs). flags_of start (logs_after_step start logs false)) same
+          ∙ is.same_flags)
+          ∙ ap (flags_of start) (sym same);
       same_progress =
           ap (λ (logs : Logs). logs.progress) later
           ∙ (next.same_progress ∙ sym here.same_progress)

@@ -3,6 +3,7 @@ use Rattle.std.specs.Prelude.{◌≡◌, ◌+◌, ◌-◌, ◌≤◌, ℕ, zero,
 use Rattle.bus_signals.specs.declared.kind.Kind.TheVariants.{Idle}
 use Rattle.bus_signals.specs.TraceFlag.{Flag}
 use Rattle.hmac_core.specs.Hash.{Hash}
+use Rattle.device_trace.specs.Logs.{flags_of}
 use Rattle.device_trace.specs.Play.{Play}
 use Rattle.device_trace.specs.Start.{Start}
 use Rattle.device_trace.specs.Step.{next_record}
@@ -11,11 +12,16 @@ use Rattle.device_core.specs.Device.{LiveStandsFor, steps_made}
 use Rattle.device_core.specs.Silence.{with_idle}
 use Rattle.device_core.specs.declared.live.Live.{Live}
 
--- the step after a play, without events, is one of sleep, and the processor stays where it is
+-- the step after a play, without events, is one of sleep in which nobody has an access, and the
+-- processor and the flags stay as they are
 pub record IsAsleep (start : Start) (play : Play) : Type 0 where
   pub idle : (next_record start (logs_after start play) []).kind ≡ Idle
   pub unrefused : (next_record start (logs_after start play) []).reset ≡ None
+  pub no_cpu : (next_record start (logs_after start play) []).cpu ≡ None
+  pub no_dma : (next_record start (logs_after start play) []).dma ≡ None
   pub same_progress : (logs_after start ([] ∷ play)).progress ≡ (logs_after start play).progress
+  pub same_flags : flags_of start (logs_after start ([] ∷ play))
+      ≡ flags_of start (logs_after start play)
 
 -- so are the first so many
 abbrev pub AreAsleep : Start → ℕ → Play → Type 0

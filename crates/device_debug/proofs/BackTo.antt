@@ -1,7 +1,7 @@
 -- Where a debugger goes back to, a walk may begin, at the level that was found.
 use Rattle.std.proofs.Common.{◌≡◌, ◌≤◌, ◌<◌, ◌+◌, ◌-◌, ◌∙◌, inl, inr, ⊎_elim, ℕ, zero, suc, Bool, true, false, Option, Some, None, min, refl, ap, sym, subst, arith, option_map}
-use Rattle.std.specs.Prelude.{IfSome}
-use Rattle.std.proofs.lemmas.Bool.{cases_Bool, false≢true, true≢false}
+use Rattle.std.specs.Prelude.{◌==◌, IfSome, if◌then◌else◌}
+use Rattle.std.proofs.lemmas.Bool.{cases_Bool, eqb-true, false≢true, true≢false}
 use Rattle.bus_signals.specs.TraceFlag.{Flag}
 use Rattle.hmac_core.specs.Hash.{Hash}
 use Rattle.debug_commands.specs.Request.{most_steps}
@@ -19,13 +19,16 @@ use Rattle.debug_walk.proofs.LevelSteps.{level-small}
 use Rattle.debug_walk.specs.declared.step_seen.LevelPlace.{LevelPlace}
 use Rattle.debug_walk.specs.declared.step_seen.StepSeen.{StepSeen}
 use Rattle.device_debug.specs.Forwards.{HasHalted}
-use Rattle.device_debug.specs.NearStop.{IsNear}
-use Rattle.device_debug.specs.WayBack.{IsStanding, found_or_begin, passes, sees}
-use Rattle.device_debug.specs.declared.near_way.NearStop.{NearStop}
+use Rattle.device_debug.specs.NearLevel.{IsNearLevel, known_from}
+use Rattle.device_debug.specs.NearStops.{IsNear}
+use Rattle.device_debug.specs.WayBack.{IsStanding, found_or, found_or_begin, last_found, passes, sees}
+use Rattle.device_debug.specs.declared.near_level.NearLevel.{NearLevel}
+use Rattle.device_debug.specs.declared.near_stops.NearStop.{NearStop}
 use Rattle.device_debug.specs.declared.way_back.Found.{Found}
 use Rattle.device_debug.specs.declared.way_back.WayBack.{WayBack}
 use Rattle.device_debug.proofs.Beginning.{level-first}
-use Rattle.device_debug.proofs.OnWayBack.{IsOnWayBack, cause-none, found_or, goes-back, last-found, last_found, standing_of}
+use Rattle.device_debug.proofs.LastFound.{cause-none, last-found, standing_of}
+use Rattle.device_debug.proofs.OnWayBack.{IsOnWayBack, goes-back}
 
 -- a walk may begin at this place of a play
 abbrev pub MayStandAt : Run → ℕ → Type 0
@@ -60,16 +63,16 @@ last-stands run stops highest from (suc (suc place)) within =
     (last-stands run stops highest from (suc place) (omega (arith, within)))
 
 -- the level of what was found
-abbrev IsLevelled : Run → Option Found → Type 0
-IsLevelled run found = IfSome found (λ one. one.at.level ≡ level run one.at.place)
+abbrev IsFoundLevelled : Run → Option Found → Type 0
+IsFoundLevelled run found = IfSome found (λ one. one.at.level ≡ level run one.at.place)
 
 found-level : (run : Run) (place : ℕ) (stop : Option Stop) (found : Option Found)
-    → IsLevelled run found → IsLevelled run (found_or run place stop found)
+    → IsFoundLevelled run found → IsFoundLevelled run (found_or run place stop found)
 found-level run place None found is = is
 found-level run place (Some stop) found is = refl
 
 last-level : (run : Run) (stops : Stops) (highest : Option ℕ) (from place : ℕ)
-    → IsLevelled run (last_found run stops highest from place)
+    → IsFoundLevelled run (last_found run stops highest from place)
 last-level run stops highest from zero = tt
 last-level run stops highest from (suc zero) = tt
 last-level run stops highest from (suc (suc place)) =
@@ -77,7 +80,8 @@ last-level run stops highest from (suc (suc place)) =
     (last_found run stops highest from (suc place)) (last-level run stops highest from (suc place))
 
 standing-found : (run : Run) (found : Option Found) (now : Standing)
-    → standing_of found ≡ now → IsLevelled run found → IsStanding run (found_or_begin found) now
+    → standing_of found ≡ now → IsFoundLevelled run found
+    → IsStanding run (found_or_begin found) now
 standing-found run (Some one) now is levelled =
     rw (← is) (record { place_is = refl; level_is = levelled; stop_is = refl })
 standing-found run None now is levelled =
@@ -180,55 +184,83 @@ module _ {D : Type 0} {hash : Hash D} {flag : Flag SecondFlag} (run : Run) (stop
       halted-back steps found.at.place (Some found.at.level) found.stop is.place_is is.stop_is
       (rw is.place_is is.level_is) stands is_at
 
--- the level of what was found on a way
-level-found : (run : Run) (from depth : ℕ) (found : NearStop) (known : Option ℕ)
+-- the level of what was found on a way, where it is known or follows from that of the place
+level-follows : (run : Run) (from now depth other : ℕ) (place : ℕ) (known : Option ℕ)
     → from ≤ most_steps
-    → level run found.place + depth ≡ level run from + found.depth
-    → found.place < from
-    → depth ≤ level run from
+    → level run from ≡ now + depth
+    → level run place ≡ now + other
+    → place < from
     → IsLevelAt run from known
-    → IsLevelAt run found.place
-    (option_map (λ told. min (told + found.depth) 18446744073709551615 - depth) known)
-level-found run from depth found None within is before shallow told = tt
-level-found run from depth found (Some told) within levels before shallow is =
-    let here : level run from ≤ from = level-small run from in
-    let there : level run found.place ≤ found.place = level-small run found.place in
-    omega (arith, is, shallow, here, there, within, levels, before)
+    → IsLevelAt run place
+    (option_map (λ told. min (told + other) 18446744073709551615 - depth) known)
+level-follows run from now depth other place None within here there before told = tt
+level-follows run from now depth other place (Some told) within here there before is =
+    let small : level run from ≤ from = level-small run from in
+    let less : level run place ≤ place = level-small run place in
+    omega (arith, is, small, less, here, there, within, before)
+
+level-chosen : (run : Run) (place : ℕ) (is_zero same : Bool) (depth : ℕ) (told : Option ℕ)
+    → (is_zero ≡ true → depth ≡ level run place)
+    → (same ≡ true → IsLevelAt run place told)
+    → IsLevelAt run place (if is_zero then Some depth else if same then told else None)
+level-chosen run place true same depth told first is = first refl
+level-chosen run place false true depth told first is = is refl
+level-chosen run place false false depth told first is = tt
+
+level-found : (run : Run) (from place : ℕ) (kept found : NearLevel) (known : Option ℕ)
+    → from ≤ most_steps
+    → IsNearLevel run kept from
+    → IsNearLevel run found place
+    → place < from
+    → IsLevelAt run from known
+    → IsLevelAt run place (known_from found kept known)
+level-found run from place kept found known within here there before told =
+    level-chosen run place (found.since == 0) (found.since == kept.since) found.depth
+    (option_map (λ level. min (level + found.depth) 18446744073709551615 - kept.depth) known)
+    (λ zero.
+    let first : level run found.since ≡ 0 = ap (level run) (eqb-true found.since 0 zero) in
+    omega (arith, first, there))
+    (λ same.
+    let since : level run kept.since ≡ level run found.since =
+    ap (level run) (sym (eqb-true found.since kept.since same)) in
+    level-follows run from (level run found.since) kept.depth found.depth place known within
+    (omega (arith, since, here)) there before told)
 
 -- where that was
 module _ {D : Type 0} {hash : Hash D} {flag : Flag SecondFlag} (run : Run) (stops : Stops)
-    (from first depth : ℕ) (found : NearStop) (halted : Halted D) (within : from ≤ most_steps)
-    (near : IsNear run stops first from (level run from) (level run from) depth found) where
-  pub gone-near : (known : Option ℕ) (stop : Stop) (place : ℕ)
-      → depth ≤ level run from
-      → IsLevelAt run from known
-      → place ≡ found.place
-      → stop ≡ found.stop
-      → (IsLevelAt run place
-      (option_map (λ told. min (told + found.depth) 18446744073709551615 - depth) known)
-      → HaltedStandsFor hash flag halted run)
-      → halted_at halted ≡ place
-      → HasHalted hash flag run halted stop (back_to run stops from true)
-  gone-near known stop place shallow told there stopped stands at =
-      let now : back_to run stops from true
-      ≡ record { place = found.place; stop = found.stop } = near.stands in
-      let here : place ≡ (back_to run stops from true).place =
-      there ∙ sym (ap (λ (one : Standing). one.place) now) in
-      let may : MayStandAt run (back_to run stops from true).place =
-      last-stands run stops (highest_of true run from) from from within in
-      record {
-        stands = record {
-          stands = stands
-              (subst (λ (at : ℕ). IsLevelAt run at
-              (option_map (λ told. min (told + found.depth) 18446744073709551615 - depth) known))
-              (sym there)
-              (level-found run from depth found known within near.level_is near.before shallow
-              told));
-          place_is = at ∙ here;
-          settled = (may.0, inl may.1);
-        };
-        stop_is = stopped ∙ sym (ap (λ (one : Standing). one.stop) now);
-      }
+    (from first : ℕ) (kept : NearLevel) (found : NearStop) (halted : Halted D)
+    (within : from ≤ most_steps) (here : IsNearLevel run kept from)
+    (near : IsNear run first from (last_found run stops (Some (level run from)) from from) found)
+  where
+    pub gone-near : (known : Option ℕ) (stop : Stop) (place : ℕ)
+        → IsLevelAt run from known
+        → place ≡ found.place
+        → stop ≡ found.stop
+        → (IsLevelAt run place (known_from found.level kept known)
+        → HaltedStandsFor hash flag halted run)
+        → halted_at halted ≡ place
+        → HasHalted hash flag run halted stop (back_to run stops from true)
+    gone-near known stop place told there stopped stands at =
+        let now : back_to run stops from true
+        ≡ record { place = found.place; stop = found.stop } =
+        sym (last-found run stops (highest_of true run from) from from)
+        ∙ ap standing_of near.stands in
+        let same : place ≡ (back_to run stops from true).place =
+        there ∙ sym (ap (λ (one : Standing). one.place) now) in
+        let may : MayStandAt run (back_to run stops from true).place =
+        last-stands run stops (highest_of true run from) from from within in
+        record {
+          stands = record {
+            stands = stands
+                (subst (λ (at : ℕ). IsLevelAt run at (known_from found.level kept known))
+                (sym there)
+                (level-found run from found.place kept found.level known within here near.levelled
+                near.before told));
+            place_is = at ∙ same;
+            settled = (may.0, inl may.1);
+          };
+          stop_is = stopped ∙ sym (ap (λ (one : Standing). one.stop) now);
+        }
 
 -- at the beginning
 pub back-begun : (run : Run) (stops : Stops) (highest : Option ℕ) (way : WayBack) (place : ℕ)

@@ -12,6 +12,7 @@ pub mod GoingOn
 pub mod GoingWalk
 pub mod Gone
 pub mod GrownTexts
+pub mod LastFound
 pub mod Looks
 pub mod NearSleep
 pub mod NearStops

@@ -1,182 +1,293 @@
--- Where a step back stops when no watch is set, from one place and from the next.
-use Rattle.std.proofs.Common.{◌≡◌, ◌≤◌, ◌<◌, ◌+◌, ◌-◌, ◌∙◌, ◌++◌, ℕ, zero, suc, Bool, true, false, List, [], Option, Some, None, nat_le, refl, ap, sym, arith}
-use Rattle.std.specs.Prelude.{◌&&◌, if◌then◌else◌}
-use Rattle.std.proofs.lemmas.Bool.{le-leb, lt-leb}
-use Rattle.bus_signals.specs.declared.access.Access.{Access}
+-- Where steps of some levels go back to, from one place and from the next.
+use Rattle.std.proofs.Common.{◌≡◌, ◌≤◌, ◌<◌, ◌+◌, ◌-◌, ◌∙◌, ℕ, zero, suc, Bool, true, false, not, Option, Some, None, nat_le, refl, ap, sym, subst, arith}
+use Rattle.std.specs.Prelude.{◌==◌, IfSome, if◌then◌else◌}
+use Rattle.std.proofs.lemmas.Bool.{eq-eqb, eqb-true, le-leb, lt-leb, ne_eqb, true≢false}
 use Rattle.bus_signals.specs.declared.rule.Rule.{Rule}
-use Rattle.debug_stops.specs.Stops.{Stops}
-use Rattle.debug_stops.specs.Watched.{hits_by, hits_of, last_hit, seen_accesses}
-use Rattle.debug_stops.specs.declared.seen_accesses.SeenAccesses.{SeenAccesses}
 use Rattle.debug_stops.specs.declared.stop.Stop.{Stop}
-use Rattle.debug_stops.specs.declared.stop.Stop.TheVariants.{Plain, Stepped}
+use Rattle.debug_stops.specs.declared.stop.Stop.TheVariants.{Plain, Refused, Stepped, Watched}
 use Rattle.debug_stops.specs.declared.watch.Hit.{Hit}
-use Rattle.debug_stops.specs.declared.watch.Watch.{Watch}
-use Rattle.debug_session.specs.Cause.{backward_cause, is_plain, refusal_from, refusal_of, steps_back_to, stop_of}
-use Rattle.debug_session.specs.Going.{Standing, last_stop, standing_at}
 use Rattle.debug_session.specs.Level.{level}
-use Rattle.debug_session.specs.Place.{Run, is_boundary, is_instruction, is_refused, stands_at_boundary, step_at}
-use Rattle.debug_session.specs.Watching.{aux_changes, exec_changes, hits_from}
-use Rattle.debug_walk.proofs.Options.{same-choice}
-use Rattle.debug_walk.proofs.Places.{held-first}
-use Rattle.device_debug.specs.NearStop.{near_place, stop_near}
-use Rattle.device_debug.proofs.OnWayBack.{cause-none}
-use Rattle.device_debug.proofs.Windows.{chosen, none-chosen, none-there}
+use Rattle.debug_session.specs.Place.{Run}
+use Rattle.debug_walk.specs.Seen.{with_level}
+use Rattle.device_debug.specs.NearLevel.{IsNearLevel, changed_level, is_zero}
+use Rattle.device_debug.specs.NearStops.{AreNear, IsNear, all_near, none_near, or_near, stops_behind, stops_stepped, where_known}
+use Rattle.device_debug.specs.NearWay.{stop_at, stops_counted}
+use Rattle.device_debug.specs.WayBack.{found_at, hit_at, or_found, told_at, told_of}
+use Rattle.device_debug.specs.declared.near_level.LevelChange.{LevelChange}
+use Rattle.device_debug.specs.declared.near_level.LevelChange.TheVariants.{Enters, Leaves, Resets, Stays}
+use Rattle.device_debug.specs.declared.near_level.NearLevel.{NearLevel}
+use Rattle.device_debug.specs.declared.near_stops.NearStop.{NearStop}
+use Rattle.device_debug.specs.declared.near_stops.NearStops.{NearStops}
+use Rattle.device_debug.specs.declared.near_way.NearWay.{NearWay}
+use Rattle.device_debug.specs.declared.way_back.Found.{Found}
+use Rattle.device_debug.proofs.LastFound.{marked, stepped}
 
--- without a watch there is no hit
-none-by : (access : Option Access) → hits_by access [] ≡ []
-none-by None = refl
-none-by (Some access) = refl
+-- nothing is known
+pub none-near : (run : Run) (first place now : ℕ) (last : ℕ → Option Found)
+    → AreNear run first place now last none_near
+none-near run first place now last = record { here = tt; inside = tt; outside = tt; ground = tt }
 
-none-of : (seen : SeenAccesses) → hits_of seen [] ≡ []
-none-of seen =
-    rw (none-by seen.cpu, none-by seen.dma, none-by seen.exec, none-by seen.aux) refl
+-- whether a level is 0
+pub positive : (depth : ℕ) → (depth == 0) ≡ false → 1 ≤ depth
+positive zero is = absurd (true≢false is)
+positive (suc depth) is = omega arith
 
-none-from : (run : Run) (place steps : ℕ) → hits_from run [] place steps ≡ []
-none-from run place zero = refl
-none-from run place (suc steps) =
-    let here : Bool = is_boundary run (suc place) in
-    let refused : Bool = is_refused (step_at run place) in
-    ap (λ (hits : List Hit). hits ++ chosen here refused [] (hits_from run [] (suc place) steps))
-    (none-of (seen_accesses (step_at run place) (exec_changes run place) (aux_changes run place)))
-    ∙ ap (λ (later : List Hit). chosen here refused [] later) (none-from run (suc place) steps)
-    ∙ none-chosen here refused []
+zero-case : (run : Run) (since depth now : ℕ) (none first : Bool)
+    → (depth == 0) ≡ none → (since == 0) ≡ first
+    → now ≡ level run since + depth
+    → IfSome (if not none then Some false else if first then Some true else None)
+    (λ is. (now == 0) ≡ is)
+zero-case run since depth now false first some is_first is =
+    let deep : 1 ≤ depth = positive depth some in
+    ne_eqb now 0 (λ same. absurd (omega (arith, is, same, deep)))
+zero-case run since depth now true true none is_first is =
+    let flat : depth ≡ 0 = eqb-true depth 0 none in
+    let ground : level run since ≡ 0 = ap (level run) (eqb-true since 0 is_first) in
+    eq-eqb now 0 (omega (arith, is, flat, ground))
+zero-case run since depth now true false none is_first is = tt
 
--- a step that is not refused adds no refusal
-still-unrefused : (run : Run) (place steps until : ℕ) → until ≡ steps + place
-    → is_refused (step_at run until) ≡ false
-    → refusal_from run place (suc steps) ≡ refusal_from run place steps
-still-unrefused run place zero until same made =
-    let here : until ≡ place = omega (arith, same) in
-    let reset : (step_at run place).reset ≡ None =
-    none-there (step_at run place).reset (rw here at made) in
-    rw reset (same-choice (is_boundary run (suc place)) None)
-still-unrefused run place (suc steps) until same made =
-    ap (λ (later : Option Rule). refusal_of (step_at run place).reset
-    (if is_boundary run (suc place) then None else later))
-    (still-unrefused run (suc place) steps until (omega (arith, same)) made)
+pub zero-known : (run : Run) (since depth now : ℕ) → now ≡ level run since + depth
+    → IfSome (is_zero (record { since = since; depth = depth })) (λ is. (now == 0) ≡ is)
+zero-known run since depth now is =
+    zero-case run since depth now (depth == 0) (since == 0) refl refl is
 
-abbrev caused : Run → Stops → Option ℕ → ℕ → List Hit → Option Rule → Option Stop
-caused run stops highest place hits refusal =
-    if is_boundary run place
-    then stop_of (last_hit None hits) (is_plain run stops place) (steps_back_to run highest place)
-    refusal
-    else None
+-- what is known of a last stop
+abbrev pub Known : Run → ℕ → ℕ → Option Found → Option NearStop → Type 0
+Known run first place last found = IfSome found (λ one. IsNear run first place last one)
 
-unwatched : (run : Run) (stops : Stops) (highest : Option ℕ) (place steps : ℕ)
-    → stops.watches ≡ []
-    → backward_cause run stops highest place steps
-    ≡ caused run stops highest place [] (refusal_from run place steps)
-unwatched run stops highest place steps none =
-    ap (λ (watches : List Watch). caused run stops highest place
-    (hits_from run watches place steps) (refusal_from run place steps)) none
-    ∙ ap (λ (hits : List Hit). caused run stops highest place hits (refusal_from run place steps))
-    (none-from run place steps)
+later : (run : Run) (first place : ℕ) (last : Option Found) (found : Option NearStop)
+    → Known run first place last found
+    → Known run first (suc place) last found
+later run first place last None is = tt
+later run first place last (Some found) is =
+    record {
+      stands = is.stands;
+      levelled = is.levelled;
+      from = is.from;
+      before = omega (arith, is.before);
+    }
 
--- so one step more changes no stop
-same-cause : (run : Run) (stops : Stops) (highest : Option ℕ) (place steps until : ℕ)
-    → stops.watches ≡ [] → until ≡ steps + place → is_refused (step_at run until) ≡ false
-    → backward_cause run stops highest place (suc steps)
-    ≡ backward_cause run stops highest place steps
-same-cause run stops highest place steps until none same made =
-    unwatched run stops highest place (suc steps) none
-    ∙ ap (caused run stops highest place []) (still-unrefused run place steps until same made)
-    ∙ sym (unwatched run stops highest place steps none)
+-- of the place itself, before its step
+module _ (run : Run) (first place : ℕ) (way : NearWay) (from : first ≤ place)
+    (levelled : IsNearLevel run way.level place) where
+  near-at : (last : Option Found) (stop : Stop)
+      → last ≡ found_at (with_level run place) stop
+      → IsNear run first (suc place) last (stop_at way place stop)
+  near-at last stop is =
+      record { stands = is; levelled = levelled; from = from; before = omega arith }
 
-pub same-stop : (run : Run) (stops : Stops) (highest : Option ℕ) (from place : ℕ)
-    → stops.watches ≡ [] → is_refused (step_at run from) ≡ false → place ≤ from
-    → last_stop run stops highest (suc from) place ≡ last_stop run stops highest from place
-same-stop run stops highest from zero none made within = refl
-same-stop run stops highest from (suc zero) none made within = refl
-same-stop run stops highest from (suc (suc place)) none made within =
-    let more : suc from - suc place ≡ suc (from - suc place) = omega (arith, within) in
-    let cause : backward_cause run stops highest (suc place) (suc from - suc place)
-    ≡ backward_cause run stops highest (suc place) (from - suc place) =
-    ap (backward_cause run stops highest (suc place)) more
-    ∙ same-cause run stops highest (suc place) (from - suc place) from none
-    (omega (arith, within)) made in
-    ap (λ (one : Option Stop). standing_at (suc place) one
-    (last_stop run stops highest (suc from) (suc place))) cause
-    ∙ ap (λ (other : Standing). standing_at (suc place)
-    (backward_cause run stops highest (suc place) (from - suc place)) other)
-    (same-stop run stops highest from (suc place) none made (omega (arith, within)))
+  plain-at : (steps : Bool) (last : Option Found)
+      → stepped run place steps (marked run place true last) ≡ found_at (with_level run place) Plain
+  plain-at true last = rw (eq-eqb place place refl) refl
+  plain-at false last = refl
 
--- the last stop before the next place
-pub next-stop : (run : Run) (stops : Stops) (highest : Option ℕ) (from place : ℕ)
-    → last_stop run stops highest from (suc place)
-    ≡ standing_at place (backward_cause run stops highest place (from - place))
-    (last_stop run stops highest from place)
-next-stop run stops highest from zero =
-    ap (λ (cause : Option Stop). standing_at zero cause (last_stop run stops highest from zero))
-    (sym (cause-none run stops highest zero (from - zero)
-    (ap stands_at_boundary (held-first run))))
-next-stop run stops highest from (suc before) = refl
+  step-at : (last : Option Found)
+      → IfSome last (λ one. one.at.place < place)
+      → or_found last (with_level run place) Stepped ≡ found_at (with_level run place) Stepped
+  step-at None below = refl
+  step-at (Some one) below =
+      rw (ne_eqb one.at.place place (λ same. absurd (omega (arith, same, below)))) refl
 
--- what stops a step at a place, whatever its level
-abbrev pub near_cause : Bool → Bool → Bool → Option Stop
-near_cause here plain begins =
-    if here && plain then Some Plain else if here && begins then Some Stepped else None
+  -- whatever the level
+  pub all-plain : (now : ℕ) (steps : ℕ → Bool) (last : ℕ → Option Found)
+      → AreNear run first (suc place) now
+      (λ highest. stepped run place (steps highest) (marked run place true (last highest)))
+      (all_near (stop_at way place Plain))
+  all-plain now steps last =
+      let plain = λ (highest : ℕ).
+      near-at (stepped run place (steps highest) (marked run place true (last highest))) Plain
+      (plain-at (steps highest) (last highest)) in
+      record {
+        here = plain now;
+        inside = plain (now + 1);
+        outside = plain (now - 1);
+        ground = plain 0;
+      }
 
-plain-cause : (plain begins : Bool)
-    → stop_of None plain (begins && true) None ≡ near_cause true plain begins
-plain-cause true begins = refl
-plain-cause false true = refl
-plain-cause false false = refl
+  -- where an instruction begins
+  begun : (steps : Bool) (last : Option Found)
+      → IfSome last (λ one. one.at.place < place)
+      → steps ≡ true
+      → IsNear run first (suc place) (stepped run place steps last) (stop_at way place Stepped)
+  begun steps last below is = rw is (near-at (or_found last (with_level run place) Stepped) Stepped
+      (step-at last below))
 
-cause-near : (here plain begins least : Bool) (refusal : Option Rule)
-    → least ≡ true → refusal ≡ None
-    → (if here then stop_of None plain (here && begins && least) refusal else None)
-    ≡ near_cause here plain begins
-cause-near true plain begins least refusal is made = rw (is, made) (plain-cause plain begins)
-cause-near false plain begins least refusal is made = refl
+  kept : (steps : Bool) (last : Option Found) (found : Option NearStop)
+      → steps ≡ false
+      → Known run first place last found
+      → Known run first (suc place) (stepped run place steps last) found
+  kept steps last found is known = rw is (later run first place last found known)
 
-abbrev pub near_stop_at : Run → Stops → ℕ → Option Stop
-near_stop_at run stops place =
-    stop_near (near_place run stops place) (is_boundary run place && is_plain run stops place)
-    (step_at run place)
+  -- from a level that is lower, but for 0
+  lower : (now highest : ℕ) (zero_is : Option Bool) (last : Option Found) (found : Option NearStop)
+      → IfSome last (λ one. one.at.place < place)
+      → IfSome zero_is (λ is. (now == 0) ≡ is)
+      → (1 ≤ now → highest < now)
+      → Known run first place last found
+      → Known run first (suc place) (stepped run place (nat_le now highest) last)
+      (where_known zero_is (stop_at way place Stepped) found)
+  lower now highest None last found below is under known = tt
+  lower zero highest (Some true) last found below is under known =
+      begun (nat_le zero highest) last below (le-leb zero highest (omega arith))
+  lower (suc now) highest (Some true) last found below is under known =
+      absurd (omega (arith, eqb-true (suc now) 0 is))
+  lower zero highest (Some false) last found below is under known = absurd (true≢false is)
+  lower (suc now) highest (Some false) last found below is under known =
+      kept (nat_le (suc now) highest) last found
+      (lt-leb (suc now) highest (under (omega arith))) known
 
--- so it does where its level is not above that of the step
-pub cause-here : (run : Run) (stops : Stops) (place highest : ℕ)
-    → stops.watches ≡ [] → is_refused (step_at run place) ≡ false → level run place ≤ highest
-    → backward_cause run stops (Some highest) place (suc place - place)
-    ≡ near_stop_at run stops place
-cause-here run stops place highest none made above =
-    let one : suc place - place ≡ suc zero = omega arith in
-    ap (backward_cause run stops (Some highest) place) one
-    ∙ unwatched run stops (Some highest) place (suc zero) none
-    ∙ cause-near (is_boundary run place) (is_plain run stops place)
-    (is_instruction (step_at run place).kind) (nat_le (level run place) highest)
-    (refusal_from run place (suc zero)) (le-leb (level run place) highest above)
-    (still-unrefused run place zero place (omega arith) made)
+  pub all-begun : (now : ℕ) (last : ℕ → Option Found) (near : NearStops)
+      → level run place ≡ now
+      → ((highest : ℕ) → IfSome (last highest) (λ one. one.at.place < place))
+      → AreNear run first place now last near
+      → AreNear run first (suc place) now
+      (λ highest. stepped run place (nat_le now highest) (marked run place false (last highest)))
+      (stops_stepped near (stop_at way place Stepped))
+  all-begun now last near here below is =
+      let zero_is = zero-known run way.level.since way.level.depth now (sym here ∙ levelled) in
+      record {
+        here = begun (nat_le now now) (last now) (below now) (le-leb now now (omega arith));
+        inside = begun (nat_le now (now + 1)) (last (now + 1)) (below (now + 1))
+            (le-leb now (now + 1) (omega arith));
+        outside = lower now (now - 1) (is_zero way.level) (last (now - 1)) near.outside
+            (below (now - 1)) zero_is (λ some. omega (arith, some)) is.outside;
+        ground = lower now 0 (is_zero way.level) (last 0) near.ground (below 0) zero_is
+            (λ some. omega (arith, some)) is.ground;
+      }
 
-none-plain : (begins : Bool) → stop_of None false (begins && false) None ≡ None
-none-plain true = refl
-none-plain false = refl
+-- where nothing stops
+pub all-later : (run : Run) (first place now : ℕ) (last : ℕ → Option Found) (near : NearStops)
+    → AreNear run first place now last near
+    → AreNear run first (suc place) now last near
+all-later run first place now last near is =
+    record {
+      here = later run first place (last now) near.here is.here;
+      inside = later run first place (last (now + 1)) near.inside is.inside;
+      outside = later run first place (last (now - 1)) near.outside is.outside;
+      ground = later run first place (last 0) near.ground is.ground;
+    }
 
-cause-apart : (here plain begins least : Bool) (refusal : Option Rule)
-    → (here && plain) ≡ false → least ≡ false → refusal ≡ None
-    → (if here then stop_of None plain (here && begins && least) refusal else None) ≡ None
-cause-apart true plain begins least refusal none is made =
-    rw (none, is, made) (none-plain begins)
-cause-apart false plain begins least refusal none is made = refl
+-- the same stops, said otherwise
+pub same-near : (run : Run) (first place now : ℕ) (last other : ℕ → Option Found)
+    (near : NearStops)
+    → ((highest : ℕ) → last highest ≡ other highest)
+    → AreNear run first place now last near
+    → AreNear run first place now other near
+same-near run first place now last other near same is =
+    let said = λ (highest : ℕ) (found : Option NearStop)
+    (known : Known run first place (last highest) found).
+    subst (λ (one : Option Found). Known run first place one found) (same highest) known in
+    record {
+      here = said now near.here is.here;
+      inside = said (now + 1) near.inside is.inside;
+      outside = said (now - 1) near.outside is.outside;
+      ground = said 0 near.ground is.ground;
+    }
 
--- and where it is above, it stops there for a plain cause alone
-pub cause-above : (run : Run) (stops : Stops) (place highest : ℕ)
-    → stops.watches ≡ [] → is_refused (step_at run place) ≡ false
-    → (is_boundary run place && is_plain run stops place) ≡ false
-    → highest < level run place
-    → backward_cause run stops (Some highest) place (suc place - place) ≡ None
-cause-above run stops place highest none made unplain above =
-    let one : suc place - place ≡ suc zero = omega arith in
-    ap (backward_cause run stops (Some highest) place) one
-    ∙ unwatched run stops (Some highest) place (suc zero) none
-    ∙ cause-apart (is_boundary run place) (is_plain run stops place)
-    (is_instruction (step_at run place).kind) (nat_le (level run place) highest)
-    (refusal_from run place (suc zero)) unplain (lt-leb (level run place) highest above)
-    (still-unrefused run place zero place (omega arith) made)
+-- with what a step counts for the last boundary
+abbrev pub counted : Run → Option ℕ → Option Hit → Option Rule → Option Found → Option Found
+counted run None hit reset found = found
+counted run (Some at) hit reset found = hit_at hit reset (with_level run at) found
 
--- a place at which nothing stops has no plain cause
-pub near-unplain : (here plain begins : Bool)
-    → near_cause here plain begins ≡ None → (here && plain) ≡ false
-near-unplain true true begins is = absurd (cc (is))
-near-unplain true false begins is = refl
-near-unplain false plain begins is = refl
+module _ (run : Run) (first place : ℕ) (way : NearWay) (at : ℕ) (from : first ≤ at)
+    (before : at < place) (levelled : IsNearLevel run way.level at) where
+  hit-near : (hit : Hit)
+      → IsNear run first place (found_at (with_level run at) (Watched hit))
+      (stop_at way at (Watched hit))
+  hit-near hit = record { stands = refl; levelled = levelled; from = from; before = before }
+
+  refused-case : (rule : Rule) (one : NearStop) (same : Bool)
+      → (one.place == at) ≡ same
+      → IsNear run first place (found_at (with_level run one.place) one.stop) one
+      → IsNear run first place
+      (if same then found_at (with_level run one.place) one.stop
+      else found_at (with_level run at) (Refused rule))
+      (if same then one else stop_at way at (Refused rule))
+  refused-case rule one true same is = is
+  refused-case rule one false same is =
+      record { stands = refl; levelled = levelled; from = from; before = before }
+
+  refused-near : (rule : Rule) (last : Option Found) (found : Option NearStop)
+      → Known run first place last found
+      → Known run first place (or_found last (with_level run at) (Refused rule))
+      (or_near (stop_at way at (Refused rule)) found)
+  refused-near rule last None is = tt
+  refused-near rule last (Some one) is =
+      let known : IsNear run first place (found_at (with_level run one.place) one.stop) one =
+      subst (λ (found : Option Found). IsNear run first place found one) is.stands is in
+      subst (λ (found : Option Found).
+      IsNear run first place (or_found found (with_level run at) (Refused rule))
+      (if one.place == at then one else stop_at way at (Refused rule))) (sym is.stands)
+      (refused-case rule one (one.place == at) refl known)
+
+  told-near : (now : ℕ) (told : Option Rule) (last : ℕ → Option Found) (near : NearStops)
+      → AreNear run first place now last near
+      → AreNear run first place now (λ highest. told_at told (with_level run at) (last highest))
+      (stops_counted way (Some at) None told near)
+  told-near now None last near is = is
+  told-near now (Some rule) last near is =
+      record {
+        here = refused-near rule (last now) near.here is.here;
+        inside = refused-near rule (last (now + 1)) near.inside is.inside;
+        outside = refused-near rule (last (now - 1)) near.outside is.outside;
+        ground = refused-near rule (last 0) near.ground is.ground;
+      }
+
+  pub counted-near : (now : ℕ) (hit : Option Hit) (reset : Option Rule)
+      (last : ℕ → Option Found) (near : NearStops)
+      → AreNear run first place now last near
+      → AreNear run first place now
+      (λ highest. hit_at hit reset (with_level run at) (last highest))
+      (stops_counted way (Some at) hit (told_of reset) near)
+  counted-near now (Some hit) reset last near is =
+      record {
+        here = hit-near hit;
+        inside = hit-near hit;
+        outside = hit-near hit;
+        ground = hit-near hit;
+      }
+  counted-near now None reset last near is = told-near now (told_of reset) last near is
+
+-- behind a step that changes the level
+entered-outside : (run : Run) (first place now : ℕ) (last : ℕ → Option Found)
+    (found : Option NearStop)
+    → Known run first place (last now) found
+    → Known run first place (last (now + 1 - 1)) found
+entered-outside run first place now last found is =
+    let same : now ≡ now + 1 - 1 = omega arith in
+    subst (λ (highest : ℕ). Known run first place (last highest) found) same is
+
+left-inside : (run : Run) (first place now depth : ℕ) (last : ℕ → Option Found)
+    (found : Option NearStop) (none : Bool)
+    → (depth == 0) ≡ none
+    → depth ≤ now
+    → Known run first place (last now) found
+    → Known run first place (last (now - 1 + 1)) (if none then None else found)
+left-inside run first place now depth last found true flat shallow is = tt
+left-inside run first place now depth last found false some shallow is =
+    let same : now ≡ now - 1 + 1 = omega (arith, shallow, positive depth some) in
+    subst (λ (highest : ℕ). Known run first place (last highest) found) same is
+
+pub changed-near : (run : Run) (first place now : ℕ) (last : ℕ → Option Found) (near : NearStops)
+    (change : LevelChange) (kept : NearLevel)
+    → kept.depth ≤ now
+    → AreNear run first place now last near
+    → AreNear run first place (changed_level now change) last (stops_behind near change kept)
+changed-near run first place now last near Enters kept shallow is =
+    record {
+      here = is.inside;
+      inside = tt;
+      outside = entered-outside run first place now last near.here is.here;
+      ground = is.ground;
+    }
+changed-near run first place now last near Leaves kept shallow is =
+    record {
+      here = is.outside;
+      inside = left-inside run first place now kept.depth last near.here (kept.depth == 0) refl
+          shallow is.here;
+      outside = tt;
+      ground = is.ground;
+    }
+changed-near run first place now last near Resets kept shallow is =
+    record { here = is.ground; inside = tt; outside = tt; ground = is.ground }
+changed-near run first place now last near Stays kept shallow is = is

@@ -1,151 +1,76 @@
 -- What is kept on a way says where a step goes back to.
-use Rattle.std.proofs.Common.{◌≡◌, ◌≤◌, ◌+◌, ◌-◌, ◌∙◌, inl, ℕ, zero, suc, Bool, true, false, not, [], Option, Some, None, refl, ap, sym, subst, arith}
+use Rattle.std.proofs.Common.{◌≡◌, ◌≤◌, ◌<◌, ◌+◌, ◌-◌, ◌∙◌, ⊎_elim, ℕ, zero, suc, Bool, true, false, not, Option, Some, None, nat_le, refl, ap, sym, subst, arith, option_map}
+use Rattle.std.specs.Bool.{then_some}
 use Rattle.std.specs.Prelude.{◌==◌, ◌&&◌, ◌||◌, IfSome, is_none, if◌then◌else◌}
-use Rattle.std.proofs.lemmas.Bool.{true≢false}
+use Rattle.std.proofs.lemmas.Bool.{cases_Bool, cond-false, cond-true, eqb-true, true≢false}
 use Rattle.msp_decode.specs.declared.head.Head.TheVariants.{Reti}
 use Rattle.msp_decode.specs.Spelling.{word_of}
 use Rattle.bus_signals.specs.Kind.{is_cpu, is_irq}
 use Rattle.bus_signals.specs.declared.bus_record.BusRecord.{BusRecord}
+use Rattle.bus_signals.specs.declared.rule.Rule.{Rule}
 use Rattle.debug_stops.specs.Stops.{Stops, is_due}
-use Rattle.debug_stops.specs.declared.stop.Stop.{Stop}
-use Rattle.debug_session.specs.Cause.{backward_cause, is_broken_at, is_plain}
-use Rattle.debug_session.specs.Going.{Standing, last_stop, standing_at}
+use Rattle.debug_stops.specs.Watched.{last_hit}
+use Rattle.debug_stops.specs.declared.stop.Stop.TheVariants.{Plain, Stepped}
+use Rattle.debug_stops.specs.declared.watch.Hit.{Hit}
+use Rattle.debug_session.specs.Cause.{is_broken_at, is_plain, steps_back_to}
 use Rattle.debug_session.specs.Level.{begun_level, level}
-use Rattle.debug_session.specs.Place.{Run, earlier_boundary, is_boundary, is_instruction, is_refused, step_at}
+use Rattle.debug_session.specs.Place.{Run, earlier_boundary, is_boundary, is_instruction, is_refused, last_boundary, step_at}
+use Rattle.debug_session.specs.Watching.{hits_at}
 use Rattle.debug_walk.specs.Levels.{goes_on_returning, levels_after}
-use Rattle.debug_walk.proofs.Begins.{nothing-begun}
+use Rattle.debug_walk.specs.Seen.{IsLevelled, MayBeginAt, with_level}
+use Rattle.debug_walk.specs.declared.step_seen.LevelPlace.{LevelPlace}
+use Rattle.debug_walk.proofs.Begins.{first-boundary, last-here, nothing-begun}
 use Rattle.debug_walk.proofs.LevelSteps.{levels-step}
-use Rattle.device_debug.specs.NearStop.{AreNear, IsNear, IsNearWay, IsReturning, due_first, entered, left, near_behind, near_place, nothing_known, stop_near, stopped, turned, with_place}
+use Rattle.debug_walk.proofs.Options.{some-same}
+use Rattle.device_debug.specs.NearLevel.{IsNearLevel, change_of, changed_level, level_behind}
+use Rattle.device_debug.specs.NearStops.{AreNear, all_near, none_near, stops_behind, stops_stepped}
+use Rattle.device_debug.specs.NearWay.{IsNearWay, IsReturning, boundary_at, change_at, due_first, near_behind, near_place, near_told, stop_at, stops_counted, stops_passed, way_at}
 use Rattle.device_debug.specs.Way.{was_due}
+use Rattle.device_debug.specs.WayBack.{last_found, told_of}
+use Rattle.device_debug.specs.declared.near_level.LevelChange.{LevelChange}
+use Rattle.device_debug.specs.declared.near_level.LevelChange.TheVariants.{Enters, Leaves, Resets, Stays}
+use Rattle.device_debug.specs.declared.near_level.NearLevel.{NearLevel}
 use Rattle.device_debug.specs.declared.near_place.NearPlace.{NearPlace}
-use Rattle.device_debug.specs.declared.near_way.NearStop.{NearStop}
+use Rattle.device_debug.specs.declared.near_stops.NearStops.{NearStops}
 use Rattle.device_debug.specs.declared.near_way.NearWay.{NearWay}
-use Rattle.device_debug.proofs.NearStops.{cause-above, cause-here, near-unplain, near_stop_at, next-stop, same-stop}
-use Rattle.device_debug.proofs.OnWay.{due-first}
+use Rattle.device_debug.specs.declared.way_back.Found.{Found}
+use Rattle.device_debug.proofs.LastFound.{last-below, marked, next-here, next-unbound, next-within, stepped}
+use Rattle.device_debug.proofs.NearStops.{all-begun, all-later, all-plain, changed-near, counted, counted-near, none-near, positive, same-near}
+use Rattle.device_debug.proofs.OnWay.{due-first, last-within}
 
--- a step of this level goes back there, where anything was found
-abbrev Known : Run → Stops → ℕ → ℕ → ℕ → ℕ → ℕ → Option NearStop → Type 0
-Known run stops first place highest level_here depth found =
-    IfSome found (λ one. IsNear run stops first place highest level_here depth one)
+-- the last boundary has the level of the place
+level-still : (run : Run) (place : ℕ) → is_boundary run (suc place) ≡ false
+    → is_refused (step_at run place) ≡ false
+    → level run (suc place) ≡ level run place
+level-still run place none made = rw (made, none) refl
 
--- behind a step that is made, at a place that is not due first, from where it stood
-module _ (run : Run) (stops : Stops) (place : ℕ) (none : stops.watches ≡ [])
-    (made : is_refused (step_at run place) ≡ false) where
-  goes-back : (highest : ℕ) (stop : Option Stop)
-      → backward_cause run stops (Some highest) place (suc place - place) ≡ stop
-      → last_stop run stops (Some highest) (suc place) (suc place)
-      ≡ standing_at place stop (last_stop run stops (Some highest) place place)
-  goes-back highest stop cause =
-      next-stop run stops (Some highest) (suc place) place
-      ∙ ap (λ (one : Option Stop). standing_at place one
-      (last_stop run stops (Some highest) (suc place) place)) cause
-      ∙ ap (λ (other : Standing). standing_at place stop other)
-      (same-stop run stops (Some highest) place place none made (omega arith))
+level-case : (run : Run) (before : ℕ) (here refused : Bool) (last : Option ℕ)
+    → is_boundary run (suc before) ≡ here
+    → is_refused (step_at run before) ≡ refused
+    → IfSome last (λ at. level run at ≡ level run before)
+    → IfSome (if here then Some (suc before) else if refused then None else last)
+    (λ at. level run at ≡ level run (suc before))
+level-case run before true refused last is_here is_refused earlier = refl
+level-case run before false true last is_here is_refused earlier = tt
+level-case run before false false None is_here is_refused earlier = tt
+level-case run before false false (Some at) is_here is_refused earlier =
+    earlier ∙ sym (level-still run before is_here is_refused)
 
-  still-near : (first highest level_here depth : ℕ) (found : NearStop)
-      → backward_cause run stops (Some highest) place (suc place - place) ≡ None
-      → IsNear run stops first place highest level_here depth found
-      → IsNear run stops first (suc place) highest level_here depth found
-  still-near first highest level_here depth found cause is =
-      record {
-        stands = goes-back highest None cause ∙ is.stands;
-        level_is = is.level_is;
-        from = is.from;
-        before = omega (arith, is.before);
-      }
-
-  near-here : (first highest depth : ℕ) (stop : Stop)
-      → first ≤ place
-      → backward_cause run stops (Some highest) place (suc place - place) ≡ Some stop
-      → IsNear run stops first (suc place) highest (level run place) depth
-      (record { place = place; stop = stop; depth = depth })
-  near-here first highest depth stop from cause =
-      record {
-        stands = goes-back highest (Some stop) cause;
-        level_is = refl;
-        from = from;
-        before = omega arith;
-      }
-
-  still-known : (first highest level_here depth : ℕ) (found : Option NearStop)
-      → backward_cause run stops (Some highest) place (suc place - place) ≡ None
-      → Known run stops first place highest level_here depth found
-      → Known run stops first (suc place) highest level_here depth found
-  still-known first highest level_here depth None cause is = tt
-  still-known first highest level_here depth (Some found) cause is =
-      still-near first highest level_here depth found cause is
-
-  outside-next : (first level_here depth : ℕ) (plain : Bool) (found : Option NearStop)
-      → depth ≤ level run place
-      → (is_boundary run place && is_plain run stops place) ≡ plain
-      → IfSome found (λ one.
-      (1 ≤ depth) × IsNear run stops first place (level run place - 1) level_here depth one)
-      → IfSome (if plain then None else found) (λ one.
-      (1 ≤ depth) × IsNear run stops first (suc place) (level run place - 1) level_here depth one)
-  outside-next first level_here depth true found shallow is_plain is = tt
-  outside-next first level_here depth false None shallow is_plain is = tt
-  outside-next first level_here depth false (Some found) shallow is_plain is = (
-    is.0,
-    still-near first (level run place - 1) level_here depth found
-        (cause-above run stops place (level run place - 1) none made is_plain
-        (omega (arith, is.0, shallow)))
-        is.1,
-  )
-
-  stopped-next : (first : ℕ) (way : NearWay) (stop : Option Stop)
-      → first ≤ place
-      → near_stop_at run stops place ≡ stop
-      → AreNear run stops first place (level run place) way
-      → AreNear run stops first (suc place) (level run place)
-      (stopped way (near_place run stops place) (is_boundary run place && is_plain run stops place)
-      stop)
-  stopped-next first way None from is near =
-      let cause : (highest : ℕ) → level run place ≤ highest
-      → backward_cause run stops (Some highest) place (suc place - place) ≡ None =
-      λ highest above. cause-here run stops place highest none made above ∙ is in
-      let unplain : (is_boundary run place && is_plain run stops place) ≡ false =
-      near-unplain (is_boundary run place) (is_plain run stops place)
-      (is_instruction (step_at run place).kind) is in
-      record {
-        shallow = near.shallow;
-        here = still-known first (level run place) (level run place) way.depth way.here
-            (cause (level run place) (omega arith)) near.here;
-        inside = still-known first (level run place + 1) (level run place) way.depth way.inside
-            (cause (level run place + 1) (omega arith)) near.inside;
-        outside = outside-next first (level run place) way.depth false way.outside near.shallow
-            unplain near.outside;
-      }
-  stopped-next first way (Some stop) from is near =
-      let cause : (highest : ℕ) → level run place ≤ highest
-      → backward_cause run stops (Some highest) place (suc place - place) ≡ Some stop =
-      λ highest above. cause-here run stops place highest none made above ∙ is in
-      record {
-        shallow = near.shallow;
-        here = near-here first (level run place) way.depth stop from
-            (cause (level run place) (omega arith));
-        inside = near-here first (level run place + 1) way.depth stop from
-            (cause (level run place + 1) (omega arith));
-        outside = outside-next first (level run place) way.depth
-            (is_boundary run place && is_plain run stops place) way.outside near.shallow refl
-            near.outside;
-      }
-
--- nothing is known
-none-near : (run : Run) (stops : Stops) (first place level_here : ℕ)
-    → AreNear run stops first place level_here nothing_known
-none-near run stops first place level_here =
-    record { shallow = omega arith; here = tt; inside = tt; outside = tt }
+level-at_last : (run : Run) (place : ℕ)
+    → IfSome (last_boundary run place) (λ at. level run at ≡ level run place)
+level-at_last run zero = tt
+level-at_last run (suc before) =
+    level-case run before (is_boundary run (suc before)) (is_refused (step_at run before))
+    (last_boundary run before) refl refl (level-at_last run before)
 
 -- the causes that are plain, by what the way says of the last boundary
-plain-way : (here broken due was : Bool) (way : Option Bool)
-    → ((here && due) && is_none way) ≡ false
+plain-way : (broken due was : Bool) (way : Option Bool)
+    → (due && is_none way) ≡ false
     → IfSome way (λ was_due. was ≡ was_due)
-    → ((here && broken) || due_first (here && due) way) ≡ (here && (broken || (due && not was)))
-plain-way false broken due was None known is = refl
-plain-way false broken due was (Some was_due) known is = refl
-plain-way true broken true was None known is = absurd (true≢false known)
-plain-way true broken false was None known is = refl
-plain-way true broken due was (Some was_due) known is = rw is refl
+    → (broken || due_first due way) ≡ (broken || (due && not was))
+plain-way broken true was None known is = absurd (true≢false known)
+plain-way broken false was None known is = refl
+plain-way broken due was (Some was_due) known is = rw is refl
 
 due-next : (stops : Stops) (place : ℕ) (here : Bool) (way : Option Bool) (earlier : Option ℕ)
     → IfSome way (λ is_due. was_due stops earlier ≡ is_due)
@@ -154,138 +79,111 @@ due-next : (stops : Stops) (place : ℕ) (here : Bool) (way : Option Bool) (earl
 due-next stops place true way earlier kept = refl
 due-next stops place false way earlier kept = kept
 
-near-unless : (first_due : Bool) (run : Run) (stops : Stops) (first place level_here : ℕ)
-    (way : NearWay)
-    → (first_due ≡ false → AreNear run stops first place level_here way)
-    → AreNear run stops first place level_here (if first_due then nothing_known else way)
-near-unless true run stops first place level_here way is =
-    none-near run stops first place level_here
-near-unless false run stops first place level_here way is = is refl
+-- with a place, whose stops these are before its step
+module _ (run : Run) (first place : ℕ) (way : NearWay) (last : ℕ → Option Found)
+    (from : first ≤ place) (levelled : IsNearLevel run way.level place)
+    (below : (highest : ℕ) → IfSome (last highest) (λ one. one.at.place < place))
+    (near : AreNear run first place (level run place) last way.stops) where
+  at-boundary : (plain begins : Bool)
+      → AreNear run first (suc place) (level run place)
+      (λ highest. stepped run place (begins && nat_le (level run place) highest)
+      (marked run place plain (last highest)))
+      (if plain then all_near (stop_at way place Plain)
+      else if begins then stops_stepped way.stops (stop_at way place Stepped)
+      else way.stops)
+  at-boundary true begins =
+      all-plain run first place way from levelled (level run place)
+      (λ highest. begins && nat_le (level run place) highest) last
+  at-boundary false true =
+      all-begun run first place way from levelled (level run place) last way.stops refl below near
+  at-boundary false false = all-later run first place (level run place) last way.stops near
 
--- with the place
-place-next : (run : Run) (stops : Stops) (first : ℕ) (way : NearWay) (place : ℕ)
-    → stops.watches ≡ []
-    → is_refused (step_at run place) ≡ false
-    → first ≤ place
-    → IsNearWay run stops first way place
-    → AreNear run stops first (suc place) (level run place)
-    (with_place way (near_place run stops place) (step_at run place))
-place-next run stops first way place none made from is =
-    let here : NearPlace = near_place run stops place in
-    let earlier : Option ℕ = earlier_boundary run place in
-    let told : Bool = here.is_broken || due_first here.is_due way.is_due in
-    near-unless (here.is_due && is_none way.is_due) run stops first (suc place) (level run place)
-    (stopped way here told (stop_near here told (step_at run place)))
-    (λ known.
-    let same : told ≡ (is_boundary run place && is_plain run stops place) =
-    plain-way (is_boundary run place) (is_broken_at run stops place) (is_due stops place)
-    (was_due stops earlier) way.is_due known is.due
-    ∙ ap (λ (due : Bool). is_boundary run place && (is_broken_at run stops place || due))
-    (due-first stops earlier place) in
-    subst (λ (plain : Bool). AreNear run stops first (suc place) (level run place)
-    (stopped way here plain (stop_near here plain (step_at run place)))) (sym same)
-    (stopped-next run stops place none made first way (near_stop_at run stops place) from refl
-    is.near))
+  due-unknown : (unknown : Bool) (other : NearStops) (now : ℕ → Option Found)
+      → (unknown ≡ false → AreNear run first (suc place) (level run place) now other)
+      → AreNear run first (suc place) (level run place) now
+      (if unknown then none_near else other)
+  due-unknown true other now is = none-near run first (suc place) (level run place) now
+  due-unknown false other now is = is refl
 
-positive : (depth : ℕ) → (depth == 0) ≡ false → 1 ≤ depth
-positive zero is = absurd (true≢false is)
-positive (suc depth) is = omega arith
+  passed-near : (here broken due was begins : Bool) (known : Option Bool)
+      → IfSome known (λ was_due. was ≡ was_due)
+      → AreNear run first (suc place) (level run place)
+      (λ highest. if here then
+      stepped run place ((here && begins) && nat_le (level run place) highest)
+      (marked run place (broken || (due && not was)) (last highest))
+      else last highest)
+      (if (here && due) && is_none known then none_near
+      else if (here && broken) || due_first (here && due) known
+      then all_near (stop_at way place Plain)
+      else if here && begins then stops_stepped way.stops (stop_at way place Stepped)
+      else way.stops)
+  passed-near true broken due was begins known is =
+      let now : Bool → ℕ → Option Found = λ plain highest.
+      stepped run place (begins && nat_le (level run place) highest)
+      (marked run place plain (last highest)) in
+      due-unknown (due && is_none known) _ (now (broken || (due && not was)))
+      (λ told. subst (λ (plain : Bool). AreNear run first (suc place) (level run place)
+      (now (broken || (due && not was)))
+      (if plain then all_near (stop_at way place Plain)
+      else if begins then stops_stepped way.stops (stop_at way place Stepped)
+      else way.stops)) (sym (plain-way broken due was known told is))
+      (at-boundary (broken || (due && not was)) begins))
+  passed-near false broken due was begins None is =
+      all-later run first place (level run place) last way.stops near
+  passed-near false broken due was begins (Some was_due) is =
+      all-later run first place (level run place) last way.stops near
 
--- where the level is another, as the depth is
-module _ (run : Run) (stops : Stops) (first place : ℕ) where
-  moved : (highest same before after depth now : ℕ) (found : Option NearStop)
-      → highest ≡ same
-      → now + before ≡ depth + after
-      → Known run stops first place highest before depth found
-      → Known run stops first place same after now found
-  moved highest same before after depth now None is apart near = tt
-  moved highest same before after depth now (Some found) is apart near =
-      record {
-        stands = subst (λ (most : ℕ). last_stop run stops (Some most) place place
-            ≡ record { place = found.place; stop = found.stop }) is near.stands;
-        level_is = omega (arith, apart, near.level_is);
-        from = near.from;
-        before = near.before;
-      }
+-- with what its step counts for the last boundary
+counted-next : (run : Run) (first place now : ℕ) (way : NearWay) (boundary : Option ℕ)
+    (hit : Option Hit) (reset : Option Rule) (last : ℕ → Option Found) (near : NearStops)
+    → IfSome boundary (λ at. first ≤ at)
+    → IfSome boundary (λ at. at ≤ place)
+    → IfSome boundary (λ at. IsNearLevel run way.level at)
+    → AreNear run first (suc place) now last near
+    → AreNear run first (suc place) now (λ highest. counted run boundary hit reset (last highest))
+    (stops_counted way boundary hit (told_of reset) near)
+counted-next run first place now way None hit reset last near from within levelled is = is
+counted-next run first place now way (Some at) hit reset last near from within levelled is =
+    counted-near run first (suc place) way at from (omega (arith, within)) levelled now hit reset
+    last near is
 
-  deeper : (level_here depth : ℕ) (found : Option NearStop)
-      → Known run stops first place level_here level_here depth found
-      → IfSome found (λ one. (1 ≤ depth + 1)
-      × IsNear run stops first place (level_here + 1 - 1) (level_here + 1) (depth + 1) one)
-  deeper level_here depth None near = tt
-  deeper level_here depth (Some found) near = (
-    omega arith,
-    moved level_here (level_here + 1 - 1) level_here (level_here + 1) depth (depth + 1)
-        (Some found) (omega arith) (omega arith) near,
-  )
+-- that is the last stop from the next place
+module _ (run : Run) (stops : Stops) (place highest : ℕ) where
+  abbrev before_step : Option Found
+  before_step = last_found run stops (Some highest) place place
 
-  entered-next : (level_here : ℕ) (way : NearWay)
-      → AreNear run stops first place level_here way
-      → AreNear run stops first place (level_here + 1) (entered way)
-  entered-next level_here way near =
-      record {
-        shallow = omega (arith, near.shallow);
-        here = moved (level_here + 1) (level_here + 1) level_here (level_here + 1) way.depth
-            (way.depth + 1) way.inside refl (omega arith) near.inside;
-        inside = tt;
-        outside = deeper level_here way.depth way.here near.here;
-      }
+  abbrev here_stepped : Option Found
+  here_stepped =
+      stepped run place (steps_back_to run (Some highest) place)
+      (marked run place (is_plain run stops place) before_step)
 
-  behind-it : (level_here depth : ℕ) (found : Option NearStop)
-      → 1 ≤ depth → depth ≤ level_here
-      → IfSome found (λ one.
-      (1 ≤ depth) × IsNear run stops first place (level_here - 1) level_here depth one)
-      → Known run stops first place (level_here - 1) (level_here - 1) (depth - 1) found
-  behind-it level_here depth None some shallow near = tt
-  behind-it level_here depth (Some found) some shallow near =
-      moved (level_here - 1) (level_here - 1) level_here (level_here - 1) depth (depth - 1)
-      (Some found) refl (omega (arith, some, shallow)) near.1
+  abbrev counts : Option ℕ → Option Found → Option Found
+  counts boundary found =
+      counted run boundary (last_hit None (hits_at run stops.watches place))
+      (step_at run place).reset found
 
-  left-from : (level_here : ℕ) (way : NearWay) (none : Bool)
-      → (way.depth == 0) ≡ none
-      → AreNear run stops first place level_here way
-      → AreNear run stops first place (level_here - 1)
-      (if none then nothing_known
-      else record way {
-        depth = way.depth - 1;
-        here = way.outside;
-        inside = way.here;
-        outside = None;
-      })
-  left-from level_here way true is near = none-near run stops first place (level_here - 1)
-  left-from level_here way false is near =
-      let some : 1 ≤ way.depth = positive way.depth is in
-      record {
-        shallow = omega (arith, near.shallow, some);
-        here = behind-it level_here way.depth way.outside some near.shallow near.outside;
-        inside = moved level_here (level_here - 1 + 1) level_here (level_here - 1) way.depth
-            (way.depth - 1) way.here (omega (arith, some, near.shallow))
-            (omega (arith, some, near.shallow)) near.here;
-        outside = tt;
-      }
+  next-elsewhere : (boundary : Option ℕ) → is_boundary run place ≡ false
+      → last_boundary run place ≡ boundary
+      → counts boundary before_step ≡ last_found run stops (Some highest) (suc place) (suc place)
+  next-elsewhere None none is = next-unbound run stops (Some highest) place none is
+  next-elsewhere (Some at) none is = next-within run stops (Some highest) place at none is
 
-  turned-there : (level_here : ℕ) (way : NearWay) (enters returns : Bool)
-      → AreNear run stops first place level_here way
-      → AreNear run stops first place
-      (if enters then level_here + 1 else if returns then level_here - 1 else level_here)
-      (if enters then entered way else if returns then left way else way)
-  turned-there level_here way true returns near = entered-next level_here way near
-  turned-there level_here way false true near = left-from level_here way (way.depth == 0) refl near
-  turned-there level_here way false false near = near
+  pub next-found :
+      counts (last_boundary run place) (if is_boundary run place then here_stepped else before_step)
+      ≡ last_found run stops (Some highest) (suc place) (suc place)
+  next-found = ⊎_elim
+      (λ here.
+      ap (counts (last_boundary run place))
+      (cond-true (is_boundary run place) here_stepped before_step here)
+      ∙ ap (λ (boundary : Option ℕ). counts boundary here_stepped) (last-here run place here)
+      ∙ next-here run stops (Some highest) place here)
+      (λ none.
+      ap (counts (last_boundary run place))
+      (cond-false (is_boundary run place) here_stepped before_step none)
+      ∙ next-elsewhere (last_boundary run place) none refl)
+      (cases_Bool (is_boundary run place))
 
-  -- behind a step that ends an entry, or a RETI, or neither
-  turned-next : (level_here : ℕ) (way : NearWay) (entry : BusRecord) (returns at_boundary : Bool)
-      → AreNear run stops first place level_here way
-      → AreNear run stops first place
-      (if not at_boundary then level_here
-      else if is_irq entry.kind then level_here + 1
-      else if returns then level_here - 1
-      else level_here)
-      (turned entry returns at_boundary way)
-  turned-next level_here way entry returns false near = near
-  turned-next level_here way entry returns true near =
-      turned-there level_here way (is_irq entry.kind) returns near
-
+-- whether a RETI is under way, at the beginning and behind a step
 chosen-opcode : (returns : Bool)
     → ((if returns then word_of Reti else 0) == word_of Reti) ≡ returns
 chosen-opcode true = refl
@@ -298,14 +196,9 @@ same-opcode : (was : Bool) (value opcode : ℕ) (returns : Bool)
 same-opcode true value opcode returns same = refl
 same-opcode false value opcode returns same = same
 
-same-now : (refused : Bool) (now : ℕ) → refused ≡ false → now ≡ (if refused then 0 else now)
-same-now true now made = absurd (true≢false made)
-same-now false now made = refl
-
--- whether a RETI is under way, at a boundary and behind a step
-pub returning-here : (run : Run) (place : ℕ) (returns : Bool) → is_boundary run place ≡ true
+pub returning-begun : (run : Run) (place : ℕ) (returns : Bool) → MayBeginAt run place
     → IsReturning run place returns
-returning-here run place returns here =
+returning-begun run place returns may =
     record {
       levels = record {
         now = level run place;
@@ -315,7 +208,7 @@ returning-here run place returns here =
       stands = record {
         now = refl;
         begun = nothing-begun 0 (if returns then word_of Reti else 0) (begun_level run place) run
-            place (inl here);
+            place may;
       };
       same = chosen-opcode returns;
     }
@@ -332,99 +225,232 @@ returning-next run place returns is =
           is.same;
     }
 
+-- the level behind a step
+same-change : (now : ℕ) (refused at_boundary enters returns : Bool)
+    → changed_level now (if refused then Resets else if not at_boundary then Stays
+    else if enters then Enters else if returns then Leaves else Stays)
+    ≡ (if refused then 0 else if not at_boundary then now else if enters then now + 1
+    else if returns then now - 1 else now)
+same-change now true at_boundary enters returns = refl
+same-change now false false enters returns = refl
+same-change now false true true returns = refl
+same-change now false true false true = refl
+same-change now false true false false = refl
+
 level-next : (run : Run) (place : ℕ) (returns : Bool) → IsReturning run place returns
-    → is_refused (step_at run place) ≡ false
-    → (if not (is_boundary run (suc place)) then level run place
-    else if is_irq (step_at run place).kind then level run place + 1
-    else if not (is_boundary run place) && is_cpu (step_at run place).kind && returns
-    then level run place - 1
-    else level run place)
+    → changed_level (level run place)
+    (change_of (step_at run place)
+    (not (is_boundary run place) && is_cpu (step_at run place).kind && returns)
+    (is_boundary run (suc place)))
     ≡ level run (suc place)
-level-next run place returns is made =
+level-next run place returns is =
     let entry : BusRecord = step_at run place in
     let was : Bool = is_boundary run place in
-    let levelled : ℕ → Bool → ℕ =
-    λ now goes. if not (is_boundary run (suc place)) then now
-    else if is_irq entry.kind then now + 1
-    else if goes then now - 1
-    else now in
-    ap (λ (now : ℕ). levelled now (not was && is_cpu entry.kind && returns)) (sym is.stands.now)
-    ∙ ap (λ (same : Bool). levelled is.levels.now (not was && is_cpu entry.kind && same))
-    (sym is.same)
-    ∙ same-now (is_refused entry) (levelled is.levels.now (goes_on_returning is.levels entry was))
-    made
+    let after : Bool = is_boundary run (suc place) in
+    let changed : ℕ → Bool → ℕ = λ now same. changed_level now
+    (change_of entry (not was && is_cpu entry.kind && same) after) in
+    ap (λ (now : ℕ). changed now returns) (sym is.stands.now)
+    ∙ ap (changed is.levels.now) (sym is.same)
+    ∙ same-change is.levels.now (is_refused entry) after (is_irq entry.kind)
+    (goes_on_returning is.levels entry was)
     ∙ (levels-step is.levels run place is.stands).now
 
--- behind a step
-turned-way : (run : Run) (stops : Stops) (first : ℕ) (way : NearWay) (place : ℕ) (refused : Bool)
-    → is_refused (step_at run place) ≡ refused
-    → stops.watches ≡ []
-    → first ≤ place
-    → IsNearWay run stops first way place
-    → AreNear run stops first (suc place) (level run (suc place))
-    (if refused then nothing_known
-    else turned (step_at run place)
-    (not (is_boundary run place) && is_cpu (step_at run place).kind && way.returns)
-    (is_boundary run (suc place)) (with_place way (near_place run stops place) (step_at run place)))
-turned-way run stops first way place true made none from is =
-    none-near run stops first (suc place) (level run (suc place))
-turned-way run stops first way place false made none from is =
-    subst (λ (there : ℕ). AreNear run stops first (suc place) there
-    (turned (step_at run place)
-    (not (is_boundary run place) && is_cpu (step_at run place).kind && way.returns)
-    (is_boundary run (suc place))
-    (with_place way (near_place run stops place) (step_at run place))))
-    (level-next run place way.returns is.returning made)
-    (turned-next run stops first (suc place) (level run place)
-    (with_place way (near_place run stops place) (step_at run place)) (step_at run place)
-    (not (is_boundary run place) && is_cpu (step_at run place).kind && way.returns)
-    (is_boundary run (suc place)) (place-next run stops first way place none made from is))
+-- and as it is kept
+left-next : (run : Run) (place now : ℕ) (kept : NearLevel) (none : Bool)
+    → (kept.depth == 0) ≡ none
+    → now ≡ level run kept.since + kept.depth
+    → now - 1 ≡ level run (suc place)
+    → IsNearLevel run
+    (if none then record { since = place + 1; depth = 0 }
+    else record kept { depth = kept.depth - 1 }) (suc place)
+left-next run place now kept true flat is next =
+    let here : suc place ≡ place + 1 = omega arith in
+    ap (level run) here ∙ omega arith
+left-next run place now kept false some is next =
+    omega (arith, is, next, positive kept.depth some)
 
-pub way-next : (run : Run) (stops : Stops) (first : ℕ) (way : NearWay) (place : ℕ)
-    → stops.watches ≡ []
+kept-next : (run : Run) (place now : ℕ) (kept : NearLevel) (change : LevelChange)
+    → now ≡ level run kept.since + kept.depth
+    → changed_level now change ≡ level run (suc place)
+    → IsNearLevel run (level_behind kept change (place + 1)) (suc place)
+kept-next run place now kept Stays is next = sym next ∙ is
+kept-next run place now kept Enters is next = omega (arith, is, next)
+kept-next run place now kept Resets is next = omega (arith, next)
+kept-next run place now kept Leaves is next =
+    left-next run place now kept (kept.depth == 0) refl is next
+
+-- the last boundary behind a step
+boundary-next : (here after refused : Bool) (place : ℕ) (known last : Option ℕ)
+    → (if here then Some place else known) ≡ last
+    → (if after then Some (suc place)
+    else if refused then None else if here then Some place else known)
+    ≡ (if after then Some (suc place) else if refused then None else last)
+boundary-next here after refused place known last is = rw is refl
+
+from-here : (first place : ℕ) (here : Bool) (known : Option ℕ)
     → first ≤ place
+    → IfSome known (λ at. first ≤ at)
+    → IfSome (if here then Some place else known) (λ at. first ≤ at)
+from-here first place true known from is = from
+from-here first place false known from is = is
+
+from-unless : (first : ℕ) (refused : Bool) (known : Option ℕ)
+    → IfSome known (λ at. first ≤ at)
+    → IfSome (if refused then None else known) (λ at. first ≤ at)
+from-unless first true known is = tt
+from-unless first false known is = is
+
+levelled-at : (run : Run) (place : ℕ) (kept : NearLevel) (last : Option ℕ)
+    → IsNearLevel run kept place
+    → IfSome last (λ at. level run at ≡ level run place)
+    → IfSome last (λ at. IsNearLevel run kept at)
+levelled-at run place kept None here is = tt
+levelled-at run place kept (Some at) here is = is ∙ here
+
+-- behind a step
+module _ (run : Run) (stops : Stops) (first : ℕ) (way : NearWay) (place : ℕ)
+    (from : first ≤ place) (is : IsNearWay run stops first way place) where
+  abbrev here : NearPlace
+  here = near_place run stops place
+
+  abbrev entry : BusRecord
+  entry = step_at run place
+
+  abbrev hit_here : Option Hit
+  hit_here = last_hit None (hits_at run stops.watches place)
+
+  abbrev change : LevelChange
+  change = change_at way here entry (is_boundary run (suc place))
+
+  abbrev passed : NearStops
+  passed = stops_passed way here entry
+
+  passed-here : AreNear run first (suc place) (level run place)
+      (λ highest. if is_boundary run place then here_stepped run stops place highest
+      else before_step run stops place highest)
+      passed
+  passed-here =
+      subst (λ (first_due : Bool). AreNear run first (suc place) (level run place)
+      (λ highest. if is_boundary run place then
+      stepped run place (steps_back_to run (Some highest) place)
+      (marked run place (is_broken_at run stops place || first_due)
+      (before_step run stops place highest))
+      else before_step run stops place highest) passed)
+      (due-first stops (earlier_boundary run place) place)
+      (passed-near run first place way (before_step run stops place) from is.levelled
+      (λ highest. last-below run stops (Some highest) place place) is.near
+      (is_boundary run place) (is_broken_at run stops place) (is_due stops place)
+      (was_due stops (earlier_boundary run place)) (is_instruction entry.kind) way.is_due is.due)
+
+  counted-here : AreNear run first (suc place) (level run place)
+      (λ highest. last_found run stops (Some highest) (suc place) (suc place))
+      (stops_counted way (boundary_at way here) hit_here (told_of entry.reset) passed)
+  counted-here =
+      subst (λ (boundary : Option ℕ). AreNear run first (suc place) (level run place)
+      (λ highest. last_found run stops (Some highest) (suc place) (suc place))
+      (stops_counted way boundary hit_here (told_of entry.reset) passed)) (sym is.boundary)
+      (same-near run first (suc place) (level run place) _ _ _ (next-found run stops place)
+      (counted-next run first place (level run place) way (last_boundary run place) hit_here
+      entry.reset _ passed
+      (subst (λ (boundary : Option ℕ). IfSome boundary (λ at. first ≤ at)) is.boundary
+      (from-here first place (is_boundary run place) way.boundary from is.from))
+      (last-within run place)
+      (levelled-at run place way.level (last_boundary run place) is.levelled
+      (level-at_last run place))
+      passed-here))
+
+  pub way-next :
+      IsNearWay run stops first
+      (near_behind way here entry hit_here (is_boundary run (suc place))) (suc place)
+  way-next =
+      let next : changed_level (level run place) change ≡ level run (suc place) =
+      level-next run place way.returns is.returning in
+      record {
+        due = due-next stops place (is_boundary run place) way.is_due (earlier_boundary run place)
+            is.due;
+        returning = returning-next run place way.returns is.returning;
+        levelled = kept-next run place (level run place) way.level change is.levelled next;
+        boundary = boundary-next (is_boundary run place) (is_boundary run (suc place))
+            (is_refused entry) place way.boundary (last_boundary run place) is.boundary;
+        from = from-unless first (is_refused entry) (boundary_at way here)
+            (from-here first place (is_boundary run place) way.boundary from is.from);
+        near = subst (λ (now : ℕ). AreNear run first (suc place) now
+            (λ highest. last_found run stops (Some highest) (suc place) (suc place))
+            (stops_behind
+            (stops_counted way (boundary_at way here) hit_here (told_of entry.reset) passed) change
+            way.level)) next
+            (changed-near run first (suc place) (level run place) _
+            (stops_counted way (boundary_at way here) hit_here (told_of entry.reset) passed) change
+            way.level (omega (arith, is.levelled)) counted-here);
+      }
+
+-- with the level of the place, where it is told
+told-case : (run : Run) (stops : Stops) (first place : ℕ) (way : NearWay) (at : LevelPlace)
+    (same : Bool)
+    → (at.place == place) ≡ same
+    → at.level ≡ level run at.place
     → IsNearWay run stops first way place
     → IsNearWay run stops first
-    (near_behind way (near_place run stops place) (step_at run place) (is_boundary run (suc place)))
-    (suc place)
-way-next run stops first way place none from is =
-    let known =
-    turned-way run stops first way place (is_refused (step_at run place)) refl none from is in
+    (if same then record way { level = record { since = 0; depth = at.level } } else way) place
+told-case run stops first place way at false is levelled near = near
+told-case run stops first place way at true is levelled near =
+    let here : at.place ≡ place = eqb-true at.place place is in
     record {
-      due = due-next stops place (is_boundary run place) way.is_due (earlier_boundary run place)
-          is.due;
-      returning = returning-next run place way.returns is.returning;
-      near = record {
-        shallow = known.shallow;
-        here = known.here;
-        inside = known.inside;
-        outside = known.outside;
-      };
+      due = near.due;
+      returning = near.returning;
+      levelled = omega (arith, levelled, ap (level run) here);
+      boundary = near.boundary;
+      from = near.from;
+      near = near.near;
     }
+
+pub way-told : (run : Run) (stops : Stops) (first place : ℕ) (way : NearWay)
+    (told : Option LevelPlace)
+    → IsLevelled run told
+    → IsNearWay run stops first way place
+    → IsNearWay run stops first (near_told way place told) place
+way-told run stops first place way None levelled near = near
+way-told run stops first place way (Some at) levelled near =
+    told-case run stops first place way at (at.place == place) refl levelled near
 
 -- what is kept behind a step of the code
 pub way-step : (run : Run) (stops : Stops) (first : ℕ) (way next : NearWay) (here : NearPlace)
-    (entry : BusRecord) (at_boundary : Bool) (place later : ℕ)
-    → stops.watches ≡ []
+    (entry : BusRecord) (hit : Option Hit) (at_boundary : Bool) (place later : ℕ)
     → first ≤ place
     → IsNearWay run stops first way place
     → here ≡ near_place run stops place
     → step_at run place ≡ entry
+    → hit ≡ last_hit None (hits_at run stops.watches place)
     → is_boundary run later ≡ at_boundary
-    → next ≡ near_behind way here entry at_boundary
+    → next ≡ near_behind way here entry hit at_boundary
     → later ≡ suc place
     → IsNearWay run stops first next later
-way-step run stops first way next here entry at_boundary place later none from is is_here is_entry
-    is_boundary is_next is_later =
-    rw (is_next, is_here, ← is_entry, ← is_boundary, is_later)
-    (way-next run stops first way place none from is)
+way-step run stops first way next here entry hit at_boundary place later from is is_here is_entry
+    is_hit is_boundary is_next is_later =
+    rw (is_next, is_here, ← is_entry, is_hit, ← is_boundary, is_later)
+    (way-next run stops first way place from is)
 
--- at the beginning, which is a boundary, nothing is known
-pub way-begun : (run : Run) (stops : Stops) (place : ℕ) → is_boundary run place ≡ true
-    → IsNearWay run stops place nothing_known place
-way-begun run stops place here =
+-- at the beginning nothing is known
+boundary-begun : (run : Run) (here : Bool) (place : ℕ) (last : Option ℕ)
+    → then_some here (with_level run place) ≡ option_map (with_level run) last
+    → (if here then Some place else None) ≡ last
+boundary-begun run true place None is = absurd (cc (is))
+boundary-begun run true place (Some at) is =
+    ap Some (ap (λ (one : LevelPlace). one.place) (some-same is))
+boundary-begun run false place None is = refl
+boundary-begun run false place (Some at) is = absurd (cc (is))
+
+pub way-begun : (run : Run) (stops : Stops) (place : ℕ) → MayBeginAt run place
+    → IsNearWay run stops place (way_at place) place
+way-begun run stops place may =
     record {
       due = tt;
-      returning = returning-here run place false here;
-      near = none-near run stops place place (level run place);
+      returning = returning-begun run place false may;
+      levelled = omega arith;
+      boundary = boundary-begun run (is_boundary run place) place (last_boundary run place)
+          (first-boundary run place place (level run place) (is_boundary run place) refl refl refl
+          may);
+      from = tt;
+      near = none-near run place place (level run place)
+          (λ highest. last_found run stops (Some highest) place place);
     }

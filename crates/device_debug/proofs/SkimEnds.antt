@@ -27,14 +27,16 @@ use Rattle.device_debug.proofs.Goes.{goes-failed}
 pub halted-here : {D : Type 0} (hash : Hash D) (flag : Flag SecondFlag) (run : Run)
     (halted : Halted D) (live : Live D SecondFlag) (playback : Playback) (place : ℕ) (stop : Stop)
     → halted.live ≡ live → halted.playback ≡ playback → halted.level ≡ None
+    → halted.before_reset ≡ None
     → IsMidway hash flag run.start run.events_at live playback
     → steps_made live ≡ place → IsSettledAt run place
     → HasHalted hash flag run halted stop (record { place = place; stop = stop })
-halted-here {D = D} hash flag run halted live playback place stop same left unknown midway at
+halted-here {D = D} hash flag run halted live playback place stop same left unknown none midway at
     settled =
     record {
       stands = record {
-        stands = halted-there run live playback None place halted midway at tt same left unknown;
+        stands = halted-there run live playback None None place halted midway at tt tt same left
+            unknown none;
         place_is = ap (λ (one : Live D SecondFlag). steps_made one) same ∙ at;
         settled = settled;
       };

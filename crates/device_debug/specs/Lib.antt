@@ -1,6 +1,9 @@
 pub mod Forwards
 pub mod GrownText
+pub mod NearLevel
 pub mod NearStop
+pub mod NearStops
+pub mod NearWay
 pub mod Session
 pub mod Skim
 pub mod StepText

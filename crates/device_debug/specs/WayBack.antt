@@ -1,12 +1,12 @@
 -- What a walk from the beginning keeps, and the last place so far where a debugger stops.
-use Rattle.std.specs.Prelude.{◌≡◌, ℕ, ◌==◌, ◌&&◌, ◌||◌, Bool, false, Option, Some, None, nat_le, not, if◌then◌else◌}
+use Rattle.std.specs.Prelude.{◌≡◌, ℕ, ◌==◌, ◌&&◌, ◌||◌, ◌-◌, Bool, false, Option, Some, None, nat_le, not, suc, zero, if◌then◌else◌}
 use Rattle.bus_signals.specs.declared.rule.Rule.{Rule}
 use Rattle.debug_stops.specs.Stops.{Stops, is_due}
 use Rattle.debug_stops.specs.Watched.{hits_of, last_hit}
 use Rattle.debug_stops.specs.declared.stop.Stop.{Stop}
 use Rattle.debug_stops.specs.declared.stop.Stop.TheVariants.{Begin, Plain, Refused, Stepped, Watched}
 use Rattle.debug_stops.specs.declared.watch.Hit.{Hit}
-use Rattle.debug_session.specs.Cause.{is_broken_at, told_rule}
+use Rattle.debug_session.specs.Cause.{backward_cause, is_broken_at, told_rule}
 use Rattle.debug_session.specs.Going.{Standing}
 use Rattle.debug_session.specs.Level.{level}
 use Rattle.debug_session.specs.Place.{Run, is_boundary}
@@ -18,6 +18,18 @@ use Rattle.device_debug.specs.declared.way_back.WayBack.{WayBack}
 
 abbrev pub found_at : LevelPlace → Stop → Option Found
 found_at at stop = Some (record { at = at; stop = stop })
+
+-- the last place with a cause, where there is one
+abbrev pub found_or : Run → ℕ → Option Stop → Option Found → Option Found
+found_or run place None other = other
+found_or run place (Some stop) other = found_at (with_level run place) stop
+
+abbrev pub last_found : Run → Stops → Option ℕ → ℕ → ℕ → Option Found
+last_found run stops highest from zero = None
+last_found run stops highest from (suc zero) = None
+last_found run stops highest from (suc (suc place)) =
+    found_or run (suc place) (backward_cause run stops highest (suc place) (from - suc place))
+    (last_found run stops highest from (suc place))
 
 -- another reply of the place goes before this one
 abbrev pub or_found : Option Found → LevelPlace → Stop → Option Found

@@ -34,9 +34,10 @@ pub fn go_back<'a, D: Digest32>(
 {
     let place = now.place();
     let level = now.level();
+    let before_reset = now.before_reset();
     drop(now);
     if steps {
-        if let Some(near) = near_stop(alloc, run, stops, place, level)? {
+        if let Some(near) = near_stop(alloc, run, stops, place, level, before_reset)? {
             return Ok(near);
         }
     }

@@ -1,11 +1,13 @@
-ghost use Rattle.std.specs.Prelude.{◌≡◌};
+ghost use Rattle.std.specs.Prelude.{◌≡◌, ℕ, None, suc};
+ghost use Rattle.debug_session.specs.Watching.{hits_at};
+ghost use Rattle.debug_stops.specs.Watched.{last_hit};
 ghost use Rattle.debug_walk.specs.Walk.{OfMidway};
+ghost use Rattle.device_core.specs.Device.{HasStepped};
+ghost use Rattle.device_debug.specs.NearWay.{near_place};
 ghost use Rattle.device_debug.specs.Session.{second_flag};
-ghost use Rattle.device_debug.specs.NearStop.{near_place, stop_near};
 
-use bus_signals::BusRecord;
-use debug_stops::{Stop, StopList};
-use debug_walk::{is_at_breakpoint, is_instruction};
+use debug_stops::{Hit, SeenAccesses, StopList};
+use debug_walk::{differs, is_at_breakpoint};
 use device_core::Live;
 use hmac_core::Digest32;
 use isr_flag::IsrFlag;
@@ -15,8 +17,12 @@ use isr_flag::IsrFlag;
 pub struct NearPlace {
     pub place: u64,
     pub is_boundary: bool,
+    /// A boundary with a breakpoint.
     pub is_broken: bool,
+    /// A boundary that is not before the number of steps asked for.
     pub is_due: bool,
+    pub exec: bool,
+    pub aux: bool,
 }
 
 impl NearPlace {
@@ -25,33 +31,30 @@ impl NearPlace {
             result ≡ near_place run stops.now place) }
     {
         let place = live.steps();
-        if !live.is_at_boundary() {
-            return NearPlace {
-                place,
-                is_boundary: false,
-                is_broken: false,
-                is_due: false,
-            };
-        }
+        let is_boundary = live.is_at_boundary();
         NearPlace {
             place,
-            is_boundary: true,
-            is_broken: is_at_breakpoint(live, stops),
-            is_due: stops.is_due(place),
+            is_boundary,
+            is_broken: is_boundary && is_at_breakpoint(live, stops),
+            is_due: is_boundary && stops.is_due(place),
+            exec: live.exec(),
+            aux: live.aux(),
         }
     }
 
-    /// Why a device stops there, going back by a step, whatever the level: for a cause that is
-    /// plain, or where an instruction begins.
-    pub fn stop(self, is_plain: bool, entry: &BusRecord) -> Option<Stop>
-        ensures { result ≡ stop_near self is_plain entry.now }
+    /// The last watch that its step hit, by the device behind it.
+    pub fn hit<D: Digest32>(&self, live: &Live<D, IsrFlag>, stops: &StopList) -> Option<Hit>
+        requires { HasStepped live.now }
+        ensures { OfMidway D.hash second_flag live.now (λ run next. (place : ℕ)
+            → next ≡ suc place
+            → self.now ≡ near_place run stops.now place
+            → result ≡ last_hit None (hits_at run stops.now.watches place)) }
     {
-        if is_plain {
-            Some(Stop::Plain)
-        } else if self.is_boundary && is_instruction(entry.kind) {
-            Some(Stop::Stepped)
-        } else {
-            None
-        }
+        SeenAccesses::new(
+            live.entry(),
+            differs(self.exec, live.exec()),
+            differs(self.aux, live.aux()),
+        )
+        .last_hit(stops.watches(), None)
     }
 }

@@ -1,86 +1,93 @@
-ghost use Rattle.std.specs.Prelude.{◌≡◌, ◌<◌, ◌≤◌, ◌&&◌, not};
+ghost use Rattle.std.specs.Prelude.{◌≡◌, ◌<◌, ◌&&◌, not};
 ghost use Rattle.bus_signals.specs.Kind.{is_cpu};
-ghost use Rattle.device_debug.specs.NearStop.{due_first, entered, left, near_behind, next_known, nothing_known, turned, with_place};
+ghost use Rattle.device_debug.specs.NearWay.{boundary_at, due_first, near_behind, near_told, stop_at, stops_counted, stops_passed, way_at};
+ghost use Rattle.device_debug.specs.WayBack.{told_of};
 
+use crate::near_level::{LevelChange, NearLevel};
 use crate::near_place::NearPlace;
-use bus_signals::{BusRecord, Kind};
-use debug_stops::Stop;
-use debug_walk::RETI;
+use crate::near_stops::{NearStop, NearStops};
+use bus_signals::{BusRecord, Kind, Rule};
+use debug_stops::{Hit, Stop};
+use debug_walk::{LevelPlace, RETI, is_instruction};
 
-/// A place to which a step goes back, and why a device stops there.
-#[derive(Clone, Copy, Debug, PartialEq, Eq)]
-pub struct NearStop {
-    pub place: u64,
-    pub stop: Stop,
-    /// How many handlers were entered there and not left, of those that the way has seen.
-    pub depth: u64,
-}
-
-/// What is kept on a way that began somewhere, at a level that is not known. Where nothing is known
-/// it says `None`.
+/// What is kept on a way that began at a boundary, or at place 0.
 #[derive(Clone, Copy, Debug)]
 pub struct NearWay {
     /// Whether the last boundary was due, where there was one.
     pub is_due: Option<bool>,
     /// The instruction under way is RETI.
     pub returns: bool,
-    /// How many handlers were entered and not left.
-    pub depth: u64,
-    /// Where a step goes back to from here.
-    pub here: Option<NearStop>,
-    /// From within a handler that is entered here.
-    pub inside: Option<NearStop>,
-    /// From behind the handler that was entered last.
-    pub outside: Option<NearStop>,
+    pub level: NearLevel,
+    /// The last boundary before this place, with no refused step since.
+    pub boundary: Option<u64>,
+    pub stops: NearStops,
 }
 
 impl NearWay {
     /// At its beginning.
-    pub fn new() -> NearWay
-        ensures { result ≡ nothing_known }
+    pub fn at(place: u64) -> NearWay
+        ensures { result ≡ way_at place }
     {
         NearWay {
             is_due: None,
             returns: false,
-            depth: 0,
-            here: None,
-            inside: None,
-            outside: None,
+            level: NearLevel {
+                since: place,
+                depth: 0,
+            },
+            boundary: None,
+            stops: NearStops::unknown(),
         }
     }
 
-    /// Behind the step of a place, at a boundary or not.
-    pub fn behind(self, here: NearPlace, entry: &BusRecord, at_boundary: bool) -> NearWay
-        ensures { self.depth < 18446744073709551615
-            → result ≡ near_behind self here entry.now at_boundary }
+    /// With the level of this place, if it is the one whose level is told.
+    pub fn told(self, place: u64, told: Option<LevelPlace>) -> NearWay
+        ensures { result ≡ near_told self place told }
     {
-        let next = self.next(here, entry, at_boundary);
-        if here.is_boundary {
-            NearWay {
-                is_due: Some(here.is_due),
-                returns: entry.value == RETI,
-                ..next
-            }
-        } else {
-            NearWay {
-                is_due: self.is_due,
-                returns: self.returns,
-                ..next
-            }
+        match told {
+            Some(at) if at.place == place => NearWay {
+                level: NearLevel::known(at.level),
+                ..self
+            },
+            _ => self,
         }
     }
 
-    // What is known behind it.
-    fn next(self, here: NearPlace, entry: &BusRecord, at_boundary: bool) -> NearWay
-        ensures { self.depth < 18446744073709551615
-            → result ≡ next_known self here entry.now at_boundary }
+    /// Behind the step of a place, which may have hit a watch, and led to a boundary or not.
+    pub fn behind(
+        self,
+        here: NearPlace,
+        entry: &BusRecord,
+        hit: Option<Hit>,
+        at_boundary: bool,
+    ) -> NearWay
+        ensures { self.level.depth < 18446744073709551615
+            → here.place < 18446744073709551615
+            → result ≡ near_behind self here entry.now hit at_boundary }
     {
-        if entry.reset.is_some() {
-            return NearWay::new();
+        let change = LevelChange::of(entry, self.goes_on_returning(here, entry), at_boundary);
+        let boundary = self.boundary_at(here);
+        NearWay {
+            is_due: if here.is_boundary {
+                Some(here.is_due)
+            } else {
+                self.is_due
+            },
+            returns: if here.is_boundary {
+                entry.value == RETI
+            } else {
+                self.returns
+            },
+            level: self.level.behind(change, here.place.saturating_add(1)),
+            boundary: if entry.reset.is_some() {
+                None
+            } else {
+                boundary
+            },
+            stops: self
+                .counted(boundary, hit, entry.reset, self.passed(here, entry))
+                .behind(change, self.level),
         }
-        let returns = self.goes_on_returning(here, entry);
-        self.with_place(here, entry)
-            .turned(entry, returns, at_boundary)
     }
 
     // A step of a RETI that has begun.
@@ -90,73 +97,58 @@ impl NearWay {
         !here.is_boundary && matches!(entry.kind, Kind::Cpu) && self.returns
     }
 
-    // With a place where a device may stop. Whether it is the first that is due is not known of the
-    // first boundary, so nothing is known behind it.
-    fn with_place(self, here: NearPlace, entry: &BusRecord) -> NearWay
-        ensures way { result ≡ with_place self here entry.now }
-        ensures shallow { result.depth ≤ self.depth }
+    // The last boundary at this place or before it.
+    fn boundary_at(self, here: NearPlace) -> Option<u64>
+        ensures { result ≡ boundary_at self here }
+    {
+        if here.is_boundary {
+            Some(here.place)
+        } else {
+            self.boundary
+        }
+    }
+
+    fn stop_at(self, place: u64, stop: Stop) -> NearStop
+        ensures { result ≡ stop_at self place stop }
+    {
+        NearStop {
+            place,
+            stop,
+            level: self.level,
+        }
+    }
+
+    // With the place itself. Of the first boundary it is not known whether it is the first that is
+    // due.
+    fn passed(self, here: NearPlace, entry: &BusRecord) -> NearStops
+        ensures { result ≡ stops_passed self here entry.now }
     {
         if here.is_due && self.is_due.is_none() {
-            return NearWay::new();
-        }
-        let is_plain = here.is_broken || is_due_first(here.is_due, self.is_due);
-        let Some(stop) = here.stop(is_plain, entry) else {
-            return self;
-        };
-        let found = Some(NearStop {
-            place: here.place,
-            stop,
-            depth: self.depth,
-        });
-        NearWay {
-            here: found,
-            inside: found,
-            outside: if is_plain { None } else { self.outside },
-            ..self
-        }
-    }
-
-    // Behind a step that ends an entry, or a RETI, or neither.
-    fn turned(self, entry: &BusRecord, returns: bool, at_boundary: bool) -> NearWay
-        ensures { self.depth < 18446744073709551615
-            → result ≡ turned entry.now returns at_boundary self }
-    {
-        if !at_boundary {
-            self
-        } else if matches!(entry.kind, Kind::Irq) {
-            self.entered()
-        } else if returns {
-            self.left()
+            NearStops::unknown()
+        } else if here.is_broken || is_due_first(here.is_due, self.is_due) {
+            NearStops::all(self.stop_at(here.place, Stop::Plain))
+        } else if here.is_boundary && is_instruction(entry.kind) {
+            self.stops.stepped(self.stop_at(here.place, Stop::Stepped))
         } else {
-            self
+            self.stops
         }
     }
 
-    fn entered(self) -> NearWay
-        ensures { self.depth < 18446744073709551615 → result ≡ entered self }
+    // With what the step counts for the last boundary: a hit goes before all other causes, a
+    // refusal behind them; the script's reset stops nothing.
+    fn counted(
+        self,
+        boundary: Option<u64>,
+        hit: Option<Hit>,
+        refused: Option<Rule>,
+        stops: NearStops,
+    ) -> NearStops
+        ensures { result ≡ stops_counted self boundary hit (told_of refused) stops }
     {
-        NearWay {
-            depth: self.depth.saturating_add(1),
-            here: self.inside,
-            inside: None,
-            outside: self.here,
-            ..self
-        }
-    }
-
-    // Of a handler whose entry the way has not seen nothing is known.
-    fn left(self) -> NearWay
-        ensures { result ≡ left self }
-    {
-        if self.depth == 0 {
-            return NearWay::new();
-        }
-        NearWay {
-            depth: self.depth - 1,
-            here: self.outside,
-            inside: self.here,
-            outside: None,
-            ..self
+        match (boundary, hit, refused) {
+            (None, _, _) | (_, None, None | Some(Rule::X0)) => stops,
+            (Some(at), Some(hit), _) => NearStops::all(self.stop_at(at, Stop::Watched(hit))),
+            (Some(at), None, Some(rule)) => stops.refused(self.stop_at(at, Stop::Refused(rule))),
         }
     }
 }

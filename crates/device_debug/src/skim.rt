@@ -69,7 +69,7 @@ pub fn skim<'a, D: Digest32, W: Sink + Drop>(
         }
     }
     waiting.tell(packets)?;
-    Ok((Halted::new(live, playback, None), Stop::End))
+    Ok((Halted::new(live, playback, None, None), Stop::End))
 }
 
 // The rule by which the last step was refused.
@@ -186,5 +186,5 @@ fn halt_before<'a, D: Digest32, W: Sink + Drop>(
         put_text(text.as_slice(), packets)?;
     }
     tell_refusal(alloc, step, rule, packets)?;
-    Ok((Halted::new(live, playback, None), Stop::Refused(rule)))
+    Ok((Halted::new(live, playback, None, None), Stop::Refused(rule)))
 }

@@ -2,9 +2,9 @@
 //! command once, where one call of the outside fails and where none can; a second flag and a digest
 //! that no program has; images at the edges of the rules; and what a load draws.
 //!
-//! The contracts say which bytes are put, and `tools/check-program` tries the proved programs on the
-//! cases of `conformance/` and beside models in another language. What stands here is what no call
-//! of a program shows, and one telling case of what it does.
+//! The contracts say which bytes are put, and `tools/check-program` tries the proved programs on
+//! the cases of `conformance/` and beside models in another language. What stands here is what no
+//! call of a program shows, and one telling case of what it does.
 #![tactic(auto)]
 
 #[cfg(test)]

@@ -7,7 +7,7 @@ use Rattle.debug_walk.proofs.run.play_up_to.Given as goal
 
 abbrev pub invariant-loop-live : goal.invariant-loop-live
 invariant-loop-live g l = record {
-  within : steps_made l.live ≤ l.place;
+  within : steps_made l.initial.live ≤ l.end → steps_made l.live ≤ l.end;
   plays : (start : Start) (events_at : ℕ → List Event)
       → IsMidway g.D.Digest32.hash g.G.TraceFlag.flag start events_at l.initial.live
       l.initial.playback
@@ -15,4 +15,4 @@ invariant-loop-live g l = record {
 }
 
 abbrev pub decreases-loop-live : goal.decreases-loop-live
-decreases-loop-live g l = l.place - steps_made l.live
+decreases-loop-live g l = l.end - steps_made l.live

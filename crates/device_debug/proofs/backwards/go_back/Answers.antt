@@ -3,6 +3,7 @@ use Rattle.debug_commands.specs.Request.{most_steps}
 use Rattle.debug_session.specs.Going.{back_to}
 use Rattle.debug_session.specs.Place.{Run}
 use Rattle.debug_walk.specs.PlayedRun.{played_run}
+use Rattle.debug_walk.specs.Seen.{IsLevelled}
 use Rattle.device_debug.specs.Forwards.{HasHalted}
 use Rattle.device_debug.specs.NearStop.{HasSteppedBack}
 use Rattle.device_debug.proofs.BackTo.{gone-back, level-here}
@@ -19,7 +20,9 @@ returns-in-Some g c = λ place at.
     let gone : HasSteppedBack g.D.Digest32.hash run c.args.stops.now c.place-place.result
     c.level-level.result (Some c.in-Some.near) =
     subst (HasSteppedBack g.D.Digest32.hash run c.args.stops.now c.place-place.result
-    c.level-level.result) c.in-Some.is c.in_ok-near.ensures in
+    c.level-level.result) c.in-Some.is
+    (c.in_ok-near.ensures (subst (IsLevelled run) (sym c.before_reset-before_reset.ensures)
+    at.stands.before_reset)) in
     subst (λ (steps : Bool). HasHalted g.D.Digest32.hash second_flag run c.in-Some.near.0
     c.in-Some.near.1 (back_to run c.args.stops.now place steps)) (sym c.if-steps.true)
     (subst (λ (from : ℕ). HasHalted g.D.Digest32.hash second_flag run c.in-Some.near.0

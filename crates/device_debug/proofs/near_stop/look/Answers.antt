@@ -1,7 +1,7 @@
-use Rattle.std.proofs.Common.{◌≡◌, ◌<◌, ◌-◌, ℕ, suc, true, refl, sym, subst, arith}
+use Rattle.std.proofs.Common.{◌≡◌, ◌<◌, ◌∙◌, ℕ, suc, refl, ap, sym, subst, arith}
 use Rattle.debug_commands.specs.Request.{most_steps}
 use Rattle.device_core.specs.Device.{steps_made}
-use Rattle.device_debug.specs.NearStop.{IsNearWay}
+use Rattle.device_debug.specs.NearWay.{IsNearWay, way_at}
 use Rattle.device_debug.proofs.Looks.{HasLooked, known-due, look-begun, look-sleep, look-step}
 use Rattle.device_debug.proofs.near_stop.look.Goals as goal
 
@@ -9,12 +9,12 @@ pub loop-playback-init : goal.loop-playback-init
 loop-playback-init g c =
     record {
       within = c.requires.ahead;
-      looked = λ run midway here.
+      looked = λ run midway may levelled.
           subst
           (HasLooked g.D.Digest32.hash run c.args.stops.now (steps_made c.args.live) c.args.live
-          c.args.playback) (sym c.new-way.ensures)
+          c.args.playback) (sym (c.at-way.ensures ∙ ap way_at c.steps.ensures.made))
           (look-begun g.D.Digest32.hash run c.args.stops.now (steps_made c.args.live) c.args.live
-          c.args.playback refl midway here);
+          c.args.playback refl midway may);
     }
 
 pub loop-playback-preserved-then-eq : goal.loop-playback-preserved-then-eq
@@ -37,18 +37,19 @@ loop-playback-preserved-then-eq g c =
     ) in
     record {
       within = slept.ensures.within.1;
-      looked = λ run midway here.
-          let looked = old.invariant.looked run midway here in
+      looked = λ run midway may levelled.
+          let looked = old.invariant.looked run midway may levelled in
           let on = played.ensures.plays run.start run.events_at looked.midway in
           let stepped : HasLooked hash run c.args.stops.now first played.result
           played.new.playback c.behind-way.result =
           look-step hash run c.args.stops.now first old.live played.result old.playback
-          played.new.playback old.way c.behind-way.result c.of-here.result c.entry.result.now
-          c.is_at_boundary.result c.requires.none few made on.midway c.of-here.ensures
-          c.entry.ensures.last c.is_at_boundary.ensures c.behind-way.ensures looked in
+          played.new.playback old.way c.told.result c.behind-way.result c.args.told
+          c.of-here.result c.entry.result.now c.hit-hit.result c.is_at_boundary.result few made
+          on.midway c.of-here.ensures c.entry.ensures.last c.hit-hit.ensures
+          c.is_at_boundary.ensures levelled c.told.ensures c.behind-way.ensures looked in
           look-sleep hash run c.args.stops.now first played.result slept.result
           played.new.playback c.behind-way.result c.args.end c.is_due-is_due.result
-          c.requires.none slept.ensures.within.0 slept.ensures.within.1
+          slept.ensures.within.0 slept.ensures.within.1
           (known-due c.behind-way.result.is_due c.is_due-is_due.result c.if-eq.ensures)
           (sym (rw c.saturating_sub.ensures at c.is_due-is_due.ensures))
           (slept.ensures.sleeps run.start run.events_at stepped.midway) stepped;
@@ -67,18 +68,19 @@ loop-playback-preserved g c =
     let few : steps_made old.live < most_steps = omega (arith, c.requires.few, below) in
     record {
       within = omega (arith, made, below);
-      looked = λ run midway here.
-          let looked = old.invariant.looked run midway here in
+      looked = λ run midway may levelled.
+          let looked = old.invariant.looked run midway may levelled in
           let on = played.ensures.plays run.start run.events_at looked.midway in
           look-step hash run c.args.stops.now first old.live played.result old.playback
-          played.new.playback old.way c.behind-way.result c.of-here.result c.entry.result.now
-          c.is_at_boundary.result c.requires.none few made on.midway c.of-here.ensures
-          c.entry.ensures.last c.is_at_boundary.ensures c.behind-way.ensures looked;
+          played.new.playback old.way c.told.result c.behind-way.result c.args.told
+          c.of-here.result c.entry.result.now c.hit-hit.result c.is_at_boundary.result few made
+          on.midway c.of-here.ensures c.entry.ensures.last c.hit-hit.ensures
+          c.is_at_boundary.ensures levelled c.told.ensures c.behind-way.ensures looked;
     }
 
 pub returns : goal.returns
-returns g c = λ run midway here.
-    let looked = c.loop-playback.invariant.looked run midway here in
+returns g c = λ run midway may levelled.
+    let looked = c.loop-playback.invariant.looked run midway may levelled in
     let there : steps_made c.loop-playback.live ≡ c.args.end =
     omega (
       arith,

@@ -136,4 +136,4 @@ returns-clause-stops g c = λ order few here.
     c.in_ok-tell_refusal.ensures.tells
     (halted-here hash second_flag run c.new.result c.loop-live.live c.loop-live.playback
     c.args.at (Refused c.args.rule) c.new.ensures.live c.new.ensures.playback c.new.ensures.level
-    is.midway there (few, inl (inl here)))
+    c.new.ensures.before_reset is.midway there (few, inl (inl here)))

@@ -204,4 +204,5 @@ returns-clause-goes_on g c = λ place stands.
     skim-over is _ c.tell-2.new.packets last c.new.result tt c.in_ok-tell-2.ensures.tells
     (halted-here hash second_flag run c.new.result c.loop-alloc.live c.loop-alloc.playback
     (steps_made c.loop-alloc.live) End c.new.ensures.live c.new.ensures.playback c.new.ensures.level
-    is.midway refl (is.skims.within, inr (omega (arith, last, is.skims.within))))
+    c.new.ensures.before_reset is.midway refl
+    (is.skims.within, inr (omega (arith, last, is.skims.within))))

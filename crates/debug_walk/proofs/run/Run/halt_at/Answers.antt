@@ -1,4 +1,4 @@
-use Rattle.std.proofs.Common.{◌≡◌, arith}
+use Rattle.std.proofs.Common.{◌≡◌, None, arith}
 use Rattle.bus_signals.specs.TraceFlag.{Flag}
 use Rattle.part_definitions.specs.TrustedFlag.{aux}
 use Rattle.exec_automaton.specs.RunFlag.{flag_of_run}
@@ -15,5 +15,6 @@ returns-clause-stands g c = λ within told.
     let run : Run = played_run g.D.Digest32.hash flag c.args.self.now in
     let end = c.in_ok-live in
     let made : steps_made end.live ≡ c.args.place = omega (arith, within, end.ensures.place) in
-    halted-there run end.live end.playback c.args.level c.args.place c.new.result
-    end.ensures.midway made told c.new.ensures.live c.new.ensures.playback c.new.ensures.level
+    halted-there run end.live end.playback c.args.level None c.args.place c.new.result
+    end.ensures.midway made told tt c.new.ensures.live c.new.ensures.playback
+    c.new.ensures.level c.new.ensures.before_reset

@@ -1,4 +1,4 @@
-use Rattle.std.proofs.Common.{◌≡◌, ◌≤◌, min, arith}
+use Rattle.std.proofs.Common.{◌≡◌, ◌≤◌, min, sym, subst, arith}
 use Rattle.std.proofs.lemmas.Result.{IfOk-weaker}
 use Rattle.bus_signals.specs.TraceFlag.{Flag}
 use Rattle.part_definitions.specs.TrustedFlag.{aux}
@@ -7,7 +7,7 @@ use Rattle.debug_commands.specs.Request.{most_steps}
 use Rattle.debug_session.specs.Place.{Run}
 use Rattle.debug_walk.specs.Halted.{HaltedStandsFor, halted_at}
 use Rattle.debug_walk.specs.PlayedRun.{played_run}
-use Rattle.debug_walk.specs.Seen.{MayBeginAt}
+use Rattle.debug_walk.specs.Seen.{IsLevelled, MayBeginAt}
 use Rattle.debug_walk.specs.Walk.{SecondFlag, WalkStandsFor, place_of}
 use Rattle.debug_walk.proofs.Halts.{begins-there}
 use Rattle.debug_walk.proofs.run.Run.walk_from.Goals as goal
@@ -21,6 +21,7 @@ returns-in-Some-clause-stands g c = λ within may stands.
     c.in-Some.level parts.ensures.live parts.ensures.playback c.level.ensures c.in-Some.is stands
     may in
     c.at.ensures.stands run there.0 there.1 there.2
+    (subst (IsLevelled run) (sym c.before_reset-before_reset.ensures) stands.before_reset)
 
 pub returns-in-None-clause-stands : goal.returns-in-None-clause-stands
 returns-in-None-clause-stands g c =

@@ -10,4 +10,4 @@ returns-clause-stands g c = λ within is_level may.
     let place : steps_made c.in_ok-live.live ≡ c.args.at.place =
     omega (arith, within, made.place) in
     c.at.ensures.stands _ made.midway
-    (is_level ∙ ap (level _) (sym place)) (subst (MayBeginAt _) (sym place) may)
+    (is_level ∙ ap (level _) (sym place)) (subst (MayBeginAt _) (sym place) may) tt

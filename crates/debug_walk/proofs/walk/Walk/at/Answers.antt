@@ -5,7 +5,7 @@ use Rattle.debug_walk.proofs.Views.{boundary-at}
 use Rattle.debug_walk.proofs.walk.Walk.at.Goals as goal
 
 pub returns-clause-stands : goal.returns-clause-stands
-returns-clause-stands g c = λ run midway level may.
+returns-clause-stands g c = λ run midway level may levelled.
     let place = c.steps-place.result in
     record {
       midway = midway;
@@ -16,4 +16,5 @@ returns-clause-stands g c = λ run midway level may.
       boundary = c.then_some-boundary.ensures
           ∙ first-boundary run _ place _ _ c.steps-place.ensures.made level
           (boundary-at run midway c.is_at_boundary.result c.is_at_boundary.ensures) may;
+      before_reset = levelled;
     }

@@ -17,6 +17,7 @@ returns-clause-stands g c = λ run is.
       playback = played.new.playback;
       levels = c.after-levels.result;
       boundary = c.boundary_after.result;
+      before_reset = c.before_last_reset.result;
     })
     c.entry.result.now before.result after.result =
     record {
@@ -30,6 +31,7 @@ returns-clause-stands g c = λ run is.
       here = after.ensures;
       levels = c.after-levels.ensures;
       boundary = c.boundary_after.ensures;
+      before_reset = c.before_last_reset.ensures;
     } in
     step-made made is (record {
       exec_was = at-place run is.midway (λ start logs. c.exec-exec.result ≡ exec_of logs)
