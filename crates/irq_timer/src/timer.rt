@@ -1,6 +1,6 @@
 ghost use Rattle.std.specs.Prelude.{◌≡◌, ◌≤◌, ℕ, true, false, [], ◌∷◌, List};
 ghost use Rattle.part_definitions.specs.Part.{Takes, Answers, Becomes};
-ghost use Rattle.part_definitions.specs.Timer.{TimerEvent, Tick, Store, Acceptance, DeviceReset, timer_runs, timer_read, timer_word, timer_requests};
+ghost use Rattle.part_definitions.specs.Timer.{TimerEvent, Tick, Store, Acceptance, DeviceReset, timer_runs, timer_read, timer_word, timer_flag, timer_requests};
 
 use bus_signals::TIMER;
 use peripheral_register::{Register, part_of_word, register_place};
@@ -149,6 +149,13 @@ impl Timer {
         ensures { Answers TimerStandsFor self.now timer_runs result }
     {
         self.control.word() % 2 == 1
+    }
+
+    /// The interrupt flag, whether or not the interrupt is enabled.
+    pub fn has_flag(&self) -> bool
+        ensures { Answers TimerStandsFor self.now timer_flag result }
+    {
+        self.flag
     }
 
     /// Whether the timer asks for an interrupt.
