@@ -8,7 +8,9 @@
 mod order;
 mod sent_byte;
 mod serial;
+mod taken_byte;
 
 pub use order::bytes_keep_order;
 pub use sent_byte::byte_sent;
 pub use serial::Serial;
+pub use taken_byte::takes_byte;

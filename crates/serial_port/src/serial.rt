@@ -3,6 +3,7 @@ ghost use Rattle.part_definitions.specs.Part.{Takes, Answers, Becomes};
 ghost use Rattle.part_definitions.specs.Serial.{Arrival, Load, Store, DeviceReset, waiting_bytes, oldest_byte, has_room, serial_read, serial_word, serial_status, serial_requests, byte_sent};
 
 use crate::sent_byte::byte_sent;
+use crate::taken_byte::{SRXD, takes_byte};
 use bus_signals::SERIAL;
 use circular_buffer::HeapCircularBuffer;
 use peripheral_register::{Register, covers_byte, part_of_word, register_place};
@@ -12,8 +13,6 @@ use word_arith::Size;
 const SCTL: u16 = SERIAL.first;
 
 const SSTAT: u16 = SERIAL.first + 2;
-
-const SRXD: u16 = SERIAL.first + 4;
 
 // How many received bytes can wait.
 const ROOM: usize = 64;
@@ -74,7 +73,7 @@ impl Serial {
         ensures stands { Takes SerialStandsFor self.old (Load place size) self.new }
     {
         let number = self.peek(place, size);
-        if covers_byte(place, size, SRXD) {
+        if takes_byte(place, size) {
             self.queue.pop_front();
         }
         number
