@@ -1,5 +1,7 @@
 ghost use Rattle.std.specs.Prelude.{◌≡◌};
 ghost use Rattle.word_arith.specs.declared.size.Size.TheVariants.{Byte};
+ghost use Rattle.part_definitions.specs.Pins.{pins_word};
+ghost use Rattle.part_definitions.specs.Timer.{timer_flag};
 ghost use Rattle.device_trace.specs.Logs.{aux_of};
 ghost use Rattle.device_trace.specs.Progress.{last_registers};
 ghost use Rattle.device_trace.specs.Signals.{number_read};
@@ -13,7 +15,7 @@ use bus_signals::TraceFlag;
 use hmac_core::Digest32;
 use word_arith::Size;
 
-/// What a debugger looks at.
+/// What is looked at beside the last step: by a debugger, and in a waveform.
 impl<D: Digest32, G: TraceFlag> Live<D, G> {
     /// The registers at the last boundary, all 0 after power-on and after a reset.
     pub fn registers(&self) -> &[u16; 16]
@@ -40,6 +42,22 @@ impl<D: Digest32, G: TraceFlag> Live<D, G> {
             result ≡ aux_of start (logs_after start play)) }
     {
         self.machine().bus.memory.shows_aux()
+    }
+
+    /// The pins of port 1.
+    pub fn pins(&self) -> u16
+        ensures { OfLive D.hash G.flag self.now (λ start play.
+            result ≡ pins_word (logs_after start play).peripherals.pins) }
+    {
+        self.machine().bus.peripherals.pins.get()
+    }
+
+    /// The interrupt flag of the timer.
+    pub fn timer_flag(&self) -> bool
+        ensures { OfLive D.hash G.flag self.now (λ start play.
+            result ≡ timer_flag (logs_after start play).peripherals.timer) }
+    {
+        self.machine().bus.peripherals.timer.has_flag()
     }
 
     /// The byte that a read at a place would give, of a secret too, without what the read does
