@@ -7,8 +7,8 @@ use Rattle.wave_dump.specs.WaveText.{end_text, shown_after, told_text}
 
 pub end_told : (wave : Wave) (samples : List Sample) (last : Sample)
     → WaveStandsFor wave samples → wave.last ≡ Some last
-    → end_text samples ≡ told_text wave.steps wave.last (shown_now wave last.line)
+    → end_text samples ≡ told_text wave.steps wave.last (shown_now wave last)
 end_told wave [] last stands is = absurd (cc (is, stands.same_last))
 end_told wave (sample ∷ before) last stands is =
     let same : last ≡ shown_after before sample = cc (is, stands.same_last) in
-    rw (stands.same_steps, stands.same_last, same, stands.same_exec, stands.same_registers) refl
+    rw (stands.same_steps, stands.same_last, same, stands.same_exec, stands.same_state) refl

@@ -10,7 +10,7 @@ use Rattle.bus_signals.specs.Kind.{kind_name}
 use Rattle.trace_line.specs.ReadBack.{IsAllowed}
 use Rattle.wave_dump.specs.declared.sample.Sample.{Sample}
 use Rattle.wave_dump.specs.declared.wire.Wire.{Wire}
-use Rattle.wave_dump.specs.declared.wire.Wire.TheVariants.{Pc, StepKind, Irq, Asked, BrokenRule, CpuOp, CpuAddress, CpuData, FetchWord, DmaOp, DmaAddress, DmaData, ErMin, ErMax, OrMin, OrMax, Exec, Sp, Sr, R4, R5, R6, R7, R8, R9, R10, R11, R12, R13, R14, R15}
+use Rattle.wave_dump.specs.declared.wire.Wire.TheVariants.{Pc, StepKind, Irq, Asked, BrokenRule, CpuOp, CpuAddress, CpuData, FetchWord, DmaOp, DmaAddress, DmaData, ErMin, ErMax, OrMin, OrMax, Exec, Sp, Sr, R4, R5, R6, R7, R8, R9, R10, R11, R12, R13, R14, R15, Aux, TimerFlag, Pins, Sent, Received}
 use Rattle.word_arith.specs.Number.{bit_of}
 use Rattle.wave_dump.specs.ReadBack.{IsShowable}
 use Rattle.wave_dump.specs.WireValue.{access_data, access_letter, access_place, of_access, rule_number, text_number, wire_value}
@@ -53,6 +53,10 @@ short-data value (Some (Fetch place)) small allowed = omega (arith, small)
 short-data value (Some (Read place size)) small allowed = omega (arith, small)
 short-data value (Some (Write place size number)) small allowed = omega (arith, allowed.words.1)
 
+short-byte : (byte : Option ℕ) → IfSome byte (λ number. number < 2 ^ 8) → IsShort byte
+short-byte None small = tt
+short-byte (Some byte) small = omega (arith, small)
+
 pub suits : (sample : Sample) → IsShowable sample → (wire : Wire)
     → Suits wire (wire_value wire sample)
 suits sample showable Pc = omega (arith, showable.line.pc)
@@ -88,3 +92,8 @@ suits sample showable R12 = omega (arith, showable.registers 12)
 suits sample showable R13 = omega (arith, showable.registers 13)
 suits sample showable R14 = omega (arith, showable.registers 14)
 suits sample showable R15 = omega (arith, showable.registers 15)
+suits sample showable Aux = (sample.state.aux, refl)
+suits sample showable TimerFlag = (sample.state.timer_flag, refl)
+suits sample showable Pins = omega (arith, showable.pins)
+suits sample showable Sent = short-byte sample.ports.sent showable.sent
+suits sample showable Received = short-byte sample.ports.received showable.received

@@ -1,6 +1,6 @@
 pub mod Binary
 pub mod Pieces
-pub mod Registers
+pub mod Others
 pub mod Ends
 pub mod Fitting
 pub mod Reading

@@ -3,7 +3,7 @@
 use Rattle.std.proofs.Common.{suc, ◌≡◌, ℕ, Bool, true, List, [], ◌∷◌, map, Option, Some, refl}
 use Rattle.std.specs.Prelude.{◌==◌, ◌&&◌, nat_lt, if◌then◌else◌}
 use Rattle.wave_dump.specs.declared.wire.Wire.{Wire}
-use Rattle.wave_dump.specs.declared.wire.Wire.TheVariants.{Pc, StepKind, Irq, Asked, BrokenRule, CpuOp, CpuAddress, CpuData, FetchWord, DmaOp, DmaAddress, DmaData, ErMin, ErMax, OrMin, OrMax, Exec, Sp, Sr, R4, R5, R6, R7, R8, R9, R10, R11, R12, R13, R14, R15}
+use Rattle.wave_dump.specs.declared.wire.Wire.TheVariants.{Pc, StepKind, Irq, Asked, BrokenRule, CpuOp, CpuAddress, CpuData, FetchWord, DmaOp, DmaAddress, DmaData, ErMin, ErMax, OrMin, OrMax, Exec, Sp, Sr, R4, R5, R6, R7, R8, R9, R10, R11, R12, R13, R14, R15, Aux, TimerFlag, Pins, Sent, Received}
 use Rattle.wave_dump.specs.Wire.{wires, wire_code}
 use Rattle.wave_dump.specs.WaveReader.{with_value}
 
@@ -48,6 +48,11 @@ replaced old new R12 = refl
 replaced old new R13 = refl
 replaced old new R14 = refl
 replaced old new R15 = refl
+replaced old new Aux = refl
+replaced old new TimerFlag = refl
+replaced old new Pins = refl
+replaced old new Sent = refl
+replaced old new Received = refl
 
 -- and so does none, where the value is the same
 pub kept : (old new : Wire → Option ℕ) (wire : Wire) → old wire ≡ new wire
@@ -83,6 +88,11 @@ kept old new R12 same = rw same refl
 kept old new R13 same = rw same refl
 kept old new R14 same = rw same refl
 kept old new R15 same = rw same refl
+kept old new Aux same = rw same refl
+kept old new TimerFlag same = rw same refl
+kept old new Pins same = rw same refl
+kept old new Sent same = rw same refl
+kept old new Received same = rw same refl
 
 -- the wires have the codes from this one on, in their order
 abbrev pub are_numbered : ℕ → List Wire → Bool

@@ -8,7 +8,7 @@ use Rattle.wave_dump.specs.declared.sample.Sample.{Sample}
 use Rattle.wave_dump.specs.declared.wire.Wire.{Wire}
 use Rattle.wave_dump.specs.Wire.{wires}
 use Rattle.wave_dump.specs.WireValue.{is_same_value, wire_value}
-use Rattle.wave_dump.specs.WaveText.{changes_text, dump_text, end_text, is_any_told, is_told, last_shown, registers_after, shown_after, step_text, steps_text, time_text, told_text, wires_text}
+use Rattle.wave_dump.specs.WaveText.{changes_text, dump_text, end_text, is_any_told, is_told, last_shown, shown_after, state_after, step_text, steps_text, time_text, told_text, wires_text}
 use Rattle.wave_dump.specs.WaveReader.{WavePoint, last_values, values_at}
 use Rattle.wave_dump.specs.ReadBack.{AreShowable, IsShowable, ShowEnd, ShowSteps, values_of}
 use Rattle.wave_dump.proofs.Fitting.{suits}
@@ -50,7 +50,7 @@ reads-values step last now points showable is =
     (sym is)
     (reads_changes (is_told last now) (old_value last) (λ wire. wire_value wire now)
     (record { suits = suits now showable; untold = untold last now })
-    step points wires 65 96 numbered_wires refl)
+    step points wires 65 101 numbered_wires refl)
 
 reads-told : (step : ℕ) (last : Option Sample) (now : Sample) (points : List WavePoint)
     → step < 2 ^ 32 → IsShowable now → last_values points ≡ map (old_value last) wires
@@ -151,7 +151,7 @@ clear-words number =
     (cases_lt number 16)
 
 registers-showable : (before : List Sample) → AreShowable before
-    → (number : ℕ) → slice_index (registers_after before) number < 2 ^ 16
+    → (number : ℕ) → slice_index (state_after before).registers number < 2 ^ 16
 registers-showable [] showable = clear-words
 registers-showable (sample ∷ before) showable = showable.0.registers
 
@@ -168,6 +168,9 @@ shown-showable before sample earlier showable = record {
     bounds = showable.line.bounds;
   };
   registers = registers-showable before earlier;
+  pins = showable.pins;
+  sent = showable.sent;
+  received = showable.received;
 }
 
 pub reads_steps : (samples : List Sample) → AreShowable samples → length samples < 2 ^ 32

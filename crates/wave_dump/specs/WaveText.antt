@@ -3,8 +3,8 @@
 use Rattle.std.specs.Prelude.{◌++◌, ◌==◌, ℕ, Bool, true, false, not, List, [], ◌∷◌, length, replicate, Option, Some, None, if◌then◌else◌, codes}
 use Rattle.std.specs.Fmt.{decimal, digits}
 use Rattle.std.specs.List.{flat_map, list_any}
-use Rattle.word_arith.specs.Word16.{Word16}
 use Rattle.wave_dump.specs.declared.sample.Sample.{Sample}
+use Rattle.wave_dump.specs.declared.state.State.{State}
 use Rattle.wave_dump.specs.declared.wire.Wire.{Wire}
 use Rattle.wave_dump.specs.Wire.{wires, wire_name, wire_width, wire_code}
 use Rattle.wave_dump.specs.WireValue.{wire_value, is_same_value}
@@ -92,17 +92,18 @@ abbrev pub exec_after : List Sample → Bool
 exec_after [] = false
 exec_after (sample ∷ before) = sample.line.exec
 
--- and the registers at the last boundary
-abbrev pub registers_after : List Sample → List Word16
-registers_after [] = replicate 16 0
-registers_after (sample ∷ before) = sample.registers
+-- and the state; before the first step nothing is set
+abbrev pub state_after : List Sample → State
+state_after [] = record { registers = replicate 16 0; aux = false; timer_flag = false }
+state_after (sample ∷ before) = sample.state
 
--- a step as it is shown: with EXEC and the registers before it, as the bounds are
+-- a step as it is shown: with EXEC and the state before it, as the bounds are
 abbrev pub shown_after : List Sample → Sample → Sample
 shown_after before sample =
     record {
       line = record sample.line { exec = exec_after before };
-      registers = registers_after before;
+      ports = sample.ports;
+      state = state_after before;
     }
 
 abbrev pub last_shown : List Sample → Option Sample
@@ -116,7 +117,7 @@ steps_text (sample ∷ before) =
     steps_text before
     ++ step_text (length before) (last_shown before) (shown_after before sample)
 
--- the time after the last step, and EXEC and the registers that it changed
+-- the time after the last step, and what it changed of EXEC and the state
 abbrev pub end_text : List Sample → List ℕ
 end_text [] = []
 end_text (sample ∷ before) =

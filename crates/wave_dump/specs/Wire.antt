@@ -1,7 +1,7 @@
 -- The wires of a waveform: what a viewer shows of each step.
 use Rattle.std.specs.Prelude.{◌++◌, ℕ, List, [], ◌∷◌, codes}
 use Rattle.wave_dump.specs.declared.wire.Wire.{Wire}
-use Rattle.wave_dump.specs.declared.wire.Wire.TheVariants.{Pc, StepKind, Irq, Asked, BrokenRule, CpuOp, CpuAddress, CpuData, FetchWord, DmaOp, DmaAddress, DmaData, ErMin, ErMax, OrMin, OrMax, Exec, Sp, Sr, R4, R5, R6, R7, R8, R9, R10, R11, R12, R13, R14, R15}
+use Rattle.wave_dump.specs.declared.wire.Wire.TheVariants.{Pc, StepKind, Irq, Asked, BrokenRule, CpuOp, CpuAddress, CpuData, FetchWord, DmaOp, DmaAddress, DmaData, ErMin, ErMax, OrMin, OrMax, Exec, Sp, Sr, R4, R5, R6, R7, R8, R9, R10, R11, R12, R13, R14, R15, Aux, TimerFlag, Pins, Sent, Received}
 
 -- those of a trace line
 abbrev pub line_wires : List Wire
@@ -14,9 +14,23 @@ abbrev pub register_wires : List Wire
 register_wires =
     Sp ∷ Sr ∷ R4 ∷ R5 ∷ R6 ∷ R7 ∷ R8 ∷ R9 ∷ R10 ∷ R11 ∷ R12 ∷ R13 ∷ R14 ∷ R15 ∷ []
 
+-- those of the flags of which no line tells
+abbrev pub flag_wires : List Wire
+flag_wires = Aux ∷ TimerFlag ∷ []
+
+abbrev pub state_wires : List Wire
+state_wires = register_wires ++ flag_wires
+
+-- those of the ports
+abbrev pub port_wires : List Wire
+port_wires = Pins ∷ Sent ∷ Received ∷ []
+
+abbrev pub other_wires : List Wire
+other_wires = state_wires ++ port_wires
+
 -- in the order in which they are declared
 abbrev pub wires : List Wire
-wires = line_wires ++ register_wires
+wires = line_wires ++ other_wires
 
 abbrev pub wire_name : Wire → List ℕ
 wire_name Pc = codes "pc"
@@ -50,6 +64,11 @@ wire_name R12 = codes "r12"
 wire_name R13 = codes "r13"
 wire_name R14 = codes "r14"
 wire_name R15 = codes "r15"
+wire_name Aux = codes "aux"
+wire_name TimerFlag = codes "timer_flag"
+wire_name Pins = codes "pins"
+wire_name Sent = codes "sent"
+wire_name Received = codes "received"
 
 -- how many bits it has; those of names and operations are characters
 abbrev pub wire_width : Wire → ℕ
@@ -59,6 +78,10 @@ wire_width Asked = 1
 wire_width CpuOp = 8
 wire_width DmaOp = 8
 wire_width Exec = 1
+wire_width Aux = 1
+wire_width TimerFlag = 1
+wire_width Sent = 8
+wire_width Received = 8
 wire_width wire = 16
 
 -- the character by which its changes name it: from A on
@@ -94,3 +117,8 @@ wire_code R12 = 92
 wire_code R13 = 93
 wire_code R14 = 94
 wire_code R15 = 95
+wire_code Aux = 96
+wire_code TimerFlag = 97
+wire_code Pins = 98
+wire_code Sent = 99
+wire_code Received = 100

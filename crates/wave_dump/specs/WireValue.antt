@@ -9,7 +9,7 @@ use Rattle.bus_signals.specs.Kind.{kind_name}
 use Rattle.bus_signals.specs.Rule.{rule_name}
 use Rattle.wave_dump.specs.declared.sample.Sample.{Sample}
 use Rattle.wave_dump.specs.declared.wire.Wire.{Wire}
-use Rattle.wave_dump.specs.declared.wire.Wire.TheVariants.{Pc, StepKind, Irq, Asked, BrokenRule, CpuOp, CpuAddress, CpuData, FetchWord, DmaOp, DmaAddress, DmaData, ErMin, ErMax, OrMin, OrMax, Exec, Sp, Sr, R4, R5, R6, R7, R8, R9, R10, R11, R12, R13, R14, R15}
+use Rattle.wave_dump.specs.declared.wire.Wire.TheVariants.{Pc, StepKind, Irq, Asked, BrokenRule, CpuOp, CpuAddress, CpuData, FetchWord, DmaOp, DmaAddress, DmaData, ErMin, ErMax, OrMin, OrMax, Exec, Sp, Sr, R4, R5, R6, R7, R8, R9, R10, R11, R12, R13, R14, R15, Aux, TimerFlag, Pins, Sent, Received}
 
 -- characters as one number, 8 bits each
 abbrev pub number_onto : ℕ → List ℕ → ℕ
@@ -47,7 +47,7 @@ of_access shown None = None
 of_access shown (Some access) = Some (shown access)
 
 abbrev pub register_value : ℕ → Sample → Option ℕ
-register_value number sample = Some (slice_index sample.registers number)
+register_value number sample = Some (slice_index sample.state.registers number)
 
 -- nothing where no access drives the wire
 abbrev pub wire_value : Wire → Sample → Option ℕ
@@ -82,6 +82,11 @@ wire_value R12 sample = register_value 12 sample
 wire_value R13 sample = register_value 13 sample
 wire_value R14 sample = register_value 14 sample
 wire_value R15 sample = register_value 15 sample
+wire_value Aux sample = Some (bit_of sample.state.aux)
+wire_value TimerFlag sample = Some (bit_of sample.state.timer_flag)
+wire_value Pins sample = Some sample.ports.pins
+wire_value Sent sample = sample.ports.sent
+wire_value Received sample = sample.ports.received
 
 -- two values are told apart
 abbrev pub is_same_value : Option ℕ → Option ℕ → Bool

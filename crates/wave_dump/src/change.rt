@@ -2,12 +2,12 @@ ghost use Rattle.std.specs.Prelude.{◌≡◌, ◌≤◌, ◌+◌, ◌++◌, tru
 ghost use Rattle.std.specs.Fmt.{digits};
 ghost use Rattle.outside_edge.specs.Sink.{Puts, CountsFaults};
 ghost use Rattle.line_buffer.specs.declared.line_buffer.TheConstants.{ROOM};
-ghost use Rattle.wave_dump.specs.Wire.{register_wires, wires};
+ghost use Rattle.wave_dump.specs.Wire.{flag_wires, other_wires, port_wires, register_wires, state_wires, wires};
 ghost use Rattle.wave_dump.specs.WaveText.{change_of, change_text, changes_text, digits_text, dump_text, is_any_told, is_told, next_text, step_text, time_text, told_text, wires_text};
 
 use crate::sample::Sample;
 use crate::shown_value::wire_value;
-use crate::wire::{LINE_WIRES, REGISTER_WIRES, Wire};
+use crate::wire::{LINE_WIRES, OTHER_WIRES, Wire};
 use line_buffer::{LineBuffer, flag_digit};
 use outside_edge::{Failed, Sink, put_all};
 
@@ -91,23 +91,48 @@ fn print_changes<W: Sink>(last: Option<&Sample>, now: &Sample, sink: &mut W) -> 
     ensures counts { CountsFaults W.faults sink.old sink.new result }
 {
     print_wires(&LINE_WIRES, last, now, sink)?;
-    if has_same_registers(last, now) {
+    if has_same_others(last, now) {
         Ok(())
     } else {
-        print_wires(&REGISTER_WIRES, last, now, sink)
+        print_wires(&OTHER_WIRES, last, now, sink)
     }
 }
 
-// Whether the step before has the same registers, PC aside: it is another at each boundary, and has
-// no wire among theirs.
-fn has_same_registers(last: Option<&Sample>, now: &Sample) -> bool
-    ensures { result ≡ true
-        → is_any_told (option_copied last.entry) now.now register_wires ≡ false }
+// Whether the step before shows the same beside its line.
+fn has_same_others(last: Option<&Sample>, now: &Sample) -> bool
+    ensures { result ≡ true → is_any_told (option_copied last.entry) now.now other_wires ≡ false }
 {
     match last {
         None => false,
-        Some(last) => last.registers[1..] == now.registers[1..],
+        Some(last) => has_same_state(last, now) && has_same_ports(last, now),
     }
+}
+
+fn has_same_state(last: &Sample, now: &Sample) -> bool
+    ensures { result ≡ true → is_any_told (Some last.now) now.now state_wires ≡ false }
+{
+    has_same_registers(last, now) && has_same_flags(last, now)
+}
+
+// PC is not compared: it is another at each boundary, and has no wire among the registers'.
+fn has_same_registers(last: &Sample, now: &Sample) -> bool
+    ensures { result ≡ true → is_any_told (Some last.now) now.now register_wires ≡ false }
+{
+    last.state.registers[1..] == now.state.registers[1..]
+}
+
+#[tactic(auto, unfolding(crate::specs::WaveText::is_any_told))]
+fn has_same_flags(last: &Sample, now: &Sample) -> bool
+    ensures { result ≡ true → is_any_told (Some last.now) now.now flag_wires ≡ false }
+{
+    last.state.aux == now.state.aux && last.state.timer_flag == now.state.timer_flag
+}
+
+#[tactic(auto, unfolding(crate::specs::WaveText::is_any_told))]
+fn has_same_ports(last: &Sample, now: &Sample) -> bool
+    ensures { result ≡ true → is_any_told (Some last.now) now.now port_wires ≡ false }
+{
+    last.ports == now.ports
 }
 
 #[tactic(auto, unfolding(crate::specs::WaveText::wires_text))]
@@ -148,7 +173,7 @@ fn has_change(last: Option<&Sample>, now: &Sample) -> bool
     ensures { result ≡ is_any_told (option_copied last.entry) now.now wires }
 {
     is_any_told(&LINE_WIRES, last, now)
-        || (!has_same_registers(last, now) && is_any_told(&REGISTER_WIRES, last, now))
+        || (!has_same_others(last, now) && is_any_told(&OTHER_WIRES, last, now))
 }
 
 #[tactic(auto, unfolding(crate::specs::WaveText::is_any_told))]

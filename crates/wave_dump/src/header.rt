@@ -40,6 +40,11 @@ $var wire 16 \\ r12 [15:0] $end
 $var wire 16 ] r13 [15:0] $end
 $var wire 16 ^ r14 [15:0] $end
 $var wire 16 _ r15 [15:0] $end
+$var wire 1 ` aux $end
+$var wire 1 a timer_flag $end
+$var wire 16 b pins [15:0] $end
+$var wire 8 c sent [7:0] $end
+$var wire 8 d received [7:0] $end
 $upscope $end
 $enddefinitions $end
 ";

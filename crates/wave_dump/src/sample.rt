@@ -1,8 +1,11 @@
+use crate::ports::Ports;
+use crate::state::State;
 use trace_line::TraceLine;
 
-/// What a waveform shows of a step: its trace line, and the registers at the last boundary.
+/// What a waveform shows of a step: its trace line, the ports in it, and what it leaves.
 #[derive(Clone, Copy, Debug)]
 pub struct Sample {
     pub line: TraceLine,
-    pub registers: [u16; 16],
+    pub ports: Ports,
+    pub state: State,
 }

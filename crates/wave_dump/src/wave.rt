@@ -6,6 +6,7 @@ ghost use Rattle.wave_dump.specs.WaveText.{end_text, header, last_shown, shown_a
 use crate::change::{print_step, print_told};
 use crate::header::print_header;
 use crate::sample::Sample;
+use crate::state::State;
 use outside_edge::{Failed, Sink};
 use trace_line::TraceLine;
 
@@ -13,12 +14,12 @@ use trace_line::TraceLine;
 #[derive(Clone, Copy, Debug)]
 pub struct Wave {
     steps: u64,
-    // As it is shown: with EXEC and the registers before its step.
+    // As it is shown: with EXEC and the state before its step.
     last: Option<Sample>,
     // The EXEC flag after it.
     exec: bool,
-    // And the registers at the last boundary.
-    registers: [u16; 16],
+    // And the state.
+    state: State,
 }
 
 impl Wave {
@@ -33,7 +34,11 @@ impl Wave {
             steps: 0,
             last: None,
             exec: false,
-            registers: [0; 16],
+            state: State {
+                registers: [0; 16],
+                aux: false,
+                timer_flag: false,
+            },
         }
     }
 
@@ -56,29 +61,30 @@ impl Wave {
         ensures told { steps_told self.new ≡ steps_told self.old + 1 }
         ensures counts { CountsFaults W.faults sink.old sink.new result }
     {
-        let now = self.shown(&sample.line);
+        let now = self.shown(sample);
         let result = print_step(self.steps, self.last.as_ref(), &now, sink);
         self.steps += 1;
         self.last = Some(now);
         self.exec = sample.line.exec;
-        self.registers = sample.registers;
+        self.state = sample.state;
         result
     }
 
     #[inline(always)]
-    fn shown(&self, line: &TraceLine) -> Sample
-        ensures { result ≡ shown_now self.now line.now }
+    fn shown(&self, sample: &Sample) -> Sample
+        ensures { result ≡ shown_now self.now sample.now }
     {
         Sample {
             line: TraceLine {
                 exec: self.exec,
-                ..*line
+                ..sample.line
             },
-            registers: self.registers,
+            ports: sample.ports,
+            state: self.state,
         }
     }
 
-    /// Puts the time after the last step, and EXEC and the registers that it changed.
+    /// Puts the time after the last step, and what it changed of EXEC and the state.
     #[inline(always)]
     pub fn end<W: Sink>(&self, sink: &mut W) -> Result<(), Failed>
         ensures puts { (samples : List Sample) → WaveStandsFor self.now samples
@@ -88,7 +94,7 @@ impl Wave {
         let Some(last) = self.last else {
             return Ok(());
         };
-        let after = self.shown(&last.line);
+        let after = self.shown(&last);
         print_told(self.steps, self.last.as_ref(), &after, sink)
     }
 }

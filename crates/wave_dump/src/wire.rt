@@ -46,6 +46,16 @@ pub enum Wire {
     R13,
     R14,
     R15,
+    /// The second flag before the step.
+    Aux,
+    /// The interrupt flag of the timer before the step.
+    TimerFlag,
+    /// The pins, as a read in the step has them.
+    Pins,
+    /// The byte that the step sent by the serial port.
+    Sent,
+    /// The byte that a read of SRXD gave in the step.
+    Received,
 }
 
 /// The wires of a trace line, in the order in which they are declared.
@@ -69,8 +79,9 @@ pub const LINE_WIRES: [Wire; 17] = [
     Wire::Exec,
 ];
 
-/// The wires of the registers, which are declared behind them.
-pub const REGISTER_WIRES: [Wire; 14] = [
+/// The other wires, which are declared behind them: of the registers, of the two flags of which no
+/// line tells, and of the ports.
+pub const OTHER_WIRES: [Wire; 19] = [
     Wire::Sp,
     Wire::Sr,
     Wire::R4,
@@ -85,6 +96,11 @@ pub const REGISTER_WIRES: [Wire; 14] = [
     Wire::R13,
     Wire::R14,
     Wire::R15,
+    Wire::Aux,
+    Wire::TimerFlag,
+    Wire::Pins,
+    Wire::Sent,
+    Wire::Received,
 ];
 
 impl Wire {
@@ -92,7 +108,10 @@ impl Wire {
     pub fn is_bit(self) -> bool
         ensures { result ≡ is_bit self }
     {
-        matches!(self, Wire::Irq | Wire::Asked | Wire::Exec)
+        matches!(
+            self,
+            Wire::Irq | Wire::Asked | Wire::Exec | Wire::Aux | Wire::TimerFlag
+        )
     }
 
     /// The character by which its changes name it.
@@ -131,6 +150,11 @@ impl Wire {
             Wire::R13 => b']',
             Wire::R14 => b'^',
             Wire::R15 => b'_',
+            Wire::Aux => b'`',
+            Wire::TimerFlag => b'a',
+            Wire::Pins => b'b',
+            Wire::Sent => b'c',
+            Wire::Received => b'd',
         }
     }
 }

@@ -15,7 +15,7 @@ returns-clause-puts g c = λ samples stands.
     c.print_told.result)
     (ap (λ (after : Sample). told_text wave.steps (option_copied c.as_ref.result) after)
     c.shown-after.ensures
-    ∙ ap (λ (before : Option Sample). told_text wave.steps before (shown_now wave last.line))
+    ∙ ap (λ (before : Option Sample). told_text wave.steps before (shown_now wave last))
     c.as_ref.ensures.value
     ∙ sym (end_told wave samples last stands c.in-Some.is))
     c.print_told.ensures.puts

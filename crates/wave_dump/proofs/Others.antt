@@ -1,4 +1,4 @@
--- The wires of the registers apart from the others.
+-- The other wires apart from those of the line.
 use Rattle.std.proofs.Common.{◌≡◌, ◌∙◌, ℕ, ◌+◌, ◌<◌, ◌++◌, ◌||◌, Bool, false, List, [], ◌∷◌, Some, Option, eq-eqb, flat_map, take, drop, get_or, refl, sym, ap, arith}
 use Rattle.std.specs.Prelude.{not, slice_index, if◌then◌else◌}
 use Rattle.std.specs.List.{list_any}
@@ -9,21 +9,30 @@ use Rattle.std.proofs.lemmas.List.Folds.{list_any-append}
 use Rattle.std.proofs.lemmas.List.Concat.{flat_map-append}
 use Rattle.wave_dump.specs.declared.sample.Sample.{Sample}
 use Rattle.wave_dump.specs.declared.wire.Wire.{Wire}
-use Rattle.wave_dump.specs.Wire.{line_wires, register_wires, wires}
+use Rattle.wave_dump.specs.Wire.{line_wires, other_wires, register_wires, wires}
 use Rattle.wave_dump.specs.WireValue.{is_same_value, register_value, wire_value}
 use Rattle.wave_dump.specs.WaveText.{change_of, change_text, is_any_told, is_told, wires_text}
 
 pub text_in_two : (last : Option Sample) (now : Sample)
     → wires_text last now wires
-    ≡ wires_text last now line_wires ++ wires_text last now register_wires
+    ≡ wires_text last now line_wires ++ wires_text last now other_wires
 unfolding wires_text
-text_in_two last now = flat_map-append (change_of last now) line_wires register_wires
+text_in_two last now = flat_map-append (change_of last now) line_wires other_wires
 
 pub any_in_two : (last : Option Sample) (now : Sample)
     → is_any_told last now wires
-    ≡ (is_any_told last now line_wires || is_any_told last now register_wires)
+    ≡ (is_any_told last now line_wires || is_any_told last now other_wires)
 unfolding is_any_told
-any_in_two last now = list_any-append (is_told last now) line_wires register_wires
+any_in_two last now = list_any-append (is_told last now) line_wires other_wires
+
+-- wires of which neither part is told
+pub untold_both : (last : Option Sample) (now : Sample) (front back : List Wire)
+    → is_any_told last now front ≡ false
+    → is_any_told last now back ≡ false
+    → is_any_told last now (front ++ back) ≡ false
+unfolding is_any_told
+untold_both last now front back none_before none_behind =
+    rw (list_any-append (is_told last now) front back, none_before, none_behind) refl
 
 -- the same registers tell nothing, whatever PC is
 
@@ -43,21 +52,21 @@ untold_text last now ws none =
 
 -- R1 to R15
 abbrev pub registers_but_pc : Sample → List ℕ
-registers_but_pc sample = take 15 (drop 1 sample.registers)
+registers_but_pc sample = take 15 (drop 1 sample.state.registers)
 
 register-at : (sample : Sample) (number : ℕ) → number < 15
-    → get_or (registers_but_pc sample) number 0 ≡ slice_index sample.registers (1 + number)
+    → get_or (registers_but_pc sample) number 0 ≡ slice_index sample.state.registers (1 + number)
 register-at sample number within =
-    get_or-take 15 (drop 1 sample.registers) number 0 within
-    ∙ get_or_after_one sample.registers number 0
+    get_or-take 15 (drop 1 sample.state.registers) number 0 within
+    ∙ get_or_after_one sample.state.registers number 0
 
 untold-register : (last now : Sample) → registers_but_pc last ≡ registers_but_pc now
     → (number : ℕ) → number < 15
     → not (is_same_value (register_value (1 + number) last) (register_value (1 + number) now))
     ≡ false
 untold-register last now same number within =
-    ap not (eq-eqb (slice_index last.registers (1 + number))
-    (slice_index now.registers (1 + number))
+    ap not (eq-eqb (slice_index last.state.registers (1 + number))
+    (slice_index now.state.registers (1 + number))
     (sym (register-at last number within)
     ∙ ap (λ (registers : List ℕ). get_or registers number 0) same
     ∙ register-at now number within))
