@@ -8,7 +8,8 @@ use Rattle.clean_trace.specs.WaveSamples.{wave_samples}
 use Rattle.device_cli.specs.Row.{Row}
 use Rattle.device_cli.specs.Play.{text_outcome, steps_row_of}
 
--- the waveform of the lines of a play, in which the secrets are blanked, and of its registers
+-- the waveform of the lines of a play, in which the secrets are blanked, and of what stands beside
+-- them
 abbrev pub wave_text : Start → Play → Bytes
 wave_text start play = wave_file (wave_samples start play)
 
