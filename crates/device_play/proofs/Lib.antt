@@ -7,5 +7,6 @@ pub mod SeenStep
 pub mod SilentStep
 pub mod StepLines
 pub mod TracedStep
+pub mod WaveStep
 pub mod WatchedPlay
 pub mod WriteCounts

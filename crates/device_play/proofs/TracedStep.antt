@@ -24,12 +24,8 @@ use Rattle.trace_line.specs.LineText.{trace_line}
 use Rattle.trace_line.specs.ReadBack.{ArePrintable, IsPrintable}
 use Rattle.trace_line.specs.TraceFile.{trace_of}
 use Rattle.trace_line.proofs.FileReadBack.{file_reads_back}
-use Rattle.wave_dump.specs.WaveText.{last_shown, shown_after, step_text}
 use Rattle.clean_trace.specs.TraceText.{last_line, next_line, trace_lines, trace_text, word_shown}
-use Rattle.clean_trace.specs.WaveSamples.{next_sample, play_registers, wave_samples}
-use Rattle.part_definitions.specs.CpuRegister.{Registers}
-use Rattle.wave_dump.specs.declared.sample.Sample.{Sample}
-use Rattle.device_play.specs.Accounts.{change_text, trace_account}
+use Rattle.device_play.specs.Accounts.{trace_account}
 use Rattle.device_play.specs.Limit.{most_steps}
 use Rattle.device_play.specs.TraceLine.{proposal_shown, value_shown, word_read}
 
@@ -184,10 +180,6 @@ unfolding trace_lines
 length-lines start [] = refl
 length-lines start (events ∷ play) = ap suc (length-lines start play)
 
--- a step of a waveform
-abbrev sample_of : TraceLine → Registers → Sample
-sample_of line registers = record { line = line; registers = registers }
-
 next-is : (start : Start) (events : List Event) (play : Play) (line : TraceLine)
     → last_line start (events ∷ play) ≡ Some line
     → next_line start (logs_after start play) events ≡ line
@@ -222,45 +214,6 @@ puts-traced {stands} {old} {new} {result} start events play step line number is 
     (ap (trace_line step) (sym (next-is start events play line is))
     ∙ ap (λ (n : ℕ). trace_line n (next_line start (logs_after start play) events))
     (number ∙ sym (length-lines start play)))
-    puts
-
--- of a waveform
-
-pub length-samples : (start : Start) (play : Play)
-    → length (wave_samples start play) ≡ length play
-unfolding wave_samples
-length-samples start [] = refl
-length-samples start (events ∷ play) = ap suc (length-samples start play)
-
-pub next-sample : (start : Start) (events : List Event) (play : Play) (sample : Sample)
-    → last_line start (events ∷ play) ≡ Some sample.line
-    → sample.registers ≡ play_registers start (events ∷ play)
-    → next_sample start events play ≡ sample
-next-sample start events play sample line registers =
-    ap (λ (shown : TraceLine). sample_of shown (play_registers start (events ∷ play)))
-    (next-is start events play sample.line line)
-    ∙ ap (λ (shown : Registers). sample_of sample.line shown) (sym registers)
-
-pub samples-more : (start : Start) (events : List Event) (play : Play) (sample : Sample)
-    → next_sample start events play ≡ sample
-    → wave_samples start (events ∷ play) ≡ sample ∷ wave_samples start play
-unfolding wave_samples
-samples-more start events play sample is =
-    ap (λ (next : Sample). next ∷ wave_samples start play) is
-
-pub puts-changes :
-    {S V E : Type 0} {stands : S → List ℕ → Type 0} {old new : S} {result : Result V E}
-    (start : Start) (events : List Event) (play : Play) (sample : Sample)
-    → next_sample start events play ≡ sample
-    → Puts stands old new
-    (step_text (length (wave_samples start play)) (last_shown (wave_samples start play))
-    (shown_after (wave_samples start play) sample)) result
-    → Puts stands old new (change_text start events play) result
-puts-changes {stands} {old} {new} {result} start events play sample is puts =
-    let samples : List Sample = wave_samples start play in
-    subst (λ text. Puts stands old new text result)
-    (ap (λ (next : Sample). step_text (length samples) (last_shown samples)
-    (shown_after samples next)) (sym is))
     puts
 
 -- the trace file of a play reads back

@@ -15,6 +15,7 @@ mod put_fault;
 mod trace_watcher;
 mod traced_line;
 mod watcher;
+mod wave_sample;
 mod wave_watcher;
 
 pub use driver::{play_before, play_to_shown, sleep_on};

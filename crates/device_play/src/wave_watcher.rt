@@ -1,11 +1,11 @@
 use crate::put_fault::PutFault;
-use crate::traced_line::last_trace_line;
 use crate::watcher::Watcher;
+use crate::wave_sample::last_wave_sample;
 use bus_signals::TraceFlag;
 use device_core::Live;
 use hmac_core::Digest32;
 use outside_edge::{Failed, Sink};
-use wave_dump::{Sample, Wave};
+use wave_dump::Wave;
 
 /// Puts the waveform of a play, with the secrets blanked.
 #[derive(Clone, Copy, Debug)]
@@ -40,11 +40,7 @@ impl Watcher for WaveWatcher {
         live: &Live<D, G>,
         sink: &mut W,
     ) -> Result<(), PutFault> {
-        let sample = Sample {
-            line: last_trace_line(live),
-            registers: *live.registers(),
-        };
-        wave.tell(&sample, sink)?;
+        wave.tell(&last_wave_sample(live), sink)?;
         Ok(())
     }
 

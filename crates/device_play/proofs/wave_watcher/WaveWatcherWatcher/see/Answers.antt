@@ -1,9 +1,8 @@
 use Rattle.std.proofs.Common.{◌∷◌, arith}
 use Rattle.clean_trace.specs.WaveSamples.{wave_samples}
-use Rattle.wave_dump.specs.declared.sample.Sample.{Sample}
 use Rattle.device_play.specs.Accounts.{wave_account}
 use Rattle.device_play.proofs.SeenStep.{seen-all, seen-failed}
-use Rattle.device_play.proofs.TracedStep.{length-samples, next-sample, puts-changes, samples-more}
+use Rattle.device_play.proofs.WaveStep.{length-samples, puts-changes, sample-is, samples-more}
 use Rattle.device_play.proofs.wave_watcher.WaveWatcherWatcher.see.Goals as goal
 
 pub tell-requires : goal.tell-requires
@@ -19,22 +18,18 @@ tell-requires g c =
 
 pub returns-in_err-tell-clause-seen : goal.returns-in_err-tell-clause-seen
 returns-in_err-tell-clause-seen g c = λ start events play shown.
-    let sample : Sample =
-    record { line = c.last_trace_line.result; registers = c.registers.result.now } in
-    let is = next-sample start events play sample
-    (c.last_trace_line.ensures.line start (events ∷ play) shown.device)
-    (c.registers.ensures start (events ∷ play) shown.device) in
+    let sample = c.last_wave_sample.result in
+    let is = sample-is start events play sample
+    (c.last_wave_sample.ensures start (events ∷ play) shown.device) in
     seen-failed {account = wave_account} c.from_residual.result c.from_residual.ensures.1
     (puts-changes start events play sample is
     (c.in_err-tell.ensures.puts (wave_samples start play) shown.counted)).prefix
 
 pub returns-clause-seen : goal.returns-clause-seen
 returns-clause-seen g c = λ start events play shown.
-    let sample : Sample =
-    record { line = c.last_trace_line.result; registers = c.registers.result.now } in
-    let is = next-sample start events play sample
-    (c.last_trace_line.ensures.line start (events ∷ play) shown.device)
-    (c.registers.ensures start (events ∷ play) shown.device) in
+    let sample = c.last_wave_sample.result in
+    let is = sample-is start events play sample
+    (c.last_wave_sample.ensures start (events ∷ play) shown.device) in
     seen-all {account = wave_account}
     (rw (samples-more start events play sample is)
     (c.in_ok-tell.ensures.stands (wave_samples start play) shown.counted))
