@@ -449,7 +449,7 @@ RULES = {
     "K6": "the DMA was active in the attestation ROM",
     "I1": "an illegal instruction word was fetched",
 }
-VERSION = "0.1.0"
+VERSION = "0.2.0"  # its one place: what repeats it is written from here
 FLAGS = ("exec", "aux", "plain")  # that a policy may ask for
 # In the order in which they are tried, but for the first.
 VERDICTS = ("accept", "no-challenge", "version-differs", "chal-differs", "count-differs",

@@ -3,8 +3,10 @@
 #![tactic(auto)]
 
 mod help_text;
+mod version;
 
 use crate::help_text::HELP;
+use crate::version::VERSION;
 use debug_cli::run::run;
 use input_files::{Status, exit_with, given_arguments, own_text, print_text};
 use outside_edge::{FileShelf, StdSink, StdSource, SystemFiles};
@@ -23,7 +25,7 @@ fn main(rt: HostRuntime) -> ExitCode {
 // standard input is closed, the first file that is opened takes its descriptor: let it be a folder,
 // which no read of standard input can take for its bytes.
 fn answer(rt: &HostRuntime, arguments: &[String]) -> Status {
-    if let Some(text) = own_text(arguments, HELP) {
+    if let Some(text) = own_text(arguments, HELP, VERSION) {
         return print_text(rt, text);
     }
     let _folder = fs::open(rt, "/");

@@ -3,8 +3,10 @@
 #![tactic(auto)]
 
 mod help_text;
+mod version;
 
 use crate::help_text::HELP;
+use crate::version::VERSION;
 use desk_cli::StoreFiles;
 use desk_cli::run::run;
 use input_files::{Status, exit_with, given_arguments, own_text, print_text};
@@ -25,7 +27,7 @@ fn main(rt: HostRuntime) -> ExitCode {
 // replies are out at once. Of all other text some KiB may be left in the buffer; where they can't
 // be written, nothing else is answered.
 fn answer(rt: &HostRuntime, arguments: &[String]) -> Status {
-    if let Some(text) = own_text(arguments, HELP) {
+    if let Some(text) = own_text(arguments, HELP, VERSION) {
         return print_text(rt, text);
     }
     match arguments {

@@ -2,8 +2,10 @@
 #![tactic(auto)]
 
 mod help_text;
+mod version;
 
 use crate::help_text::HELP;
+use crate::version::VERSION;
 use device_cli::run::run;
 use input_files::{Status, exit_with, given_arguments, own_text, print_text};
 use outside_edge::{BufferedSink, Failed, FileShelf, StdSink, SystemFiles};
@@ -21,7 +23,7 @@ fn main(rt: HostRuntime) -> ExitCode {
 // Answers `--help` and `--version` where they stand alone, and runs all other arguments. Some KiB
 // of the text may be left in the buffer; where they can't be written, nothing else is answered.
 fn answer(rt: &HostRuntime, arguments: &[String]) -> Status {
-    if let Some(text) = own_text(arguments, HELP) {
+    if let Some(text) = own_text(arguments, HELP, VERSION) {
         return print_text(rt, text);
     }
     let mut shelf = FileShelf::new(SystemFiles::new(rt));

@@ -1,12 +1,10 @@
 use crate::status::Status;
 
-const VERSION: &str = "foldgneiss 0.1.0\n";
-
 /// What `--help` and `--version` print, each where it stands alone.
-pub fn own_text<'a>(arguments: &[String], help: &'a str) -> Option<&'a str> {
+pub fn own_text<'a>(arguments: &[String], help: &'a str, version: &'a str) -> Option<&'a str> {
     match arguments {
         [only] if only.as_str() == "--help" => Some(help),
-        [only] if only.as_str() == "--version" => Some(VERSION),
+        [only] if only.as_str() == "--version" => Some(version),
         _ => None,
     }
 }
