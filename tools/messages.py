@@ -25,15 +25,17 @@ WIDTH = 76
 SCRIPT_HELP = """
 The script ./foldgneiss has these too:
   foldgneiss build           proves all crates and makes the proved programs
+  foldgneiss folder          prints the folder with firmware, examples and docs
   foldgneiss help [COMMAND]  prints this, or what it says of one command; so do
                              -h and --help, also after a command
-Its own statuses are 125 where the sources do not compile, 127 where there is
-no rt, and 1 where a crate does not prove in build.
+Its own statuses are 125 where the sources do not compile, or what comes of it
+cannot be written, 127 where rt, python3, or Linux on x86-64 is wanted and not
+there, and 1 where a crate does not prove in build.
 """
 # What stands in the place of a command, with what may follow.
-OTHER_USAGES = {"build": "build", "--version": "--version", "help": "help [COMMAND]",
-                "-h": "-h [COMMAND]", "--help": "--help [COMMAND]"}
-COMMAND_NAMES = ", ".join([*COMMANDS, "build", "help"])
+OTHER_USAGES = {"build": "build", "folder": "folder", "--version": "--version",
+                "help": "help [COMMAND]", "-h": "-h [COMMAND]", "--help": "--help [COMMAND]"}
+COMMAND_NAMES = ", ".join([*COMMANDS, "build", "folder", "help"])
 
 
 def unknown_command(name):
@@ -211,7 +213,7 @@ def help_on(name):
     """What --help says of a command, or of all if there is none; None of an unknown one."""
     if name is None:
         return reference_texts.help_text() + SCRIPT_HELP
-    if name == "build":
+    if name in ("build", "folder"):
         return SCRIPT_HELP.lstrip()
     return reference_texts.command_help(name) if name in COMMANDS else None
 

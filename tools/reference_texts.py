@@ -188,9 +188,9 @@ def completion():
 _foldgneiss() {{
     local word=${{COMP_WORDS[COMP_CWORD]}}
     if [ "$COMP_CWORD" -eq 1 ]; then
-        mapfile -t COMPREPLY < <(compgen -W '{" ".join(COMMANDS)} build help' -- "$word")
+        mapfile -t COMPREPLY < <(compgen -W '{" ".join(COMMANDS)} build folder help' -- "$word")
     elif [ "${{COMP_WORDS[1]}}" = help ]; then
-        mapfile -t COMPREPLY < <(compgen -W '{" ".join(COMMANDS)} build' -- "$word")
+        mapfile -t COMPREPLY < <(compgen -W '{" ".join(COMMANDS)} build folder' -- "$word")
     else
         mapfile -t COMPREPLY < <(compgen -f -- "$word")
     fi
