@@ -68,19 +68,24 @@ def image_of(trial, sources, *options):
         return made_image(trial, folder, *options)
 
 
+# The words of the script that README's lines use, over a program and a folder.
+FOLDGNEISS = '''
+foldgneiss() { if [ "$1" = folder ]; then echo "$folder"; else "$program" "$@"; fi; }
+program=$0 folder=$1
+'''
+
+
 def readme(trial, files):
     """README's lines that build and run firmware print what it quotes of a report and a verdict
     behind them.
     """
     text = read(f"{ROOT}/README.md").decode()
-    start = text.index("    cp ../foldgneiss")
+    start = text.index('    cp "$(foldgneiss folder)')
     code, told = text[start:].split("\n\n", 2)[:2]
-    lines = [line.strip().replace("../foldgneiss/foldgneiss", trial.program)
-             for line in code.split("\n")]
+    lines = [line.strip() for line in code.split("\n")]
     quoted = re.findall(r"`((?:report2|verdict) .*?)(?: \.\.)?`", told)
-    os.symlink(ROOT, files["foldgneiss"])
     os.mkdir(files["mine"])
-    printed = trial.expect(0, "", "\n".join(lines), cwd=files["mine"],
+    printed = trial.expect(0, "", f"{FOLDGNEISS}{code}", trial.program, ROOT, cwd=files["mine"],
                            command=["bash", "-e", "-c"]).decode()
     if (len(lines) != 10 or not quoted
             or any(not re.search(f"^{re.escape(line)}\\b", printed, re.M) for line in quoted)):
