@@ -75,21 +75,28 @@ program=$0 folder=$1
 '''
 
 
+def readme_lines():
+    """README's lines that build and run firmware, and what it quotes of what they print."""
+    text = read(f"{ROOT}/README.md").decode()
+    code, told = text[text.index('    cp "$(foldgneiss folder)'):].split("\n\n", 2)[:2]
+    return code, re.findall(r"`((?:report2|verdict) .*?)(?: \.\.)?`", told)
+
+
+def lacks_quoted(printed, quoted):
+    return [line for line in quoted if not re.search(f"^{re.escape(line)}\\b", printed, re.M)]
+
+
 def readme(trial, files):
     """README's lines that build and run firmware print what it quotes of a report and a verdict
     behind them.
     """
-    text = read(f"{ROOT}/README.md").decode()
-    start = text.index('    cp "$(foldgneiss folder)')
-    code, told = text[start:].split("\n\n", 2)[:2]
-    lines = [line.strip() for line in code.split("\n")]
-    quoted = re.findall(r"`((?:report2|verdict) .*?)(?: \.\.)?`", told)
+    code, quoted = readme_lines()
     os.mkdir(files["mine"])
     printed = trial.expect(0, "", f"{FOLDGNEISS}{code}", trial.program, ROOT, cwd=files["mine"],
                            command=["bash", "-e", "-c"]).decode()
-    if (len(lines) != 10 or not quoted
-            or any(not re.search(f"^{re.escape(line)}\\b", printed, re.M) for line in quoted)):
-        trial.fault(f"README's {len(lines)} lines: printed {printed}")
+    lines = len(code.split("\n"))
+    if lines != 10 or not quoted or lacks_quoted(printed, quoted):
+        trial.fault(f"README's {lines} lines: printed {printed}")
 
 
 def examples(trial):

@@ -90,10 +90,18 @@ def refusals(trial, folder):
         trial.fault("release: a folder of a release that is refused")
 
 
-def release(trial, files):
+def is_left_out(trial):
+    """Whether no release can be made here; a line says so."""
     missing = [tool for tool in TOOLS if not shutil.which(tool)]
-    if missing or not os.path.isdir(f"{ROOT}/.git"):
-        print(f"{trial.name}: a release is not tried: no {', '.join(missing) or 'Git checkout'}")
+    if not os.path.isdir(f"{ROOT}/.git"):
+        missing.append("checkout of Git")
+    if missing:
+        print(f"{trial.name}: {trial.part} is not tried: no {', '.join(missing)}")
+    return missing
+
+
+def release(trial, files):
+    if is_left_out(trial):
         return
     with tempfile.TemporaryDirectory() as holder:
         holder = os.path.realpath(holder)
@@ -113,3 +121,18 @@ def release(trial, files):
             if answer.status != 0:
                 trial.fault(f"release: lintian says {answer.output.decode()}")
         refusals(trial, folders[0])
+
+
+def fresh_debian(trial, files):
+    """Both ways of README's Install in a fresh Debian, where one can be had."""
+    if is_left_out(trial):
+        return
+    with tempfile.TemporaryDirectory() as holder:
+        checkout(trial, f"{holder}/checkout")
+        released(trial, f"{holder}/checkout", f"{holder}/release")
+        answer = trial.call(f"{holder}/release", command=[f"{ROOT}/tools/try-release"],
+                            seconds=1800)
+        if answer.status == 3:
+            print(f"{trial.name}: {trial.part} is not tried: {answer.output.decode().strip()}")
+        elif answer.status != 0:
+            trial.fault(answer.line)
