@@ -31,6 +31,9 @@ start:  mov     #stack_top, r1
         .globl  attest
 attest: push    r2
         dint
+        .irp    register, r4, r5, r6, r7, r8, r9, r10
+        push    \register              ; the region clears them, and would read what it pushes
+        .endr
         mov     #0x0240, r13            ; the metadata: challenge,
         mov     #0x0260, r14
         call    #store
@@ -41,7 +44,6 @@ attest: push    r2
         mov     #0x026c, r13            ; counter and token
         mov     #0x0290, r14
         call    #store
-        mov     #0x5afe, &region_guard
         call    #er_min                 ; a write to the metadata after this would clear EXEC
         mov     #0x0202, r13            ; the MAC behind its first word
 .Lclear:
@@ -60,6 +62,9 @@ attest: push    r2
         jne     .Lsearch
         mov     &0x0200, r12            ; else that word is its decision
 .Ldecided:
+        .irp    register, r10, r9, r8, r7, r6, r5, r4
+        pop     \register
+        .endr
         pop     r2
         ret
 
@@ -70,24 +75,34 @@ store:  mov.b   @r12, 0(r13)            ; bytes of the request, to r13 and up to
         jne     store
         ret
 
-; The executable region is entered at its first instruction alone, and left at its last. It has a
-; stack of its own: whoever calls it may have put theirs on the output. It clears the output:
-; whoever calls it may have left there what the region does not write.
+; The executable region is entered at its first instruction alone, and left at its last. Nothing of
+; its caller comes in: it has a stack of its own, which it clears, as it does its output, and all
+; registers.
         .section .er.entry, "ax"
         .weak   er_min                  ; a guard in .er.guard takes this name, and goes to er_entry
         .globl  er_entry, er_leave, er_max
 er_min:
 er_entry:
+        clr     r2
         mov     r1, &caller_stack
         mov     #region_stack, r1
-        mov     #or_min, r12
+        mov     #region_stack_end, r4
+.Lclear_stack:
+        push    #0
+        cmp     r4, r1
+        jne     .Lclear_stack
+        mov     #region_stack, r1
+        mov     #or_min, r4
 .Lclear_output:
-        cmp     #or_max + 2, r12
+        cmp     #or_max + 2, r4
         jeq     .Loutput_clear
-        clr     0(r12)
-        incd    r12
+        clr     0(r4)
+        incd    r4
         jmp     .Lclear_output
 .Loutput_clear:
+        .irp    register, r4, r5, r6, r7, r8, r9, r10, r11, r12, r13, r14, r15
+        clr     \register
+        .endr
         call    #region
 er_leave:
         mov     &caller_stack, r1
@@ -97,9 +112,6 @@ er_leave:
 er_max: ret
 
         .section .er_stack, "aw", @nobits
-region_guard:
-        .space  2
-        .space  128
-region_stack:
+region_stack:                           ; grows down to region_stack_end, by REGION_STACK
 caller_stack:
         .space  2

@@ -1,7 +1,6 @@
 /* RAM from 0300 on is the firmware's: below stand MAC (0200 to 021F) and metadata (0240 to 028F).
-   The region's stack comes first, so that what grows out of it meets no variable but the metadata,
-   and both flags fall. The stack grows down from the end of RAM. clang names the vector of an
-   interrupt function of number N __interrupt_vector_N. link.py lays what the region uses into
+   The region's stack comes first. The other grows down from the end of RAM. clang names the vector
+   of an interrupt function of number N __interrupt_vector_N. link.py lays what the region uses into
    .er.own. */
 ENTRY(start)
 MEMORY
@@ -21,7 +20,13 @@ SECTIONS
         . = ALIGN(2);
         *(.er.exit)
     } > program
-    .er_stack (NOLOAD) : { *(.er_stack) } > ram
+    .er_stack (NOLOAD) : {
+        region_stack_end = .;
+        . += region_stack_bytes;
+        *(.er_stack)
+    } > ram
+    ASSERT(region_stack_bytes >= 2 && region_stack_bytes % 2 == 0,
+           "REGION_STACK has to be an even number of bytes from 2 on (128 if unset)")
     .or (NOLOAD) : ALIGN(2) { or_min = .; KEEP(*(.or)) . = ALIGN(2); or_max = . - 2; } > ram
     .data : ALIGN(2) {
         data_start = .;

@@ -16,7 +16,7 @@ import memory_map
 
 REGION, OWN, KIT = (".er", ".er.guard", ".er.entry", ".er.exit"), ".er.own", ".runtime.text."
 OUTPUT, FOREIGN, STACK = ".or", ".foreign", ".er_stack"
-BOUNDS = ("er_min", "er_max", "or_min", "or_max")
+BOUNDS = ("er_min", "er_max", "or_min", "or_max", "region_stack_end")
 ENTRIES = ("attest", "region", "er_min", "er_entry")
 VECTORS = ("__interrupt_vector_9", ".timer_vector", "__interrupt_vector_10", ".serial_vector")
 # Places that a region may name by a number: peripherals, metadata, and the vectors, which a guard

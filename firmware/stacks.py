@@ -1,16 +1,12 @@
 """llvm-nm ELF | stacks.py DUMP
 
-Looks into DUMP, what `foldgneiss dump` printed of a run, whether a stack of the firmware ELF grew
-out of its place: the word below it, which the kit lays, is another then.
+Looks into DUMP, what `foldgneiss dump` printed of a run, whether the stack of the firmware ELF grew
+out of its place: the word below it, which the kit's start lays, is another then.
 """
 import re
 import sys
 
 GUARD = 0x5AFE
-STACKS = {"stack_guard": "the stack met the data: fewer nested calls, smaller arrays in functions, "
-                         "or smaller variables",
-          "region_guard": "the region's stack grew out of its 128 bytes: fewer nested calls, or "
-                          "smaller arrays in its functions"}
 
 
 def memory_of(text):
@@ -24,27 +20,20 @@ def memory_of(text):
     return memory
 
 
-def laid_words(text, symbols):
-    """The places of the words that the kit laid in a run that printed this text: the first by its
-    start, which is weak, the other before it called the ROM.
-    """
-    kinds = {name: kind for _, kind, name in symbols}
-    is_laid = {"stack_guard": kinds.get("start") == "W",
-               "region_guard": re.search("^(report2|denied) ", text, re.M)}
-    return {name: int(place, 16) for place, _, name in symbols if is_laid.get(name)}
-
-
 def main():
+    symbols = {name: (place, kind) for place, kind, name in map(str.split, sys.stdin)}
+    if symbols.get("start", "  ")[1] != "W":  # a start of the firmware's own lays no word
+        return 0
     with open(sys.argv[1], encoding="ascii") as file:
-        text = file.read()
-    memory, status = memory_of(text), 0
-    for name, place in laid_words(text, [row.split() for row in sys.stdin]).items():
-        word = memory.get(place, 0) | memory.get(place + 1, 0) << 8
-        print(f"{name}: {word:04x} at {place:04x}")
-        if word != GUARD:
-            print(f"error: {name}: {STACKS[name]}", file=sys.stderr)
-            status = 1
-    return status
+        memory = memory_of(file.read())
+    place = int(symbols["stack_guard"][0], 16)
+    word = memory.get(place, 0) | memory.get(place + 1, 0) << 8
+    print(f"stack_guard: {word:04x} at {place:04x}")
+    if word != GUARD:
+        print("error: stack_guard: the stack met the data: fewer nested calls, smaller arrays in "
+              "functions, or smaller variables", file=sys.stderr)
+        return 1
+    return 0
 
 
 if __name__ == "__main__":
