@@ -84,22 +84,15 @@ store:  mov.b   @r12, 0(r13)            ; bytes of the request, to r13 and up to
 er_min:
 er_entry:
         clr     r2
-        mov     r1, &caller_stack
-        mov     #region_stack, r1
-        mov     #region_stack_end, r4
-.Lclear_stack:
-        push    #0
-        cmp     r4, r1
-        jne     .Lclear_stack
-        mov     #region_stack, r1
-        mov     #or_min, r4
-.Lclear_output:
-        cmp     #or_max + 2, r4
-        jeq     .Loutput_clear
+        mov     #region_stack_end, r4   ; the output follows the stack
+        mov     #or_max + 2, r5
+.Lclear_region:
         clr     0(r4)
         incd    r4
-        jmp     .Lclear_output
-.Loutput_clear:
+        cmp     r5, r4
+        jne     .Lclear_region
+        mov     r1, &caller_stack
+        mov     #region_stack, r1
         .irp    register, r4, r5, r6, r7, r8, r9, r10, r11, r12, r13, r14, r15
         clr     \register
         .endr

@@ -38,6 +38,7 @@ SECTIONS
     data_values = LOADADDR(.data);
     stack_guard = bss_end;
     stack_top = 0x2200;
+    foldgneiss_token = 0x0270;
     ASSERT(stack_top - stack_guard - 2 >= stack_bytes,
            "too little stack: fewer or smaller variables, or a smaller STACK (128 if unset)")
     .timer_vector 0xFFF2 : { KEEP(*(.timer_vector __interrupt_vector_9)) } > vectors

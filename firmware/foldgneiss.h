@@ -24,7 +24,8 @@
 #define EXEC FOLDGNEISS_WORD(0x0268)            // the EXEC flag, which no write sets
 #define AUX FOLDGNEISS_WORD(0x026A)             // the flag of a region with handlers, likewise
 #define COUNTER (*(volatile uint32_t *)0x026C)  // the counter of the request
-#define TOKEN ((volatile uint8_t *)0x0270)      // 32 bytes: its token
+#define TOKEN foldgneiss_token                  // 32 bytes: its token
+extern volatile uint8_t foldgneiss_token[32];   // (a name, so that a region may have an index)
 
 #define MAC ((const volatile uint8_t *)0x0200)  // 32 bytes: the last call's MAC, or its decision
 

@@ -12,16 +12,15 @@ import subprocess
 import sys
 from typing import NamedTuple
 
-import memory_map
+from region_code import Place
+from region_flow import Flow
+from region_rules import (ENTRY, FOREIGN, GUARD, KIT, OUTPUT, OWN, REGION, STACK, STACK_END,
+                          is_region, stray_number)
+from region_stack import Stack, nested_handlers
 
-REGION, OWN, KIT = (".er", ".er.guard", ".er.entry", ".er.exit"), ".er.own", ".runtime.text."
-OUTPUT, FOREIGN, STACK = ".or", ".foreign", ".er_stack"
-BOUNDS = ("er_min", "er_max", "or_min", "or_max", "region_stack_end")
+LINKER_NAMES = ("er_min", "er_max", "or_min", "or_max", STACK_END, "foldgneiss_token")
 ENTRIES = ("attest", "region", "er_min", "er_entry")
 VECTORS = ("__interrupt_vector_9", ".timer_vector", "__interrupt_vector_10", ".serial_vector")
-# Places that a region may name by a number: peripherals, metadata, and the vectors, which a guard
-# compares.
-NUMBERS = (memory_map.PERIPHERALS, memory_map.METADATA, memory_map.VECTORS)
 HINTS = (
     (r"undefined symbol: (__mspabi_|__\w+[sd]f)",
      "floating point is not in the kit: count in integers (firmware/README.md)"),
@@ -34,8 +33,7 @@ SECTION_ROW = re.compile(
     r"^ *\[ *(\d+)\] (\S+) +([A-Z]\S*) +[0-9a-f]+ (\w+) (\w+) \w+ +([A-Za-z]*)(?: +\d+){3}$", re.M)
 SYMBOL_ROW = re.compile(r"^ +\d+: (\w+) +\d+ (\w+) +(\w+) +\w+ +(\w+) (.*)$", re.M)
 RELOCATION_ROW = re.compile(r"^([0-9a-f]+) +([0-9a-f]+) R_\S+ .* ([+-]) ([0-9a-f]+)$", re.M)
-MAP_ROW = re.compile(r"^ *([0-9a-f]+) +[0-9a-f]+ +[0-9a-f]+ +\d+ +\S.*:\((\S+)\)$", re.M)
-CODE_ROW = re.compile(r"^ +([0-9a-f]+): (?:[0-9a-f]{2} )+\s*(.*)$", re.M)
+MAP_ROW = re.compile(r"^ *([0-9a-f]+) +[0-9a-f]+ +[0-9a-f]+ +\d+ +(\S.*):\((\S+)\)$", re.M)
 DECLARED = re.compile(r'decl_file\s+\("(.*)"\)\s+DW_AT_decl_line\s+\((\d+)\)')
 
 
@@ -129,21 +127,14 @@ class Program:
                 if relocation.section == function.section
                 and function.place <= relocation.place < end]
 
-    def numbers(self):
-        """The numbers by which the region's instructions name places, each with its instruction's
-        section and place: those of absolute operands, and those of indexed ones that are no
-        distance within a structure.
-        """
-        text = tool("llvm-objdump", "--disassemble", self.path)
-        for part in text.split("\nDisassembly of section ")[1:]:
-            section = part[:part.index(":\n")]
-            if is_region(section):
-                for place, code in CODE_ROW.findall(part):
-                    numbers = re.findall(r"&(-?\d+)", code)
-                    numbers += [number for number in re.findall(r"(-?\d+)\(r\d", code)
-                                if not -512 <= int(number) < 512]
-                    for number in numbers:
-                        yield section, int(place, 16), int(number) & 0xFFFF
+    def content(self, section):
+        """The bytes of a section."""
+        size = self.sections[section].size
+        if self.sections[section].kind == "NOBITS":
+            return bytes(size)
+        with open(self.path, "rb") as file:
+            file.seek(self.sections[section].file_place)
+            return file.read(size)
 
 
 class Lines:
@@ -154,7 +145,9 @@ class Lines:
         with open(map_file, encoding="utf-8") as file:
             text = file.read()
         self.places = {name: int(place, 16)
-                       for place, name in rows(MAP_ROW, text, text.count(":("))}
+                       for place, path, name in rows(MAP_ROW, text, text.count(":("))
+                       if path != "<internal>"}  # (texts of several sections, merged)
+        self.numbers = {symbol.name: symbol.place for symbol in Program(elf).symbols}
 
     def of_code(self, section, place):
         """The line of a place in a section, "" where it is unknown."""
@@ -181,10 +174,6 @@ def shown(path):
     return min(path, os.path.relpath(path), key=len)
 
 
-def is_region(section):
-    return section in REGION or section.startswith(f"{OWN}.")
-
-
 def own_sections(program):
     """The constants and the functions of the kit that the region refers to."""
     reached = [section for section in program.sections if is_region(section)]
@@ -202,23 +191,18 @@ def stray(program, relocation):
     symbol, name = relocation.symbol, program.named(relocation).name
     section = symbol.section
     if (is_region(section) or section in (OUTPUT, FOREIGN, STACK)
-            or not section and name in BOUNDS):
+            or not section and name in LINKER_NAMES):
         return ""
     if section == "ABS":
         return stray_number(symbol.place + relocation.addend)
+    if name == "attest":
+        return "the region calls attest, which runs the region: call it from main"
     if "X" in program.flags(section):
         return (f"the region calls or names the function '{name}', which lies outside it: "
                 "say REGION before its definition")
     return (f"the region refers to '{name}', which lies outside it: make it a local variable of a "
             "function, or OUTPUT if it is a result, or say FOREIGN before its definition if the "
             "region may believe whatever stands there")
-
-
-def stray_number(place):
-    """What is wrong with a place that the region names by a number."""
-    return "" if any(place in places for places in NUMBERS) else (
-        f"the region refers to the place {place:04x}, which lies outside it: "
-        "define a variable, with FOREIGN before its definition")
 
 
 def region_faults(program, lines):
@@ -232,10 +216,30 @@ def region_faults(program, lines):
             yield lines.of_name(symbol.name), (
                 f"the variable '{symbol.name}' has the word REGION, which is for functions: "
                 "a static const table needs no word; say OUTPUT or FOREIGN before another one")
-    for section, place, number in program.numbers():
-        text = section in lines.places and stray_number(number)
-        if text:
-            yield lines.of_code(section, place), text
+
+
+def code_faults(program, lines):
+    """What is wrong with what a region's code does."""
+    if ENTRY not in lines.places:
+        return
+    symbols = {symbol.name: symbol for symbol in program.symbols}
+    handlers = {handler.name: handler for handler in (
+        program.named(relocation) for relocation in program.relocations
+        if relocation.section in VECTORS) if is_region(handler.section)}
+    entry, *handlers = [Place(symbol.section, symbol.place)
+                        for symbol in (symbols["er_min"], *handlers.values())]
+    inside = range(lines.numbers["er_min"], lines.numbers["er_max"] + 2)
+    flow = Flow(program, inside, entry, handlers)
+    faults = [*flow.faults.values()] or [*Stack(flow).faults(lines.numbers["region_stack_bytes"])]
+    if flow.enables and GUARD not in lines.places:
+        faults.append((min(flow.enables.values()), (
+            "the region allows interrupts, and has no guard, which looks at the vectors: put one "
+            "into .er.guard, as examples/pump does (docs/monitors.md says why)")))
+    faults += [(flow.enables[function], (
+        f"'{flow.name(function)}' allows interrupts in a handler, which may then nest without end: "
+        "leave them off until it ends")) for function in nested_handlers(flow)]
+    for place, text in faults:
+        yield lines.of_code(*place) or flow.name(place), text
 
 
 def output_faults(program, lines):
@@ -288,7 +292,7 @@ def entry_faults(program, lines, handler):
 def faults_of(program, lines):
     """The lines with what is wrong there, each text once."""
     faults = {}
-    for kind in (region_faults, output_faults, handler_faults):
+    for kind in (region_faults, code_faults, output_faults, handler_faults):
         for line, text in kind(program, lines):
             faults.setdefault(text, line)
     return [f"{line}: error: {text}" for text, line in faults.items()]
