@@ -80,7 +80,7 @@ store:  mov.b   @r12, 0(r13)            ; bytes of the request, to r13 and up to
 ; registers.
         .section .er.entry, "ax"
         .weak   er_min                  ; a guard in .er.guard takes this name, and goes to er_entry
-        .globl  er_entry, er_leave, er_max
+        .globl  er_entry, er_leave, er_max, er_refuse
 er_min:
 er_entry:
         clr     r2
@@ -100,11 +100,19 @@ er_entry:
 er_leave:
         mov     &caller_stack, r1
         br      #er_max
+er_refuse:                              ; out of the region elsewhere: both flags fall
+        br      #0xc000
 
         .section .er.exit, "ax"
 er_max: ret
 
+        .if REGION_STACK < 2 || REGION_STACK % 2
+        .error  "REGION_STACK has to be an even number of bytes from 2 on (128 if unset)"
+        .endif
         .section .er_stack, "aw", @nobits
-region_stack:                           ; grows down to region_stack_end, by REGION_STACK
+        .globl  region_stack_end
+region_stack_end:
+        .space  REGION_STACK
+region_stack:
 caller_stack:
         .space  2

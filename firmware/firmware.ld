@@ -20,13 +20,7 @@ SECTIONS
         . = ALIGN(2);
         *(.er.exit)
     } > program
-    .er_stack (NOLOAD) : {
-        region_stack_end = .;
-        . += region_stack_bytes;
-        *(.er_stack)
-    } > ram
-    ASSERT(region_stack_bytes >= 2 && region_stack_bytes % 2 == 0,
-           "REGION_STACK has to be an even number of bytes from 2 on (128 if unset)")
+    .er_stack (NOLOAD) : { *(.er_stack) } > ram
     .or (NOLOAD) : ALIGN(2) { or_min = .; KEEP(*(.or)) . = ALIGN(2); or_max = . - 2; } > ram
     .data : ALIGN(2) {
         data_start = .;

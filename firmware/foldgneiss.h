@@ -45,12 +45,20 @@ FOLDGNEISS_INLINE void sleep(void) { __asm__ volatile("bis #0x18, r2" ::: "memor
 // that it calls, each with the word REGION. Its constants, and what it uses of the kit, are laid
 // beside it. What it proves is the value of the variables with the word OUTPUT, which are 0 when it
 // begins, and which only this code may write. Of all other variables it may use those with the word
-// FOREIGN alone; of what stands there when it begins the report proves nothing. Its stack has 128
-// bytes. Interrupts are off in it; examples/pump has one that allows them.
+// FOREIGN alone; of what stands there when it begins the report proves nothing. All else that is
+// not set is 0 in it, in each program: registers and its stack, of REGION_STACK bytes, 128 unless
+// set. Interrupts are off in it; examples/pump has one that allows them.
 #define REGION __attribute__((section(".er"), noinline))
 #define OUTPUT volatile __attribute__((section(".or")))
 #define FOREIGN __attribute__((section(".foreign")))
 void region(void);
+
+// Begins a REGION function that calls itself, NEEDS_STACK(40); say: it leaves the region, so that
+// both flags fall, where fewer bytes of its stack are free. The build sees that they suffice until
+// the next NEEDS_STACK.
+#define NEEDS_STACK(bytes) \
+    __asm__ volatile("cmp #region_stack_end + " #bytes ", r1\n jhs 1f\n br #er_refuse\n1:" \
+                     ::: "memory")
 
 // A request as it comes from a verifier: a challenge of 32 bytes, a counter of 4, the low one
 // first, and a token of 32.

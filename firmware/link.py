@@ -14,11 +14,11 @@ from typing import NamedTuple
 
 from region_code import Place
 from region_flow import Flow
-from region_rules import (ENTRY, FOREIGN, GUARD, KIT, OUTPUT, OWN, REGION, STACK, STACK_END,
-                          is_region, stray_number)
+from region_rules import (ENTRY, FOREIGN, GUARD, KIT, OUTPUT, OWN, REGION, STACK, is_region,
+                          stray_number)
 from region_stack import Stack, nested_handlers
 
-LINKER_NAMES = ("er_min", "er_max", "or_min", "or_max", STACK_END, "foldgneiss_token")
+LINKER_NAMES = ("er_min", "er_max", "or_min", "or_max", "foldgneiss_token")
 ENTRIES = ("attest", "region", "er_min", "er_entry")
 VECTORS = ("__interrupt_vector_9", ".timer_vector", "__interrupt_vector_10", ".serial_vector")
 HINTS = (
@@ -230,7 +230,7 @@ def code_faults(program, lines):
                         for symbol in (symbols["er_min"], *handlers.values())]
     inside = range(lines.numbers["er_min"], lines.numbers["er_max"] + 2)
     flow = Flow(program, inside, entry, handlers)
-    faults = [*flow.faults.values()] or [*Stack(flow).faults(lines.numbers["region_stack_bytes"])]
+    faults = [*flow.faults.values()] or [*Stack(flow).faults(flow.stack_bytes)]
     if flow.enables and GUARD not in lines.places:
         faults.append((min(flow.enables.values()), (
             "the region allows interrupts, and has no guard, which looks at the vectors: put one "

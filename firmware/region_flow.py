@@ -6,7 +6,7 @@ the region's constants, until nothing new comes.
 """
 from region_code import MachineCode, Place
 from region_memory import Memory
-from region_rules import EXIT, is_region
+from region_rules import EXIT, STACK
 from region_values import LOST, NOTHING, Address, Code, Given, Source, joined, plus, sum_of
 from region_walk import KEPT, Fault, Walk
 
@@ -21,6 +21,7 @@ class Flow:
         self.code = MachineCode(program)
         self.memory = Memory(self.code)
         self.entry, self.handlers, self.exit = entry, handlers, Place(EXIT, 0)
+        self.stack_bytes = program.sections[STACK].size - 2  # behind it stands the caller's SP
         self.refuse = self.symbol("er_refuse")
         self.given, self.passed, self.left = {}, {}, {}
         self.calls, self.depths, self.rooms, self.limits = {}, {}, {}, {}

@@ -4,7 +4,6 @@ import memory_map
 REGION, OWN, KIT = (".er", ".er.guard", ".er.entry", ".er.exit"), ".er.own", ".runtime.text."
 GUARD, ENTRY, EXIT = REGION[1:]
 OUTPUT, FOREIGN, STACK = ".or", ".foreign", ".er_stack"
-STACK_END = "region_stack_end"
 # Places that a region may name by a number: peripherals, metadata, and the vectors, which a guard
 # compares.
 NUMBERS = (memory_map.PERIPHERALS, memory_map.METADATA, memory_map.VECTORS)

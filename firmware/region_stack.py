@@ -1,4 +1,4 @@
-"""How many bytes of its stack a region needs at most, by what region_flow found of its functions."""
+"""How many bytes of its stack a region needs at most, by what region_flow found of its code."""
 from typing import NamedTuple
 
 INTERRUPT_BYTES = 4  # an entry pushes PC and SR

@@ -5,7 +5,7 @@ from typing import NamedTuple, Optional
 
 from region_code import PC, SP, SR, Operand, Place, Unreadable
 from region_memory import byte_of
-from region_rules import ENTRY, STACK, STACK_END, is_region, stray_number
+from region_rules import ENTRY, STACK, is_region, stray_number
 from region_values import (ANY_NUMBER, LOST, STATUS, UNSET, Address, Code, Frame, Given, Source,
                            joined, minus, mixed, near, number, plus, times)
 
@@ -224,8 +224,8 @@ class Walk:
                 f"can't follow the address of what is {done} here: {UNKNOWN[base]}: take that of a "
                 "variable, or of an element of a table")
         if isinstance(base, Frame):
-            return self.wrong_in_frame(found, done) if is_only else ""
-        if base in (STACK, STACK_END):
+            return self.wrong_in_frame(found, done) if is_only and not found.stride else ""
+        if base == STACK:
             return "" if self.is_entry and self.place.section == ENTRY else (
                 "the region names its stack: use a local variable of a function")
         name = base.section if isinstance(base, Code) else base
@@ -235,10 +235,13 @@ class Walk:
                 f"of {name}, which lies outside it: keep to the table or variable that is named")
 
     def wrong_in_frame(self, found, done):
-        """What is wrong with a place on the stack: a return address, or above the arguments."""
+        """What is wrong with a place on the stack: below what the function has of it, a return
+        address, or above the arguments.
+        """
         function, offset = found.base.function, found.offset
-        is_kept = offset in (0, 1) and done == "written"
-        if not found.stride and (is_kept or offset >= self.flow.arguments_end(function)):
+        end = self.depth() if function == self.function else self.flow.depths.get(function, 0)
+        is_return = offset in (0, 1) and done == "written"
+        if not end <= offset < self.flow.arguments_end(function) or is_return:
             return (f"can't follow the stack: what is {done} here is no local variable and no "
                     "argument")
         return ""
@@ -254,7 +257,7 @@ class Walk:
     def set_stack(self, value):
         """Moves the stack pointer."""
         if self.is_entry and self.place.section == ENTRY:
-            own = value == {Address(STACK)}
+            own = value == {Address(STACK, self.flow.stack_bytes)}
             value = frozenset({Address(self.frame)}) if own else LOST
         self.state.registers[SP] = value
         if value != LOST or not self.is_entry:
@@ -295,7 +298,7 @@ class Walk:
         compare = self.instruction
         least = compare.source.address
         if compare.name != "cmp" or compare.target != Operand(SP) or not least or (
-                least.base != STACK_END):
+                least.base != STACK):
             return
         jump = self.flow.code.at(compare.end)
         away = self.flow.code.at(jump.end)
@@ -352,11 +355,11 @@ class Walk:
 
     def give(self, goal, offset):
         """The words of the stack from here on are the called function's arguments."""
+        memory = self.flow.memory
+        words = memory.words.setdefault(Frame(goal), {})
         for place, value in self.state.slots.items():
             if place < min(offset + ARGUMENT_BYTES, 0):
-                self.flow.memory.write(self.state, self.function,
-                                       Address(Frame(goal), place - offset + 2), value,
-                                       self.flow.resolved(value))
+                memory.add(words, place - offset + 2, self.flow.resolved(value))
 
     def returned(self, goal):
         """What registers hold behind a call."""
