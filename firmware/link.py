@@ -21,12 +21,16 @@ from region_stack import Stack, nested_handlers
 LINKER_NAMES = ("er_min", "er_max", "or_min", "or_max", "foldgneiss_token")
 ENTRIES = ("attest", "region", "er_min", "er_entry")
 VECTORS = ("__interrupt_vector_9", ".timer_vector", "__interrupt_vector_10", ".serial_vector")
+HEADER = "/firmware/foldgneiss.h"
 HINTS = (
     (r"undefined symbol: (__mspabi_|__\w+[sd]f)",
      "floating point is not in the kit: count in integers (firmware/README.md)"),
     (r"undefined symbol: region$",
      "attest runs a function of the firmware: write REGION void region(void) { .. }"),
 )
+
+# That clang gives outputs a first value, 0, which link.py sees: told by LLVM 16.
+NO_FAULT = re.compile(r"^ld\.lld: warning: section type mismatch for \.or\n(?:>>> .*\n)*\n?", re.M)
 
 COUNT = re.compile(r"(?:There are|contains) (\d+)")
 SECTION_ROW = re.compile(
@@ -80,9 +84,10 @@ class Program:
         text = tool("llvm-readelf", "--wide", "--sections", "--symbols", "--relocations", path)
         count, *counts = map(int, COUNT.findall(text))
         names = {"ABS": "ABS"}
-        self.sections, self.relocations = {}, []
+        self.sections, self.relocations, self.doubled = {}, [], []
         for number, name, kind, place, size, flags in rows(SECTION_ROW, text, count - 1):
             names[number] = name
+            self.doubled += [name] * (name in self.sections)
             # (Two of one name can differ in their flags.)
             self.sections[name] = Section(kind, int(place, 16), int(size, 16),
                                           flags + self.flags(name))
@@ -150,10 +155,13 @@ class Lines:
         self.numbers = {symbol.name: symbol.place for symbol in Program(elf).symbols}
 
     def of_code(self, section, place):
-        """The line of a place in a section, "" where it is unknown."""
-        text = tool("llvm-symbolizer", f"--obj={self.elf}", "--functions=none", "--no-inlines",
+        """The line of a place in a section, "" where it is unknown; where that is of a header of
+        the kit the line that has it.
+        """
+        text = tool("llvm-symbolizer", f"--obj={self.elf}", "--functions=none", "--inlines",
                     hex(self.places[section] + place))
-        path, line = text.split("\n")[0].rsplit(":", 2)[:2]
+        lines = [line.rsplit(":", 2)[:2] for line in text.split()]
+        path, line = next((line for line in lines if not line[0].endswith(HEADER)), lines[0])
         return f"{shown(path)}:{line}" if line != "0" else ""
 
     def of_name(self, name):
@@ -203,6 +211,13 @@ def stray(program, relocation):
     return (f"the region refers to '{name}', which lies outside it: make it a local variable of a "
             "function, or OUTPUT if it is a result, or say FOREIGN before its definition if the "
             "region may believe whatever stands there")
+
+
+def doubled_faults(program, _):
+    """Sections of a region that are two, since sources have them with different flags."""
+    for section in filter(is_region, program.doubled):
+        yield section, (f"there are two sections {section}: functions have the word REGION, or in "
+                        f'assembler .section {section}, "ax"')
 
 
 def region_faults(program, lines):
@@ -292,7 +307,8 @@ def entry_faults(program, lines, handler):
 def faults_of(program, lines):
     """The lines with what is wrong there, each text once."""
     faults = {}
-    for kind in (region_faults, code_faults, output_faults, handler_faults):
+    for kind in (doubled_faults,) if any(doubled_faults(program, lines)) else (
+            region_faults, code_faults, output_faults, handler_faults):
         for line, text in kind(program, lines):
             faults.setdefault(text, line)
     return [f"{line}: error: {text}" for text, line in faults.items()]
@@ -306,8 +322,9 @@ def main():
     tool("llvm-objcopy", *renamed, joined, closed)
     linked = subprocess.run([*linker, f"-Map={map_file}", "-o", elf, closed],
                             stderr=subprocess.PIPE, text=True, check=False)
-    errors = [linked.stderr.rstrip("\n")] if linked.stderr else []
-    errors += [f"error: {hint}" for form, hint in HINTS if re.search(form, linked.stderr, re.M)]
+    told = NO_FAULT.sub("", linked.stderr).rstrip("\n")
+    errors = [told] if told else []
+    errors += [f"error: {hint}" for form, hint in HINTS if re.search(form, told, re.M)]
     status = linked.returncode
     if not status:
         faults = faults_of(Program(closed), Lines(elf, map_file))

@@ -108,10 +108,13 @@ class Walk:
             self.instruction = self.flow.code.at(self.place)
             return self.step()
         except Unreadable:
-            self.fault("can't follow the code: there is no instruction here")
+            self.fault(f"can't follow {self.name()}: it leads to where no instruction is")
         except Stop:
             pass
         return []
+
+    def name(self):
+        return f"'{self.flow.name(self.function)}'"
 
     def fault(self, text):
         if self.is_judged:
@@ -171,7 +174,7 @@ class Walk:
         if operand.is_memory:
             value = joined(*(self.flow.memory.read(self.state, self.function, address,
                                                    self.instruction.is_byte)
-                             for address in self.reached(operand, "read")))
+                             for address in self.reached(operand, "reads")))
             if operand.step:
                 self.set(register, plus(registers[register], number(operand.step)))
         elif register is None:
@@ -187,7 +190,7 @@ class Walk:
             return
         if self.instruction.is_byte:
             value = mixed(value, value)
-        places = self.reached(operand, "written")
+        places = self.reached(operand, "writes")
         for address in places:
             either = value if len(places) == 1 else joined(
                 value, self.flow.memory.read(self.state, self.function, address, False))
@@ -202,7 +205,7 @@ class Walk:
         found = {(address, one) for address in addresses
                  for one in self.flow.resolved(frozenset({address}))}
         places = []
-        for address, one in found:
+        for address, one in sorted(found, key=repr):
             text = self.wrong(one, operand, done, len(found) == 1)
             if not text:
                 places.append(one)
@@ -221,18 +224,18 @@ class Walk:
             named = operand.address.number
             is_place = named is not None and IN_ARRAY <= named < 0x10000 - IN_ARRAY
             return is_place and stray_number(named) or (
-                f"can't follow the address of what is {done} here: {UNKNOWN[base]}: take that of a "
-                "variable, or of an element of a table")
+                f"can't follow the address that {self.name()} {done}: {UNKNOWN[base]}: take that "
+                "of a variable, or of an element of a table")
         if isinstance(base, Frame):
             return self.wrong_in_frame(found, done) if is_only and not found.stride else ""
         if base == STACK:
             return "" if self.is_entry and self.place.section == ENTRY else (
-                "the region names its stack: use a local variable of a function")
+                f"{self.name()} names the region's stack: use a local variable of a function")
         name = base.section if isinstance(base, Code) else base
         if found.stride or not is_only or 0 <= found.offset < self.flow.size(name):
             return ""
-        return (f"the region refers to a place at the distance {found.offset} from the beginning "
-                f"of {name}, which lies outside it: keep to the table or variable that is named")
+        return (f"{self.name()} {done} at the distance {found.offset} from the beginning of "
+                f"{name}, which lies outside it: keep to the variable or table that is named")
 
     def wrong_in_frame(self, found, done):
         """What is wrong with a place on the stack: below what the function has of it, a return
@@ -240,10 +243,10 @@ class Walk:
         """
         function, offset = found.base.function, found.offset
         end = self.depth() if function == self.function else self.flow.depths.get(function, 0)
-        is_return = offset in (0, 1) and done == "written"
+        is_return = offset in (0, 1) and done == "writes"
         if not end <= offset < self.flow.arguments_end(function) or is_return:
-            return (f"can't follow the stack: what is {done} here is no local variable and no "
-                    "argument")
+            return (f"can't follow the stack: what {self.name()} {done} is no local variable and "
+                    "no argument")
         return ""
 
     # Registers and the stack
@@ -268,9 +271,10 @@ class Walk:
         value = self.state.registers[SP]
         place = next(iter(value))
         if self.is_entry and value == LOST:
-            self.lost("the stack pointer: it is the caller's before er_entry sets it")
+            self.lost("the stack: it is the caller's before er_entry sets the stack pointer")
         if len(value) > 1 or place.base != self.frame or place.stride:
-            self.lost("the stack pointer: a variable moves it: give each array a fixed size")
+            self.lost(f"the stack of {self.name()}: a variable moves it: give each array a fixed "
+                      "size")
         self.flow.note_depth(self.function, self.place, place.offset, self.state.floor)
         return place.offset
 
@@ -317,15 +321,15 @@ class Walk:
             if is_one and is_region(base.section):
                 goals.append(Place(base.section, address.offset))
             elif not is_one and (address.number is None or address.number in self.flow.inside):
-                self.lost(f"the {way} here, which may lead to any place: call functions by their "
-                          "name, or from a static const table")
+                self.lost(f"a {way} of {self.name()}, which may lead anywhere: call functions by "
+                          "their name, or from a static const table")
         return goals
 
     def branch(self, value):
         if self.instruction.source != RETURN:
             return self.goals(value, "jump")
         if self.function in self.flow.handlers or self.depth() != 2:
-            self.lost("the return: the stack is not as it was when the function began")
+            self.lost(f"the return of {self.name()}: the stack is not as it was at its beginning")
         self.flow.leave(self.function, self.state.registers)
         return []
 
@@ -334,7 +338,8 @@ class Walk:
         if self.function not in self.flow.handlers or self.depth() or any(
                 registers[register] != {Address(Given(self.function, register))}
                 for register in KEPT):
-            self.lost("the end of an interrupt: stack and registers are not as they were")
+            self.lost(f"the end of {self.name()}: an interrupt has to leave stack and registers as "
+                      "they were")
         return []
 
     def call(self, value):

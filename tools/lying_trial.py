@@ -1,13 +1,17 @@
 """Programs that lie around a region of the kit in firmware/, where clang is: each leaves what it
-likes in registers, RAM and the timer, and no report of a region may tell of it.
+likes in registers, RAM, timer and program. No report of a region may tell of it: the region is the
+same for an honest program, or it is refused.
 """
-from firmware_trial import PLACE, is_compiler_there
+import glob
+import os
+import re
+
+from firmware_trial import MAKE, PLACE, folder_of, is_compiler_there
 from region_trial import HEADER, MAIN, Device, attestable
 
 LEVELS = ("-O0", "-Os", "-O2", "-O3", "-Os -flto")
-
-# Takes a request, leaves 5A5A in all registers, in RAM and at a place of the program, has the timer
-# count, and runs the region.
+# Takes a request, leaves 5A5A in all registers, in RAM and at FF00, has the timer count, and runs
+# the region.
 LIAR = b"""
         .section .start, "ax"
         .globl  start
@@ -46,9 +50,9 @@ take:   bit     #1, &0x0072
         jne     take
         ret
 """
-# Regions that read what they did not set.
-UNSET = {
-    "an array that is filled in part": b"""
+# Regions that read what they did not set: a list that is filled in part, a variable that is set
+# under a condition, the padding of a struct, and most of the stack.
+UNSET = (b"""
 OUTPUT static uint16_t results[8];
 REGION void region(void) {
     uint16_t samples[8];
@@ -59,8 +63,7 @@ REGION void region(void) {
         results[place] = samples[place];
     }
 }
-""",
-    "a variable that is set under a condition": b"""
+""", b"""
 OUTPUT static uint16_t measurement;
 REGION static void limit(uint16_t *value) {
     if (P1IN & 0x0100) {
@@ -72,8 +75,7 @@ REGION void region(void) {
     limit(&value);
     measurement = value;
 }
-""",
-    "the padding of a struct": b"""
+""", b"""
 struct sample {
     uint8_t kind;
     uint16_t value;
@@ -90,8 +92,7 @@ REGION void region(void) {
     sample.value = P1IN;
     send(&sample);
 }
-""",
-    "the stack as it is found": b"""
+""", b"""
 OUTPUT static uint16_t results[50];
 REGION static void keep(const uint16_t *samples) {
     for (uint16_t place = 0; place < 50; place++) {
@@ -103,46 +104,161 @@ REGION void region(void) {
     samples[P1IN & 1] = 1;
     keep(samples);
 }
-"""}
-# One in assembler: registers and flags of its caller.
-REGISTERS = b"""
+""")
+# One in assembler, which reads the registers of its caller, and each word of its stack.
+UNSET_REGISTERS = b"""
         .section .er, "ax"
         .globl  region
 region: mov     r2, &measured
         .irp    register, 4, 5, 6, 7, 8, 9, 10, 11, 12, 13, 14, 15
         mov     r\\register, &measured + 2 * (\\register - 3)
         .endr
+        sub     #126, r1
+        mov     r1, r12
+        mov     #measured + 26, r13
+next:   mov     @r12+, r14
+        mov     r14, 0(r13)
+        incd    r13
+        cmp     #measured + 152, r13
+        jne     next
+        add     #126, r1
         ret
         .section .or, "aw", @nobits
 measured:
-        .space  26
+        .space  152
 """
+# Functions of a region that reach places outside of it, and what is said of them, at any level.
+STRAY = b"""
+typedef const volatile uint16_t *place_t;
+typedef uint16_t (*function_t)(void);
+OUTPUT static uint16_t results[2];
+REGION uint16_t at(place_t place) { return *place; }
+REGION uint16_t handed(void) { return at((place_t)0x1000); }
+REGION uint16_t at_first(place_t const *places) { return *places[0]; }
+REGION uint16_t stored(void) { place_t places[] = {(place_t)0x1002}; return at_first(places); }
+static const place_t table[] = {(place_t)0x1004, results};
+REGION uint16_t listed(void) { return *table[P1IN & 1]; }
+REGION uint16_t indexed(void) { return ((place_t)0x1008)[P1IN & 3]; }
+REGION uint16_t kept(void) { place_t volatile place = (place_t)0x100a; return *place; }
+REGION place_t far(void) { return (place_t)0x100c; }
+REGION uint16_t returned(void) { return *far(); }
+REGION uint16_t fifth(int a, int b, int c, int d, place_t place) { return a + b + c + d + *place; }
+REGION uint16_t on_stack(void) { return fifth(P1IN, P1IN, P1IN, P1IN, (place_t)0x100e); }
+REGION uint16_t named(void) { return *(place_t)0xff00; }
+FOREIGN static place_t volatile pointer;
+REGION uint16_t foreign(void) { return *pointer; }
+REGION uint16_t pins(void) { return *(place_t)P1IN; }
+REGION uint16_t moved(void) { volatile uint8_t of[P1IN & 7]; of[0] = 1; return of[P1IN & 1]; }
+FOREIGN static function_t volatile function;
+REGION uint16_t called(void) { return function(); }
+REGION void region(void) {
+    results[0] = handed() + stored() + listed() + indexed() + kept() + returned() + on_stack();
+    results[1] = named() + foreign() + pins();
+    if (P1IN & 1) {
+        results[1] += moved();
+    }
+    if (P1IN & 2) {
+        results[1] += called();
+    }
+}
+"""
+STRAY_TEXTS = (
+    *(f"the region refers to the place {place}, "
+      for place in ("1000", "1002", "1004", "100a", "100c", "100e", "ff00")),
+    "the region refers to the place 1008, |can't follow the address that 'indexed' reads: ",
+    "can't follow the address that 'foreign' reads: ",
+    "can't follow the address that 'pins' reads: ",
+    "can't follow the stack of 'moved': ", "can't follow a call of 'called', ")
+# Ways to such places in assembler, and what is said of each.
+STRAY_CODE = (
+    ("mov #0x1000, r12\n mov @r12, r13", "the region refers to the place 1000, "),
+    ("clr r12\n mov -0x100(r12), r13", "the region refers to the place ff00, "),
+    ("mov 0x9002, r13", "'{}' reads at the distance -"),
+    ("mov &0x1004, r13", "the region refers to the place 1004, "),
+    ("push #0x1006\n pop r12\n mov @r12+, r13", "the region refers to the place 1006, "),
+    ("mov #0x1006, r12\n incd r12\n mov r13, 0(r12)", "the region refers to the place 1008, "),
+    ("mov #0x0805, r12\n rla r12\n mov @r12, r13", "the region refers to the place 100a, "),
+    ("mov #measured + 0x7000, r12\n mov @r12, r13", "'{}' reads at the distance 28672 from "),
+    ("mov &measured - 2, r13", "'{}' reads at the distance -2 from the beginning of .or, "),
+    ("mov #0x1000, r12\n sub #measured, r12\n add #measured, r12\n mov @r12, r13",
+     "can't follow the address that '{}' reads: it is not made of a name and an index: "),
+    ("mov #0x0010, r12\n swpb r12\n mov @r12, r13",
+     "can't follow the address that '{}' reads: it was computed or read: "),
+    ("mov -300(r1), r13", "can't follow the stack: what '{}' reads is no local variable "),
+    ("mov 2(r1), r13", "can't follow the stack: what '{}' reads is no local variable "),
+    ("mov #region_stack_end, r12\n mov 2(r12), r13", "'{}' names the region's stack: "),
+    ("mov &0x0020, r12\n call r12", "can't follow a call of '{}', which may lead anywhere: "),
+    ("mov &0x0020, r12\n br r12", "can't follow a jump of '{}', which may lead anywhere: "),
+    ("add &0x0020, r1", "can't follow the stack of '{}': a variable moves it: "),
+    ("push #measured", "can't follow the return of '{}': "),
+    ("jmp after_{}\n .word 0\nafter_{}: .word 0", "can't follow '{}': it leads to where no "))
 
 
-def is_lie(trial, files, level, name, region):
+def assembler_of(bodies):
+    """A region in assembler with functions of these bodies, way_0 and so on."""
+    calls = "".join(f"bit #1, &0x0020\n jz next_{number}\n call #way_{number}\nnext_{number}:\n"
+                    for number in range(len(bodies)))
+    ways = "".join(f"way_{number}: {body.replace('{}', f'way_{number}')}\n ret\n"
+                   for number, body in enumerate(bodies))
+    return f"""
+        .section .er, "ax"
+        .globl  region
+region:
+{calls} ret
+{ways}
+        .section .or, "aw", @nobits
+measured:
+        .space  2
+""".encode()
+
+
+def toolchains():
+    """The tools that are found first, and the newest LLVM beside them, each as an option of make.
+    """
+    newer = sorted(glob.glob("/usr/lib/llvm-*/bin/clang"), key=lambda path: (len(path), path))
+    return [(), *((f"PATH={os.path.dirname(path)}:{os.environ['PATH']}",) for path in newer[-1:])]
+
+
+def is_lie(trial, files, name, region, *options):
     """Whether the report of the liar is accepted by the policy for the honest image, with other
     data than the honest one's.
     """
-    options = f"CFLAGS={level}", PLACE
-    honest = Device(trial, files, HEADER + MAIN, *options, **{name: region})
+    honest = Device(trial, files, HEADER + MAIN, *options, PLACE, **{name: region})
     text = honest.played("play", honest.image)
     if not honest.accepts(text):
-        trial.fault(f"lies: {level}: {name}: the honest report is not accepted")
-    image, _ = attestable(trial, {name: region, "liar.s": LIAR}, *options)
+        trial.fault(f"lies: {options}: {region}: the honest report is not accepted")
+    image, _ = attestable(trial, {name: region, "liar.s": LIAR}, *options, PLACE)
     lie = honest.played("play", files.add("liar.hex", image))
     return honest.data(lie) != honest.data(text) and honest.accepts(lie)
 
 
-def unset(trial, files):
+def unset(trial, files, *options):
     """What a region does not set is 0 in each program around it."""
-    for level in LEVELS:
-        for what, region in UNSET.items():
-            if is_lie(trial, files, level, "region.c", HEADER + region):
-                trial.fault(f"lies: {level}: {what} comes from the program around the region")
-    if is_lie(trial, files, "-Os", "region.s", REGISTERS):
-        trial.fault("lies: registers come from the program around the region")
+    regions = [("region.c", HEADER + region) for region in UNSET] + [("region.s", UNSET_REGISTERS)]
+    for name, region in regions:
+        if is_lie(trial, files, name, region, *options):
+            trial.fault(f"lies: {options}: the program around {region} has its data")
+
+
+def stray(trial, name, region, texts, *options):
+    """Each of these texts is a line of its own, and there are no others."""
+    with folder_of({name: region, "main.c": HEADER + MAIN}) as folder:
+        answer = trial.call(folder, *options, command=MAKE)
+    lines = re.findall(r"^(\S+):\d+: error: (.*)$", answer.line, re.M)
+    missing = [text for text in texts
+               if not any(re.match(text, line) and path == name for path, line in lines)]
+    if answer.status != 2 or missing or len(lines) != len(texts):
+        trial.fault(f"lies: {options}: {name}: {len(lines)} lines, not {missing}: {answer.line}")
 
 
 def lies(trial, files):
-    if is_compiler_there(trial):
-        unset(trial, files)
+    if not is_compiler_there(trial):
+        return
+    texts = [re.escape(text.replace("{}", f"way_{number}"))
+             for number, (_, text) in enumerate(STRAY_CODE)]
+    for tools in toolchains():
+        stray(trial, "region.s", assembler_of([body for body, _ in STRAY_CODE]), texts, *tools)
+        for level in LEVELS:
+            options = (*tools, f"CFLAGS={level}")
+            stray(trial, "region.c", HEADER + STRAY, STRAY_TEXTS, *options)
+            unset(trial, files, *options)

@@ -77,6 +77,48 @@ static uint16_t other(uint16_t by) {
     return said[by & 7] / by * (int)++seconds + rates[by % 5];
 }
 """
+# A chain of calls with what each function has of the stack: 10 bytes and a call; a push and a call;
+# and two pushes. And a guard, with a handler that has a push and a call.
+CHAIN = b"""
+        .section .er, "ax"
+        .globl  region
+region: sub     #10, r1
+        ; eint
+        call    #outer
+        dint
+        mov     #7, &measured
+        add     #10, r1
+        ret
+outer:  push    r10
+        call    #inner
+        pop     r10
+        ret
+inner:  push    r10
+        push    r9
+        pop     r9
+        pop     r10
+        ret
+        .section .or, "aw", @nobits
+measured:
+        .space  2
+"""
+GUARDED = b"""
+        .section .er.guard, "ax"
+        .globl  er_min
+er_min: br      #er_entry
+        .section .er, "ax"
+on_byte:
+        push    r12
+        call    #quiet
+        pop     r12
+        reti
+quiet:  ret
+        .section .timer_vector, "a"
+        .word   on_byte
+        .section .serial_vector, "a"
+        .word   on_byte
+"""
+GUARD = b"stack_guard: 5afe at 0384\n"
 STEPS = 100_000
 # A function that nests, and fills 16 bytes of stack and more each time.
 NESTS = """%s uint16_t nests(uint16_t times) {
@@ -156,6 +198,23 @@ WRONG = {
          "value": " + far"},
         "main.c:5: error: the region refers to the place c000, which lies outside it: "
         "define a variable, with FOREIGN before its definition"),
+    "attest in a region": (
+        {"value": " + attest((const uint8_t *)0x0300)"},
+        "main.c:5: error: the region calls attest, which runs the region: call it from main"),
+    "interrupts without a guard": (
+        {"value": "; enable_interrupts(); disable_interrupts()"},
+        "main.c:5: error: the region allows interrupts, and has no guard, which looks at the "
+        "vectors: put one into .er.guard, as examples/pump does (docs/monitors.md says why)"),
+    "recursion": (
+        {"before": NESTS % "REGION static", "value": " + nests(2)"},
+        "main.c:2: error: the region's stack has no bound: nests calls nests: make it a loop, or "
+        "begin nests with NEEDS_STACK(bytes), by which the region is left where they are not free"),
+    "too few bytes": (
+        {"before": (NESTS % "REGION static").replace("{", "{ NEEDS_STACK(2);", 1),
+         "value": " + nests(2)"},
+        "main.c:8: error: NEEDS_STACK of 'nests' names too few bytes: at least 16 more"),
+    "odd stack": (
+        {"before": '__asm__(".section .er.mine, \"ax\"");'}, ""),
     "output": (
         {"first": " = 5"},
         "main.c:3: error: the output 'measurement' has an initializer, and nothing lays it there: "
@@ -190,7 +249,7 @@ WRONG = {
          "behind": "INTERRUPT(TIMER) void on_other(void) { STXD = 2; }"},
         "ld.lld: error: INTERRUPT(TIMER) has two handlers: leave one"),
     "stack": (
-        {"before": "static volatile uint8_t log[7806];", "main": "log[P1IN] = 1;"},
+        {"before": "static volatile uint8_t log[7808];", "main": "log[P1IN] = 1;"},
         "ld.lld: error: too little stack: fewer or smaller variables, "
         "or a smaller STACK (128 if unset)"),
     "floating point": (
@@ -209,8 +268,10 @@ RIGHT = (
     {"before": "REGION static uint16_t twice(void) { return P1IN + P1IN; }", "value": "+ twice()"},
     {"before": "FOREIGN volatile uint16_t scale = 3;", "value": " * scale"},
     {"before": 'static const char *const words[] = {"one", "two"};', "value": " + words[P1IN][1]"},
+    {"before": (NESTS % "REGION static").replace("{", "{ NEEDS_STACK(20);", 1),
+     "value": " + nests(2)"},
     {"before": HANDLER % "STXD = SRXD;", "behind": "REGION void other(void) { region(); }"},
-    {"before": "static volatile uint8_t log[7804];", "main": "log[P1IN] = 1;"},
+    {"before": "static volatile uint8_t log[7806];", "main": "log[P1IN] = 1;"},
 )
 
 
@@ -362,28 +423,56 @@ def checked(trial, files, changes):
 
 
 def stacks(trial, files):
-    """The build's check tells a stack that met the data, and a region's that grew out of its place,
-    and no other.
-    """
-    outer, inner = NESTS % "static __attribute__((noinline))", NESTS % "REGION static"
-    met, grew = ("error: stack_guard: the stack met the data: ",
-                 "error: region_guard: the region's stack grew out of its 128 bytes: ")
-    guards = b"region_guard: 5afe at 0300\nstack_guard: 5afe at 0386\n"
-    for changes, words in (
-            ({}, None), ({"before": outer, "main": "STXD = nests(430);"}, None),
-            ({"before": outer, "main": "STXD = nests(442);"}, met),
-            ({"before": inner, "value": " + nests(2)"}, None),
-            ({"before": inner, "value": " + nests(7)"}, grew)):
+    """The build's check tells a stack that met the data, and no other."""
+    nests = NESTS % "static __attribute__((noinline))"
+    met = "error: stack_guard: the stack met the data: "
+    for changes, words in (({}, None), ({"before": nests, "main": "STXD = nests(430);"}, None),
+                           ({"before": nests, "main": "STXD = nests(442);"}, met)):
         answer = checked(trial, files, changes)
         is_told = answer.status == 2 and answer.line.startswith(words) if words else (
             answer.ending == (0, ""))
-        if not is_told or not changes and answer.output[-len(guards):] != guards:
+        if not is_told or not changes and not answer.output.endswith(GUARD):
             trial.fault(f"firmware: check of {changes}: {answer}")
+
+
+def needs(trial, sources, count, told):
+    """A region needs so many bytes of stack, and where it has two less the build says so, and of
+    which functions they are.
+    """
+    with folder_of(sources) as folder:
+        for size, ending in ((count, (0, "")), (count - 2, (2, told))):
+            answer = trial.call(folder, f"REGION_STACK={size}", command=MAKE)
+            line = answer.line.split("\n")[0]
+            if (answer.status, line) != ending:
+                trial.fault(f"firmware: with {size} bytes of stack: {answer}, not {ending}")
+
+
+def bounds(trial, files):
+    """The bound of a region's stack counts frames, pushes, calls and a handler, and holds in a run
+    with no byte more.
+    """
+    main = {"main.c": HEADER + MAIN}
+    needs(trial, {"chain.s": CHAIN, **main}, 22,
+          "chain.s:4: error: the region's stack has 20 bytes, and needs 22: er_min 2, "
+          "region 12, outer 4, inner 4: smaller arrays, fewer nested calls, or REGION_STACK=22")
+    needs(trial, {"chain.s": CHAIN.replace(b"; eint", b"eint"), "guard.s": GUARDED, **main}, 30,
+          "chain.s:4: error: the region's stack has 28 bytes, and needs 30: er_min 2, region 12, "
+          "outer 4, inner 4, an interrupt 4, on_byte 4: smaller arrays, fewer nested "
+          "calls, or REGION_STACK=30")
+    for level in ("-O0", "-Os", "-Os -flto"):
+        with folder_of({"main.c": CLOSED}) as folder:
+            answer = trial.call(folder, f"CFLAGS={level}", "REGION_STACK=2", command=MAKE)
+        size = re.search(r"or (REGION_STACK=\d+)$", answer.line, re.M)
+        device = Device(trial, files, CLOSED, f"CFLAGS={level}", size[1] if size else "")
+        text = device.played("trace", device.image)
+        below = re.search(rb"^t .* [rwb]02[9a-f][0-9a-f]", text, re.M)
+        if not size or below or not device.accepts(device.played("play", device.image)):
+            trial.fault(f"firmware: {level}: {size}: the region's stack grows out of its place")
 
 
 def region(trial, files):
     if is_compiler_there(trial):
         refusals(trial)
         same_region(trial)
-        for group in (accepted, cleared, attested, stacks):
+        for group in (accepted, cleared, attested, stacks, bounds):
             group(trial, files)
