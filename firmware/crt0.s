@@ -110,7 +110,7 @@ er_max: ret
         .error  "REGION_STACK has to be an even number of bytes from 2 on (128 if unset)"
         .endif
         .section .er_stack, "aw", @nobits
-        .globl  region_stack_end
+        .globl  region_stack_end, caller_stack
 region_stack_end:
         .space  REGION_STACK
 region_stack:

@@ -20,6 +20,8 @@ start:  mov     #0x2200, r1
         mov     #6, &or_min
         clr     &or_max
         mov     #er_leave, &0xfff2      ; a handler in the region: its way out
+        mov     r1, &caller_stack       ; which takes the stack pointer from here,
+        decd    &caller_stack           ; with the return address of the call
         mov     #5, &0x0164
         mov     #3, &0x0160             ; the timer runs, with its interrupt
         eint
