@@ -18,6 +18,7 @@ Frame = namedtuple("Frame", "name first_file first_line file line column")
 Inlined = namedtuple("Inlined", "name file line call_file call_line call_column")
 NO_FRAME = Frame("", "", 0, "", 0, 0)
 CALL_IMMEDIATE = b"\xb0\x12"
+MACHINE = b"\x69\0"  # of an MSP430, in the header of an ELF
 
 
 class Function:
@@ -58,15 +59,24 @@ def relative(path):
     return path[len(here):] if path.startswith(here) else path
 
 
-def answer(*command, given=None):
-    """What a tool prints."""
+def answer(*command, check=True, **options):
+    """What a tool prints; options are those of subprocess.run."""
     try:
-        done = subprocess.run(command, input=given, stdout=subprocess.PIPE, check=True)
+        done = subprocess.run(command, stdout=subprocess.PIPE, check=check, **options)
     except FileNotFoundError:
-        sys.exit(f"where: there is no {command[0]} (Debian's package llvm)")
+        fail(f"there is no {command[0]} (Debian's package llvm)")
     except subprocess.CalledProcessError as failed:
-        sys.exit(f"where: {command[0]} ended with the status {failed.returncode}")
-    return done.stdout.decode()
+        fail(f"{command[0]} ended with the status {failed.returncode}")
+    return done.stdout.decode("utf-8", "replace")
+
+
+def fail(text):
+    """Ends the tool with this line."""
+    sys.exit(f"{os.path.basename(sys.argv[0])}: {text}")
+
+
+def refuse(elf):
+    fail(f"{elf} is damaged, or no firmware of the kit")
 
 
 def sections_in(table):
@@ -96,11 +106,14 @@ def instructions_of(elf):
 def frames_of(elf, addresses):
     """The frames of each address, the innermost inlined function first."""
     given = "".join(f"{address:#x}\n" for address in addresses).encode()
-    told = answer("llvm-symbolizer", "--output-style=JSON", "-i", "-e", elf, given=given)
-    return {address: [Frame(frame["FunctionName"], real(frame["StartFileName"]),
-                            frame["StartLine"], real(frame["FileName"]), frame["Line"],
-                            frame["Column"]) for frame in json.loads(line)["Symbol"]]
-            for address, line in zip(addresses, told.split("\n"))}
+    told = answer("llvm-symbolizer", "--output-style=JSON", "-i", "-e", elf, input=given)
+    try:
+        return {address: [Frame(frame["FunctionName"], real(frame["StartFileName"]),
+                                frame["StartLine"], real(frame["FileName"]), frame["Line"],
+                                frame["Column"]) for frame in json.loads(line)["Symbol"]]
+                for address, line in zip(addresses, told.split("\n"))}
+    except (ValueError, KeyError):  # (it tells an error in place of frames)
+        return refuse(elf)
 
 
 @functools.lru_cache(maxsize=None)
@@ -113,8 +126,14 @@ class Firmware:
     """The ELF: its places, functions and data."""
 
     def __init__(self, elf):
+        with open(elf, "rb") as file:
+            header = file.read(20)
+        if header[18:] != MACHINE:
+            refuse(elf)
         table = answer("llvm-readelf", "-SsW", elf)
         self.sections, self.symbols = sections_in(table), symbols_in(table)
+        if any(first + size > 0x10000 for _, first, size, _ in self.sections):
+            refuse(elf)
         self.nowhere = Function("(no function)")
         self.text = [range(first, first + size) for _, first, size, flags in self.sections
                      if "X" in flags and first not in VECTORS]

@@ -1,8 +1,9 @@
 """What `where` writes of a walk: lines, and the formats of callgrind and lcov."""
 import collections
 import os
+import sys
 
-from where_elf import position, relative
+from where_elf import fail, position, relative
 
 OTHER_KINDS = {b"boot": "boot", b"rom": "the attestation ROM", b"idle": "asleep",
                b"irq": "interrupt"}
@@ -75,7 +76,7 @@ def before_resets(shown, most):
             kept.clear()
 
 
-def resets_of(shown, most, text_of):
+def resets_of(walk, shown, most, text_of):
     """The last ones before a reset, where it is the first by its rule at its place; the others are
     counted.
     """
@@ -89,6 +90,9 @@ def resets_of(shown, most, text_of):
     for reset, number in again.items():
         if number:
             yield f"\nreset {reset}: {number} more\n"
+    if not again:
+        steps = sum(place.steps + place.idle for place in walk.all_places())
+        yield f"no reset in {steps} steps\n"
 
 
 def lines_of(walk, file, calls, before_reset):
@@ -96,7 +100,7 @@ def lines_of(walk, file, calls, before_reset):
     shown = changes_of(walk, file) if calls else units_of(walk, file)
     text_of = Lines().of_change if calls else Lines().of_unit
     if before_reset:
-        return resets_of(shown, before_reset, text_of)
+        return resets_of(walk, shown, before_reset, text_of)
     return (text_of(*one) for one in shown)
 
 
@@ -215,9 +219,15 @@ def function_counts(walk):
 
 
 def coverage_of(walk):
-    """The coverage, in lcov's format."""
-    functions = function_counts(walk)
-    for file, lines in sorted(line_counts(walk).items(), key=lambda row: relative(row[0])):
+    """The coverage, in lcov's format, of the files that are there."""
+    functions, counts = function_counts(walk), line_counts(walk)
+    for file in sorted(counts):
+        if not os.path.isfile(file):
+            print(f"where: there is no {relative(file)}: its lines are left out", file=sys.stderr)
+            del counts[file]
+    if not counts:
+        fail("no line of the ELF lies in a file that is there")
+    for file, lines in sorted(counts.items(), key=lambda row: relative(row[0])):
         own = sorted((line, name, count) for (path, line, name), count in functions.items()
                      if path == file)
         yield f"TN:\nSF:{os.path.abspath(file)}\n"

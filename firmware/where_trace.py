@@ -1,6 +1,7 @@
 """Goes through the text of a trace: what was done at each step, which function called which, and
 where the stack was.
 """
+import re
 import sys
 import time
 from collections import namedtuple
@@ -12,7 +13,12 @@ from where_elf import Function, Place
 # of the attestation ROM, a sleep, or a boot. `access` and `rest` are of its last line, the latter
 # from the word D on; `proposed` is the access of its first, and `rule` what one of its steps broke.
 Unit = namedtuple("Unit", "kind step pc word steps proposed access rest rule")
-CHUNK = 1 << 20
+CHUNK = 1 << 18
+# The form of a line where each hexadecimal digit is a 0, in a kind and an access too.
+DIGITS = bytes.maketrans(b"123456789abcdef", b"0" * 15)
+FORM = re.compile(rb"t 0+ (?:0oot|0pu|i0l0|irq|rom) 0000"
+                  rb"(?: (?:-|[0r]0000|w0000=0000|00000=00)){2} 0 0(?: 0000){7} 0 (?:-|[AIKX]0)\r?|"
+                  rb"\s*")
 ENTRY_STEPS = 3  # of an interrupt
 ROM_PC = b"%04x" % ROM_ENTRY
 # What an instruction does to the stack.
@@ -22,12 +28,30 @@ READS_ALONE = (9, 11)  # CMP, BIT
 CONSTANTS = {(2, 2): 4, (2, 3): 8, (3, 0): 0, (3, 1): 1, (3, 2): 2, (3, 3): 0xFFFF}
 
 
+def check(lines, forms):
+    """Ends where one of these is no line of a trace. The few forms that lines have are kept, so
+    that each is looked at once.
+    """
+    new = {*b"".join(lines).translate(DIGITS).split(b"\n")} - forms
+    if not all(map(FORM.fullmatch, new)):
+        wrong = next(line for line in lines
+                     if not FORM.fullmatch(line.rstrip(b"\n").translate(DIGITS)))
+        refuse(wrong)
+    forms |= new
+
+
+def refuse(line):
+    sys.exit(f"where: no line of a trace: {line[:60]!r}")
+
+
 def chunks(file):
     """Lists of lines, with the progress on standard error where that is a terminal, and standard
     output is none.
     """
     shows, steps, then = sys.stderr.isatty() and not sys.stdout.isatty(), 0, time.monotonic()
+    forms = set()
     for lines in iter(lambda: file.readlines(CHUNK), []):
+        check(lines, forms)
         yield lines
         steps += len(lines)
         if shows and time.monotonic() - then > 0.2:
@@ -60,16 +84,16 @@ def units(file):
         for line in lines:
             try:
                 _, step, now, here, access, rest = line.split(b" ", 5)
-            except ValueError:
-                if line.strip():
-                    sys.exit(f"where: no line of a trace: {line[:60]!r}")
+            except ValueError:  # (it is empty)
                 continue
             if now == b"cpu":
                 starts = access[1:] == here and access[:1] == b"f" or kind != now
             elif now in (b"idle", b"irq"):
                 starts = kind != now
-            else:
+            elif now in (b"rom", b"boot"):
                 starts = now != b"rom" or here == ROM_PC or kind != now
+            else:
+                refuse(line)
             if starts:
                 if steps:
                     yield Unit(kind, first, pc, word, steps, proposed, last, tail, rule)

@@ -412,6 +412,44 @@ def refusals(trial, runs):
         trial.fault(f"where: a trace of another image: {other}")
 
 
+def damaged(trial, run):
+    """A damaged trace, an ELF of another machine and a tool that has no answer end with a line."""
+    lines = read(run.trace).split(b"\n")
+    broken = [lines[9][:at] for at in range(1, len(lines[9]), 7)]
+    broken += [lines[9].replace(*words, 1) for words in (
+        (b"cpu", b"cpq"), (b" f", b" g"), (b" - ", b"   "), (b"0000", b"000g"), (b"t ", b"t x"),
+        (b" -", b" Z9"), (b"t ", b"t\0"))]
+    for at, line in enumerate(broken):
+        text = b"\n".join([*lines[:9], line, *lines[10:]])
+        trial.expect(1, f"where: no line of a trace: {(line + bytes([10]))[:60]!r}",
+                     *list(VIEWS.values())[at % len(VIEWS)], ELF, command=WHERE, cwd=run.folder,
+                     input=text)
+    host = os.path.realpath(shutil.which("true"))
+    trial.expect(1, f"where: {host} is damaged, or no firmware of the kit", "stack", host,
+                 run.trace, command=WHERE)
+    os.mkdir(f"{run.folder}/tools")
+    tool = write(f"{run.folder}/tools/llvm-symbolizer",
+                 b'#!/bin/sh\nsed \'s/.*/{"Error":{"Message":"Invalid data"}}/\'\n')
+    os.chmod(tool, 0o755)
+    trial.expect(1, f"where: {ELF} is damaged, or no firmware of the kit", "stack", ELF, run.trace,
+                 command=WHERE, cwd=run.folder,
+                 env={**os.environ, "PATH": f"{run.folder}/tools:{os.environ['PATH']}"})
+
+
+def absent_sources(trial, run):
+    """Coverage leaves out the lines of files that are not there, and says so."""
+    os.rename(f"{run.folder}/echo.c", f"{run.folder}/other.c")
+    found = trial.expect(0, "where: there is no echo.c: its lines are left out", "coverage", ELF,
+                         run.trace, command=WHERE, cwd=run.folder).decode()
+    os.rename(f"{run.folder}/other.c", f"{run.folder}/echo.c")
+    whole = run.text("coverage")
+    if not found or found not in whole or "echo.c" in found:
+        trial.fault(f"coverage: without echo.c: {found}")
+    trial.expect(0, "", "-g", "-o", "bare.elf", ELF, command=["llvm-strip"], cwd=run.folder)
+    trial.expect(1, "where: no line of the ELF lies in a file that is there", "coverage",
+                 "bare.elf", run.trace, command=WHERE, cwd=run.folder)
+
+
 def where(trial, files):
     if any(skips(tool, "firmware/where") for tool in BUILT_WITH):
         return
@@ -425,6 +463,10 @@ def where(trial, files):
     odd_stacks(trial)
     streams(trial, runs["meter"])
     refusals(trial, runs)
+    damaged(trial, runs["echo"])
+    absent_sources(trial, runs["echo"])
+    if runs["echo"].text("resets") != "no reset in 150 steps\n":
+        trial.fault(f"where: without a reset: {runs['echo'].text('resets')}")
     debugging(trial, runs["meter"])
 
 
