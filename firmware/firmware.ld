@@ -24,7 +24,9 @@ SECTIONS
     .or (NOLOAD) : ALIGN(2) { or_min = .; KEEP(*(.or)) . = ALIGN(2); or_max = . - 2; } > ram
     .data : ALIGN(2) {
         data_start = .;
-        *(.foreign) *(.data .data.*)
+        *(.foreign)
+        foreign_end = .;
+        *(.data .data.*)
         . = ALIGN(2);
         data_end = .;
     } > ram AT > program
