@@ -40,6 +40,8 @@ SECTIONS
     .timer_vector 0xFFF2 : { KEEP(*(.timer_vector __interrupt_vector_9)) } > vectors
     .serial_vector 0xFFF4 : { KEEP(*(.serial_vector __interrupt_vector_10)) } > vectors
     .reset_vector 0xFFFE : { KEEP(*(.reset_vector)) } > vectors
+    ASSERT(DEFINED(er_place) ? er_place >= ORIGIN(program) && er_place % 2 == 0 : 1,
+           "er_place is no place for code: an even one from 0xC000 on")
     ASSERT(SIZEOF(.timer_vector) <= 2, "INTERRUPT(TIMER) has two handlers: leave one")
     ASSERT(SIZEOF(.serial_vector) <= 2, "INTERRUPT(SERIAL) has two handlers: leave one")
     /DISCARD/ : { *(.comment) *(.note*) }

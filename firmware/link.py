@@ -23,7 +23,9 @@ ENTRIES = ("attest", "region", "er_min", "er_entry")
 VECTORS = ("__interrupt_vector_9", ".timer_vector", "__interrupt_vector_10", ".serial_vector")
 HEADER = "/firmware/foldgneiss.h"
 HINTS = (
-    (r"undefined symbol: (__mspabi_|__\w+[sd]f)",
+    (r"undefined symbol: __mspabi_mpy\w*hw",
+     "the device has no multiplier: leave -mhwmult, and -mmcu, out of CFLAGS"),
+    (r"undefined symbol: (__mspabi_(?!mpy\w*hw)|__\w+[sd]f)",
      "floating point is not in the kit: count in integers (firmware/README.md)"),
     (r"undefined symbol: region$",
      "attest runs a function of the firmware: write REGION void region(void) { .. }"),
