@@ -171,8 +171,6 @@ class Names:
         """The name of the variable that has this byte, or of its section."""
         section, start = next(((name, first) for name, first, size, _ in self.firmware.sections
                                if first <= place < first + size), ("a place", place))
-        if section == ".er_stack":
-            return "its stack"
         # (A label of assembler code has no size. Those of the linker script are global.)
         found = [(bool(size), address, binding == "LOCAL", name)
                  for address, size, kind, binding, name in self.firmware.symbols

@@ -133,15 +133,18 @@ def runs_are_told(trial, run):
 
 def strays_are_told(trial, run, told):
     """A read of what is not FOREIGN is an error with its line; of the last FOREIGN byte it is none,
-    and of the first one behind it is one.
+    and of the first one behind it is one. A register is told where it was written too.
     """
     places, (first, last) = symbols(run), told.steps[0]
     limit = read_word(places["limits"] + 2)
     behind = places["foreign_end"]
     if Told(run, changed(run, first, limit, read_word(behind - 2))).answer.ending != (0, ""):
         trial.fault("attested: a read of the last FOREIGN word is an error")
+    register = changed(run, first, b" w%04x=0000 " % places["or_min"], b" w0020=0000 ")
+    if Told(run, register).same != 3:
+        trial.fault("attested: pins that were written are not told")
     for name, place in (("outside", places["outside"]), ("", behind), ("a place", 0x8000),
-                        ("its stack", places["region_stack"] - 64), ("a place", 0x0100)):
+                        ("a place", 0x0100)):
         answer = Told(run, changed(run, first, limit, read_word(place))).answer
         line = f"main.c:{line_of('limits')}: error: the region read {name}"
         if answer.status != 1 or not (answer.line.startswith(line)
