@@ -187,9 +187,19 @@ def aux_is_told(trial):
     told = Told(run, run.trace)
     if told.answer.ending != (0, "") or {*told.read} != PUMP_READ:
         trial.fault(f"attested: pump/stop: {told.answer.line} {told.answer.output.decode()}")
-    other = Told(run_of(trial, "sensor"), run.trace).answer
+    is_quoted(trial, run.make("data"))
+    sensor = run_of(trial, "sensor")
+    is_quoted(trial, sensor.make("attested"))
+    other = Told(sensor, run.trace).answer
     if other.ending != (1, "where: the trace is of another region than that of the ELF"):
         trial.fault(f"attested: a trace of another image: {other}")
+
+
+def is_quoted(trial, text):
+    """firmware/README.md has a block of lines with this text."""
+    page = re.sub("^    ", "", read(f"{ROOT}/firmware/README.md").decode(), flags=re.M)
+    if f"\n\n{text}\n" not in page:
+        trial.fault(f"firmware/README.md has not: {text}")
 
 
 def made(trial, run):
