@@ -7,7 +7,7 @@ import time
 from collections import namedtuple
 
 from memory_map import ROM_ENTRY
-from where_elf import Function, Place
+from where_elf import Function, Place, fail
 
 # What consecutive lines of a trace did together: an instruction, an entry of an interrupt, a call
 # of the attestation ROM, a sleep, or a boot. `access` and `rest` are of its last line, the latter
@@ -16,9 +16,9 @@ Unit = namedtuple("Unit", "kind step pc word steps proposed access rest rule")
 CHUNK = 1 << 18
 # The form of a line where each hexadecimal digit is a 0, in a kind and an access too.
 DIGITS = bytes.maketrans(b"123456789abcdef", b"0" * 15)
-FORM = re.compile(rb"t 0+ (?:0oot|0pu|i0l0|irq|rom) 0000"
-                  rb"(?: (?:-|[0r]0000|w0000=0000|00000=00)){2} 0 0(?: 0000){7} 0 (?:-|[AIKX]0)\r?|"
-                  rb"\s*")
+FORM = re.compile(rb"(?:t 0+ (?:0oot|0pu|i0l0|irq|rom) 0000"
+                  rb"(?: (?:-|[0r]0000|w0000=0000|00000=00)){2} 0 0(?: 0000){7} 0 (?:-|[AIKX]0))?"
+                  rb"\r?")
 ENTRY_STEPS = 3  # of an interrupt
 ROM_PC = b"%04x" % ROM_ENTRY
 # What an instruction does to the stack.
@@ -41,7 +41,7 @@ def check(lines, forms):
 
 
 def refuse(line):
-    sys.exit(f"where: no line of a trace: {line[:60]!r}")
+    fail(f"no line of a trace: {line[:60]!r}")
 
 
 def chunks(file):
