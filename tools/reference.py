@@ -103,9 +103,10 @@ COMMANDS = {command.name: command for command in (
             "remote | foldgneiss debug image.hex script.txt key.txt`.",
             "debug image.hex script.txt key.txt", "debug_main"),
     Command("wave", ("image", "script", "key", "steps"),
-            "the same, and the registers, as a waveform, for GTKWave and other viewers",
-            "Prints what trace says of a run, and the registers, as a value change dump (IEEE "
-            "1364), in which one unit of time is one bus step.",
+            "the same, with registers, flags and ports, as a waveform, for GTKWave and others",
+            "Prints what trace says of a run, and registers, AUX, the timer's flag, pins, and the "
+            "bytes sent and received, as a value change dump (IEEE 1364), in which one unit of "
+            "time is one bus step.",
             "wave image.hex script.txt key.txt 5000 > wave.vcd"),
     Command("list", ("image",),
             "the instructions, words and bytes of an image, one a line",

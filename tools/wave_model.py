@@ -1,6 +1,8 @@
-"""A reader of value change dumps (IEEE 1364), and what a trace file says of the same wires."""
+"""A reader of value change dumps (IEEE 1364), and what trace and script say of the same wires."""
+from peripheral_model import pins_in, received_by, sent_by, timer_flags
+from trace_model import flags_of
 
-# The wires of which a trace says nothing.
+# The wires of which they say nothing.
 REGISTERS = {"sp", "sr", *(f"r{number}" for number in range(4, 16))}
 
 
@@ -65,25 +67,32 @@ def access(name, told, value):
             f"{name}_data": told and (value if written is None else written)}
 
 
-def wires_of(line, exec_before):
-    """What a trace line says of the wires."""
+def wires_of(line, pins, before):
+    """The wires in a step with this trace line and these pins, and with the flags before it."""
     rule = b"" if line.rule == b"-" else line.rule
     bounds = zip(("er_min", "er_max", "or_min", "or_max"), line.bounds)
     return {"kind": int.from_bytes(line.kind, "big"), "rule": int.from_bytes(rule, "big"),
             "pc": line.pc, "irq": line.irq, "asked": line.asked, "fetch_word": line.word,
-            "exec": exec_before, **dict(bounds), **access("cpu", line.cpu, line.value),
+            "pins": pins, "sent": sent_by(line), "received": received_by(line), **before,
+            **dict(bounds), **access("cpu", line.cpu, line.value),
             **access("dma", line.dma, line.dma_value)}
 
 
-def samples_of_trace(trace):
-    """The samples that the waveform of a trace has."""
-    before = [0, *(line.exec for line in trace)]
-    sampled = [*map(wires_of, trace, before)]
-    return [*sampled, {**sampled[-1], "exec": before[-1]}]
+def flags_around(trace):
+    """The flags before the first step and after each."""
+    after = zip((line.exec for line in trace), flags_of(trace), timer_flags(trace))
+    return [{"exec": 0, "aux": 0, "timer_flag": 0},
+            *({"exec": told, "aux": aux, "timer_flag": timer} for told, (_, aux), timer in after)]
 
 
-def told_by_trace(sampled):
-    """Samples without the registers."""
+def samples_of(trace, script):
+    """The samples that the waveform of a play has, by its trace and its script."""
+    flags = flags_around(trace)
+    sampled = [*map(wires_of, trace, pins_in(script, len(trace)), flags)]
+    return [*sampled, {**sampled[-1], **flags[-1]}]
+
+
+def without_registers(sampled):
     return [{name: sample[name] for name in sample.keys() - REGISTERS} for sample in sampled]
 
 

@@ -27,8 +27,9 @@ trace   Runs the firmware for STEPS bus steps and prints a trace file: a line
         stands as 0.
           foldgneiss trace image.hex script.txt key.txt 5000 > trace.txt
 
-wave    Prints what trace says of a run, and the registers, as a value change
-        dump (IEEE 1364), in which one unit of time is one bus step.
+wave    Prints what trace says of a run, and registers, AUX, the timer's flag,
+        pins, and the bytes sent and received, as a value change dump (IEEE
+        1364), in which one unit of time is one bus step.
           foldgneiss wave image.hex script.txt key.txt 5000 > wave.vcd
 
 list    Prints the instructions, words and bytes of IMAGE, one a line.

@@ -35,6 +35,11 @@ $var wire 16 \\ r12 [15:0] $end\n\
 $var wire 16 ] r13 [15:0] $end\n\
 $var wire 16 ^ r14 [15:0] $end\n\
 $var wire 16 _ r15 [15:0] $end\n\
+$var wire 1 ` aux $end\n\
+$var wire 1 a timer_flag $end\n\
+$var wire 16 b pins [15:0] $end\n\
+$var wire 8 c sent [7:0] $end\n\
+$var wire 8 d received [7:0] $end\n\
 $upscope $end\n\
 $enddefinitions $end\n\
 #0\n\
@@ -70,6 +75,11 @@ b0 \\\n\
 b0 ]\n\
 b0 ^\n\
 b0 _\n\
+0`\n\
+0a\n\
+b0 b\n\
+bz c\n\
+bz d\n\
 $end\n\
 #1\n\
 b1100000000000000 A\n\
