@@ -7,8 +7,9 @@ import urllib.parse
 
 from desk_model import key_mark
 from file_readers import Fault
+from mistaken_files import FORMS, START, kind_of
 from readers import READERS
-from reference import STATUSES, TAKEN, WITH_MEMORY
+from reference import FILES, STATUSES, TAKEN, WITH_MEMORY
 
 try:
     import sqlite3
@@ -19,9 +20,6 @@ OWN_STATUSES = [code for code, status in STATUSES.items() if status.commands == 
 ROOM = 1 << 16  # what a commit takes at most, and the log beside it
 DATABASE = b"SQLite format 3\0"
 PAGE = "docs/desk.md, 'When the memory is lost'"
-# What another file is that was given as MEMORY, by the reader that takes it.
-OTHER_FILES = {"keys": "a file of keys", "key": "a key", "image": "an image",
-               "policy": "a policy", "states": "a text of states"}
 
 
 def wrong_place(name):
@@ -98,15 +96,12 @@ def what_database(name):
 def what_file(name):
     """What the file is that is no memory."""
     with open(name, "rb") as file:
-        text = file.read(1 << 20)
+        text = file.read(START)
     if text.startswith(DATABASE):
         return what_database(name)
-    for kind, what in OTHER_FILES.items():
-        try:
-            if READERS[kind](text):
-                return f"it is {what}, and no memory; the order is KEYS IMAGE POLICY MEMORY"
-        except Fault:
-            continue
+    if kind := kind_of(text):
+        return (f"it is {FORMS[kind].name}, and no memory; the order is KEYS IMAGE POLICY "
+                "MEMORY")
     return "it is no memory of a desk; name one, or a file that is not there yet"
 
 
@@ -119,7 +114,7 @@ def owner_of(name, mark):
 def taken_key(names):
     """The first device of KEYS with a key that is another's."""
     with open(names["keys"], "rb") as file:
-        keys = READERS["keys"](file.read())
+        keys = READERS["keys"](file.read(FILES["keys"].limit))
     before = {}
     for device, key in keys.items():
         owner = before.setdefault(key, device)

@@ -21,6 +21,7 @@ from reference import (COMMANDS, FAULTS, FILES, STATUSES, VALUES, WITH_INPUT,  #
                        said_of)
 
 WIDTH = 76
+LONG_DIGITS = re.compile("[0-9A-Fa-f]{65,}")  # more than a challenge has: a key, or a part of one
 
 SCRIPT_HELP = """
 The script ./foldgneiss has these too:
@@ -40,6 +41,11 @@ COMMAND_NAMES = ", ".join([*COMMANDS, "build", "folder", "help"])
 
 def unknown_command(name):
     return f"{name} is no command; the commands are {COMMAND_NAMES}"
+
+
+def shown_word(word):
+    """An argument, but for the digits of a key, which may have come in the place of another."""
+    return LONG_DIGITS.sub("..", word)
 
 
 def wrong_words(words):
@@ -64,7 +70,8 @@ def wrong_words(words):
         if word in VALUES and not VALUES[word].takes(argument):
             meant = mistaken_files.in_digits(argument)
             hint = f"; in digits it is {meant}" if VALUES[word].takes(meant) else ""
-            return f"{word.upper()} is {argument!r} (wanted: {VALUES[word].about}){hint}"
+            return (f"{word.upper()} is {shown_word(argument)!r} (wanted: {VALUES[word].about})"
+                    + hint)
     return None
 
 
@@ -88,12 +95,25 @@ def files_of(words):
     return [(kind, names[kind]) for kind in FILES if kind in names]
 
 
-def contents(name):
-    """The bytes of a file, or None where it is a pipe or a device, which is read once."""
+def contents(name, most):
+    """The first bytes of a file, or None where it is a pipe or a device, which is read once."""
     if name and not stat.S_ISREG(os.stat(name).st_mode) and not os.path.isdir(name):
         return None
     with open(name, "rb") as file:
-        return file.read()
+        return file.read(most)
+
+
+def text_of(name, most):
+    """The first bytes of a file, None where they can't be read (once more)."""
+    try:
+        return contents(name, most)
+    except OSError:
+        return None
+
+
+def judged_text(kind, name):
+    """The bytes of a file of this kind; of one past its limit those that show that it is."""
+    return text_of(name, FILES[kind].limit + 1)
 
 
 def unread_file(words):
@@ -101,10 +121,25 @@ def unread_file(words):
     memory = [("memory", words[1])] if words[0] == "states" else []
     for kind, name in files_of(words) + memory:
         try:
-            contents(name)
+            contents(name, 1)
         except OSError as error:
-            return f"{kind.upper()} {name or repr(name)}: {error.strerror}"
+            return f"{kind.upper()} {shown_word(name) or repr(name)}: {error.strerror}"
     return None
+
+
+def misplaced(kind, words):
+    """Which files of a call stand in the places of others, where that of this kind does."""
+    found = {}
+    for place, name in names_of(words).items():
+        start = text_of(name, mistaken_files.START) if place in FILES else None
+        form = mistaken_files.kind_of(start or b"")
+        if form not in (None, place):
+            what = mistaken_files.FORMS[form].name
+            found[place] = f"{name} is {what}, in the place of {place.upper()}"
+    if kind not in found:
+        return []
+    command, *order = COMMANDS[words[0]].usage.split()
+    return ["; ".join([*found.values(), f"{command} takes {' '.join(order)}"])]
 
 
 def fault_in(kind, text, number, kind_of_fault):
@@ -148,9 +183,12 @@ def shown_line(line, column):
     return lines
 
 
-def is_secret(kind, line):
-    """Whether a line is not to be shown: it is of a file of keys, or has a word like a key."""
-    return kind in ("key", "keys") or re.search(rb"\b[0-9A-Fa-f]{128}\b", line)
+def is_shown(kind, line):
+    """Whether a line can have no key in it: it begins as one of its file does, which is no file of
+    keys, and has no more digits in a row than a challenge.
+    """
+    return (kind not in ("key", "keys") and mistaken_files.begins_as(kind, line)
+            and not LONG_DIGITS.search(line.decode("utf-8", "replace")))
 
 
 def file_fault(line, words):
@@ -159,13 +197,10 @@ def file_fault(line, words):
     if not match or match[1] not in FAULTS:
         return []
     kind, number, name = match[1], int(match[2]), dict(files_of(words))[match[1]]
-    try:
-        text = contents(name)
-    except OSError:
-        text = None
-    hints = mistaken_files.hints(kind, name, text or b"")
+    text = judged_text(kind, name)
     fault = fault_in(kind, text or b"", number, match[3])
     meaning = meaning_of(kind, fault)
+    hints = misplaced(kind, words) or mistaken_files.hints(kind, name, text or b"")
     if fault.kind == "TooLong":
         return [f"{name}: {meaning}, {FILES[kind].limit} bytes", *hints]
     lines = text.split(b"\n") if text is not None else []
@@ -174,7 +209,7 @@ def file_fault(line, words):
     number, column = place_of(kind, text, fault)
     place = f"line {number}, column {column}" if column else f"line {number}"
     line = lines[number - 1]
-    shown = [] if hints or is_secret(kind, line) else shown_line(line, column)
+    shown = shown_line(line, column) if is_shown(kind, line) and not hints else []
     return [f"{name}, {place}: {meaning}", *shown, *hints]
 
 
@@ -202,9 +237,9 @@ def put(stream, text):
     return True
 
 
-def explain(status, line, words):
+def say(lines):
     """Puts what is said of a run on standard error."""
-    lines = list(filter(None, explanation(status, line, words)))
+    lines = list(filter(None, lines))
     if lines:
         put(2, "foldgneiss: " + "".join(f"{line}\n" for line in lines))
 
@@ -234,9 +269,10 @@ def print_help(words):
 def main(arguments):
     kind, *words = arguments
     if kind == "explain":
-        explain(int(words[0]), words[1], words[2:])
-        return 0
-    return print_help(words)
+        say(explanation(int(words[0]), words[1], words[2:]))
+    else:
+        return print_help(words)
+    return 0
 
 
 if __name__ == "__main__":
