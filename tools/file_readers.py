@@ -266,22 +266,31 @@ def texts_of(text, kind):
     return [each for each in words if each.is_text()], len(lines)
 
 
+class Event(NamedTuple):
+    """What comes from outside in a step."""
+    step: int
+    kind: bytes
+    bytes: bytes = b""  # of `rx`
+
+
 def read_script(text):
-    last = 0
+    """The events in their order."""
+    events = []
     for words in texts_of(text, "script")[0]:
         words.keyword(b"at")
         step = words.decimal(reference.VALUES["steps"].most - 1)
-        kind = words.keyword(b"rx", b"p1", b"dma", b"reset")
+        kind, taken = words.keyword(b"rx", b"p1", b"dma", b"reset"), b""
         if kind == b"rx":
-            words.digits(lambda length: length >= 2 and length % 2 == 0)
+            taken = words.digits(lambda length: length >= 2 and length % 2 == 0)
         elif kind == b"p1":
             words.word()
         elif kind == b"dma":
             words.word(), words.word(), words.decimal(65535)
         words.end()
-        if step < last:
+        if events and step < events[-1].step:
             words.fault("Order")
-        last = step
+        events.append(Event(step, kind, taken))
+    return events
 
 
 def wrong_region(first, last, version):

@@ -5,6 +5,8 @@
     messages.py explain STATUS LINE WORD..    on a run of these words that ended with this status
                                               and this line on standard error: what was wrong, and
                                               where
+    messages.py dropped PROGRAM WORD..        on a run of these words of PROGRAM that went to its
+                                              end: which bytes found the receive queue full
 """
 import os
 import re
@@ -12,6 +14,7 @@ import stat
 import sys
 
 sys.dont_write_bytecode = True
+import dropped_bytes  # noqa: E402
 import file_readers  # noqa: E402
 import memory_faults  # noqa: E402
 import mistaken_files  # noqa: E402
@@ -227,6 +230,24 @@ def explanation(status, line, words):
     return file_fault(line, words)
 
 
+def dropped(program, words):
+    """What is said of the bytes that a run of these words of the program dropped."""
+    names = names_of(words)
+    texts = {kind: judged_text(kind, name) for kind, name in files_of(words)}
+    if None in texts.values():  # (a pipe, which can't be read once more)
+        return []
+    steps = dropped_bytes.dropped_in_run(
+        [program, "trace", names["image"], names["script"], names["key"]],
+        READERS["script"](texts["script"]), int(names["steps"]))
+    if not steps:
+        return []
+    (first, count), *others = steps
+    more = sum(count for _, count in others)
+    return [f"{names['script']}: of the bytes that arrive in step {first} {count} are dropped, as no "
+            f"more than {dropped_bytes.QUEUE} can wait"
+            + (f", and {more} in later steps" if others else "")]
+
+
 def put(stream, text):
     """Whether standard output, 1, or standard error, 2, took a text."""
     try:
@@ -270,6 +291,8 @@ def main(arguments):
     kind, *words = arguments
     if kind == "explain":
         say(explanation(int(words[0]), words[1], words[2:]))
+    elif kind == "dropped":
+        say(dropped(words[0], words[1:]))
     else:
         return print_help(words)
     return 0
