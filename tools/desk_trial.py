@@ -3,6 +3,7 @@ import contextlib
 import os
 import random
 import resource
+import runpy
 import socket
 import subprocess
 import tempfile
@@ -270,12 +271,46 @@ def received(client, count):
     return replies
 
 
+BRIDGE = f"{EXAMPLES}/desk/bridge.py"
+
+
+def long_line(rng):
+    """A line of about the longest length, with words or without, and one of many ends."""
+    length = rng.randrange(desk_model.LONGEST_LINE - 4, desk_model.LONGEST_LINE + 5)
+    text = rng.choice((b" ", b"\t", b"x")) * length
+    place = rng.choice((0, rng.randrange(length), length))
+    word = rng.choice((b"", b"", b"x"))
+    end = rng.choice((b"", b"\r", b"\r\r", b" \r", b"\r ", b"\rx"))
+    return text[:place] + word + text[place + len(word):] + end + b"\n"
+
+
+def bridge_lines(trial, files):
+    """Of 100,000 lines of all lengths near the longest, in pieces that are cut at random, the
+    bridge gives a desk those that the model has a reply to, and what it gives has this reply.
+    """
+    model, rng = files.desk_of_round(), random.Random(4)
+    pool = [(line, model.replies(line)) for line in (long_line(rng) for _ in range(1000))]
+    lines = runpy.run_path(BRIDGE)["Lines"]()
+    for _ in range(5000):
+        drawn, given, at = rng.choices(pool, k=20), [], 0
+        text = b"".join(line for line, _ in drawn)
+        while at < len(text):
+            size = rng.choice((1, 65536, rng.randrange(1, 1 << 20)))
+            given, at = given + lines.ended_in(text[at:at + size]), at + size
+        trial.tries += 1
+        answered = [(line, reply) for line, reply in drawn if reply]
+        if len(given) != len(answered) or any(
+                passed != line and model.replies(passed) != reply
+                for passed, (line, reply) in zip(given, answered)):
+            trial.fault(f"bridge: of 20 lines {len(given)} are passed on, not {len(answered)}")
+
+
 class Bridge:
     """The bridge of the example, while it serves."""
 
     def __init__(self, trial, files, program, words):
         self.trial, self.path = trial, files["socket"]
-        self.process = subprocess.Popen([f"{EXAMPLES}/desk/bridge.py", "--socket", self.path,
+        self.process = subprocess.Popen([BRIDGE, "--socket", self.path,
                                          "--idle", "0.5", "--program", program, *words])
 
     def __enter__(self):
@@ -309,18 +344,35 @@ class Bridge:
 LENGTHS = b"#!/bin/bash\nwhile IFS= read -r line; do echo ${#line}; done\n"
 
 
+def bridge_ends(trial, files, words):
+    """The bridge ends as its desk does, and it removes no file that is no socket."""
+    def ends(status, line, *options, **others):
+        trial.expect(status, line, *options, "--program", trial.desk, *words, command=[BRIDGE],
+                     **others)
+
+    ends(*ending(18), "--socket", files["socket"], preexec_fn=limiting(resource.RLIMIT_FSIZE, 0))
+    for name, why in ((files.add("no-socket", b"kept\n"), "Address already in use"),
+                      (files["none/socket"], "No such file or directory")):
+        ends(1, f"bridge.py: no socket at {name}: {why}", "--socket", name)
+    if read(files["no-socket"]) != b"kept\n":
+        trial.fault("bridge: a file that is no socket is removed")
+
+
 def desk_bridge(trial, files):
     """Each client of the bridge gets its own replies; a line without an end is none, of one that
     does not end a desk gets little, and who is silent is closed.
     """
+    bridge_lines(trial, files)
     runs, lengths = MemoryTrial(trial, files), files.add("lengths", LENGTHS)
     os.chmod(lengths, 0o755)
+    bridge_ends(trial, files, runs.words()[1:])
     with Bridge(trial, files, lengths, runs.words()[1:]) as bridge:
         for count in (65536, 65537, 65538, 1 << 22):
             bridge.gives(b"x" * count + b"\n", b"%d\n" % min(count, 65538))
     with Bridge(trial, files, trial.desk, runs.words()[1:]) as bridge:
         for lines in (b"ask a 1\nask A_9 1\n\n \t\r\nx\n", LONG + b"\r\nask a 2\n",
                       LONG + b"x\n", LONG + b"\rx\n", b" " * len(LONG) + b" \n",
+                      b" " * len(LONG) + b"\r\n\r\r\nx\n",
                       LONG * 40 + b"\nask a 3\n"):
             bridge.gives(lines, runs.model.replies(lines))
         with bridge.client() as silent:

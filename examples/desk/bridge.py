@@ -1,10 +1,10 @@
 #!/usr/bin/env python3
 """bridge.py [--socket PATH] [--idle SECONDS] [--program PROGRAM] KEYS IMAGE POLICY MEMORY
 
-One desk for all who connect to a socket: that of systemd, or else one that is made at PATH. Each
-client has its lines answered in their order, and sees no reply of another. A line without its end
-is none. Of a longer line than a desk takes the desk gets no more than it needs to say `too-long`. A
-client that sends nothing for SECONDS, 60 if none are named, is closed, and so is one that does not
+One desk for all who connect to a socket: that of systemd, or else one that is made at PATH, where
+there may be nothing but a socket of before. Each client has its lines answered in their order, and
+sees no reply of another. A line without its end is none, and one without words has no reply. Of a
+longer line than a desk takes the desk gets no more than it needs to say `too-long`. A client that sends nothing for SECONDS, 60 if none are named, is closed, and so is one that does not
 take its replies. The status is that of the desk, which PROGRAM runs, ./foldgneiss if none is named.
 """
 import argparse
@@ -13,7 +13,9 @@ import contextlib
 import os
 import queue
 import socket
+import stat
 import subprocess
+import sys
 import threading
 
 FOLDGNEISS = f"{os.path.dirname(os.path.realpath(__file__))}/../../foldgneiss"
@@ -26,7 +28,9 @@ class Desk:
     """The desk, and who waits for its replies, in their order."""
 
     def __init__(self, words):
-        self.process = subprocess.Popen(words, stdin=subprocess.PIPE, stdout=subprocess.PIPE)
+        # (With the signals that Python ignores, a file past its limit is a fault of writing.)
+        self.process = subprocess.Popen(words, stdin=subprocess.PIPE, stdout=subprocess.PIPE,
+                                        restore_signals=False)
         self.lock, self.waiting = threading.Lock(), collections.deque()
 
     def replies(self, lines):
@@ -45,27 +49,43 @@ class Desk:
         return self.process.wait()
 
 
+class Lines:
+    """The lines of a client, cut from what it sends as a desk does."""
+
+    def __init__(self):
+        self.rest = b""
+
+    def ended_in(self, data):
+        """Those that end in what it sends next and have a reply."""
+        # (one byte more than a line and a CR may have, and it is too long)
+        *lines, self.rest = (line[:LONGEST + 2] for line in (self.rest + data).split(b"\n"))
+        return [line + b"\n" for line in lines if has_reply(line)]
+
+
 def has_reply(line):
-    return len(line) > LONGEST or line.removesuffix(b"\r").strip(b" \t")
+    """Whether it has words, or is too long; one CR before LF is of its end, and no other is."""
+    length = len(line) - line.endswith(b"\r")
+    return length > LONGEST or line[:length].strip(b" \t") != b""
 
 
 def serve(desk, client, idle):
     """Serves a client until it ends, or is silent for so many seconds."""
-    rest = b""
+    lines = Lines()
     with client, contextlib.suppress(OSError):
         client.settimeout(idle)
         while data := client.recv(PIECE):
-            # (one byte more than a line and a CR may have, and it is too long)
-            *lines, rest = (line[:LONGEST + 2] for line in (rest + data).split(b"\n"))
-            lines = [line + b"\n" for line in lines if has_reply(line)]
-            if lines:
-                client.sendall(desk.replies(lines))
+            if ended := lines.ended_in(data):
+                client.sendall(desk.replies(ended))
 
 
 def take_clients(desk, path, idle):
     """Serves so many clients at once, and lets others wait, once the desk serves."""
     desk.replies([b"ready\n"])  # (`refused`, as it is of no device)
-    listener, places = listening(path), threading.Semaphore(MOST_CLIENTS)
+    try:
+        listener, places = listening(path), threading.Semaphore(MOST_CLIENTS)
+    except OSError as error:
+        print(f"bridge.py: no socket at {path}: {error.strerror}", file=sys.stderr)
+        os._exit(1)  # (the desk reads the end of its input)
 
     def run(client):
         serve(desk, client, idle)
@@ -79,7 +99,7 @@ def take_clients(desk, path, idle):
 def listening(path):
     if os.environ.get("LISTEN_FDS"):
         return socket.socket(fileno=3)
-    with contextlib.suppress(FileNotFoundError):
+    if os.path.lexists(path) and stat.S_ISSOCK(os.lstat(path).st_mode):
         os.remove(path)
     listener = socket.socket(socket.AF_UNIX)
     listener.bind(path)

@@ -13,6 +13,7 @@ fi
 desk=$(readlink -f "${3:-$(dirname "$(readlink -f "$0")")/../../crates/desk_main/out/desk_main}")
 cd "$1"
 umask 077
+trap '' XFSZ # (a file past its limit is a fault of writing, and no end of the desk)
 
 # No other desk of this folder serves, and no device is moved, while one of the programs runs.
 exec 9>lock
