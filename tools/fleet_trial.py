@@ -18,8 +18,10 @@ import time
 
 from fleet_faults import NONE
 from fleet_ledger import Ledger
+from fleet_messages_trial import fleet_messages
 from fleet_parties import DESKS, PATH, Network, Party
 from sample_files import EXAMPLES, read, write
+from trial import random_bytes
 
 IMAGES = (f"{EXAMPLES}/sensor", f"{EXAMPLES}/fleet/next")
 COPIED = ("acl.txt", "desk.sh", "gateway.py", "move.sh")
@@ -46,9 +48,9 @@ class Fleet:
         self.port, self.wrong_before = free_port(), trial.wrong
         for name in COPIED:
             plant.copy(f"{EXAMPLES}/fleet/{name}", f"{folder}/{name}")
-        self.keys = {b"meter_%d" % number: rng.randbytes(64) for number in range(devices)}
+        self.keys = {b"meter_%d" % number: random_bytes(rng, 64) for number in range(devices)}
         self.ledger = Ledger(trial.fault, self.keys, IMAGES)
-        self.make_users(["gateway", "network", *map(str, range(2 * DESKS))])
+        self.make_users(["gateway", "network", "log", *map(str, range(2 * DESKS))])
         self.desks = [self.make_desk(number) for number in range(2 * DESKS)]
         self.journals, self.network = [], None
         self.gateways = [self.make_gateway(number, gateways) for number in range(gateways)]
@@ -63,7 +65,7 @@ class Fleet:
     def make_users(self, users):
         write(f"{self.folder}/passwords", b"")
         for user in users:
-            password = self.rng.randbytes(16).hex()
+            password = random_bytes(self.rng, 16).hex()
             subprocess.run(["mosquitto_passwd", "-b", f"{self.folder}/passwords", user, password],
                            check=True, stderr=subprocess.DEVNULL, env={**os.environ, "PATH": PATH})
             os.mkdir(self.client(user))
@@ -328,8 +330,8 @@ def moves(trial, files):
 
 
 def fleet(trial, files):
-    """A desk between its clients, moves, the example with fewer devices, and ten seconds of
-    tools/try-fleet.
+    """A desk between its clients, moves, the example with fewer devices, messages that nobody
+    should send, and ten seconds of tools/try-fleet.
     """
     half_line(trial, files)
     moves(trial, files)
@@ -341,6 +343,7 @@ def fleet(trial, files):
                                  f"{EXAMPLES}/fleet/run.sh"])
     if not text.endswith(b"\n30 of 30 devices have three accepts\n"):
         trial.fault(f"fleet: {text[-200:]!r}")
+    fleet_messages(trial, Fleet)
     with tempfile.TemporaryDirectory(prefix="check-program-") as folder:
         try_fleet(trial, folder, random.Random(1), 10, NONE)
 

@@ -31,9 +31,10 @@ LONGEST_WAIT = 8  # (so many times the first one)
 STEPS = "6000"
 VERDICTS = ("accept|no-challenge|version-differs|chal-differs|count-differs|bounds-differ|"
             "exec-zero|aux-zero|mac-differs")
-# A whole reply that names a device and a line.
-REPLY = re.compile(r"request \w+ \d+ [0-9a-f]{64} \d+ token [0-9a-f]{64}|bad \w+ \d+ \w+|"
-                   rf"verdict \w+ \d+ ({VERDICTS})|(spent|stale) \w+ \d+", re.ASCII)
+# A whole reply that names a device and a line, with its numbers.
+REPLY = re.compile(r"request \w+ N [0-9a-f]{64} N token [0-9a-f]{64}|bad \w+ N \w+|"
+                   rf"verdict \w+ N (?:{VERDICTS})|(?:spent|stale) \w+ N"
+                   .replace("N", r"(\d{1,10})"), re.ASCII)
 
 
 class Device:
@@ -69,6 +70,19 @@ class Device:
 
     def is_at_end(self):
         return self.number + self.gap > LAST_NUMBER or self.reply and self.reply[:6] == "spent "
+
+
+def is_reply(text):
+    match = REPLY.fullmatch(text)
+    return match and all(int(number or 0) <= LAST_NUMBER for number in match.groups())
+
+
+def messages(lines):
+    """The topics and texts of whole lines `TOPIC HEX`. (As text a message may be many lines.)"""
+    for line in lines:
+        topic, _, payload = line.rpartition(" ")
+        if payload.endswith("\n"):
+            yield topic, bytes.fromhex(payload).decode("ascii", "replace")
 
 
 def played(program, image, device):
@@ -147,15 +161,14 @@ class Gateway:
         """Takes replies, and connects anew where the client ended."""
         topics = [f"{self.arguments.topics}/{desk}/replies"
                   for desk in range(self.arguments.desks * len(self.arguments.image))]
-        words = ["mosquitto_sub", "-q", "1", "-v"]
+        words = ["mosquitto_sub", "-q", "1", "-F", "%t %x"]
         for topic in topics:
             words += ["-t", topic]
         while True:
             with subprocess.Popen(words, text=True, errors="replace",
                                   stdout=subprocess.PIPE) as self.subscriber:
-                for text in self.subscriber.stdout:
-                    topic, _, reply = text.rstrip("\n").partition(" ")
-                    if topic in topics and REPLY.fullmatch(reply):
+                for topic, reply in messages(self.subscriber.stdout):
+                    if topic in topics and is_reply(reply):
                         self.events.put((self.take_reply, topics.index(topic), reply))
             time.sleep(0.2)
 
@@ -192,8 +205,9 @@ class Gateway:
 
     def take_reply(self, desk, reply):
         device = self.devices.get(reply.split()[1])
-        if device and device.waits_for(reply):
-            device.note_reply(desk // self.arguments.desks, reply)
+        image, share = divmod(desk, self.arguments.desks)
+        if device and device.share % self.arguments.desks == share and device.waits_for(reply):
+            device.note_reply(image, reply)
             self.journal.add("reply", device.image, reply)
             self.replies += 1
             self.go_on(device)
