@@ -5,7 +5,7 @@ import random
 
 from sample_files import Example, sent_bytes
 
-DRAINED = 64 * 50  # steps in which the example `echo` sends all that waits
+DRAINED = 64 * 50  # steps in which a firmware sends back all that waits
 
 
 def message(script, dropped):
@@ -54,24 +54,58 @@ def of_unread_bytes(trial, files, repository):
     repository.prints(b"", lambda lines: lines.startswith("words are no command"), *words, status=2)
 
 
+# It boots, makes an instruction, and fetches a word in step 2 that is none.
+ILLEGAL = b""".org 0xC000
+nop
+.word 0
+.org 0xFFFE
+.word 0xC000
+"""
+
+
+def of_lost_bytes(trial, files, repository):
+    """What arrives in the step of a reset is lost and not dropped, also where no script asks for the
+    reset.
+    """
+    image = files.add("illegal.hex", trial.call("asm", files.add("illegal", ILLEGAL)).output)
+    for step, dropped in ((1, [(1, 4)]), (2, []), (3, [(3, 4)])):
+        script = files.add("script-rx", rx(step, 68))
+        repository.prints(b"reset 2 I1\nend 4 pc c000 exec 0\n", message(script, dropped),
+                          "play", image, script, files.key, "4")
+
+
+# It reads bytes, and sends them: the upper byte of the register, which takes none, and the lower.
+POLLING = b""".org 0xC000
+again: mov.b &0x75,&0x76
+mov.b &0x74,&0x76
+jmp again
+.org 0xFFFE
+.word again
+"""
+
+
 def of_read_bytes(trial, files, repository):
-    """What the example `echo` does not send back is what is said to be dropped."""
-    rng, echo, tried = random.Random(1), Example("echo"), []
-    for _ in range(8):
-        steps = sorted(rng.sample(range(4000), rng.randrange(3, 40)))
+    """What a firmware does not send back is what is said to be dropped: the example `echo`, which
+    reads words, and one that reads bytes.
+    """
+    rng, echo, tried = random.Random(1), Example("echo"), 0
+    polling = files.add("polling.hex", trial.call("asm", files.add("polling", POLLING)).output)
+    for image in (echo.file("image"), polling) * 4:
+        steps = sorted(rng.sample(range(2000), rng.randrange(5, 30)))
         counts = [rng.randrange(1, 60) for _ in steps]
-        script = files.add("script-rx", b"".join(map(rx, steps, counts, range(len(steps)))))
-        words = echo.words("play", script=script, steps=str(steps[-1] + DRAINED))
+        script = files.add("script-rx", b"".join(map(rx, steps, counts, range(1, len(steps) + 1))))
+        words = "play", image, script, files.key, str(steps[-1] + DRAINED)
         sent = sent_bytes(trial.call(*words).output)
         lost = [(step, count - sent.count(number))
-                for number, (step, count) in enumerate(zip(steps, counts))]
+                for number, (step, count) in enumerate(zip(steps, counts), 1)]
         dropped = [(step, count) for step, count in lost if count]
-        tried.append(len(dropped) > 1)
+        tried += len(dropped) > 1
         repository.expect(0, message(script, dropped), *words)
-    if tried.count(True) < 5:
+    if tried < 6:
         trial.fault("./foldgneiss: hardly a run dropped bytes")
 
 
 def dropped_bytes(trial, files, repository):
     of_unread_bytes(trial, files, repository)
+    of_lost_bytes(trial, files, repository)
     of_read_bytes(trial, files, repository)
