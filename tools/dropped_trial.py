@@ -64,8 +64,7 @@ nop
 
 
 def of_lost_bytes(trial, files, repository):
-    """What arrives in the step of a reset is lost and not dropped, also where no script asks for the
-    reset.
+    """What arrives in the step of a reset is lost and not dropped, also where the firmware made it.
     """
     image = files.add("illegal.hex", trial.call("asm", files.add("illegal", ILLEGAL)).output)
     for step, dropped in ((1, [(1, 4)]), (2, []), (3, [(3, 4)])):

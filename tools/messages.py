@@ -243,9 +243,9 @@ def dropped(program, words):
         return []
     (first, count), *others = steps
     more = sum(count for _, count in others)
-    return [f"{names['script']}: of the bytes that arrive in step {first} {count} are dropped, as no "
-            f"more than {dropped_bytes.QUEUE} can wait"
-            + (f", and {more} in later steps" if others else "")]
+    later = f", and {more} in later steps" if others else ""
+    return [f"{names['script']}: of the bytes that arrive in step {first} {count} are dropped, "
+            f"as no more than {dropped_bytes.QUEUE} can wait{later}"]
 
 
 def put(stream, text):

@@ -4,8 +4,10 @@
 One desk for all who connect to a socket: that of systemd, or else one that is made at PATH, where
 there may be nothing but a socket of before. Each client has its lines answered in their order, and
 sees no reply of another. A line without its end is none, and one without words has no reply. Of a
-longer line than a desk takes the desk gets no more than it needs to say `too-long`. A client that sends nothing for SECONDS, 60 if none are named, is closed, and so is one that does not
-take its replies. The status is that of the desk, which PROGRAM runs, ./foldgneiss if none is named.
+longer line than a desk takes the desk gets no more than it needs to say `too-long`. A client that
+sends nothing for SECONDS, 60 if none are named, is closed, and so is one that does not take its
+replies. The status is that of the desk, which PROGRAM runs, ./foldgneiss if none is named, or 1
+where no socket can be made.
 """
 import argparse
 import collections
