@@ -72,13 +72,18 @@ def works(trial, files, root, command, origin):
 
 
 def refusals(trial, folder):
-    """Programs that are of several sources, or not proved, are no release."""
+    """What is of several sources or versions, or not proved, is no release."""
     tool = [f"{folder}/tools/release"]
     out = f"{folder}/crates/desk_main/out/desk_main"
     origin = read(f"{out}.origin")
     write(f"{out}.origin", origin.replace(b"sources ", b"sources 0"))
     trial.expect(1, "release: desk_main is of other sources than the program of the device",
                  f"{folder}-refused", command=tool)
+    changelog = read(f"{folder}/CHANGELOG.md").replace(b"## ", b"## 0.9.0, 2027-01-01\n\n## ", 1)
+    write(f"{folder}/CHANGELOG.md", changelog)
+    trial.expect(1, "release: CHANGELOG.md begins with 0.9.0, and tools/reference.py has "
+                    f"{VERSION}", f"{folder}-refused", command=tool)
+    write(f"{folder}/CHANGELOG.md", read(f"{ROOT}/CHANGELOG.md"))
     out = f"{folder}/crates/device_main/out"
     os.rename(f"{out}/device_main", f"{out}/unproved")
     write(f"{out}/unproved.origin", origin.replace(b"proved", b"compiled without a proof, quick,"))
