@@ -11,7 +11,7 @@ from sample_files import EXAMPLES, read, write
 from trial import ROOT
 
 # The folders of examples/pump with the sources of their images.
-PUMPS = {"stop": ("dose.c", "guard.s", "pump.c"), "forged": ("dose.c", "forger.s"),
+PUMPS = {"stop": ("dose.c", "guard.s", "pump.c"), "forged": ("dose.c", "forger.s", "no_guard.s"),
          "guarded": ("dose.c", "forger.s", "guard.s")}
 # Firmware that sends a byte of a header, and some that attests without an output.
 LETTER = b'#include "letter.h"\nint main(void) { *(volatile char *)0x76 = LETTER; for (;;) { } }\n'

@@ -6,14 +6,18 @@ from readers import READERS
 from reference import SERIAL_VECTOR
 from sample_files import EXAMPLES, read, sent_bytes
 
-# Values of TCMP, up to one that a dose is shorter than. Where interrupts are allowed before the
-# region it is entered only at those from LEAST on: a shorter period leaves no step between two.
-LEAST, PAST = 4, 160
+# Values of TCMP: those that interrupt the region's first steps, and those up to one that a dose is
+# shorter than. Between them the region clears its stack, with interrupts off. Where interrupts are
+# allowed before the region it is entered only at those from LEAST on: a shorter period leaves no
+# step between two.
+LEAST, FIRST_STEPS, PERIODS = 4, range(1, 30), range(400, 540)
 DOSE = 6
+AT_ONCE = 20  # so many handlers are tried in one play
 # Enters the region once for each period and each of these handlers of the timer, with the output of
 # a whole dose already written. Where AUX is 1 behind it, sends A and what the report would tell,
 # else N, and E at the end.
 SOURCE = """
+        .equ caller, {or_min} - 2       ; from where the way out takes the stack pointer
         .equ period, 0x1000
         .equ handler, 0x1002
         .equ begun, 0x1004
@@ -32,6 +36,7 @@ try:    mov &handler, &0xFFF2
         clr &{or_min}+2
         mov #{dose}, r12                ; what the region keeps in registers: a loop that is
         clr r13                         ; entered in its midst ends
+        mov #0x21FE, &caller
         {wait}
         mov &period, &0x0164
         mov #3, &0x0160                 ; the timer runs, with its interrupt
@@ -84,22 +89,32 @@ def attempts(trial, files, region, handlers, allow="eint", waits=False):
     """Of each attempt how many strokes were sent, and where AUX is 1 the two words of the output.
     With `waits` a byte stands at the serial port before each.
     """
+    told = []
+    for first in range(0, len(handlers), AT_ONCE):
+        for periods in (FIRST_STEPS[LEAST - 1:] if allow else FIRST_STEPS, PERIODS):
+            told += played(trial, files, region, handlers[first:first + AT_ONCE], periods, allow,
+                           waits)
+    return told
+
+
+def played(trial, files, region, handlers, periods, allow, waits):
+    """The attempts with these handlers and periods, in one play."""
     names = dict(zip(("er_min", "er_max", "or_min", "or_max"), region.bounds))
     source = SOURCE.format(**names, first=handlers[0], past=handlers[-1] + 2, dose=DOSE,
-                           least=LEAST if allow else 1, most=PAST, serial=region.handler,
+                           least=periods.start, most=periods.stop, serial=region.handler,
                            allow=allow, wait=WAIT if waits else "")
     image = trial.expect(0, "", "asm", files.add("pump.asm", source.encode()))
     image = files.add("pump.hex", hex_text({**READERS["image"](image), **region.code}))
     events = [b"at 0 p1 %04x\n" % DOSE]
-    events += [b"at %d rx 00\n" % (1000 * number) for number in range(1, PAST)] * waits
+    events += [b"at %d rx 00\n" % (1000 * number) for number in range(1, 540)] * waits
     text = trial.expect(0, "", "play", image, files.add("pump.txt", b"".join(events)), files.key,
-                        "10000000")
+                        str(1200 * (len(handlers) * len(periods) + 100)))
     sent = sent_bytes(text)
-    if not sent.endswith(b"E"):
-        trial.fault("pump: the attempts have no end")
-        return []
-    return [(strokes.count(b"S"), tuple(told) if told else None) for strokes, told
+    told = [(strokes.count(b"S"), tuple(told) if told else None) for strokes, told
             in re.findall(rb"([^AN]*)(?:A(..)|N)", sent, re.S)]
+    if not sent.endswith(b"E") or len(told) != len(handlers) * len(periods):
+        trial.fault(f"pump: {len(told)} attempts of {len(handlers)} handlers, {periods}")
+    return told
 
 
 def is_lie(attempt):
@@ -109,8 +124,8 @@ def is_lie(attempt):
 
 
 def pump(trial, files):
-    """With its guard the region tells the truth whatever the timer does, at each of its periods and
-    with each place of the region as the timer's handler, and where a byte waited before; without
+    """With its guard the region tells the truth whatever the timer does, at each of these periods
+    and with each place of the region as the timer's handler, and where a byte waited before; without
     the guard it does not.
     """
     region = Region("guarded")
@@ -119,8 +134,6 @@ def pump(trial, files):
              "with every handler": (every, "eint", False), "without interrupts": (every, "", False)}
     for name, (handlers, allow, waits) in tries.items():
         told = attempts(trial, files, region, handlers, allow, waits)
-        if len(told) != len(handlers) * (PAST - (LEAST if allow else 1)):
-            trial.fault(f"pump, {name}: {len(told)} attempts")
         lies = [*filter(is_lie, told)]
         if lies or (DOSE, (DOSE, 0)) not in told:
             trial.fault(f"pump, {name}: {len(lies)} of {len(told)} are lies: {lies[:1]}")
