@@ -5,11 +5,11 @@ from typing import NamedTuple, Optional
 
 from region_code import PC, SP, SR, Operand, Place, Unreadable
 from region_memory import byte_of
-from region_rules import ENTRY, STACK, is_region, stray_number
+from region_rules import ENTRY, KIT, OWN, STACK, is_region, stray_number
 from region_values import (ANY_NUMBER, LOST, STATUS, UNSET, Address, Code, Frame, Given, Source,
                            joined, minus, mixed, near, number, plus, times)
 
-PRODUCT = "__mspabi_mpyi"
+PRODUCT = f"{OWN}{KIT}__mspabi_mpyi"  # of which the product is known to be one
 KEPT = range(4, 16)  # the registers that a call hands over
 TO_PC = Operand(PC)
 RETURN = Operand(SP, Address(Source.NUMBER), True, 2)
@@ -371,7 +371,7 @@ class Walk:
         registers = list(self.state.registers)
         for register, value in self.flow.left[goal].items():
             registers[register] = joined(*(self.told(goal, address) for address in value))
-        if self.flow.name(goal) == PRODUCT:
+        if goal.section == PRODUCT:
             registers[12] = times(self.state.registers[12], self.state.registers[13])
         return registers
 

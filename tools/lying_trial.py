@@ -6,8 +6,9 @@ import glob
 import os
 import re
 
-from firmware_trial import MAKE, PLACE, folder_of, is_compiler_there
+from firmware_trial import MAKE, PLACE, folder_of, image_of, is_compiler_there
 from region_trial import HEADER, MAIN, Device, attestable
+from sample_files import EXAMPLES, read
 
 LEVELS = ("-O0", "-Os", "-O2", "-O3", "-Os -flto")
 # Takes a request, leaves 5A5A in all registers, in RAM and at FF00, has the timer count, and runs
@@ -127,6 +128,59 @@ next:   mov     @r12+, r14
 measured:
         .space  152
 """
+# A region that is whole, with tables of structs, of functions and of texts, structs as results, an
+# argument on the stack, numbers of 32 and 64 bits, a switch, and a handler with its guard.
+WHOLE = b"""struct pair { uint16_t low, high; };
+struct sensor { const uint16_t *curve; uint16_t count; uint16_t (*read)(uint16_t); };
+OUTPUT static struct { struct pair range; uint32_t sums[3]; uint8_t name[6]; uint16_t stops; } told;
+FOREIGN static volatile uint16_t stops;
+REGION static uint16_t plain(uint16_t place) { return P1IN + place; }
+REGION static uint16_t scaled(uint16_t place) { return P1IN * place; }
+static const uint16_t low[] = {300, 313, 329}, high[] = {410, 451, 502, 561};
+static const struct sensor sensors[] = {{low, 3, plain}, {high, 4, scaled}};
+static const char *const names[] = {"lower", "upper"};
+REGION static struct pair range_of(const uint16_t *values, uint16_t count) {
+    struct pair range = {0xFFFF, 0};
+    for (const uint16_t *value = values; value < values + count; value++) {
+        range.low = *value < range.low ? *value : range.low;
+        range.high = *value > range.high ? *value : range.high;
+    }
+    return range;
+}
+REGION static uint32_t weighed(uint16_t a, uint16_t b, uint16_t c, uint16_t d, const uint16_t *of) {
+    return (uint32_t)a * of[0] + (uint32_t)b * of[1] + (uint64_t)c * of[2] / (d | 1);
+}
+INTERRUPT(SERIAL) REGION void on_byte(void) {
+    (void)SRXD;
+    stops++;
+}
+REGION void region(void) {
+    uint16_t values[8];
+    stops = 0;
+    SCTL = 1;
+    enable_interrupts();
+    for (int i = 0; i < 8; i++) {
+        const struct sensor *sensor = &sensors[i & 1];
+        values[i] = sensor->read(i) + sensor->curve[i % sensor->count];
+    }
+    disable_interrupts();
+    told.range = range_of(values, 8);
+    for (int i = 0; i < 3; i++) {
+        told.sums[i] = weighed(values[0], values[1], values[2], values[3], values + i);
+    }
+    switch (P1IN & 7) {
+    case 0: told.sums[0] = told.sums[1] << (P1IN & 15); break;
+    case 1: told.sums[1] = told.sums[2] >> (P1IN & 15); break;
+    case 2: told.sums[2] = (uint64_t)told.sums[0] << (P1IN & 31) >> 16; break;
+    case 3: told.sums[0] = told.sums[1] % told.sums[2]; break;
+    case 4: told.sums[0] = told.sums[1] * told.sums[2]; break;
+    default: told.sums[0] = strlen(names[P1IN & 1]);
+    }
+    memcpy((uint8_t *)told.name, names[P1IN & 1], sizeof told.name);
+    told.stops = stops;
+}
+"""
+GUARD = read(f"{EXAMPLES}/pump/guard.s").replace(b"on_stop", b"on_byte")
 # Functions of a region that reach places outside of it, and what is said of them, at any level.
 STRAY = b"""
 typedef const volatile uint16_t *place_t;
@@ -260,5 +314,7 @@ def lies(trial, files):
         stray(trial, "region.s", assembler_of([body for body, _ in STRAY_CODE]), texts, *tools)
         for level in LEVELS:
             options = (*tools, f"CFLAGS={level}")
+            image_of(trial, {"region.c": b"#include <string.h>\n" + HEADER + WHOLE, "guard.s": GUARD,
+                             "main.c": HEADER + MAIN}, *options, "REGION_STACK=300")
             stray(trial, "region.c", HEADER + STRAY, STRAY_TEXTS, *options)
             unset(trial, files, *options)
