@@ -310,11 +310,12 @@ def lies(trial, files):
         return
     texts = [re.escape(text.replace("{}", f"way_{number}"))
              for number, (_, text) in enumerate(STRAY_CODE)]
+    whole = {"region.c": b"#include <string.h>\n" + HEADER + WHOLE, "guard.s": GUARD,
+             "main.c": HEADER + MAIN}
     for tools in toolchains():
         stray(trial, "region.s", assembler_of([body for body, _ in STRAY_CODE]), texts, *tools)
         for level in LEVELS:
             options = (*tools, f"CFLAGS={level}")
-            image_of(trial, {"region.c": b"#include <string.h>\n" + HEADER + WHOLE, "guard.s": GUARD,
-                             "main.c": HEADER + MAIN}, *options, "REGION_STACK=300")
+            image_of(trial, whole, *options, "REGION_STACK=300")
             stray(trial, "region.c", HEADER + STRAY, STRAY_TEXTS, *options)
             unset(trial, files, *options)

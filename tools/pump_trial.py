@@ -126,7 +126,7 @@ def is_lie(attempt):
 def pump(trial, files):
     """With its guard the region tells the truth whatever the timer does, at each of these periods
     and with each place of the region as the timer's handler, and where a byte waited before;
-    without     the guard it does not.
+    without the guard it does not.
     """
     region = Region("guarded")
     own, every = [region.handler], [*range(region.bounds[0], region.bounds[1] + 2, 2)]

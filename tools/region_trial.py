@@ -249,7 +249,7 @@ WRONG = {
          "behind": "INTERRUPT(TIMER) void on_other(void) { STXD = 2; }"},
         "ld.lld: error: INTERRUPT(TIMER) has two handlers: leave one"),
     "stack": (
-        {"before": "static volatile uint8_t log[7808];", "main": "log[P1IN] = 1;"},
+        {"before": "static volatile uint8_t log[7806];", "main": "log[P1IN] = 1;"},
         "ld.lld: error: too little stack: fewer or smaller variables, "
         "or a smaller STACK (128 if unset)"),
     "floating point": (
@@ -271,7 +271,7 @@ RIGHT = (
     {"before": (NESTS % "REGION static").replace("{", "{ NEEDS_STACK(20);", 1),
      "value": " + nests(2)"},
     {"before": HANDLER % "STXD = SRXD;", "behind": "REGION void other(void) { region(); }"},
-    {"before": "static volatile uint8_t log[7806];", "main": "log[P1IN] = 1;"},
+    {"before": "static volatile uint8_t log[7804];", "main": "log[P1IN] = 1;"},
 )
 
 
