@@ -15,7 +15,7 @@ ARRIVAL, TAKEN, RESET = range(3)  # what concerns the queue in a step, in this o
 def arrivals(events, steps):
     """How many bytes arrive, for each of the first steps in which some do."""
     for step, group in itertools.groupby(events, operator.attrgetter("step")):
-        count = sum(len(event.bytes) for event in group)
+        count = sum(len(event.arrived) for event in group)
         if count and step < steps:
             yield step, ARRIVAL, count
 

@@ -270,7 +270,7 @@ class Event(NamedTuple):
     """What comes from outside in a step."""
     step: int
     kind: bytes
-    bytes: bytes = b""  # of `rx`
+    arrived: bytes  # of `rx`
 
 
 def read_script(text):

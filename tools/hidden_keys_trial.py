@@ -1,5 +1,5 @@
-"""Trials that ./foldgneiss shows no key, in whatever form and in the place of whatever file it comes,
-and reads no more of a file than its limit.
+"""Trials that ./foldgneiss shows no key, in whatever form and place one comes, and reads no more of
+a file than its limit.
 """
 import base64
 import random
