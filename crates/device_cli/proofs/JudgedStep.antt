@@ -14,7 +14,7 @@ use Rattle.device_play.specs.Cuts.{StopsOnlyAt}
 use Rattle.device_play.specs.Watching.{HasSeen}
 use Rattle.device_play.specs.declared.put_fault.PutFault.{PutFault}
 use Rattle.device_play.proofs.Cuts.{stops-later}
-use Rattle.device_cli.specs.declared.verdict.judgement.Tally.{Tally}
+use Rattle.device_cli.specs.declared.verdict.tally.Tally.{Tally}
 use Rattle.device_cli.specs.Judgement.{judgement_cuts, judgement_lines, tally_after}
 use Rattle.device_cli.specs.JudgedPlay.{CountsVerdicts, judge_account}
 use Rattle.device_cli.specs.RoundText.{reports_in}

@@ -36,7 +36,8 @@ use Rattle.device_play.specs.Accounts.{end_line_of, memory_after}
 use Rattle.device_cli.specs.Judgement.{collision_lines, evidence_lines, judgement_lines}
 use Rattle.device_cli.specs.KeylessText.{HasKeylessTexts}
 use Rattle.device_cli.specs.RoundText.{remark_of_step, reports_in, round_lines, round_text, with_last}
-use Rattle.device_cli.specs.Verify.{is_accept}
+use Rattle.device_cli.specs.Unanswered.{unanswered_if}
+use Rattle.device_cli.specs.Verdicts.{is_accept, verdicts}
 
 -- a device's own bytes are outside the secrets
 rest-outside : (left right : Contents) → SameOutside left right → (bounds : Bounds)
@@ -201,4 +202,8 @@ keyless_texts start play =
           (memory-hide start free play more refl);
       round = λ judge more.
           round_text-hide judge start (released_words start play ++ more) play more refl;
+      unanswered = λ all judge more.
+          ap (λ (reports : List ReportFields). unanswered_if all judge.policy.requests
+          (verdicts judge reports))
+          (reports-hide start (released_words start play ++ more) play more refl);
     }

@@ -109,9 +109,9 @@ valid_bounds : (bytes : List ℕ) (policy : PolicyFields) → policy_of bytes �
 valid_bounds bytes policy is = rw is at (policy_of-valid bytes)
 
 -- with a judge
-pub round_row_lawful : (image script key policy : List ℕ) (steps : ℕ)
-    → IsLawfulRow (round_row image script key policy steps)
-round_row_lawful image script key policy steps =
+pub round_row_lawful : (all : Bool) (image script key policy : List ℕ) (steps : ℕ)
+    → IsLawfulRow (round_row all image script key policy steps)
+round_row_lawful all image script key policy steps =
     read-always IsPutLawfully key_kind key _ (λ key_read key_bytes key_is.
     read-always IsPutLawfully image_kind image _ (λ image_read bytes image_is.
     read-always IsPutLawfully script_kind script _ (λ script_read script_bytes script_is.

@@ -20,7 +20,7 @@ use Rattle.device_play.specs.Accounts.{end_line_of}
 use Rattle.device_cli.specs.Judgement.{comparison_lines, evidence_lines, judgement_lines, own_bytes_collide}
 use Rattle.device_cli.specs.RoundPieces.{IsPairLine, IsPlayWithVerdicts, IsRemark, Piece, step_pieces}
 use Rattle.device_cli.specs.RoundText.{reports_in, remark_of_step, round_lines, round_text}
-use Rattle.device_cli.specs.Verify.{is_accept}
+use Rattle.device_cli.specs.Verdicts.{is_accept}
 
 abbrev lines : Piece → Bytes
 lines piece = piece.lines

@@ -25,7 +25,8 @@ use Rattle.device_cli.specs.Request.{request_of, request_row_of, row_with}
 use Rattle.device_cli.specs.Round.{round_row_of}
 use Rattle.device_cli.specs.Row.{Always, Outcome, Row}
 use Rattle.device_cli.specs.Run.{IsRun}
-use Rattle.device_cli.specs.Verify.{verify_row_of}
+use Rattle.device_cli.specs.Unanswered.{behind_all}
+use Rattle.device_cli.specs.Verify.{verify_row_with}
 use Rattle.device_cli.specs.Wave.{wave_text}
 use Rattle.device_cli.specs.Work.{work_row, work_row_of}
 use Rattle.device_cli.proofs.LawfulRow.{reached-always, read-always}
@@ -67,8 +68,9 @@ audit-uncut (trace ∷ []) =
     record { always = read-always IsUncut trace_kind trace _ (λ value bytes is. refl) }
 audit-uncut arguments = record { always = tt }
 
-verify-uncut : (arguments : List (List ℕ)) → IsUncutRow (verify_row_of arguments)
-verify-uncut (image ∷ policy ∷ key ∷ reports ∷ []) =
+verify-uncut : (all : Bool) (arguments : List (List ℕ))
+    → IsUncutRow (verify_row_with all arguments)
+verify-uncut all (image ∷ policy ∷ key ∷ reports ∷ []) =
     record {
       always =
           read-always IsUncut key_kind key _ (λ key_read key_bytes key_is.
@@ -77,7 +79,7 @@ verify-uncut (image ∷ policy ∷ key ∷ reports ∷ []) =
           read-always IsUncut reports_kind reports _ (λ reports_read reports_bytes reports_is.
           refl))));
     }
-verify-uncut arguments = record { always = tt }
+verify-uncut all arguments = record { always = tt }
 
 work-uncut : (arguments : List (List ℕ)) → IsUncutRow (work_row_of arguments)
 work-uncut (seed ∷ []) =
@@ -101,6 +103,14 @@ either : (test : Bool) (row other : Option Row) → IsUncutRow row → IsUncutRo
 either true row other first second = first
 either false row other first second = second
 
+behind_all-uncut : (row_with : Bool → List (List ℕ) → Option Row)
+    → ((all : Bool) (arguments : List (List ℕ)) → IsUncutRow (row_with all arguments))
+    → (arguments : List (List ℕ)) → IsUncutRow (behind_all row_with arguments)
+behind_all-uncut row_with uncut [] = uncut false []
+behind_all-uncut row_with uncut (first ∷ arguments) =
+    either (bytes_eq first (codes "--all")) _ _ (uncut true arguments)
+    (uncut false (first ∷ arguments))
+
 neither : (test : Bool) (row other : Option Row) → test ≡ false → IsUncutRow other
     → IsUncutRow (if test then row else other)
 neither true row other is second = absurd (cc is)
@@ -113,7 +123,8 @@ named-uncut name arguments is =
     (either (bytes_eq name (codes "dump")) _ _ (steps-uncut dump_text arguments)
     (either (bytes_eq name (codes "trace")) _ _ (steps-uncut trace_text arguments)
     (either (bytes_eq name (codes "list")) _ _ (list-uncut arguments)
-    (either (bytes_eq name (codes "verify")) _ _ (verify-uncut arguments)
+    (either (bytes_eq name (codes "verify")) _ _
+    (behind_all-uncut verify_row_with verify-uncut arguments)
     (either (bytes_eq name (codes "audit")) _ _ (audit-uncut arguments)
     (neither (bytes_eq name (codes "round")) (round_row_of arguments) _ is
     (either (bytes_eq name (codes "asm")) _ _ (asm-uncut arguments)

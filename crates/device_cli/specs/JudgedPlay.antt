@@ -1,18 +1,17 @@
 -- What a round says of a play.
-use Rattle.std.specs.Prelude.{◌≡◌, length}
 use Rattle.device_trace.specs.Play.{Play}
 use Rattle.device_trace.specs.Start.{Start}
 use Rattle.report_verifier.specs.Judge.{Judge}
 use Rattle.device_play.specs.Account.{Account}
 use Rattle.device_play.specs.Accounts.{end_line_of}
-use Rattle.device_cli.specs.declared.verdict.judgement.Tally.{Tally}
-use Rattle.device_cli.specs.RoundText.{all_are_accepted, judged_lines, reports_in, round_cuts, round_lines}
+use Rattle.device_cli.specs.declared.verdict.tally.Tally.{Tally}
+use Rattle.device_cli.specs.RoundText.{judged_lines, reports_in, round_cuts, round_lines}
+use Rattle.device_cli.specs.Tally.{Counts}
+use Rattle.device_cli.specs.Verdicts.{verdicts}
 
 -- the tally of the verdicts on the reports of a play
-pub record CountsVerdicts (judge : Judge) (start : Start) (play : Play) (tally : Tally)
-    : Type 0 where
-  pub verdicts : tally.verdicts ≡ length (reports_in start play)
-  pub accepted : tally.all_accept ≡ all_are_accepted judge start play
+abbrev pub CountsVerdicts : Judge → Start → Play → Tally → Type 0
+CountsVerdicts judge start play tally = Counts (verdicts judge (reports_in start play)) tally
 
 abbrev pub judge_account : Judge → Account Tally
 judge_account judge =

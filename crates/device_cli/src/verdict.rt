@@ -1,3 +1,5 @@
 pub mod judgement;
 pub mod judging;
+pub mod tally;
+pub mod unanswered;
 pub mod verdict_text;

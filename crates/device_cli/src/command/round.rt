@@ -1,12 +1,14 @@
 ghost use Rattle.std.specs.Prelude.{◌≤◌};
 ghost use Rattle.device_play.specs.Limit.{most_steps};
 
+use crate::command::all_word::split_all;
 use crate::command::play_arguments::MOST_STEPS;
 use crate::command::play_files::{PlayFiles, PlayValues, PoweredDevice, play_files};
 use crate::command_end::CommandEnd;
 use crate::ending::Ending;
 use crate::task::Task;
 use crate::verdict::judging::Judging;
+use crate::verdict::unanswered::end_verdicts;
 use bus_signals::TraceFlag;
 use device_core::power_on;
 use device_play::{PutFault, play_before};
@@ -18,10 +20,12 @@ use report_verifier::Verifier;
 use std::alloc::{AllocError, Global};
 use text_scan::decimal;
 
-/// The command `round IMAGE SCRIPT KEY POLICY STEPS`. The policy is read after the files of the
-/// play.
+/// The command `round [--all] IMAGE SCRIPT KEY POLICY STEPS`. The policy is read after the files of
+/// the play.
 #[derive(Clone, Copy, Debug)]
 pub struct Round<'a> {
+    /// All requests of the policy have to be answered.
+    pub all: bool,
     pub files: (PlayFiles<'a>, File<'a, Policy>),
     pub steps: u64,
     ghost few: { steps ≤ most_steps },
@@ -43,10 +47,10 @@ impl<'a> Task<'a> for Round<'a> {
 
     ghost row_of = { round_row_of };
 
-    ghost command_row = { λ round. round_row round.files.0.0.1.name.now round.files.0.1.name.now
-        round.files.0.0.0.name.now round.files.1.name.now round.steps };
+    ghost command_row = { λ round. round_row round.all round.files.0.0.1.name.now
+        round.files.0.1.name.now round.files.0.0.0.name.now round.files.1.name.now round.steps };
 
-    ghost outcome = { λ round values. round_outcome round.steps values.0.0.0
+    ghost outcome = { λ round values. round_outcome round.all round.steps values.0.0.0
         (byte_in values.0.0.1) values.0.1 values.1 };
 
     ghost is_prepared = { λ round values device. HeldStandsFor
@@ -57,13 +61,15 @@ impl<'a> Task<'a> for Round<'a> {
 
     /// STEPS is a decimal in 1..10,000,000.
     fn from_arguments(arguments: &'a [String]) -> Option<Round<'a>> {
-        let [image, script, key, policy, steps] = arguments else {
+        let (all, others) = split_all(arguments);
+        let [image, script, key, policy, steps] = others else {
             return None;
         };
         let steps = decimal(steps.as_bytes(), 1, MOST_STEPS).ok()?;
         let play = play_files(image.as_str(), script.as_str(), key.as_str());
         let policy = File::new(policy.as_str(), Policy);
         Some(Round {
+            all,
             files: (play, policy),
             steps,
         })
@@ -92,6 +98,6 @@ impl<'a> Task<'a> for Round<'a> {
             verifier: &verifier,
         };
         let (_, tally) = play_before(device, script, self.steps, &judging, sink)?;
-        Ok(Ending::of(tally.all_accept))
+        Ok(end_verdicts(self.all, policy, &tally, sink)?)
     }
 }

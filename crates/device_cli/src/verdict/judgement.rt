@@ -9,9 +9,9 @@ ghost use Rattle.device_play.specs.Cuts.{CountsWriteFaults, StopsOnlyAt};
 ghost use Rattle.device_cli.specs.Judgement.{evidence_lines, evidence_cuts, judgement_lines, judgement_cuts, TellsOutput, tally_after};
 ghost use Rattle.report_verifier.specs.Judge.{judge_of, verdict_at};
 ghost use Rattle.device_play.specs.Limit.{most_steps};
-ghost use Rattle.device_cli.specs.Verify.{is_accept};
+ghost use Rattle.device_cli.specs.Verdicts.{is_accept};
 
-use crate::verdict::verdict_text::is_accept;
+use crate::verdict::tally::Tally;
 use bus_signals::ReportView;
 use device_play::PutFault;
 use hmac_core::Digest32;
@@ -20,13 +20,6 @@ use outside_edge::Sink;
 use report_text::{print_collision, print_verdict};
 use report_verifier::{Decision, Exhibit, Expect, Verifier, compare};
 use std::alloc::Global;
-
-/// The verdicts so far: how many, and whether each of them is `accept`.
-#[derive(Clone, Copy)]
-pub struct Tally {
-    pub verdicts: usize,
-    pub all_accept: bool,
-}
 
 // After an accept the device's own bytes are compared with those that the report is expected to be
 // of, and a pair that collides is put.
@@ -135,8 +128,5 @@ pub fn judge_last<D: Digest32, W: Sink>(
         return Ok(tally);
     };
     let verdict = judge::<D, W>(alloc, verifier, tally.verdicts, &report, memory, sink)?;
-    Ok(Tally {
-        verdicts: tally.verdicts + 1,
-        all_accept: tally.all_accept && is_accept(verdict),
-    })
+    Ok(tally.with_verdict(verdict))
 }

@@ -1,6 +1,7 @@
 ghost use Rattle.std.specs.Prelude.{◌≡◌};
 
-use crate::verdict::judgement::{Tally, judge_last};
+use crate::verdict::judgement::judge_last;
+use crate::verdict::tally::Tally;
 use bus_signals::TraceFlag;
 use device_core::Live;
 use device_play::{PutFault, Watcher, print_end_of, print_last_step};
@@ -36,10 +37,7 @@ impl<'a> Watcher for Judging<'a> {
     }
 
     fn begin<W: Sink>(&self, _sink: &mut W) -> Result<Tally, Failed> {
-        Ok(Tally {
-            verdicts: 0,
-            all_accept: true,
-        })
+        Ok(Tally::new())
     }
 
     fn see<D: Digest32, G: TraceFlag, W: Sink>(

@@ -68,7 +68,7 @@ fn a_pair_is_printed_where_all_lists_collide(rt: HostRuntime) -> Result<(), Fail
     let Ok((_, tally)) = play_before(device, &script, 1192, &judging, &mut sink) else {
         panic!(rt; "all is put");
     };
-    assert!(rt; tally.all_accept);
+    assert!(rt; tally.all_accept());
     assert_eq!(rt; sink.held(), COLLISION.as_bytes());
     Ok(())
 }

@@ -4,7 +4,7 @@ use Rattle.std.proofs.Math.Bool.{and-true}
 use Rattle.outside_edge.proofs.SinkLemmas.{takes_both, prefix_after, prefix_of_more}
 use Rattle.report_verifier.specs.Judge.{judge_of}
 use Rattle.report_text.specs.VerdictLine.{verdict_line}
-use Rattle.device_cli.specs.Verify.{lines_from}
+use Rattle.device_cli.specs.Verdicts.{lines_from}
 use Rattle.device_play.proofs.PutsLemmas.{takes-nothing}
 use Rattle.device_cli.proofs.Verdicts.{verdicts_ahead, ahead-next, ahead-end, lines-next, accept-next}
 use Rattle.device_cli.proofs.verdict.verdict_text.print_verdicts.Goals as goal
@@ -12,7 +12,7 @@ use Rattle.device_cli.proofs.verdict.verdict_text.print_verdicts.Goals as goal
 pub loop-i-init : goal.loop-i-init
 loop-i-init g c = record {
   taken = ([], takes-nothing g.W.Sink.stands c.args.sink.now, refl);
-  accepted = refl;
+  tally = c.new-tally.ensures;
   quiet = refl;
 }
 
@@ -32,8 +32,10 @@ loop-i-preserved g c =
             takes.1 c.in_ok-print_verdict.ensures.puts.all,
         lines-next judge reports at.i decision takes.0 _ next takes.2,
       );
-      accepted = rw c.is_accept-all_accept.ensures
-          (accept-next judge reports at.i decision at.all_accept _ next at.invariant.accepted);
+      tally = rw (
+        c.with_verdict-tally.ensures,
+        verdicts-taken judge reports at.i decision c.verdict_at-decision.ensures,
+      ) (counts-more (verdicts judge (take at.i reports)) at.tally decision at.invariant.tally);
       quiet = c.in_ok-print_verdict.ensures.counts.quiet ∙ at.invariant.quiet;
     }
 
@@ -68,9 +70,7 @@ returns-clause-puts g c =
       prefix = tt;
     }
 
-pub returns-clause-accepted : goal.returns-clause-accepted
-returns-clause-accepted g c =
+pub returns-clause-tally : goal.returns-clause-tally
+returns-clause-tally g c =
     let at = c.loop-i in
-    let none = ahead-end (judge_of g.D.Digest32.hash.digest_of c.args.verifier.now)
-    c.args.reports.now at.i (omega (arith, c.loop-i-test.false)) in
-    sym (and-true at.all_accept) ∙ rw none at at.invariant.accepted
+    rw take_all at at.invariant.tally

@@ -7,10 +7,10 @@ pub returns-clause-reads : goal.returns-clause-reads
 returns-clause-reads g c =
     let self = c.args.self.now in
     c.read.ensures (λ values.
-    put (round_outcome self.steps values.0.0.0 values.0.0.1 values.0.1 values.1))
+    put (round_outcome self.all self.steps values.0.0.0 values.0.0.1 values.0.1 values.1))
 
 pub returns-clause-lawful : goal.returns-clause-lawful
 returns-clause-lawful g c =
     let self = c.args.self.now in
-    round_row_lawful self.files.0.0.1.name.now self.files.0.1.name.now
+    round_row_lawful self.all self.files.0.0.1.name.now self.files.0.1.name.now
     self.files.0.0.0.name.now self.files.1.name.now self.steps

@@ -2,7 +2,7 @@ use Rattle.input_files.specs.FileKind.{image_kind, key_kind, policy_kind}
 use Rattle.device_cli.specs.FileKind.{reports_kind}
 use Rattle.report_verifier.specs.Judge.{judge_with}
 use Rattle.device_cli.specs.Row.{put}
-use Rattle.device_cli.specs.Verify.{verdicts, verdicts_outcome}
+use Rattle.device_cli.specs.Verify.{verify_outcome}
 use Rattle.device_cli.specs.LawfulPlay.{IsPutLawfully}
 use Rattle.device_cli.proofs.LawfulRow.{read-always}
 use Rattle.device_cli.proofs.command.verify.VerifyTask.read.Goals as goal
@@ -10,8 +10,8 @@ use Rattle.device_cli.proofs.command.verify.VerifyTask.read.Goals as goal
 pub returns-clause-reads : goal.returns-clause-reads
 returns-clause-reads g c =
     let self = c.args.self.now in
-    c.read.ensures (λ values. put (verdicts_outcome
-    (verdicts (judge_with values.0.0 values.0.1 values.1.0) values.1.1)))
+    c.read.ensures (λ values.
+    put (verify_outcome self.all (judge_with values.0.0 values.0.1 values.1.0) values.1.1))
 
 pub returns-clause-lawful : goal.returns-clause-lawful
 returns-clause-lawful g c =

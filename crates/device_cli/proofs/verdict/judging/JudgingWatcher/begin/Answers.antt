@@ -10,7 +10,8 @@ returns-clause-goes_on g c = λ digest.
     judge-goes_on (judge_of digest c.args.self.now.verifier.now)
 
 pub returns-clause-tally : goal.returns-clause-tally
-returns-clause-tally g c = λ digest. tally-none (judge_of digest c.args.self.now.verifier.now)
+returns-clause-tally g c = λ digest start.
+    tally-none (judge_of digest c.args.self.now.verifier.now) start c.new.result c.new.ensures
 
 pub returns-clause-puts : goal.returns-clause-puts
 unfolding round_lines

@@ -8,9 +8,10 @@ use Rattle.device_play.proofs.SeenStep.{seen-failed}
 use Rattle.device_play.proofs.WriteCounts.{counts-passed}
 use Rattle.report_verifier.specs.Judge.{judge_of}
 use Rattle.device_cli.specs.JudgedPlay.{judge_account}
+use Rattle.device_cli.specs.RoundText.{reports_in}
 use Rattle.device_cli.proofs.JudgedStep.{judged-failed, judged-seen, remark}
 use Rattle.device_cli.proofs.RoundLines.{last_report-output}
-use Rattle.device_cli.proofs.Tallies.{verdicts-few}
+use Rattle.device_cli.proofs.Tallies.{counted-few, verdicts-few}
 use Rattle.device_cli.proofs.verdict.judging.JudgingWatcher.see.Goals as goal
 
 pub judge_last-requires : goal.judge_last-requires
@@ -18,8 +19,8 @@ judge_last-requires g c =
     let (start, events, play, shown) = c.requires.shown in
     omega (
       arith,
-      verdicts-few (judge_of g.D.Digest32.hash.digest_of c.args.self.now.verifier.now) start play
-          c.args.tally.now shown.counted,
+      (verdicts-few (judge_of g.D.Digest32.hash.digest_of c.args.self.now.verifier.now) start play
+          c.args.tally.now shown.counted).0,
       shown.number,
       c.requires.few,
     )
@@ -38,16 +39,17 @@ returns-in_err-tally-clause-seen g c = λ start events play shown.
     let judge : Judge = judge_of g.D.Digest32.hash.digest_of c.args.self.now.verifier.now in
     let logs = logs_after start (events ∷ play) in
     let last = c.report-report.ensures.last start (events ∷ play) shown.device in
+    let size = (counted-few judge (reports_in start play) c.args.tally.now shown.counted).0 in
     let memory = c.memory-memory.ensures start (events ∷ play) shown.device in
     judged-failed g.W.Sink.stands c.args.sink.now c.print_last_step.new.sink c.judge_last.new.sink
     judge start events play c.args.tally.now c.in_err-tally.field-0.0
     c.from_residual-in_err-tally.result c.from_residual-in_err-tally.ensures.1
     (c.in_ok-print_last_step.ensures.puts start events play shown.device
     shown.number).all
-    (rw (last, shown.counted.verdicts) at (c.in_err-tally.ensures.puts start.power
+    (rw (last, size) at (c.in_err-tally.ensures.puts start.power
     (flags_of start logs) logs.memory memory
     (rw last (last_report-output start (events ∷ play)))))
-    (rw (last, shown.counted.verdicts) at (c.in_err-tally.ensures.memory start.power
+    (rw (last, size) at (c.in_err-tally.ensures.memory start.power
     (flags_of start logs) logs.memory memory
     (rw last (last_report-output start (events ∷ play)))))
 
@@ -56,12 +58,13 @@ returns-clause-seen g c = λ start events play shown.
     let judge : Judge = judge_of g.D.Digest32.hash.digest_of c.args.self.now.verifier.now in
     let logs = logs_after start (events ∷ play) in
     let last = c.report-report.ensures.last start (events ∷ play) shown.device in
+    let size = (counted-few judge (reports_in start play) c.args.tally.now shown.counted).0 in
     judged-seen g.W.Sink.stands c.args.sink.now c.print_last_step.new.sink c.judge_last.new.sink
     judge start events play c.args.tally.now _ _ shown.counted
     (rw last at c.in_ok-tally.ensures.tally)
     (c.in_ok-print_last_step.ensures.puts start events play shown.device
     shown.number).all
-    (rw (last, shown.counted.verdicts) at (c.in_ok-tally.ensures.puts start.power
+    (rw (last, size) at (c.in_ok-tally.ensures.puts start.power
     (flags_of start logs) logs.memory (c.memory-memory.ensures start (events ∷ play) shown.device)
     (rw last (last_report-output start (events ∷ play)))).all)
 

@@ -1,0 +1,48 @@
+-- What the word `--all` asks for: that each request of the policy has a report that is accepted.
+use Rattle.std.specs.Prelude.{◌+◌, ◌++◌, ◌&&◌, ℕ, Bool, true, false, List, [], ◌∷◌, Option, Some, None, bytes_eq, codes, not, length, if◌then◌else◌}
+use Rattle.std.specs.Fmt.{decimal}
+use Rattle.std.specs.List.{find, range_with_len, slice_get}
+use Rattle.std.specs.Option.{is_none, option_map_or}
+use Rattle.bus_signals.specs.Address.{Bytes}
+use Rattle.printed_lines.specs.Line.{line_of}
+use Rattle.report_verifier.specs.declared.asked.Asked.{Asked}
+use Rattle.report_verifier.specs.declared.decision.Decision.{Decision}
+use Rattle.device_cli.specs.Row.{Outcome, Row}
+use Rattle.device_cli.specs.Verdicts.{is_accept}
+
+-- report i is there and accepted, from 0
+abbrev pub is_answered : List Decision → ℕ → Bool
+is_answered decisions i = option_map_or is_accept (slice_get decisions i) false
+
+-- the first of the requests that is not answered, from 0
+abbrev pub first_unanswered : List Asked → List Decision → Option ℕ
+first_unanswered requests decisions =
+    find (λ i. not (is_answered decisions i)) (range_with_len 0 (length requests))
+
+-- where all have to be answered
+abbrev pub unanswered_if : Bool → List Asked → List Decision → Option ℕ
+unanswered_if all requests decisions =
+    if all then first_unanswered requests decisions else None
+
+-- its line has its number from 1
+abbrev pub unanswered_line : ℕ → Bytes
+unanswered_line i = line_of (codes "unanswered") (decimal (i + 1) ∷ [])
+
+abbrev pub unanswered_lines : Option ℕ → Bytes
+unanswered_lines None = []
+unanswered_lines (Some i) = unanswered_line i
+
+-- what is put of verdicts, where this request is not answered, if there is one: its line is the last
+abbrev pub with_unanswered : Outcome → Option ℕ → Outcome
+with_unanswered outcome unanswered =
+    record outcome {
+      text = outcome.text ++ unanswered_lines unanswered;
+      is_accepted = is_none unanswered && outcome.is_accepted;
+    }
+
+-- the row that arguments spell, where the word may stand in front of them
+abbrev pub behind_all : (Bool → List (List ℕ) → Option Row) → List (List ℕ) → Option Row
+behind_all row_with [] = row_with false []
+behind_all row_with (first ∷ arguments) =
+    if bytes_eq first (codes "--all") then row_with true arguments
+    else row_with false (first ∷ arguments)
