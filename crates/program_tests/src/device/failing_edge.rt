@@ -117,7 +117,7 @@ impl Sample {
     // A file of n bytes is read in its pieces and once more at its end: the key of 129 bytes in 4
     // calls, the images of 232 in 6 and of 172 in 5, the script of 193 in 5, the policies of 96 in
     // 3 and of 117 in 4, the reports of 386 in 9, the trace of 129 in 4.
-    fn rows(&self) -> [Row<'_>; 10] {
+    fn rows(&self) -> [Row<'_>; 11] {
         let row = |words, reads, status, text| Row {
             words,
             reads,
@@ -141,6 +141,12 @@ impl Sample {
             ),
             row("list letter", 3, Done, LETTER_A_LISTING),
             row("verify image policy key reports", 22, Rejected, VERDICTS),
+            row(
+                "verify --all image policy key silence",
+                14,
+                Rejected,
+                b"unanswered 1\n",
+            ),
             row("audit trace", 4, Done, b"clean 2\n"),
             row(
                 "round requested script key asked 1192",
