@@ -5,6 +5,8 @@ _foldgneiss() {
         mapfile -t COMPREPLY < <(compgen -W 'play dump trace debug wave list request verify round desk states remember audit asm work build folder help' -- "$word")
     elif [ "${COMP_WORDS[1]}" = help ]; then
         mapfile -t COMPREPLY < <(compgen -W 'play dump trace debug wave list request verify round desk states remember audit asm work build folder' -- "$word")
+    elif [ "$COMP_CWORD" -eq 2 ] && [[ ${COMP_WORDS[1]} =~ ^(verify|round)$ ]]; then
+        mapfile -t COMPREPLY < <(compgen -f -W '--all' -- "$word")
     else
         mapfile -t COMPREPLY < <(compgen -f -- "$word")
     fi

@@ -61,7 +61,7 @@ def wrong_words(words):
     if name not in COMMANDS:
         return unknown_command(name)
     command = COMMANDS[name]
-    most = len(command.all_words)
+    arguments, most = command.behind_option(arguments), len(command.all_words)
     if not len(command.words) <= len(arguments) <= most:
         counts = f"{len(command.words)} or {most}" if command.last else most
         return f"{name} takes {counts} argument{'s' * (most > 1)}, not {len(arguments)}"
@@ -89,7 +89,8 @@ def usage_of(name):
 
 def names_of(words):
     """What stands in a call for each of its command's words."""
-    return dict(zip(COMMANDS[words[0]].all_words, words[1:]))
+    command = COMMANDS[words[0]]
+    return dict(zip(command.all_words, command.behind_option(words[1:])))
 
 
 def files_of(words):

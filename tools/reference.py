@@ -16,11 +16,13 @@ class Command(NamedTuple):
     example: str
     program: str = "device_main"
     last: tuple = ()  # an argument behind all others that may be left out
+    option: str = ""  # a word in front of all arguments that may be left out
 
     @property
     def usage(self):
         may = [f"[{word.upper()}]" for word in self.last]
-        return " ".join([self.name, *map(str.upper, self.words), *may])
+        option = [f"[{self.option}]"] if self.option else []
+        return " ".join([self.name, *option, *map(str.upper, self.words), *may])
 
     @property
     def all_words(self):
@@ -29,6 +31,10 @@ class Command(NamedTuple):
     @property
     def files(self):
         return [word for word in self.words if word in FILES]
+
+    def behind_option(self, arguments):
+        """The arguments without the option in front of them."""
+        return arguments[1:] if self.option and arguments[:1] == [self.option] else arguments
 
 
 class File(NamedTuple):
@@ -74,6 +80,7 @@ class Memory(NamedTuple):
         return True
 
 
+ALL = "--all"  # each request of the policy has to be answered
 COMMANDS = {command.name: command for command in (
     Command("play", ("image", "script", "key", "steps"),
             "the bytes sent, resets, reports and denials of a run of the firmware, and its end, a "
@@ -121,15 +128,17 @@ COMMANDS = {command.name: command for command in (
     Command("verify", ("image", "policy", "key", "reports"),
             "a verdict for each report",
             "Prints `verdict I V` for each report line in REPORTS, the I-th of which has to answer "
-            "the I-th request of POLICY. Fewer reports than requests are no fault: count the "
-            "verdicts.",
-            "verify image.hex policy.txt key.txt reports.txt"),
+            "the I-th request of POLICY. With `--all` each request has to get an `accept`, else "
+            "the last line is `unanswered N`, the first that has none; without it fewer reports "
+            "than requests are no fault.",
+            "verify --all image.hex policy.txt key.txt reports.txt", option=ALL),
     Command("round", ("image", "script", "key", "policy", "steps"),
             "what `play` prints, with a verdict after each report",
             "Prints what play prints, and after each report its verdict by POLICY. After an "
             "`accept` where the device's own memory is not what was expected though the MACs "
-            "agree, `collision HH.. HH..` with two inputs of one SHA-256 digest.",
-            "round image.hex script.txt key.txt policy.txt 5000"),
+            "agree, `collision HH.. HH..` with two inputs of one SHA-256 digest. `--all` is as in "
+            "verify.",
+            "round image.hex script.txt key.txt policy.txt 5000", option=ALL),
     Command("desk", ("keys", "image", "policy"),
             "a reply to each line of standard input: requests for many devices, and verdicts on "
             "their reports",
@@ -271,13 +280,14 @@ class Status(NamedTuple):
 
 
 WITH_MEMORY = tuple(name for name, command in COMMANDS.items() if "memory" in command.all_words)
+WITH_ALL = tuple(name for name, command in COMMANDS.items() if command.option == ALL)
 WITH_INPUT = ("desk", "debug")  # those that read standard input
 
 STATUSES = {
     0: Status("", "all of the text was printed", ""),
     1: Status("rejected",
-              "all of the text was printed, and a verdict in it is not `accept`, or `audit` found "
-              "an offence",
+              "all of the text was printed, and a verdict in it is not `accept`, a request is "
+              "unanswered (`--all`), or `audit` found an offence",
               "`docs/verifier.md` says what each verdict means, `docs/formats.md` what an offence "
               "is", ("verify", "round", "audit")),
     2: Status("words are no command",

@@ -1,7 +1,8 @@
 """The texts that are written from the table of reference.py."""
 import textwrap
 
-from reference import COMMANDS, FAULTS, FILES, RULES, STATUSES, VALUES, VERSION, said_of
+from reference import (ALL, COMMANDS, FAULTS, FILES, RULES, STATUSES, VALUES, VERSION, WITH_ALL,
+                       said_of)
 
 WIDTH = 80
 
@@ -191,6 +192,8 @@ _foldgneiss() {{
         mapfile -t COMPREPLY < <(compgen -W '{" ".join(COMMANDS)} build folder help' -- "$word")
     elif [ "${{COMP_WORDS[1]}}" = help ]; then
         mapfile -t COMPREPLY < <(compgen -W '{" ".join(COMMANDS)} build folder' -- "$word")
+    elif [ "$COMP_CWORD" -eq 2 ] && [[ ${{COMP_WORDS[1]}} =~ ^({"|".join(WITH_ALL)})$ ]]; then
+        mapfile -t COMPREPLY < <(compgen -f -W '{ALL}' -- "$word")
     else
         mapfile -t COMPREPLY < <(compgen -f -- "$word")
     fi

@@ -14,7 +14,7 @@ from desk_model import Desk
 from file_readers import Policy, read_reports
 from memory_faults import sqlite3
 from readers import READERS, first_fault
-from reference import COMMANDS, FILES, IMAGE_PLACES, PROGRAM, RESET_VECTOR
+from reference import ALL, COMMANDS, FILES, IMAGE_PLACES, PROGRAM, RESET_VECTOR
 from trial import ROOT
 
 EXAMPLES = f"{ROOT}/examples"
@@ -107,11 +107,11 @@ class Example:
         """What the example's file of this kind says."""
         return READERS[kind](read(self.file(kind)))
 
-    def words(self, command, **others):
+    def words(self, command, *option, **others):
         """A command with the example's files, some of them others, and the steps that it has."""
         files = {kind: self.file(kind) for kind in COMMANDS[command].files}
         words = {**files, "steps": self.steps, **others}
-        return command, *(words[word] for word in COMMANDS[command].words)
+        return command, *option, *(words[word] for word in COMMANDS[command].words)
 
 
 def lengthened(text, length):
@@ -160,11 +160,11 @@ class SampleFiles:
     def __getitem__(self, name):
         return os.path.join(self.folder, name)
 
-    def words_of_round(self, command, **others):
+    def words_of_round(self, command, *option, **others):
         """A command with the files of the example `round` and what belongs to its report, some of
         it other.
         """
-        return self.round.words(command, **{
+        return self.round.words(command, *option, **{
             "chal": self.report.challenge.hex(), "counter": str(self.report.count),
             "policy": self["policy"], "reports": self["reports"], "keys": self["keys"],
             "states": self["states"], "memory": self["desk.db"], **others})
@@ -194,7 +194,9 @@ class SampleFiles:
             ("list", self.image): self.texts["listing"],
             self.words_of_round("request"): self.request_line(),
             self.words_of_round("verify"): b"verdict 1 accept\n",
+            self.words_of_round("verify", ALL): b"verdict 1 accept\n",
             self.round.words("round"): self.round.text,
+            self.round.words("round", ALL): self.round.text,
             ("audit", self["trace"]): b"clean 2\n",
             ("asm", self["letter.asm"]): self.texts["image"],
             ("work", "7"): self.texts["work"],

@@ -61,12 +61,31 @@ def verdict_lines(names):
     return [f"verdict {number} {name}\n".encode() for number, name in enumerate(names, 1)]
 
 
-def round_text(play, image, policy, key):
-    """What `round` prints of a play with this text, where no two inputs of one digest are found."""
-    lines = iter(verdict_lines(verdicts(image, policy, key, read_reports(play))))
-    return re.sub(rb"^report2 .*\n", lambda line: line[0] + next(lines), play, flags=re.M)
+def unanswered_line(policy, names):
+    """The line of the first request whose report has no verdict, or another than `accept`."""
+    for number in range(len(policy.requests)):
+        if names[number:number + 1] != ["accept"]:
+            return b"unanswered %d\n" % (number + 1)
+    return b""
+
+
+def verify_text(image, policy, key, reports, is_all=False):
+    """What `verify` prints, or `verify --all`."""
+    names = verdicts(image, policy, key, reports)
+    return b"".join(verdict_lines(names)) + (unanswered_line(policy, names) if is_all else b"")
+
+
+def round_text(play, image, policy, key, is_all=False):
+    """What `round` prints of a play with this text, or `round --all`, where no two inputs of one
+    digest are found.
+    """
+    names = verdicts(image, policy, key, read_reports(play))
+    lines = iter(verdict_lines(names))
+    text = re.sub(rb"^report2 .*\n", lambda line: line[0] + next(lines), play, flags=re.M)
+    return text + (unanswered_line(policy, names) if is_all else b"")
 
 
 def ending_of(text):
     """The exit status and the line on standard error after a text with verdicts, or of an audit."""
-    return ending(1 if re.search(rb"^verdict \d+ (?!accept$)|^offence ", text, re.M) else 0)
+    rejected = rb"^verdict \d+ (?!accept$)|^unanswered |^offence "
+    return ending(1 if re.search(rejected, text, re.M) else 0)

@@ -4,6 +4,7 @@ import re
 import attestation_model
 import verifier_model
 from readers import READERS
+from reference import ALL, WITH_ALL
 from sample_files import read
 
 NO_EXEC, NO_AUX, NEITHER = {"exec": 0}, {"aux": 0}, {"exec": 0, "aux": 0}
@@ -49,11 +50,26 @@ VERDICTS_ONE = (
     ({"requests": []}, {}, "no-challenge"),
 )
 
+# How many requests there are, the reports, of which x answers none, their verdicts, and the number
+# of the first request that is not answered.
+NAMES = {"a": "accept", "c": "chal-differs", "n": "no-challenge"}
+ANSWERS = (
+    (3, "012", "aaa", None), (3, "01", "aa", 3), (3, "0", "a", 2), (3, "", "", 1),
+    (3, "x12", "caa", 1), (3, "0x2", "aca", 2), (3, "01x", "aac", 3), (3, "0x", "ac", 2),
+    (3, "12", "cc", 1), (2, "0x1", "acn", 2), (1, "012", "ann", None), (1, "", "", 1),
+    (0, "012", "nnn", None), (0, "", "", None),
+)
+
 
 def prints_verdicts(trial, text, *words):
     """A call that prints this text with verdicts, and ends as they say."""
     status, line = verifier_model.ending_of(text)
     trial.prints(text, *words, status=status, line=line)
+
+
+def with_all(words):
+    """The same call with `--all`."""
+    return words[0], ALL, *words[1:]
 
 
 def request_lines(trial, files):
@@ -78,11 +94,17 @@ def request_lines(trial, files):
 
 
 def verify(trial, files):
-    """The verdicts on one report, by each policy of the tables and by MACs of something else."""
+    """The verdicts on one report, by each policy of the tables and by MACs of something else. With
+    `--all` the one request of the policy is answered by an `accept`.
+    """
     def verdict(name, policy, report):
-        prints_verdicts(trial, f"verdict 1 {name}\n".encode(), *files.words_of_round(
+        text = f"verdict 1 {name}\n".encode()
+        unanswered = b"" if name in ("accept", "no-challenge") else b"unanswered 1\n"
+        words = files.words_of_round(
             "verify", policy=files.policy_with(**policy),
-            reports=files.add("reports-with", files.report_with(**report))))
+            reports=files.add("reports-with", files.report_with(**report)))
+        prints_verdicts(trial, text, *words)
+        prints_verdicts(trial, text + unanswered, *with_all(words))
 
     for policy, report, name in VERDICTS:
         verdict(name, policy, report)
@@ -115,6 +137,39 @@ def report_files(trial, files):
     trial.refuses(2, *files.words_of_round("verify")[:-1])
 
 
+def unanswered(trial, files):
+    """With `--all` the first request whose report is absent or not accepted, in both versions."""
+    challenges = [bytes([number]) * 32 for number in range(1, 4)]
+    for version in (1, 2):
+        reports = {str(number): files.report_with(version=version, challenge=challenge)
+                   for number, challenge in enumerate(challenges)}
+        reports["x"] = files.report_with(version=version, challenge=bytes(32))
+        for asked, given, verdicts, number in ANSWERS:
+            requests = [(challenge, files.report.count) for challenge in challenges[:asked]]
+            words = files.words_of_round(
+                "verify", policy=files.policy_with(version=version, requests=requests),
+                reports=files.add("reports-with", b"".join(reports[name] for name in given)))
+            text = b"".join(verifier_model.verdict_lines(NAMES[name] for name in verdicts))
+            prints_verdicts(trial, text, *words)
+            line = b"unanswered %d\n" % number if number else b""
+            prints_verdicts(trial, text + line, *with_all(words))
+
+
+def option_words(trial, files):
+    """`--all` stands in front of the other arguments, once, and behind no other command."""
+    for command in WITH_ALL:
+        words = files.words_of_round(command)
+        trial.refuses(2, *with_all(words)[:-1])
+        trial.refuses(2, *with_all(with_all(words)))
+        trial.refuses(2, *words, ALL)
+        trial.refuses(2, words[0], words[1], ALL, *words[2:])
+        for option in ("--al", "--all ", "--ALL", "-all", "all", ""):
+            trial.refuses(2, words[0], option, *words[1:])
+    for words in files.each_command():
+        if words[0] not in WITH_ALL:
+            trial.refuses(2, *with_all(words))
+
+
 def rounds(trial, files):
     """What the example's round prints, by its own policy and by those of the table; what it prints
     is a file of reports.
@@ -124,9 +179,17 @@ def rounds(trial, files):
     play = re.sub(rb"^verdict .*\n", b"", example.text, flags=re.M)
     for changes, _, _ in VERDICTS:
         name = files.policy_with(**changes)
-        text = verifier_model.round_text(play, example.value("image"),
-                                         READERS["policy"](read(name)), example.value("key"))
-        prints_verdicts(trial, text, *example.words("round", policy=name))
+        for option in ((), (ALL,)):
+            text = verifier_model.round_text(
+                play, example.value("image"), READERS["policy"](read(name)), example.value("key"),
+                bool(option))
+            prints_verdicts(trial, text, *example.words("round", *option, policy=name))
+    # (before its report, and a second request)
+    end = trial.expect(0, "", *example.words("round", steps="5"))
+    prints_verdicts(trial, end + b"unanswered 1\n", *example.words("round", ALL, steps="5"))
+    two = files.policy_with(requests=[*files.policy.requests, (bytes(32), 2)])
+    prints_verdicts(trial, example.text + b"unanswered 2\n",
+                    *example.words("round", ALL, policy=two))
     prints_verdicts(trial, b"verdict 1 accept\n",
                     *files.words_of_round("verify", reports=files.add("printed", example.text)))
     trial.refuses(2, *example.words("round")[:-1])

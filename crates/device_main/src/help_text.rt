@@ -6,8 +6,8 @@ usage: foldgneiss play IMAGE SCRIPT KEY STEPS
        foldgneiss wave IMAGE SCRIPT KEY STEPS
        foldgneiss list IMAGE
        foldgneiss request KEY CHAL COUNTER
-       foldgneiss verify IMAGE POLICY KEY REPORTS
-       foldgneiss round IMAGE SCRIPT KEY POLICY STEPS
+       foldgneiss verify [--all] IMAGE POLICY KEY REPORTS
+       foldgneiss round [--all] IMAGE SCRIPT KEY POLICY STEPS
        foldgneiss audit TRACE
        foldgneiss asm SOURCE
        foldgneiss work SEED
@@ -41,14 +41,15 @@ request Prints a request to attest, `request H64 N token H64`: the challenge
           foldgneiss request key.txt $(openssl rand -hex 32) 1
 
 verify  Prints `verdict I V` for each report line in REPORTS, the I-th of which
-        has to answer the I-th request of POLICY. Fewer reports than requests
-        are no fault: count the verdicts.
-          foldgneiss verify image.hex policy.txt key.txt reports.txt
+        has to answer the I-th request of POLICY. With `--all` each request has
+        to get an `accept`, else the last line is `unanswered N`, the first that
+        has none; without it fewer reports than requests are no fault.
+          foldgneiss verify --all image.hex policy.txt key.txt reports.txt
 
 round   Prints what play prints, and after each report its verdict by POLICY.
         After an `accept` where the device's own memory is not what was expected
         though the MACs agree, `collision HH.. HH..` with two inputs of one
-        SHA-256 digest.
+        SHA-256 digest. `--all` is as in verify.
           foldgneiss round image.hex script.txt key.txt policy.txt 5000
 
 audit   Prints `clean N` where each of the N lines of TRACE names the first rule
@@ -156,8 +157,8 @@ Faults (bad FILE: line L: K), the first of the first faulty file:
 
 Exit status, and the line on standard error:
   0   all of the text was printed
-  1   all of the text was printed, and a verdict in it is not `accept`, or
-      `audit` found an offence (rejected)
+  1   all of the text was printed, and a verdict in it is not `accept`, a
+      request is unanswered (`--all`), or `audit` found an offence (rejected)
   2   the arguments are no command, STEPS is no decimal in 1..10,000,000, SEED
       none in 0..4,294,967,295, COUNTER none in 1..4,294,967,295, CHAL is not 64
       hexadecimal digits, or an argument is not UTF-8 (words are no command)
