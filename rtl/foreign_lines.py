@@ -16,10 +16,13 @@ KINDS = [b"cpu"] * 5 + [b"boot", b"idle", b"irq", b"rom"]
 
 
 class Draw:
-    """One list; `steady` are lines whose bounds move only behind a write to META."""
+    """One list; `steady` are lines whose bounds move only behind a write to META, and `dma` is how
+    likely an access of the DMA is.
+    """
 
-    def __init__(self, seed, steady):
-        self.rng, self.steady, self.bounds = random.Random(seed), steady, BOUNDS[0]
+    def __init__(self, seed, steady, dma):
+        self.rng, self.steady, self.dma = random.Random(seed), steady, dma
+        self.bounds = BOUNDS[0]
 
     def place(self, even):
         draw = self.rng.random()
@@ -45,13 +48,17 @@ class Draw:
             self.bounds = [self.place(self.rng.random() < 0.6) for _ in range(4)]
 
     def line(self, last):
-        if last and moves_bounds(last) and self.rng.random() < 0.7 or not self.steady and self.rng.random() < 0.02:
+        if last and moves_bounds(last):
+            likely = 0.7
+        else:
+            likely = 0 if self.steady else 0.02
+        if self.rng.random() < likely:
             self.move_bounds()
         kind, pc = self.rng.choice(KINDS), self.place(self.rng.random() < 0.9)
         if self.rng.random() < 0.5:
             first, end = self.bounds[:2]
             pc = self.rng.choice((first, first, first + 2, end, end, end + 2)) & 0xFFFF
-        cpu, dma = self.access(0.8), self.access(0.1)
+        cpu, dma = self.access(0.8), self.access(self.dma)
         if kind == b"cpu" and self.rng.random() < 0.6:
             cpu = Access(b"f", pc & 0xFFFE, None)
         word = self.rng.choice((0x4303, 0x4303, 0x1300, self.rng.randrange(0x2400)))
@@ -60,9 +67,9 @@ class Draw:
                          int(self.rng.random() < 0.02), word, value, 0, self.bounds, 0, b"-")
 
 
-def foreign_trace(seed, steady, lines=1000):
+def foreign_trace(seed, steady, lines=1000, dma=0.1):
     """Its lines name neither rules nor flags yet."""
-    draw, trace = Draw(seed, steady), []
+    draw, trace = Draw(seed, steady, dma), []
     for _ in range(lines):
         trace.append(draw.line(trace[-1] if trace else None))
     return trace

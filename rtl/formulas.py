@@ -304,7 +304,8 @@ def named_formulas():
             for paper, rows in PAPERS.items() for row in rows if row.text}
 
 
-SVA_HEAD = """// The formulas of VRASED, APEX and ASAP over the wires of README.md, one clock a step. Made by
+SVA_HEAD = """\
+// The formulas of VRASED, APEX and ASAP over the wires of README.md, one clock a step. Made by
 // rtl/formulas.py; docs/audit.md has them as the papers write them. A formula that speaks of the
 // next step is asserted in that one, over the values before it.
 module formulas
@@ -342,7 +343,8 @@ def sva():
         for name, formula in named_formulas().items()) + "endmodule\n"
 
 
-SMV_HEAD = """-- The formulas of VRASED, APEX and ASAP over the wires of README.md, one moment a step. Made by
+SMV_HEAD = """\
+-- The formulas of VRASED, APEX and ASAP over the wires of README.md, one moment a step. Made by
 -- rtl/formulas.py; docs/audit.md has them as the papers write them. Bits are booleans, and words
 -- are of the type unsigned word[16].
 MODULE formulas(

@@ -6,7 +6,6 @@ writes the page of them, for reviewers; python3 rtl/mutants.py --search asks the
 mutant whether a shorter trace shows it.
 """
 import os
-import subprocess
 import sys
 import tempfile
 from concurrent.futures import ThreadPoolExecutor
@@ -16,7 +15,7 @@ sys.dont_write_bytecode = True
 sys.path.insert(0, os.path.join(os.path.dirname(os.path.realpath(__file__)), "../tools"))
 from file_readers import read_trace  # noqa: E402
 from proofs import COUNTEREXAMPLE, EQUAL, MODULE, WHOLE, Proofs, Run  # noqa: E402
-from replay import FOLDER, Compiled, wanted  # noqa: E402
+from replay import Compiled, wanted  # noqa: E402
 
 QUIET = "c040 c048 0300 0310"
 
@@ -107,16 +106,16 @@ MUTANTS = (
            SLEEP),
     Mutant("a handler may lie outside ER", "clears | f4 | f10", "clears | f10", "F4",
            (ENTERED, fetch("c042", K="irq", C="rfff2", V="c000"))),
-    Mutant("the DMA may write the vectors", "f10 = Wen & `IN_IVT(Daddr) | DMAwen & `IN_IVT(DMAaddr)",
-           "f10 = Wen & `IN_IVT(Daddr)", "F10",
+    Mutant("the DMA may write the vectors", "`IN_IVT(Daddr) | DMAwen & `IN_IVT(DMAaddr)",
+           "`IN_IVT(Daddr)", "F10",
            (RUN, fetch("c000", WORD, D="wfff2=0000"))),
     Mutant("a run starts with any bounds", "start = opcode & at_first & valid",
            "start = opcode & at_first", "start", (fetch("c040", "c040 c03e 0300 0310"),)),
     Mutant("a start sets a flag that its own step clears", "(start | state != NOT_SET) & ~clears",
            "(start | state != NOT_SET & ~clears)", "E9, F9", (fetch("c040", X="1"),)),
-    Mutant("to the DMA ER ends with the first byte of ERmax", "dma_er = `IN(DMAaddr, ERmin, ERmax | 16'h0001)",
-           "dma_er = `IN(DMAaddr, ERmin, ERmax)", "E6, F6",
-           (RUN, fetch("c000", WORD, D="bc041"))),
+    Mutant("to the DMA ER ends with the first byte of ERmax",
+           "dma_er = `IN(DMAaddr, ERmin, ERmax | 16'h0001)",
+           "dma_er = `IN(DMAaddr, ERmin, ERmax)", "E6, F6", (RUN, fetch("c000", WORD, D="bc041"))),
     Mutant("a sleep at ERmin starts a run", "start = opcode & at_first & valid",
            "start = at_first & valid", "start", (fetch("c040", K="idle", C="-"),)),
 )
@@ -202,7 +201,8 @@ def page(found):
     for number, mutant in enumerate(MUTANTS, 1):
         if mutant.trace:
             said, right = found[mutant]
-            rows.append(f"| {number} | {mutant.what} | {said[-1]} | {right[-1]} | {mutant.breaks} |")
+            rows.append(
+                f"| {number} | {mutant.what} | {said[-1]} | {right[-1]} | {mutant.breaks} |")
             traces.append(f"{number}: {mutant.what}\n\n" + "".join(
                 f"    {line}\n" for line in text_of(mutant, said).splitlines()))
         else:

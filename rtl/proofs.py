@@ -6,7 +6,7 @@ import subprocess
 from concurrent.futures import ThreadPoolExecutor
 from typing import Dict, NamedTuple, Tuple
 
-from formulas import PREMISES, claims_of_each, property_text, refuted
+from formulas import claims_of_each, property_text, refuted
 from reference_module import FLAGS, Step, verilog
 
 FOLDER = os.path.dirname(os.path.realpath(__file__))
@@ -21,7 +21,7 @@ async2sync
 dffunmap
 opt -full
 """
-SAT = "sat -set-assumes -tempinduct -seq 1 -maxsteps 4 -timeout 300"
+SAT = "sat -set-assumes -tempinduct -maxsteps 4 -timeout 300"
 COUNTEREXAMPLE = f"{SAT} -tempinduct-baseonly -show-inputs"
 WHOLE = f"{SAT} -prove-asserts"
 

@@ -119,7 +119,8 @@ class Step:
                     yield found[1] or found[2], called(function, *last, given[kind])
 
 
-HEAD = """// Made from the definitions in specs/ by rtl/reference_module.py. Of the lines before it knows:
+HEAD = """\
+// Made from the definitions in specs/ by rtl/reference_module.py. Of the lines before it knows:
 {registers}
 module reference
    (input wire clk, por, cpu_byte, dma_byte, irq, ext_reset,

@@ -76,12 +76,13 @@ def audited(trial, results, lists):
         trial.prints(b"clean %d\n" % len(trace), "audit", name)
 
 
-# Terms with their values, and terms that are refused: the language of the definitions is read as far
-# as those of rules and flags need it, and no further.
+# Terms with their values, and terms that are refused: the language of the definitions is read as
+# far as those of rules and flags need it.
 TERMS = {"1 + 2 * 3 == 7 && true": TRUE, "false || not false && false": FALSE,
          "let x : N = 2 in x + x == 4": TRUE, "if nat_lt 1 2 then false else true": FALSE,
          "(record { a = 3; b = 4 }).b == 0x4": TRUE, "9 / 2 * 2 == 8": TRUE, "9 % 4 == 1": TRUE,
-         "list_any (λ x. x == 2) (1 ∷ 2 ∷ [])": TRUE, "list_all is_some (Some 1 ∷ None ∷ [])": FALSE,
+         "list_any (λ x. x == 2) (1 ∷ 2 ∷ [])": TRUE,
+         "list_all is_some (Some 1 ∷ None ∷ [])": FALSE,
          "is_none (option_or None (Some 1))": FALSE, "2 ^ 3 - 1 == 7": TRUE,
          "list_any (λ x. x == 3) (map (λ x. x + 1) ((1 ∷ []) ++ (2 ∷ [])))": TRUE}
 REFUSED = {"x": NameError, "1 ? 2": SyntaxError, "if true then 1": SyntaxError,
@@ -123,7 +124,7 @@ def told_texts(trial):
     for name, text in {"formulas.sv": formulas.sva(), "formulas.smv": formulas.smv()}.items():
         if read(f"{FOLDER}/{name}").decode() != text:
             trial.fault(f"rtl/{name} is not as rtl/formulas.py writes it")
-    for fault in formula_readings.differences(foreign_trace(1, False, 700), 1):
+    for fault in formula_readings.differences(foreign_trace(1, False, 800, 0.5), 1):
         trial.fault(fault)
 
 
