@@ -4,7 +4,7 @@ use Rattle.std.specs.Prelude.{IsErrAnd}
 use Rattle.bus_signals.specs.Address.{Bytes}
 use Rattle.bus_signals.specs.TraceFlag.{Flag}
 use Rattle.hmac_core.specs.Hash.{Hash}
-use Rattle.outside_edge.specs.Sink.{Puts}
+use Rattle.outside_edge.specs.Sink.{Puts, Takes}
 use Rattle.hex_loader.specs.HexText.{hex_text}
 use Rattle.device_trace.specs.Play.{Play}
 use Rattle.device_trace.specs.Start.{Start}
@@ -27,7 +27,7 @@ use Rattle.device_cli.specs.JudgedPlay.{judge_account}
 use Rattle.device_cli.specs.Play.{text_outcome}
 use Rattle.device_cli.specs.Round.{judged_outcome}
 use Rattle.device_cli.specs.RoundText.{round_text}
-use Rattle.device_cli.specs.Row.{DevicePlay, Outcome, ending_of, start_in}
+use Rattle.device_cli.specs.Row.{DevicePlay, Outcome, start_in}
 use Rattle.device_cli.specs.Told.{IsToldBy}
 use Rattle.device_cli.specs.Trace.{ReadsBack}
 use Rattle.device_cli.specs.Wave.{wave_text}
@@ -149,12 +149,11 @@ stopped-puts stands faults account old new outcome device_play fault (Err error)
     rw is (stopped stands faults account old new outcome device_play fault told watched counts)
 
 -- and where the play was made to its end
-pub made-puts : {D G T S : Type 0} {hash : Hash D} {flag : Flag G} (stands : S → Bytes → Type 0)
-    (faults : S → ℕ) (account : Account T) (old new : S) (outcome : Outcome)
-    (device_play : DevicePlay) (end : Live D G × T) (ending : Ending)
-    → ending ≡ ending_of outcome.is_accepted
+pub made-text : {D G T S : Type 0} {hash : Hash D} {flag : Flag G} (stands : S → Bytes → Type 0)
+    (account : Account T) (old new : S) (outcome : Outcome) (device_play : DevicePlay)
+    (end : Live D G × T)
     → IsToldBy account (λ outcome. Unit {0}) outcome device_play
     → IsWatched hash flag stands account old new (start_in device_play) device_play.play (Ok end)
-    → PutsOutcome stands faults old new outcome (Ok ending)
-made-puts stands faults account old new outcome device_play end ending ends told watched =
-    (ends, rw told.same_text watched.puts.all)
+    → Takes stands old new outcome.text
+made-text stands account old new outcome device_play end told watched =
+    rw told.same_text watched.puts.all

@@ -10,7 +10,7 @@ use Rattle.report_verifier.specs.declared.decision.Decision.{Decision}
 use Rattle.device_cli.specs.Row.{Outcome, Row}
 use Rattle.device_cli.specs.Verdicts.{is_accept}
 
--- report i is there and accepted, from 0
+-- report i, from 0, is there and accepted
 abbrev pub is_answered : List Decision → ℕ → Bool
 is_answered decisions i = option_map_or is_accept (slice_get decisions i) false
 
@@ -32,7 +32,7 @@ abbrev pub unanswered_lines : Option ℕ → Bytes
 unanswered_lines None = []
 unanswered_lines (Some i) = unanswered_line i
 
--- what is put of verdicts, where this request is not answered, if there is one: its line is the last
+-- what is put of verdicts, where this request is not answered, if there is one: its line is last
 abbrev pub with_unanswered : Outcome → Option ℕ → Outcome
 with_unanswered outcome unanswered =
     record outcome {

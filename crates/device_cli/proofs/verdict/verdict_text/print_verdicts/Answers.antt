@@ -1,12 +1,12 @@
-use Rattle.std.proofs.Common.{◌∙◌, ◌+◌, ◌++◌, [], refl, sym, arith, append-nil}
+use Rattle.std.proofs.Common.{◌∙◌, ◌+◌, ◌++◌, [], refl, arith, append-nil, take}
 use Rattle.std.proofs.lemmas.Result.{err_from_is_err_and}
-use Rattle.std.proofs.Math.Bool.{and-true}
 use Rattle.outside_edge.proofs.SinkLemmas.{takes_both, prefix_after, prefix_of_more}
 use Rattle.report_verifier.specs.Judge.{judge_of}
 use Rattle.report_text.specs.VerdictLine.{verdict_line}
-use Rattle.device_cli.specs.Verdicts.{lines_from}
+use Rattle.device_cli.specs.Verdicts.{lines_from, verdicts}
 use Rattle.device_play.proofs.PutsLemmas.{takes-nothing}
-use Rattle.device_cli.proofs.Verdicts.{verdicts_ahead, ahead-next, ahead-end, lines-next, accept-next}
+use Rattle.device_cli.proofs.Tallies.{counts-more}
+use Rattle.device_cli.proofs.Verdicts.{verdicts_ahead, ahead-next, ahead-end, lines-next, verdicts-all, verdicts-taken}
 use Rattle.device_cli.proofs.verdict.verdict_text.print_verdicts.Goals as goal
 
 pub loop-i-init : goal.loop-i-init
@@ -73,4 +73,5 @@ returns-clause-puts g c =
 pub returns-clause-tally : goal.returns-clause-tally
 returns-clause-tally g c =
     let at = c.loop-i in
-    rw take_all at at.invariant.tally
+    rw (verdicts-all (judge_of g.D.Digest32.hash.digest_of c.args.verifier.now)
+    c.args.reports.now at.i (omega (arith, c.loop-i-test.false))) at at.invariant.tally
