@@ -40,12 +40,18 @@ class Desk:
         self.start(entries)
 
     def start(self, entries=()):
-        """Starts it anew, with what a memory has."""
+        """Starts it anew, with what a memory has. What is outstanding and what was answered last is
+        a key's own: under another key the count goes on, and no number up to the last is new.
+        """
         self.entries = [*entries]
         self.places = {entry.name: place for place, entry in enumerate(entries)}
         self.states = {name: State() for name in self.keys}
-        self.states.update((entry.name, entry.state) for entry in entries
-                           if entry.name in self.keys)
+        for name in {*self.places} & {*self.keys}:
+            last = self.entries[self.places[name]]
+            self.states[name] = last.state
+            if last.mark != key_mark(self.keys[name]):
+                said = last.state.said and b"stale"
+                self.states[name] = last.state._replace(outstanding=None, said=said)
 
     def note(self, name, state):
         self.states[name] = state

@@ -166,15 +166,27 @@ def desk_memory(trial, files):
 
 
 def desk_memory_keys(trial, files):
-    """A device's counter goes on under another key, and the old key is no other device's."""
+    """A device's counter goes on under another key, what was outstanding and answered does not, and
+    the old key is no other device's.
+    """
     runs, key, other = MemoryTrial(trial, files, "keys"), read(files.key), b"1" * 128 + b"\n"
     runs.serve(b"ask a 1\nask a 2\n")
     runs.start_with(files.add("keys-other", b"device a " + other + b"device b " + b"2" * 128))
-    runs.serve(b"ask a 2\nask a 3\nask b 1\n")
+    runs.serve(b"ask a 2\n")
+    runs.start_with(files["keys"])
+    runs.serve(b"ask a 2\n")
+    runs.start_with(files["keys-other"])
+    runs.serve(b"give a 3 " + files.desk_report(2) + b"give a 3\nask a 4\nask b 1\n")
     for number, text in ((1, b"device b " + key), (2, b"device a " + key + b"device c " + other)):
         runs.refuses(16, TAKEN.format(number), *runs.words(keys=files.add("keys-taken", text)))
     runs.start_with(files["keys"])
-    runs.serve(b"ask a 4\n")
+    runs.serve(b"ask a 4\nask a 5\ngive a 6 " + files.desk_report(4))
+
+    # (a report that was accepted is none under the key that came and went)
+    runs.start_with(files["keys-other"])
+    runs.serve(b"ask a 6\n")
+    runs.start_with(files["keys"])
+    runs.serve(b"give a 6\ngive a 7 " + files.desk_report(4))
 
 
 def desk_memory_states(trial, files):

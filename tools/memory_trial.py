@@ -76,10 +76,11 @@ class Memory:
         image, policy = example.value("image"), example.value("policy")
         keys = {b"pump_%d" % number: random_bytes(rng, 64) for number in range(devices)}
         self.model = desk_model.Desk(keys, image, Policy(2, policy.bounds, "exec", []))
-        files = [write(f"{folder}/keys", b"".join(
-            b"device %s %s\n" % (name, key.hex().encode()) for name, key in keys.items())),
-            example.file("image"),
-            write(f"{folder}/policy", verifier_model.policy_text(self.model.policy))]
+        self.keys = {name: [key] for name, key in keys.items()}  # all that each device had
+        self.renewed = None  # the device whose key was changed last
+        files = [f"{folder}/keys", example.file("image"),
+                 write(f"{folder}/policy", verifier_model.policy_text(self.model.policy))]
+        self.write_keys(files[0])
         self.words = ["desk", *files, self.path]
         self.ledger = Ledger(self.fault)
         self.lines, self.replies, self.kept = [], [], [()]
@@ -107,13 +108,32 @@ class Memory:
             elif os.path.exists(self.path + part):
                 os.remove(self.path + part)
 
+    # Keys.
+
+    def write_keys(self, name):
+        write(name, b"".join(b"device %s %s\n" % (device, key.hex().encode())
+                             for device, key in self.model.keys.items()))
+
+    def change_key(self):
+        """One device has another key, a new one or one that it had."""
+        name = self.rng.choice([*self.keys])
+        if self.rng.random() < 0.5:
+            self.keys[name].append(random_bytes(self.rng, 64))
+        self.model.keys[name] = self.rng.choice(self.keys[name])
+        self.write_keys(self.words[1])
+        self.model.start(self.model.entries)
+        self.renewed = name
+
     # Lines to a desk.
 
     def line(self):
         """One of a device, most often a new one."""
         name = self.rng.choice([*self.model.keys])
+        steps = (-1, 0, 1, 1, 1, 1, 1, 2)
+        if self.renewed and self.rng.random() < 0.3:
+            name, steps = self.renewed, (0, 0, 1)
         last = self.model.states[name].number
-        number = max(1, last + self.rng.choice((-1, 0, 1, 1, 1, 1, 1, 2)))
+        number = max(1, last + self.rng.choice(steps))
         if number > last:
             self.sent[name, number] = self.new_line(name, number)
         return self.sent.get((name, number)) or self.new_line(name, number)
@@ -127,11 +147,16 @@ class Memory:
         count = state.outstanding or 0
         if not count or chance < 0.6:
             count = rng.randint(1, state.count + 1)
-        report = report_on(model.keys[name], model.image, model.policy.bounds, count)
+        key = rng.choice(self.keys[name]) if rng.random() < 0.2 else model.keys[name]
+        report = report_on(key, model.image, model.policy.bounds, count)
         return b"give %s %d %s" % (name, number, report)
 
     def add_lines(self, count):
-        """Lines that a desk is given next, with the replies and what the memory has after each."""
+        """Lines that a desk is given next, with the replies and what the memory has after each. Now
+        and then a key is another before.
+        """
+        if self.rng.random() < 0.2:
+            self.change_key()
         self.lines, self.replies, self.kept = [], [], [tuple(self.model.entries)]
         for _ in range(count):
             line = self.line()

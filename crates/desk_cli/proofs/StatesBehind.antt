@@ -6,7 +6,7 @@ use Rattle.std.specs.Str.{bytes_eq}
 use Rattle.std.proofs.lemmas.Bool.{and_from, and_parts, cases_Bool, eqb-false, eqb-true}
 use Rattle.std.proofs.lemmas.Slice.Eq.{bytes_eq-Decides}
 use Rattle.desk_memory.specs.DeviceState.{new_device}
-use Rattle.desk_memory.specs.Entry.{Entry, is_renewed, owner_in, state_in, with_entry}
+use Rattle.desk_memory.specs.Entry.{Entry, is_replaced, owner_in, last_in, with_entry}
 use Rattle.desk_memory.specs.EntryPlace.{place_for}
 use Rattle.desk_memory.proofs.Places.{with_entry-push}
 use Rattle.verifier_desk.specs.KeyOwner.{IsFreeFor}
@@ -74,11 +74,11 @@ without-length [] = refl
 without-length (entry ∷ entries) = ap (λ (n : ℕ). suc n) (without-length entries)
 
 without-named : (entries : List Entry) (name : List ℕ)
-    → is_some (state_in (without_states entries) name) ≡ is_some (state_in entries name)
+    → is_some (last_in (without_states entries) name) ≡ is_some (last_in entries name)
 without-named [] name = refl
 without-named (entry ∷ later) name =
     let more = without-named later name in
-    elim (cases_Bool (is_some (state_in later name))) [
+    elim (cases_Bool (is_some (last_in later name))) [
       | inl named ↦ rw (more, named, more, named) refl
       | inr unnamed ↦ elim (cases_Bool (bytes_eq entry.name name)) [
         | inl hit ↦ rw (more, unnamed, hit) refl
@@ -117,11 +117,11 @@ without-stand before (entry ∷ entries) =
     ) refl
 
 -- an entry that is renewed keeps its name and its mark
-renewed-same : (first entry : Entry) (later : List Entry) → is_renewed first later entry ≡ true
+replaced-same : (first entry : Entry) (later : List Entry) → is_replaced first later entry ≡ true
     → without_state entry ≡ without_state first
-renewed-same first entry later is =
+replaced-same first entry later is =
     let all = and_parts (bytes_eq first.name entry.name && bytes_eq first.mark entry.mark)
-    (not (is_some (state_in later entry.name))) is in
+    (not (is_some (last_in later entry.name))) is in
     let parts = and_parts (bytes_eq first.name entry.name) (bytes_eq first.mark entry.mark) all.0 in
     rw (
       (bytes_eq-Decides first.name entry.name).0 parts.0,
@@ -133,9 +133,9 @@ renewed-all : (entries : List Entry) (entry : Entry)
     → without_states (with_entry entries entry) ≡ without_states entries
 renewed-all [] entry before = absurd (before refl)
 renewed-all (first ∷ later) entry before =
-    elim (cases_Bool (is_renewed first later entry)) [
+    elim (cases_Bool (is_replaced first later entry)) [
       | inl same ↦ rw same (ap (λ (one : Entry). one ∷ without_states later)
-          (renewed-same first entry later same))
+          (replaced-same first entry later same))
       | inr other ↦ rw other (ap (λ (all : List Entry). without_state first ∷ all)
           (renewed-all later entry
           (λ all. rw other at before (ap (λ (n : ℕ). suc n) all))))

@@ -1,7 +1,7 @@
 -- Entries as desks note them can be written, and each goes behind those before it.
 use Rattle.std.proofs.Common.{◌≡◌, true, List, [], ◌∷◌, inl, inr}
 use Rattle.std.proofs.lemmas.Bool.{cases_Bool}
-use Rattle.desk_memory.specs.Entry.{Entry, is_renewed, with_entry}
+use Rattle.desk_memory.specs.Entry.{Entry, is_replaced, with_entry}
 use Rattle.desk_cli.specs.ReadBack.{AreNotable, IsWritable}
 use Rattle.desk_cli.specs.StateFile.{entries_with}
 use Rattle.desk_cli.proofs.StatesBehind.{noted-behind, stand_behind}
@@ -14,7 +14,7 @@ noted-writable : (had : List Entry) (entry : Entry) → AreWritable had → IsWr
     → AreWritable (with_entry had entry)
 noted-writable [] entry writable new = (new, tt)
 noted-writable (first ∷ later) entry writable new =
-    elim (cases_Bool (is_renewed first later entry)) [
+    elim (cases_Bool (is_replaced first later entry)) [
       | inl same ↦ rw same (new, writable.1)
       | inr other ↦ rw other (writable.0, noted-writable later entry writable.1 new)
     ]

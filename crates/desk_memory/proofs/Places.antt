@@ -3,19 +3,19 @@ use Rattle.std.proofs.Common.{◌≡◌, ◌∙◌, ◌≤◌, ◌<◌, ◌+◌,
 use Rattle.std.specs.Option.{is_some}
 use Rattle.std.proofs.lemmas.Bool.{cases_Bool}
 use Rattle.std.specs.Str.{bytes_eq}
-use Rattle.desk_memory.specs.Entry.{Entry, is_renewed, state_in, with_entry}
+use Rattle.desk_memory.specs.Entry.{Entry, is_replaced, last_in, with_entry}
 use Rattle.desk_memory.specs.EntryPlace.{place_for}
 
 -- the place that is known from the entries so far, unless the rest has a later one
 abbrev pub place_from : ℕ → ℕ → List Entry → Entry → ℕ
 place_from place index rest new =
-    if is_some (state_in rest new.name) then index + place_for rest new else place
+    if is_some (last_in rest new.name) then index + place_for rest new else place
 
 -- a device without an entry gets one behind all
 place_for-unnamed : (entries : List Entry) (new : Entry)
-    → is_some (state_in entries new.name) ≡ false → place_for entries new ≡ length entries
+    → is_some (last_in entries new.name) ≡ false → place_for entries new ≡ length entries
 place_for-unnamed [] new none = refl
-place_for-unnamed (entry ∷ later) new none = elim (cases_Bool (is_some (state_in later new.name))) [
+place_for-unnamed (entry ∷ later) new none = elim (cases_Bool (is_some (last_in later new.name))) [
   | inl named ↦ absurd (let known = rw named at none in cc)
   | inr unnamed ↦ elim (cases_Bool (bytes_eq entry.name new.name)) [
     | inl hit ↦ absurd (let known = rw (unnamed, hit) at none in cc)
@@ -25,7 +25,7 @@ place_for-unnamed (entry ∷ later) new none = elim (cases_Bool (is_some (state_
 
 pub place_from-start : (entries : List Entry) (new : Entry)
     → place_for entries new ≡ place_from (length entries) 0 entries new
-place_from-start entries new = elim (cases_Bool (is_some (state_in entries new.name))) [
+place_from-start entries new = elim (cases_Bool (is_some (last_in entries new.name))) [
   | inl named ↦ rw named (omega arith)
   | inr unnamed ↦ rw unnamed (place_for-unnamed entries new unnamed)
 ]
@@ -53,7 +53,7 @@ place_from-step : (place index all : ℕ) (entry : Entry) (later : List Entry) (
     → place_from place index (entry ∷ later) new
     ≡ place_from (place_past place index all entry new) (index + 1) later new
 place_from-step place index all entry later new whole =
-    elim (cases_Bool (is_some (state_in later new.name))) [
+    elim (cases_Bool (is_some (last_in later new.name))) [
       | inl named ↦ elim (cases_Bool (bytes_eq entry.name new.name)) [
         | inl hit ↦ elim (cases_Bool (bytes_eq entry.mark new.mark)) [
           | inl same ↦ rw (named, hit, same, named) (omega arith)
@@ -90,7 +90,7 @@ place_from-next entries place index next entry new within is past =
 
 pub place_for-within : (entries : List Entry) (new : Entry) → place_for entries new ≤ length entries
 place_for-within [] new = omega arith
-place_for-within (entry ∷ later) new = elim (cases_Bool (is_renewed entry later new)) [
+place_for-within (entry ∷ later) new = elim (cases_Bool (is_replaced entry later new)) [
   | inl same ↦ rw same (omega arith)
   | inr other ↦ let within = place_for-within later new in rw other (omega (arith, within))
 ]
@@ -102,12 +102,12 @@ pub with_entry-set : (entries : List Entry) (place : ℕ) (new : Entry)
     → slice_set entries place new ≡ with_entry entries new
 with_entry-set [] place new here within = absurd (omega (arith, within))
 with_entry-set (entry ∷ later) zero new here within =
-    elim (cases_Bool (is_renewed entry later new)) [
+    elim (cases_Bool (is_replaced entry later new)) [
       | inl same ↦ rw same refl
       | inr other ↦ absurd (let known = rw other at here in cc)
     ]
 with_entry-set (entry ∷ later) (suc place) new here within =
-    elim (cases_Bool (is_renewed entry later new)) [
+    elim (cases_Bool (is_replaced entry later new)) [
       | inl same ↦ absurd (let known = rw same at here in cc)
       | inr other ↦
           let known : place ≡ place_for later new = omega (arith, rw other at here) in
@@ -118,7 +118,7 @@ with_entry-set (entry ∷ later) (suc place) new here within =
 pub with_entry-push : (entries : List Entry) (new : Entry) → length entries ≤ place_for entries new
     → entries ++ new ∷ [] ≡ with_entry entries new
 with_entry-push [] new here = refl
-with_entry-push (entry ∷ later) new here = elim (cases_Bool (is_renewed entry later new)) [
+with_entry-push (entry ∷ later) new here = elim (cases_Bool (is_replaced entry later new)) [
   | inl same ↦ absurd (let known = rw same at here in omega (arith, known))
   | inr other ↦
       let known : length later ≤ place_for later new = omega (arith, rw other at here) in

@@ -1,5 +1,5 @@
 -- What a desk knows of a device, and what an answer does to it.
-use Rattle.std.specs.Prelude.{ℕ, ◌==◌, Bool, if◌then◌else◌, nat_lt, Option, Some, None, unwrap_or}
+use Rattle.std.specs.Prelude.{ℕ, ◌==◌, Bool, if◌then◌else◌, nat_lt, Option, Some, None, option_map, unwrap_or}
 use Rattle.std.specs.Option.{is_none}
 use Rattle.report_verifier.specs.declared.decision.Decision.TheVariants.{Accept}
 use Rattle.desk_memory.specs.declared.answer.Answer.{Answer}
@@ -42,4 +42,14 @@ with_answer state number answer =
       count = count_after state.count answer;
       outstanding = outstanding_after state.outstanding answer;
       last = Some (number, answer);
+    }
+
+-- under another key: the device's count goes on, no request is outstanding, and a line of the last
+-- number is stale, as one of a smaller number is
+abbrev pub renewed : DeviceState → DeviceState
+renewed state =
+    record {
+      count = state.count;
+      outstanding = None;
+      last = option_map (λ (last : ℕ × Answer). (last.0, Stale)) state.last;
     }

@@ -1,14 +1,14 @@
 -- What an entry changes of what the entries say, and what it keeps.
 use Rattle.std.specs.Prelude.{◌≡◌, ◌⊎◌, ℕ, List, None, Some, if◌then◌else◌}
 use Rattle.std.specs.Str.{bytes_eq}
-use Rattle.desk_memory.specs.Entry.{Entry, owner_in, state_named, with_entry}
+use Rattle.desk_memory.specs.Entry.{Entry, last_in, owner_in, with_entry}
 
--- its device has its state, and each other device has the state that it had
-abbrev pub IsStateNoted : Type 0
-IsStateNoted =
+-- it is the last of its device, and each other device has the last that it had
+abbrev pub IsLastNoted : Type 0
+IsLastNoted =
     (entries : List Entry) (new : Entry) (other : List ℕ)
-    → state_named (with_entry entries new) other
-    ≡ (if bytes_eq new.name other then new.state else state_named entries other)
+    → last_in (with_entry entries new) other
+    ≡ (if bytes_eq new.name other then Some new else last_in entries other)
 
 -- a key goes on to stand under its name
 abbrev pub IsOwnerKept : Type 0

@@ -1,5 +1,5 @@
 ghost use Rattle.std.specs.Prelude.{◌≡◌};
-ghost use Rattle.desk_memory.specs.DeviceState.{new_device, earlier_answer, with_answer};
+ghost use Rattle.desk_memory.specs.DeviceState.{new_device, earlier_answer, renewed, with_answer};
 
 use crate::answer::Answer;
 use report_verifier::Decision;
@@ -50,5 +50,18 @@ impl DeviceState {
             _ => {}
         }
         self.last = Some((number, answer));
+    }
+    /// The state under another key.
+    pub fn renewed(&self) -> DeviceState
+        ensures { result ≡ renewed self.now }
+    {
+        DeviceState {
+            count: self.count,
+            outstanding: None,
+            last: match self.last {
+                Some((number, _)) => Some((number, Answer::Stale)),
+                None => None,
+            },
+        }
     }
 }

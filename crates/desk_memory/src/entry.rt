@@ -1,4 +1,5 @@
 ghost use Rattle.std.specs.Prelude.{◌≡◌, IfOk, IsTrue};
+ghost use Rattle.desk_memory.specs.Entry.{entry_state};
 ghost use Rattle.desk_memory.specs.SizedEntry.{is_sized};
 
 use crate::device_state::DeviceState;
@@ -61,5 +62,15 @@ impl Entry {
         ensures { result ≡ self.now.state }
     {
         self.state
+    }
+    /// The state of its device under a key of this mark.
+    pub fn state_under(&self, mark: &[u8; MARK]) -> DeviceState
+        ensures { result ≡ entry_state mark.now self.now }
+    {
+        if self.mark == *mark {
+            self.state
+        } else {
+            self.state.renewed()
+        }
     }
 }

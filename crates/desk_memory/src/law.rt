@@ -1,8 +1,8 @@
-ghost use Rattle.desk_memory.specs.Law.{IsOwnerKept, IsOwnerNoted, IsStateNoted};
+ghost use Rattle.desk_memory.specs.Law.{IsLastNoted, IsOwnerKept, IsOwnerNoted};
 
-/// An entry gives its device its state, and leaves that of each other device as it was.
-pub fn state_is_noted()
-    ensures { IsStateNoted }
+/// An entry is the last of its device, and leaves that of each other device as it was.
+pub fn entry_is_last()
+    ensures { IsLastNoted }
 {}
 
 /// No entry takes a key from the name that it stands under.

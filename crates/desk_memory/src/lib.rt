@@ -5,8 +5,9 @@
 //! settled. An [`EntryMemory`] tells its entries. [`NoMemory`] is that of a desk that is started
 //! once, [`MemMemory`] one for tests. An [`Entry`] has a device's name, the mark of the key that it
 //! was served under, and its state; [`state_of`] and [`owner_of`] look through entries, and
-//! [`place_for`] says where one more goes. The laws say that it changes the state of its device
-//! alone, and takes no key from a name.
+//! [`place_for`] says where one more goes. The laws say that it changes the last entry of its device
+//! alone, and takes no key from a name. What is outstanding and what was answered last is a key's
+//! own: under another key the state is renewed.
 #![tactic(auto)]
 
 mod answer;
@@ -32,7 +33,7 @@ pub use entry_memory::EntryMemory;
 pub use entry_place::{place_for, set_entry};
 pub use key_mark::{MARK, mark_of};
 pub use key_owner::owner_of;
-pub use law::{owner_is_kept, owner_is_noted, state_is_noted};
+pub use law::{entry_is_last, owner_is_kept, owner_is_noted};
 pub use mem_memory::MemMemory;
 pub use memory::Memory;
 pub use memory_fault::MemoryFault;

@@ -1,17 +1,18 @@
 ghost use Rattle.std.specs.Prelude.{◌≡◌};
-ghost use Rattle.desk_memory.specs.Entry.{state_named};
+ghost use Rattle.desk_memory.specs.Entry.{last_in, state_under};
 
 use crate::device_state::DeviceState;
 use crate::entry::Entry;
+use crate::key_mark::MARK;
 
-/// The state of the device of a name, as these entries have it.
-pub fn state_of(entries: &[Entry], name: &[u8]) -> DeviceState
-    ensures { result ≡ state_named entries.now name.now }
+/// The state of the device of a name under a key of this mark, as these entries have it.
+pub fn state_of(entries: &[Entry], name: &[u8], mark: &[u8; MARK]) -> DeviceState
+    ensures { result ≡ state_under mark.now (last_in entries.now name.now) }
 {
     let mut state = DeviceState::new();
     for entry in entries {
         if entry.name() == name {
-            state = entry.state();
+            state = entry.state_under(mark);
         }
     }
     state

@@ -9,7 +9,7 @@ use Rattle.sqlite_value.specs.Order.{Row, value_cmp}
 use Rattle.sqlite_value.proofs.OrderLemmas.{value_cmp-Int}
 use Rattle.sqlite_trees.specs.Tree.{Trees, put_row}
 use Rattle.desk_memory.specs.declared.answer.Answer.{Answer}
-use Rattle.desk_memory.specs.Entry.{Entry, is_renewed, with_entry}
+use Rattle.desk_memory.specs.Entry.{Entry, is_replaced, with_entry}
 use Rattle.desk_memory.specs.EntryPlace.{place_for}
 use Rattle.desk_memory.specs.SizedEntry.{are_sized, is_short, is_short_answer, is_short_line, is_short_number, is_sized}
 use Rattle.state_table.specs.Opening.{IsForeign}
@@ -30,7 +30,7 @@ same p = value_cmp-Int (pos p) (pos p) ∙ sym (int_cmp_is (pos p) (pos p) Equal
 put_at : (p q : ℕ) (entries : List Entry) (new : Entry) → q ≡ p + place_for entries new
     → put_row (row_of q new) (rows_from p entries) ≡ rows_from p (with_entry entries new)
 put_at p q [] new here = ap (λ n. row_of n new ∷ []) (omega (arith, here))
-put_at p q (entry ∷ later) new here = elim (cases_Bool (is_renewed entry later new)) [
+put_at p q (entry ∷ later) new here = elim (cases_Bool (is_replaced entry later new)) [
   | inl is ↦
       let place : q ≡ p = omega (arith, rw is at here) in
       rw (is, place, same p) refl
@@ -143,7 +143,7 @@ pub are_sized-with_entry : (entries : List Entry) (new : Entry) → are_sized en
 are_sized-with_entry [] new sized is = rw is refl
 are_sized-with_entry (entry ∷ later) new sized is =
     let each = and_parts (is_sized entry) (are_sized later) sized in
-    elim (cases_Bool (is_renewed entry later new)) [
+    elim (cases_Bool (is_replaced entry later new)) [
       | inl here ↦ rw (here, is) each.1
       | inr other ↦ rw (other, each.0) (are_sized-with_entry later new each.1 is)
     ]

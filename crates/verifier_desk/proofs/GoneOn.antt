@@ -6,14 +6,13 @@ use Rattle.report_verifier.specs.Judge.{Judge}
 use Rattle.desk_memory.specs.declared.device_state.DeviceState.{DeviceState}
 use Rattle.desk_memory.specs.DeviceState.{is_new}
 use Rattle.desk_memory.specs.Entry.{Entry}
-use Rattle.desk_memory.specs.KeyMark.{key_mark}
 use Rattle.verifier_desk.specs.DeskLine.{DeskLine, TooLong, Silent, Foreign, Own, desk_line_of}
 use Rattle.verifier_desk.specs.DeviceKey.{DeviceKey, key_named}
 use Rattle.verifier_desk.specs.DeviceLine.{DeviceLine}
 use Rattle.verifier_desk.specs.DeviceReply.{answer_after, state_after, state_from}
 use Rattle.verifier_desk.specs.Law.{IsGoneOn, started_after}
 use Rattle.verifier_desk.specs.Noted.{entries_after, noted_of, with_noted}
-use Rattle.verifier_desk.specs.Replies.{DeskFields, answer_line, judge_at, lines_said, own_line, own_lines, replies, reply, reply_to, state_at}
+use Rattle.verifier_desk.specs.Replies.{DeskFields, answer_line, judge_at, lines_said, mark_at, own_line, own_lines, replies, reply, reply_to, state_at}
 use Rattle.verifier_desk.proofs.Remembered.{IsKnown, device_remembered, line_known}
 
 own_lines-append : (devices : List DeviceKey) (name : List ℕ) (later earlier : List (List ℕ))
@@ -69,7 +68,7 @@ noted_goes_on desk earlier later (Own device line) known =
     ap (λ (state : DeviceState). if is_new line.number state.last
     then Some (record {
       name = device.name;
-      mark = key_mark desk.digest device.key;
+      mark = mark_at desk device;
       state = state_after (judge_at desk device) state line;
     })
     else None)

@@ -1,28 +1,38 @@
 -- Under which name each key stands after a desk's lines.
-use Rattle.std.proofs.Common.{◌≡◌, ◌∙◌, ◌<◌, ℕ, Bool, true, false, List, [], ◌∷◌, ◌&&◌, Option, Some, None, length, refl, ap, sym, subst, ⊎_elim, ◌⊎◌, inl, inr, arith}
+use Rattle.std.proofs.Common.{◌≡◌, ◌∙◌, ◌<◌, ℕ, Bool, true, false, List, [], ◌∷◌, ◌++◌, ◌&&◌, Option, Some, None, length, refl, ap, sym, subst, ⊎_elim, ◌⊎◌, inl, inr, arith}
 use Rattle.std.specs.Prelude.{if◌then◌else◌, nat_lt, not, slice_index_or}
 use Rattle.std.specs.Option.{is_some}
 use Rattle.std.specs.Str.{bytes_eq}
 use Rattle.std.proofs.lemmas.Bool.{cases_Bool}
 use Rattle.std.proofs.lemmas.Bool.Decides.{nat_tests}
+use Rattle.std.proofs.lemmas.Slice.Eq.{bytes_eq-Decides}
+use Rattle.desk_memory.specs.declared.answer.Answer.TheVariants.{Stale}
 use Rattle.desk_memory.specs.declared.device_state.DeviceState.{DeviceState}
 use Rattle.desk_memory.specs.DeviceState.{is_new}
-use Rattle.desk_memory.specs.Entry.{Entry, is_renewed, owner_in, state_in, state_named, with_entry}
+use Rattle.desk_memory.specs.Entry.{Entry, is_replaced, last_in, owner_in, with_entry}
 use Rattle.desk_memory.specs.KeyMark.{key_mark}
 use Rattle.desk_memory.proofs.Noted.{owner_is_kept, owner_is_noted}
 use Rattle.verifier_desk.specs.DeskLine.{DeskLine, TooLong, Silent, Foreign, Own, desk_line_of}
 use Rattle.verifier_desk.specs.DeviceKey.{DeviceKey, key_named}
 use Rattle.verifier_desk.specs.DeviceLine.{DeviceLine}
-use Rattle.verifier_desk.specs.KeyOwner.{HasDevice, IsFreeFor, IsKeyKept, IsServedIn, IsServedThrough, IsUnderOneName, KeysAreKept, KeysStandApart, KeysStandApartIn}
+use Rattle.verifier_desk.specs.DeviceReply.{answer_after}
+use Rattle.verifier_desk.specs.Judged.{JudgedLine, answer_to, entry_after}
+use Rattle.verifier_desk.specs.KeyOwner.{IsFreeFor, IsKeyBound, IsKeyKept, IsServedIn, IsServedThrough, IsUnderOneName, KeysAreKept, KeysStandApart, KeysStandApartIn}
+use Rattle.verifier_desk.specs.Law.{started_after}
 use Rattle.verifier_desk.specs.Noted.{entries_after, entry_at, noted_of, with_noted}
-use Rattle.verifier_desk.specs.Replies.{DeskFields, lines_said, state_at}
+use Rattle.verifier_desk.specs.Replies.{DeskFields, judge_at, lines_said, mark_at, own_answer, own_line, state_at}
 use Rattle.verifier_desk.specs.Run.{AreStarted, Run, entries_through}
+use Rattle.verifier_desk.proofs.GoneOn.{desk_goes_on}
 use Rattle.verifier_desk.proofs.KeyPlaces.{IsPlaceOf, place_named, placed, same_name}
-use Rattle.verifier_desk.proofs.Remembered.{IsKnown, entry_elsewhere, line_known}
+use Rattle.verifier_desk.proofs.Remembered.{IsKnown, entry_known, line_known, memory_has_states, own_known_entry, state_known}
+use Rattle.verifier_desk.proofs.Repeated.{HasAnswer, has_answer}
 use Rattle.verifier_desk.proofs.Standing.{same_device}
 
 same_some : (one two : List ℕ) → Some one ≡ Some two → one ≡ two
 same_some one two same = cc same
+
+some_entry : (one two : Entry) → Some one ≡ Some two → one ≡ two
+some_entry one two same = cc same
 
 second : (a b c : Bool) → (a && b && c) ≡ true → b ≡ true
 second true true c all = refl
@@ -34,11 +44,11 @@ owner_elsewhere : (entries : List Entry) (new : Entry) (mark : List ℕ)
     → bytes_eq new.mark mark ≡ false
     → owner_in (with_entry entries new) mark ≡ owner_in entries mark
 owner_elsewhere [] new mark other = rw other refl
-owner_elsewhere (entry ∷ later) new mark other = elim (cases_Bool (is_renewed entry later new)) [
+owner_elsewhere (entry ∷ later) new mark other = elim (cases_Bool (is_replaced entry later new)) [
   | inl same ↦
       let marked : entry.mark ≡ new.mark =
       same_name entry.mark new.mark (second (bytes_eq entry.name new.name)
-      (bytes_eq entry.mark new.mark) (not (is_some (state_in later new.name))) same) in
+      (bytes_eq entry.mark new.mark) (not (is_some (last_in later new.name))) same) in
       rw (same, marked, other) refl
   | inr more ↦ elim (cases_Bool (bytes_eq entry.mark mark)) [
     | inl hit ↦ rw (more, hit) refl
@@ -141,30 +151,14 @@ apart_noted digest devices entries device state at so = λ i below.
     }
 
 entry_kept : (desk : DeskFields) (entries : List Entry) (device : DeviceKey) (state : DeviceState)
-    → HasDevice desk device → KeysAreKept desk entries
+    → key_named device.name desk.devices ≡ Some device.key → KeysAreKept desk entries
     → KeysAreKept desk (with_entry entries (entry_of desk.digest device state))
 entry_kept desk entries device state has so =
-    let at : StandsAt desk.devices device = stands_at desk.devices device has in
-    let entry : Entry = entry_of desk.digest device state in
     record {
-      apart = apart_noted desk.digest desk.devices entries device state at so.apart;
-      kept = λ mark name owns. owner_is_kept entries entry mark name (so.kept mark name owns);
-      owned = λ other known. ⊎_elim
-          (λ same.
-          let named : device.name ≡ other.name = same_name device.name other.name same in
-          let is : device ≡ other =
-          same_device device other.name other.key named
-          (same_some _ _ (sym has
-          ∙ ap (λ (name : List ℕ). key_named name desk.devices) named ∙ known)) in
-          inr (subst (λ (one : DeviceKey). owner_in (with_entry entries entry)
-          (key_mark desk.digest one.key) ≡ Some one.name) is
-          (owns_noted desk.digest desk.devices entries device state at so.apart)))
-          (λ differ. ⊎_elim
-          (λ still. inl (entry_elsewhere entries entry other.name differ ∙ still))
-          (λ owns. inr (owner_is_kept entries entry (key_mark desk.digest other.key) other.name
-          owns))
-          (so.owned other known))
-          (cases_Bool (bytes_eq device.name other.name));
+      apart = apart_noted desk.digest desk.devices entries device state
+          (stands_at desk.devices device has) so.apart;
+      kept = λ mark name owns. owner_is_kept entries (entry_of desk.digest device state) mark name
+          (so.kept mark name owns);
     }
 
 kept_if : (desk : DeskFields) (new : Bool) (entries : List Entry) (entry : Entry)
@@ -185,43 +179,116 @@ said_kept desk lines (Own device line) entries known so =
     (entry_kept desk entries device (state_at desk device (line ∷ lines device.name)) known so) so
 
 pub keys_are_kept : IsKeyKept
-keys_are_kept desk [] apart =
-    record {
-      apart = apart;
-      kept = λ mark name owns. owns;
-      owned = λ device known. inl refl;
-    }
+keys_are_kept desk [] apart = record { apart = apart; kept = λ mark name owns. owns }
 keys_are_kept desk (line ∷ earlier) apart =
     said_kept desk (lines_said desk earlier) (desk_line_of desk.devices line)
     (entries_after desk earlier) (line_known desk.devices line) (keys_are_kept desk earlier apart)
 
--- whoever was served in a run owns its key after it
+-- the mark of a device's last entry stands under a name
+last_owned : (entries : List Entry) (name : List ℕ) (last : Entry)
+    → last_in entries name ≡ Some last → owner_in entries last.mark ≡ None → ⊥
+last_owned [] name last is none = cc is
+last_owned (entry ∷ later) name last is none =
+    elim (cases_Bool (is_some (last_in later name))) [
+      | inl named ↦ elim (cases_Bool (bytes_eq entry.mark last.mark)) [
+        | inl hit ↦ let known = rw hit at none in cc known
+        | inr miss ↦ last_owned later name last (rw named at is) (rw miss at none)
+      ]
+      | inr unnamed ↦ elim (cases_Bool (bytes_eq entry.name name)) [
+        | inl hit ↦
+            let same : entry ≡ last = some_entry entry last (rw (unnamed, hit) at is) in
+            let mine : bytes_eq entry.mark last.mark ≡ true =
+            (bytes_eq-Decides entry.mark last.mark).1
+            (ap (λ (one : Entry). one.mark) same) in
+            let known = rw mine at none in cc known
+        | inr miss ↦ let known = rw (unnamed, miss) at is in cc known
+      ]
+    ]
+
+free_and_owned : (name : List ℕ) (owner : Option (List ℕ)) → IsFreeFor name owner
+    → (owner ≡ None → ⊥) → owner ≡ Some name
+free_and_owned name None free owned = absurd (owned refl)
+free_and_owned name (Some owner) free owned = ap (λ (one : List ℕ). Some one) free
+
+-- a line of a device that is answered, and not by `stale`, is its last entry's, under its key
+told_last : (desk : DeskFields) (earlier : List (List ℕ)) (line : List ℕ) (device : DeviceKey)
+    (own : DeviceLine)
+    → desk_line_of desk.devices line ≡ Own device own
+    → key_named device.name desk.devices ≡ Some device.key
+    → (own_answer desk (lines_said desk earlier device.name) device own ≡ Stale → ⊥)
+    → HasAnswer (last_in (entries_after desk (line ∷ earlier)) device.name)
+    (record { judge = judge_at desk device; line = own })
+    (own_answer desk (lines_said desk earlier device.name) device own)
+told_last desk earlier line device own said known told =
+    let lines : List DeviceLine = lines_said desk earlier device.name in
+    let before : Option Entry = entry_known desk device.name lines in
+    let now : JudgedLine = record { judge = judge_at desk device; line = own } in
+    let same : answer_to before now ≡ own_answer desk lines device own =
+    ap (λ (state : DeviceState). answer_after (judge_at desk device) state own)
+    (state_known desk device lines known) in
+    let own_first : own_line device.name (Own device own) ++ lines ≡ own ∷ lines =
+    rw ((bytes_eq-Decides device.name device.name).1 refl) refl in
+    let all : lines_said desk (line ∷ earlier) device.name ≡ own ∷ lines =
+    ap (λ (one : DeskLine). own_line device.name one ++ lines) said ∙ own_first in
+    let after : last_in (entries_after desk (line ∷ earlier)) device.name
+    ≡ entry_after device.name before now =
+    memory_has_states desk (line ∷ earlier) device.name
+    ∙ ap (entry_known desk device.name) all
+    ∙ own_known_entry desk device (own ∷ lines) known
+    ∙ ap (λ (entry : Option Entry). entry_after device.name entry now)
+    (sym (own_known_entry desk device lines known)) in
+    subst (λ (entry : Option Entry). HasAnswer entry now (own_answer desk lines device own))
+    (sym after)
+    (subst (HasAnswer (entry_after device.name before now) now) same
+    (has_answer device.name before now (λ stale. told (sym same ∙ stale))))
+
+pub told_key_is_bound : IsKeyBound
+told_key_is_bound desk earlier line device apart told =
+    let entries : List Entry = entries_after desk (line ∷ earlier) in
+    let known : key_named device.name desk.devices ≡ Some device.key =
+    subst (IsKnown desk.devices) told.said (line_known desk.devices line) in
+    let at : StandsAt desk.devices device = stands_at desk.devices device known in
+    let has = told_last desk earlier line device told.own told.said known told.told in
+    free_and_owned device.name (owner_in entries (mark_at desk device))
+    (subst (λ (one : DeviceKey). IsFreeFor one.name
+    (owner_in entries (key_mark desk.digest one.key)))
+    (at.is device)
+    (((keys_are_kept desk (line ∷ earlier) apart).apart at.place at.within).free device))
+    (λ none. last_owned entries device.name has.entry has.is
+    (ap (owner_in entries) has.marked ∙ none))
+
+-- and goes on to
 served_owns : (run : Run) (name mark : List ℕ)
     → KeysStandApart run.desk.digest run.desk.devices run.desk.entries
     → IsServedIn run name mark
     → owner_in (entries_after run.desk run.lines) mark ≡ Some name
 served_owns run name mark apart served =
-    ⊎_elim
-    (λ still. absurd (served.moved (subst (λ (one : List ℕ).
-    state_named (entries_after run.desk run.lines) one ≡ state_named run.desk.entries one)
-    served.named still)))
-    (λ owns. ap (owner_in (entries_after run.desk run.lines)) (sym served.marked) ∙ owns
-    ∙ ap (λ (one : List ℕ). Some one) served.named)
-    ((keys_are_kept run.desk run.lines apart).owned served.device served.has)
+    let so_far : List (List ℕ) = served.line ∷ served.earlier in
+    let bound : owner_in (entries_after run.desk so_far) mark ≡ Some name =
+    ap (owner_in (entries_after run.desk so_far)) (sym served.marked)
+    ∙ told_key_is_bound run.desk served.earlier served.line served.device apart served.told
+    ∙ ap (λ (one : List ℕ). Some one) served.named in
+    subst (λ (lines : List (List ℕ)). owner_in (entries_after run.desk lines) mark ≡ Some name)
+    (sym served.parts)
+    (ap (λ (entries : List Entry). owner_in entries mark)
+    ((desk_goes_on run.desk so_far served.later).1)
+    ∙ (keys_are_kept (started_after run.desk so_far) served.later
+    (keys_are_kept run.desk so_far apart).apart).kept mark name bound)
 
-owns_through : (runs : List Run) (name mark : List ℕ) → AreStarted runs → KeysStandApartIn runs
-    → IsServedThrough runs name mark → owner_in (entries_through runs) mark ≡ Some name
-owns_through [] name mark so apart served = absurd served
-owns_through (run ∷ earlier) name mark so apart served =
+owns_through : (start : List Entry) (runs : List Run) (name mark : List ℕ) → AreStarted start runs
+    → KeysStandApartIn runs
+    → IsServedThrough runs name mark → owner_in (entries_through start runs) mark ≡ Some name
+owns_through start [] name mark so apart served = absurd served
+owns_through start (run ∷ earlier) name mark so apart served =
     ⊎_elim
     (λ now. served_owns run name mark apart.0 now)
     (λ before. (keys_are_kept run.desk run.lines apart.0).kept mark name
     (ap (λ (entries : List Entry). owner_in entries mark) so.0
-    ∙ owns_through earlier name mark so.1 apart.1 before))
+    ∙ owns_through start earlier name mark so.1 apart.1 before))
     served
 
 pub key_is_under_one_name : IsUnderOneName
-key_is_under_one_name runs mark one other so apart served again =
+key_is_under_one_name start runs mark one other so apart served again =
     same_some one other
-    (sym (owns_through runs one mark so apart served)
-    ∙ owns_through runs other mark so apart again)
+    (sym (owns_through start runs one mark so apart served)
+    ∙ owns_through start runs other mark so apart again)

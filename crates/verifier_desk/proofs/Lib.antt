@@ -20,3 +20,4 @@ pub mod MoreLines
 pub mod SessionPiece
 pub mod SessionLast
 pub mod SessionSource
+pub mod KeyMessages

@@ -1,22 +1,26 @@
 -- The memory has the state of each device after its lines.
 use Rattle.std.proofs.Common.{◌≡◌, ◌∙◌, ℕ, Bool, true, false, List, [], ◌∷◌, Option, Some, None, Result, Ok, Err, refl, ap, sym, subst, ⊎_elim}
-use Rattle.std.specs.Prelude.{if◌then◌else◌, nat_lt, length}
+use Rattle.std.specs.Prelude.{if◌then◌else◌, nat_lt, length, IfSome}
 use Rattle.std.specs.Str.{bytes_eq}
 use Rattle.std.proofs.lemmas.Bool.{cases_Bool}
 use Rattle.std.proofs.lemmas.Slice.Eq.{bytes_eq-Decides}
+use Rattle.report_verifier.specs.Judge.{Judge}
 use Rattle.text_scan.specs.declared.fault_kind.FaultKind.{FaultKind}
 use Rattle.text_scan.specs.Decimal.{decimal_of}
 use Rattle.text_scan.specs.Word.{words_of}
 use Rattle.desk_memory.specs.declared.device_state.DeviceState.{DeviceState}
 use Rattle.desk_memory.specs.DeviceState.{is_new}
-use Rattle.desk_memory.specs.Entry.{Entry, state_named, with_entry}
-use Rattle.desk_memory.proofs.Noted.{state_is_noted}
+use Rattle.desk_memory.specs.Entry.{Entry, last_in, state_under, with_entry}
+use Rattle.desk_memory.specs.KeyMark.{key_mark}
+use Rattle.desk_memory.proofs.Noted.{entry_is_last}
 use Rattle.verifier_desk.specs.DeskLine.{DeskLine, TooLong, Silent, Foreign, Own, LONGEST_LINE, is_verb, own_or_foreign, desk_line_of_words, desk_line_of}
 use Rattle.verifier_desk.specs.DeviceKey.{DeviceKey, key_named}
 use Rattle.verifier_desk.specs.DeviceLine.{DeviceLine}
-use Rattle.verifier_desk.specs.Law.{IsRemembered, remembered}
+use Rattle.verifier_desk.specs.DeviceReply.{state_after, state_from}
+use Rattle.verifier_desk.specs.Judged.{entry_after, entry_through, judged_by}
+use Rattle.verifier_desk.specs.Law.{IsRemembered, judged_at}
 use Rattle.verifier_desk.specs.Noted.{entries_after, entry_at, noted_of, with_noted}
-use Rattle.verifier_desk.specs.Replies.{DeskFields, lines_said, state_at}
+use Rattle.verifier_desk.specs.Replies.{DeskFields, judge_at, lines_said, mark_at, state_at}
 use Rattle.verifier_desk.specs.Standing.{with_said}
 use Rattle.verifier_desk.proofs.KeyPlaces.{same_name}
 
@@ -49,112 +53,177 @@ line_known devices line =
     (λ short. rw short (words_known devices (words_of line)))
     (cases_Bool (nat_lt LONGEST_LINE (length line)))
 
--- the state of the device of a name after these lines of it
-abbrev state_known :
-    DeskFields → List ℕ → Option (List ℕ) → List DeviceLine → DeviceState
-state_known desk name None lines = state_named desk.entries name
-state_known desk name (Some key) lines = state_at desk (record { name = name; key = key }) lines
+-- the state under the key of an entry that was noted, or not
+state_noted : (new : Bool) (mark name : List ℕ) (entry : Option Entry) (state : DeviceState)
+    → state_under mark
+    (if new then Some (record { name = name; mark = mark; state = state }) else entry)
+    ≡ (if new then state else state_under mark entry)
+state_noted true mark name entry state = rw ((bytes_eq-Decides mark mark).1 refl) refl
+state_noted false mark name entry state = refl
+
+kept_if_old : (judge : Judge) (state : DeviceState) (line : DeviceLine)
+    → (if is_new line.number state.last then state_after judge state line else state)
+    ≡ state_after judge state line
+kept_if_old judge state line =
+    ⊎_elim
+    (λ new. rw new refl)
+    (λ old. rw old refl)
+    (cases_Bool (is_new line.number state.last))
+
+-- what a desk knows of a device by its last entry is what it knows after the lines themselves
+state_judged_one : (judge : Judge) (name : List ℕ) (entry : Option Entry) (line : DeviceLine)
+    → state_under (key_mark judge.digest judge.key)
+    (entry_after name entry (record { judge = judge; line = line }))
+    ≡ state_after judge (state_under (key_mark judge.digest judge.key) entry) line
+state_judged_one judge name entry line =
+    let mark : List ℕ = key_mark judge.digest judge.key in
+    let state : DeviceState = state_under mark entry in
+    state_noted (is_new line.number state.last) mark name entry (state_after judge state line)
+    ∙ kept_if_old judge state line
+
+pub state_judged : (judge : Judge) (name : List ℕ) (entry : Option Entry) (lines : List DeviceLine)
+    → state_under (key_mark judge.digest judge.key)
+    (entry_through name entry (judged_by judge lines))
+    ≡ state_from judge (state_under (key_mark judge.digest judge.key) entry) lines
+state_judged judge name entry [] = refl
+state_judged judge name entry (line ∷ earlier) =
+    state_judged_one judge name (entry_through name entry (judged_by judge earlier)) line
+    ∙ ap (λ (state : DeviceState). state_after judge state line)
+    (state_judged judge name entry earlier)
+
+-- the last entry of the device of a name after these lines of it
+abbrev pub entry_known : DeskFields → List ℕ → List DeviceLine → Option Entry
+entry_known desk name lines =
+    entry_through name (last_in desk.entries name)
+    (judged_at desk name (key_named name desk.devices) lines)
+
+-- of a device that the desk has
+pub own_known_entry : (desk : DeskFields) (device : DeviceKey) (lines : List DeviceLine)
+    → key_named device.name desk.devices ≡ Some device.key
+    → entry_known desk device.name lines
+    ≡ entry_through device.name (last_in desk.entries device.name)
+    (judged_by (judge_at desk device) lines)
+own_known_entry desk device lines known =
+    ap (λ (key : Option (List ℕ)). entry_through device.name (last_in desk.entries device.name)
+    (judged_at desk device.name key lines)) known
+
+pub state_known : (desk : DeskFields) (device : DeviceKey) (lines : List DeviceLine)
+    → key_named device.name desk.devices ≡ Some device.key
+    → state_under (mark_at desk device) (entry_known desk device.name lines)
+    ≡ state_at desk device lines
+state_known desk device lines known =
+    ap (state_under (mark_at desk device)) (own_known_entry desk device lines known)
+    ∙ state_judged (judge_at desk device) device.name (last_in desk.entries device.name) lines
 
 nothing_known : (desk : DeskFields) (name : List ℕ) (key : Option (List ℕ))
-    → state_named desk.entries name ≡ state_known desk name key []
+    → last_in desk.entries name
+    ≡ entry_through name (last_in desk.entries name) (judged_at desk name key [])
 nothing_known desk name None = refl
 nothing_known desk name (Some key) = refl
 
 entry_noted : (entries : List Entry) (entry : Entry)
-    → state_named (with_entry entries entry) entry.name ≡ entry.state
+    → last_in (with_entry entries entry) entry.name ≡ Some entry
 entry_noted entries entry =
-    state_is_noted entries entry entry.name
+    entry_is_last entries entry entry.name
     ∙ rw ((bytes_eq-Decides entry.name entry.name).1 refl) refl
 
 pub entry_elsewhere : (entries : List Entry) (entry : Entry) (name : List ℕ)
     → bytes_eq entry.name name ≡ false
-    → state_named (with_entry entries entry) name ≡ state_named entries name
-entry_elsewhere entries entry name other = state_is_noted entries entry name ∙ rw other refl
+    → last_in (with_entry entries entry) name ≡ last_in entries name
+entry_elsewhere entries entry name other = entry_is_last entries entry name ∙ rw other refl
 
 -- what is noted of a line of a device, at the device and elsewhere
-noted_if : (new : Bool) (entries : List Entry) (entry : Entry) (old : DeviceState)
-    → state_named entries entry.name ≡ old → (new ≡ false → entry.state ≡ old)
-    → state_named (with_noted (if new then Some entry else None) entries) entry.name ≡ entry.state
-noted_if true entries entry old so kept = entry_noted entries entry
-noted_if false entries entry old so kept = so ∙ sym (kept refl)
-
-elsewhere_if : (new : Bool) (entries : List Entry) (entry : Entry) (name : List ℕ)
-    → bytes_eq entry.name name ≡ false
-    → state_named (with_noted (if new then Some entry else None) entries) name
-    ≡ state_named entries name
-elsewhere_if true entries entry name other = entry_elsewhere entries entry name other
-elsewhere_if false entries entry name other = refl
+noted_line : (judge : Judge) (name : List ℕ) (entries : List Entry) (entry : Option Entry)
+    (state : DeviceState) (line : DeviceLine)
+    → last_in entries name ≡ entry
+    → state ≡ state_under (key_mark judge.digest judge.key) entry
+    → last_in (with_noted (if is_new line.number state.last
+    then Some (record {
+      name = name;
+      mark = key_mark judge.digest judge.key;
+      state = state_after judge state line;
+    })
+    else None) entries) name
+    ≡ entry_after name entry (record { judge = judge; line = line })
+noted_line judge name entries entry state line so same =
+    let mark : List ℕ = key_mark judge.digest judge.key in
+    subst (λ (one : DeviceState). last_in (with_noted (if is_new line.number one.last
+    then Some (record { name = name; mark = mark; state = state_after judge one line })
+    else None) entries) name
+    ≡ entry_after name entry (record { judge = judge; line = line })) (sym same)
+    (⊎_elim
+    (λ new. rw new (entry_noted entries _))
+    (λ old. rw old so)
+    (cases_Bool (is_new line.number (state_under mark entry).last)))
 
 noted_here : (desk : DeskFields) (lines : List ℕ → List DeviceLine) (device : DeviceKey)
     (line : DeviceLine) (entries : List Entry)
-    → state_named entries device.name ≡ state_at desk device (lines device.name)
-    → state_named (with_noted (noted_of desk lines (Own device line)) entries) device.name
-    ≡ state_at desk device (line ∷ lines device.name)
-noted_here desk lines device line entries so =
-    noted_if (is_new line.number (state_at desk device (lines device.name)).last) entries
-    (entry_at desk device (line ∷ lines device.name)) (state_at desk device (lines device.name)) so
-    (λ old. rw old refl)
+    → key_named device.name desk.devices ≡ Some device.key
+    → last_in entries device.name ≡ entry_known desk device.name (lines device.name)
+    → last_in (with_noted (noted_of desk lines (Own device line)) entries) device.name
+    ≡ entry_known desk device.name (line ∷ lines device.name)
+noted_here desk lines device line entries known so =
+    noted_line (judge_at desk device) device.name entries
+    (entry_known desk device.name (lines device.name))
+    (state_at desk device (lines device.name)) line so
+    (sym (state_known desk device (lines device.name) known))
+    ∙ ap (λ (entry : Option Entry). entry_after device.name entry
+    (record { judge = judge_at desk device; line = line }))
+    (own_known_entry desk device (lines device.name) known)
+    ∙ sym (own_known_entry desk device (line ∷ lines device.name) known)
+
+elsewhere_if : (entries : List Entry) (noted : Option Entry) (name : List ℕ)
+    → IfSome noted (λ (entry : Entry). bytes_eq entry.name name ≡ false)
+    → last_in (with_noted noted entries) name ≡ last_in entries name
+elsewhere_if entries None name other = refl
+elsewhere_if entries (Some entry) name other = entry_elsewhere entries entry name other
 
 noted_elsewhere : (desk : DeskFields) (lines : List ℕ → List DeviceLine) (device : DeviceKey)
     (line : DeviceLine) (entries : List Entry) (name : List ℕ)
     → bytes_eq device.name name ≡ false
-    → state_named (with_noted (noted_of desk lines (Own device line)) entries) name
-    ≡ state_named entries name
+    → last_in (with_noted (noted_of desk lines (Own device line)) entries) name
+    ≡ last_in entries name
 noted_elsewhere desk lines device line entries name other =
-    elsewhere_if (is_new line.number (state_at desk device (lines device.name)).last) entries
-    (entry_at desk device (line ∷ lines device.name)) name other
+    elsewhere_if entries (noted_of desk lines (Own device line)) name
+    (⊎_elim
+    (λ new. rw new other)
+    (λ old. rw old tt)
+    (cases_Bool (is_new line.number (state_at desk device (lines device.name)).last)))
 
 -- what is noted of a line
 noted : (desk : DeskFields) (lines : List ℕ → List DeviceLine) (said : DeskLine)
     (entries : List Entry) (name : List ℕ)
     → IsKnown desk.devices said
-    → ((one : List ℕ) → state_named entries one
-    ≡ state_known desk one (key_named one desk.devices) (lines one))
-    → state_named (with_noted (noted_of desk lines said) entries) name
-    ≡ state_known desk name (key_named name desk.devices) (with_said said lines name)
+    → ((one : List ℕ) → last_in entries one ≡ entry_known desk one (lines one))
+    → last_in (with_noted (noted_of desk lines said) entries) name
+    ≡ entry_known desk name (with_said said lines name)
 noted desk lines TooLong entries name known so = so name
 noted desk lines Silent entries name known so = so name
 noted desk lines Foreign entries name known so = so name
 noted desk lines (Own device line) entries name known so =
     ⊎_elim
     (λ same. subst (λ (one : List ℕ).
-    state_named (with_noted (noted_of desk lines (Own device line)) entries) one
-    ≡ state_known desk one (key_named one desk.devices) (with_said (Own device line) lines one))
+    last_in (with_noted (noted_of desk lines (Own device line)) entries) one
+    ≡ entry_known desk one (with_said (Own device line) lines one))
     (same_name device.name name same)
-    (noted_here desk lines device line entries
-    (so device.name
-    ∙ ap (λ (key : Option (List ℕ)). state_known desk device.name key (lines device.name)) known)
-    ∙ sym (ap (λ (key : Option (List ℕ)). state_known desk device.name key
-    (with_said (Own device line) lines device.name)) known
-    ∙ rw ((bytes_eq-Decides device.name device.name).1 refl) refl)))
+    (noted_here desk lines device line entries known (so device.name)
+    ∙ rw ((bytes_eq-Decides device.name device.name).1 refl) refl))
     (λ other. noted_elsewhere desk lines device line entries name other ∙ so name
     ∙ rw other refl)
     (cases_Bool (bytes_eq device.name name))
 
-all_known : (desk : DeskFields) (lines : List (List ℕ)) (name : List ℕ)
-    → state_named (entries_after desk lines) name
-    ≡ state_known desk name (key_named name desk.devices) (lines_said desk lines name)
-all_known desk [] name = nothing_known desk name (key_named name desk.devices)
-all_known desk (line ∷ earlier) name =
+pub memory_has_states : IsRemembered
+memory_has_states desk [] name = nothing_known desk name (key_named name desk.devices)
+memory_has_states desk (line ∷ earlier) name =
     noted desk (lines_said desk earlier) (desk_line_of desk.devices line)
     (entries_after desk earlier)
-    name (line_known desk.devices line) (all_known desk earlier)
-
-same_known : (desk : DeskFields) (name : List ℕ) (key : Option (List ℕ)) (lines : List (List ℕ))
-    → state_known desk name key (lines_said desk lines name) ≡ remembered desk name key lines
-same_known desk name None lines = refl
-same_known desk name (Some key) lines = refl
-
-pub memory_has_states : IsRemembered
-memory_has_states desk lines name =
-    all_known desk lines name ∙ same_known desk name (key_named name desk.devices) lines
+    name (line_known desk.devices line) (memory_has_states desk earlier)
 
 -- of a device that the desk has
 pub device_remembered : (desk : DeskFields) (device : DeviceKey) (lines : List (List ℕ))
     → key_named device.name desk.devices ≡ Some device.key
-    → state_named (entries_after desk lines) device.name
+    → state_under (mark_at desk device) (last_in (entries_after desk lines) device.name)
     ≡ state_at desk device (lines_said desk lines device.name)
 device_remembered desk device lines known =
-    all_known desk lines device.name
-    ∙ ap (λ (key : Option (List ℕ)). state_known desk device.name key
-    (lines_said desk lines device.name)) known
+    ap (state_under (mark_at desk device)) (memory_has_states desk lines device.name)
+    ∙ state_known desk device (lines_said desk lines device.name) known

@@ -1,55 +1,159 @@
 -- The same number again.
-use Rattle.std.proofs.Common.{◌≡◌, ◌∙◌, ℕ, Option, Some, None, refl, arith, ap, ⊎_elim}
-use Rattle.std.specs.Prelude.{if◌then◌else◌}
+use Rattle.std.proofs.Common.{◌≡◌, ◌∙◌, ℕ, true, false, List, Option, Some, None, refl, arith, ap, sym, subst, inl, inr}
+use Rattle.std.specs.Prelude.{if◌then◌else◌, option_map}
+use Rattle.std.specs.Str.{bytes_eq}
 use Rattle.std.proofs.lemmas.Bool.{cases_Bool}
 use Rattle.std.proofs.lemmas.Bool.Decides.{nat_tests}
-use Rattle.report_verifier.specs.Judge.{Judge}
 use Rattle.desk_memory.specs.declared.answer.Answer.{Answer}
 use Rattle.desk_memory.specs.declared.answer.Answer.TheVariants.{Stale}
 use Rattle.desk_memory.specs.declared.device_state.DeviceState.{DeviceState}
-use Rattle.verifier_desk.specs.DeviceLine.{DeviceLine}
-use Rattle.desk_memory.specs.DeviceState.{by_number, is_new}
-use Rattle.verifier_desk.specs.DeviceReply.{answer_after, new_answer, state_after}
+use Rattle.desk_memory.specs.DeviceState.{by_number, is_new, renewed, with_answer}
+use Rattle.desk_memory.specs.Entry.{Entry, entry_state}
+use Rattle.verifier_desk.specs.DeviceReply.{new_answer}
+use Rattle.verifier_desk.specs.Judged.{JudgedLine, answer_to, entry_after, is_new_to, mark_of, state_before}
 use Rattle.verifier_desk.specs.Law.{IsRepeated}
+use Rattle.verifier_desk.proofs.AcceptedOnce.{new_by_number}
+use Rattle.verifier_desk.proofs.KeyPlaces.{same_name}
 
--- the last number and its answer after a line
-abbrev last_kept : ℕ → Option (ℕ × Answer) → Answer → Option (ℕ × Answer)
-last_kept number last answer = if is_new number last then Some (number, answer) else last
+-- a device's last entry has the number of a line and what was answered to it, under its key
+pub record HasAnswer (after : Option Entry) (now : JudgedLine) (answer : Answer) : Type 0 where
+  pub entry : Entry
+  pub is : after ≡ Some entry
+  pub marked : entry.mark ≡ mark_of now
+  pub last : entry.state.last ≡ Some (now.line.number, answer)
 
-last_is_of_line : (number : ℕ) (last : Option (ℕ × Answer)) (answer : Answer)
+-- the last number is answered by what was kept
+kept_last : (number : ℕ) (last : Option (ℕ × Answer)) (answer : Answer)
+    → is_new number last ≡ false
     → (by_number number last answer ≡ Stale → ⊥)
-    → last_kept number last answer ≡ Some (number, by_number number last answer)
-last_is_of_line number None answer fresh = refl
-last_is_of_line number (Some (last, kept)) answer fresh = grind (arith, nat_tests, fresh)
+    → last ≡ Some (number, by_number number last answer)
+kept_last number None answer old fresh = absurd (cc old)
+kept_last number (Some (last, kept)) answer old fresh = grind (arith, nat_tests, old, fresh)
 
-last_after : (judge : Judge) (state : DeviceState) (line : DeviceLine)
-    → (state_after judge state line).last
-    ≡ last_kept line.number state.last (new_answer judge state line)
-last_after judge state line =
-    ⊎_elim
-    (λ new. rw new refl)
-    (λ old. rw old refl)
-    (cases_Bool (is_new line.number state.last))
+-- which another key's is not
+renewed_is_stale : (number : ℕ) (last : Option (ℕ × Answer)) (answer : Answer)
+    → is_new number (option_map (λ (last : ℕ × Answer). (last.0, Stale)) last) ≡ false
+    → by_number number (option_map (λ (last : ℕ × Answer). (last.0, Stale)) last) answer ≡ Stale
+renewed_is_stale number None answer old = absurd (cc old)
+renewed_is_stale number (Some (last, kept)) answer old = grind (arith, nat_tests, old)
 
-kept_answer : (number again : ℕ) (answer other : Answer) → again ≡ number
-    → by_number again (Some (number, answer)) other ≡ answer
-kept_answer number again answer other same = grind (arith, nat_tests, same)
+old_entry : (mark : List ℕ) (number : ℕ) (entry : Entry) (answer : Answer)
+    → is_new number (entry_state mark entry).last ≡ false
+    → (by_number number (entry_state mark entry).last answer ≡ Stale → ⊥)
+    → (entry.mark ≡ mark)
+    × (entry.state.last ≡ Some (number, by_number number (entry_state mark entry).last answer))
+old_entry mark number entry answer old fresh = elim (cases_Bool (bytes_eq entry.mark mark)) [
+  | inl same ↦
+      rw same (
+        same_name entry.mark mark same,
+        kept_last number entry.state.last answer (rw same at old) (rw same at fresh),
+      )
+  | inr other ↦
+      absurd ((rw other at fresh)
+      (renewed_is_stale number entry.state.last answer (rw other at old)))
+]
 
-kept_state : (judge : Judge) (state : DeviceState) (line : DeviceLine) (number : ℕ) (answer :
-    Answer)
-    → state.last ≡ Some (number, answer) → line.number ≡ number
-    → state_after judge state line ≡ state
-kept_state judge state line number answer last same =
-    rw last (grind (arith, nat_tests, same))
+answered_anew : (name : List ℕ) (entry : Option Entry) (now : JudgedLine)
+    → is_new_to entry now ≡ true
+    → HasAnswer (entry_after name entry now) now (answer_to entry now)
+answered_anew name entry now new =
+    let state : DeviceState = state_before entry now in
+    let answer : Answer = new_answer now.judge state now.line in
+    record {
+      entry = record {
+        name = name;
+        mark = mark_of now;
+        state = with_answer state now.line.number answer;
+      };
+      is = rw new refl;
+      marked = refl;
+      last = ap (λ (one : Answer). Some (now.line.number, one))
+          (sym (new_by_number now.line.number state.last answer new));
+    }
+
+answered_before : (name : List ℕ) (entry : Option Entry) (now : JudgedLine)
+    → is_new_to entry now ≡ false
+    → (answer_to entry now ≡ Stale → ⊥)
+    → HasAnswer (entry_after name entry now) now (answer_to entry now)
+answered_before name None now old fresh = absurd (cc old)
+answered_before name (Some entry) now old fresh =
+    let found = old_entry (mark_of now) now.line.number entry
+    (new_answer now.judge (state_before (Some entry) now) now.line) old fresh in
+    record {
+      entry = entry;
+      is = rw old refl;
+      marked = found.0;
+      last = found.1;
+    }
+
+-- whatever is answered but by `stale`
+pub has_answer : (name : List ℕ) (entry : Option Entry) (now : JudgedLine)
+    → (answer_to entry now ≡ Stale → ⊥)
+    → HasAnswer (entry_after name entry now) now (answer_to entry now)
+has_answer name entry now fresh = elim (cases_Bool (is_new_to entry now)) [
+  | inl new ↦ answered_anew name entry now new
+  | inr old ↦ answered_before name entry now old fresh
+]
+
+same_number : (number again : ℕ) (answer other : Answer) → again ≡ number
+    → (by_number again (Some (number, answer)) other ≡ answer)
+    × (is_new again (Some (number, answer)) ≡ false)
+same_number number again answer other same =
+    (grind (arith, nat_tests, same), grind (arith, nat_tests, same))
+
+-- what comes of the same number, where this is the last entry, and this the state under its key
+again_in : (name : List ℕ) (entry : Entry) (again : JudgedLine) (state : DeviceState) (number : ℕ)
+    (answer : Answer)
+    → state_before (Some entry) again ≡ state
+    → state.last ≡ Some (number, answer)
+    → again.line.number ≡ number
+    → (answer_to (Some entry) again ≡ answer)
+    × (entry_after name (Some entry) again ≡ Some entry)
+again_in name entry again state number answer is last same =
+    let next : Answer = new_answer again.judge state again.line in
+    let found = same_number number again.line.number answer next same in
+    let old : is_new_to (Some entry) again ≡ false =
+    ap (λ (one : DeviceState). is_new again.line.number one.last) is
+    ∙ ap (is_new again.line.number) last ∙ found.1 in (
+      ap (λ (one : DeviceState). by_number again.line.number one.last
+          (new_answer again.judge one again.line)) is
+          ∙ ap (λ (one : Option (ℕ × Answer)). by_number again.line.number one next) last
+          ∙ found.0,
+      rw old refl,
+    )
+
+again_at : (name : List ℕ) (entry : Entry) (again : JudgedLine) (number : ℕ) (answer : Answer)
+    → again.line.number ≡ number
+    → entry.state.last ≡ Some (number, answer)
+    → (answer_to (Some entry) again
+    ≡ (if bytes_eq entry.mark (mark_of again) then answer else Stale))
+    × (entry_after name (Some entry) again ≡ Some entry)
+again_at name entry again number answer same last =
+    elim (cases_Bool (bytes_eq entry.mark (mark_of again))) [
+      | inl mine ↦
+          let state : entry_state (mark_of again) entry ≡ entry.state = rw mine refl in
+          let told : (if bytes_eq entry.mark (mark_of again) then answer else Stale) ≡ answer =
+          rw mine refl in
+          let found = again_in name entry again entry.state number answer state last same in
+          (found.0 ∙ sym told, found.1)
+      | inr other ↦
+          let state : entry_state (mark_of again) entry ≡ renewed entry.state = rw other refl in
+          let told : (if bytes_eq entry.mark (mark_of again) then answer else Stale) ≡ Stale =
+          rw other refl in
+          let found = again_in name entry again (renewed entry.state) number Stale state
+          (ap (option_map (λ (last : ℕ × Answer). (last.0, Stale))) last) same in
+          (found.0 ∙ sym told, found.1)
+    ]
 
 pub answer_is_repeated : IsRepeated
-answer_is_repeated judge state line again same fresh =
-    let after : DeviceState = state_after judge state line in
-    let answer : Answer = answer_after judge state line in
-    let last : after.last ≡ Some (line.number, answer) =
-    last_after judge state line
-    ∙ last_is_of_line line.number state.last (new_answer judge state line) fresh in (
-      ap (λ kept. by_number again.number kept (new_answer judge after again)) last
-          ∙ kept_answer line.number again.number answer _ same,
-      kept_state judge after again line.number answer last same,
-    )
+answer_is_repeated name entry now again same fresh =
+    let kept : HasAnswer (entry_after name entry now) now (answer_to entry now) =
+    has_answer name entry now fresh in
+    let answer : Answer = answer_to entry now in
+    subst (λ (after : Option Entry).
+    (answer_to after again ≡ (if bytes_eq (mark_of now) (mark_of again) then answer else Stale))
+    × (entry_after name after again ≡ after)) (sym kept.is)
+    (subst (λ (mark : List ℕ).
+    (answer_to (Some kept.entry) again ≡ (if bytes_eq mark (mark_of again) then answer else Stale))
+    × (entry_after name (Some kept.entry) again ≡ Some kept.entry)) kept.marked
+    (again_at name kept.entry again now.line.number answer same kept.last))

@@ -20,9 +20,12 @@ use Rattle.verifier_desk.specs.DeviceLine.{DeviceLine}
 abbrev pub LAST_COUNT : ℕ
 LAST_COUNT = 4294967295
 
--- the challenge of a device's request with this counter
+-- the challenge of a device's request with this counter, and its message
+abbrev pub challenge_message : ℕ → List ℕ
+challenge_message count = 2 ∷ count_bytes count
+
 abbrev pub desk_challenge : (List ℕ → List ℕ) → List ℕ → ℕ → List ℕ
-desk_challenge digest key count = hmac digest key (2 ∷ count_bytes count)
+desk_challenge digest key count = hmac digest key (challenge_message count)
 
 abbrev pub request_with : (List ℕ → List ℕ) → List ℕ → ℕ → Asked
 request_with digest key count =

@@ -1,10 +1,13 @@
 -- Under which name each key stands.
-use Rattle.std.specs.Prelude.{◌≡◌, ◌<◌, ◌⊎◌, ℕ, List, [], ◌∷◌, length, slice_index_or, Option, Some, None}
-use Rattle.desk_memory.specs.Entry.{Entry, owner_in, state_named}
+use Rattle.std.specs.Prelude.{◌≡◌, ◌<◌, ◌⊎◌, ◌++◌, ℕ, List, [], ◌∷◌, length, slice_index_or, Option, Some, None}
+use Rattle.desk_memory.specs.declared.answer.Answer.TheVariants.{Stale}
+use Rattle.desk_memory.specs.Entry.{Entry, owner_in}
 use Rattle.desk_memory.specs.KeyMark.{key_mark}
-use Rattle.verifier_desk.specs.DeviceKey.{DeviceKey, key_named}
+use Rattle.verifier_desk.specs.DeskLine.{Own, desk_line_of}
+use Rattle.verifier_desk.specs.DeviceKey.{DeviceKey}
+use Rattle.verifier_desk.specs.DeviceLine.{DeviceLine}
 use Rattle.verifier_desk.specs.Noted.{entries_after}
-use Rattle.verifier_desk.specs.Replies.{DeskFields}
+use Rattle.verifier_desk.specs.Replies.{DeskFields, lines_said, mark_at, own_answer}
 use Rattle.verifier_desk.specs.Run.{AreStarted, Run}
 
 -- a key stands under no other name than this
@@ -42,19 +45,12 @@ IsFirstTaken digest devices entries (Some place) =
     (place < length devices) × StandApartBefore digest devices entries place
     × (StandsApart digest devices entries place → ⊥)
 
--- a desk has this device
-abbrev pub HasDevice : DeskFields → DeviceKey → Type 0
-HasDevice desk device = key_named device.name desk.devices ≡ Some device.key
-
--- After a desk's lines its keys go on to stand apart, each key stands under the name that it stood
--- under, and a device has the state that it had, or its key stands under its name.
+-- After a desk's lines its keys go on to stand apart, and each key stands under the name that it
+-- stood under.
 pub record KeysAreKept (desk : DeskFields) (entries : List Entry) : Type 0 where
   pub apart : KeysStandApart desk.digest desk.devices entries
   pub kept : (mark name : List ℕ) → owner_in desk.entries mark ≡ Some name
       → owner_in entries mark ≡ Some name
-  pub owned : (device : DeviceKey) → HasDevice desk device
-      → (state_named entries device.name ≡ state_named desk.entries device.name)
-      ⊎ (owner_in entries (key_mark desk.digest device.key) ≡ Some device.name)
 
 abbrev pub IsKeyKept : Type 0
 IsKeyKept =
@@ -62,20 +58,38 @@ IsKeyKept =
     → KeysStandApart desk.digest desk.devices desk.entries
     → KeysAreKept desk (entries_after desk lines)
 
+-- a line of a device after earlier lines that is answered, and not by `stale`
+pub record IsTold (desk : DeskFields) (earlier : List (List ℕ)) (line : List ℕ)
+    (device : DeviceKey) : Type 0 where
+  pub own : DeviceLine
+  pub said : desk_line_of desk.devices line ≡ Own device own
+  pub told : own_answer desk (lines_said desk earlier device.name) device own ≡ Stale → ⊥
+
+-- with the answer the device's key stands under its name
+abbrev pub IsKeyBound : Type 0
+IsKeyBound =
+    (desk : DeskFields) (earlier : List (List ℕ)) (line : List ℕ) (device : DeviceKey)
+    → KeysStandApart desk.digest desk.devices desk.entries
+    → IsTold desk earlier line device
+    → owner_in (entries_after desk (line ∷ earlier)) (mark_at desk device) ≡ Some device.name
+
 -- each run began with keys that stand apart
 abbrev pub KeysStandApartIn : List Run → Type 0
 KeysStandApartIn [] = Unit {0}
 KeysStandApartIn (run ∷ earlier) =
     KeysStandApart run.desk.digest run.desk.devices run.desk.entries × KeysStandApartIn earlier
 
--- a device of this name and this key's mark was served: its state is another than before the run
+-- a device of this name and this key's mark was served: one of its lines was answered, and not by
+-- `stale`
 pub record IsServedIn (run : Run) (name mark : List ℕ) : Type 0 where
   pub device : DeviceKey
   pub named : device.name ≡ name
-  pub marked : key_mark run.desk.digest device.key ≡ mark
-  pub has : HasDevice run.desk device
-  pub moved : state_named (entries_after run.desk run.lines) name
-      ≡ state_named run.desk.entries name → ⊥
+  pub marked : mark_at run.desk device ≡ mark
+  pub later : List (List ℕ)
+  pub line : List ℕ
+  pub earlier : List (List ℕ)
+  pub parts : run.lines ≡ later ++ line ∷ earlier
+  pub told : IsTold run.desk earlier line device
 
 abbrev pub IsServedThrough : List Run → List ℕ → List ℕ → Type 0
 IsServedThrough [] name mark = ⊥
@@ -85,6 +99,7 @@ IsServedThrough (run ∷ earlier) name mark =
 -- no key is served under two names, through all runs
 abbrev pub IsUnderOneName : Type 0
 IsUnderOneName =
-    (runs : List Run) (mark one other : List ℕ) → AreStarted runs → KeysStandApartIn runs
+    (start : List Entry) (runs : List Run) (mark one other : List ℕ) → AreStarted start runs
+    → KeysStandApartIn runs
     → IsServedThrough runs one mark → IsServedThrough runs other mark
     → one ≡ other

@@ -1,5 +1,5 @@
 -- What the replies of a desk keep.
-use Rattle.std.specs.Prelude.{◌≡◌, ◌<◌, ℕ, Bool, true, false, List, [], ◌∷◌, ◌++◌, if◌then◌else◌, Option, Some, None, Result, Ok, Err, Contains}
+use Rattle.std.specs.Prelude.{◌≡◌, ◌<◌, ◌≤◌, ℕ, Bool, true, false, List, [], ◌∷◌, ◌++◌, if◌then◌else◌, map, Option, Some, None, Result, Ok, Err, Contains, IfSome}
 use Rattle.std.specs.List.{filter}
 use Rattle.std.specs.Prelude.{All}
 use Rattle.std.specs.Str.{bytes_eq}
@@ -11,14 +11,15 @@ use Rattle.report_verifier.specs.Judge.{Judge}
 use Rattle.desk_memory.specs.declared.answer.Answer.{Answer}
 use Rattle.desk_memory.specs.declared.answer.Answer.TheVariants.{Stale, Requested, Judged}
 use Rattle.desk_memory.specs.declared.device_state.DeviceState.{DeviceState}
-use Rattle.desk_memory.specs.DeviceState.{is_new, new_device}
-use Rattle.desk_memory.specs.Entry.{state_named}
+use Rattle.desk_memory.specs.DeviceState.{is_new}
+use Rattle.desk_memory.specs.Entry.{Entry, last_in}
 use Rattle.verifier_desk.specs.DeskLine.{DeskLine, Own, desk_line_of}
 use Rattle.verifier_desk.specs.DeviceKey.{DeviceKey, key_named}
 use Rattle.verifier_desk.specs.DeviceLine.{DeviceLine}
-use Rattle.verifier_desk.specs.DeviceReply.{answer_after, desk_challenge, state_after}
+use Rattle.verifier_desk.specs.DeviceReply.{answer_after, desk_challenge}
+use Rattle.verifier_desk.specs.Judged.{JudgedLine, answer_to, entry_after, entry_through, is_new_to, judged_by, mark_of}
 use Rattle.verifier_desk.specs.Noted.{entries_after}
-use Rattle.verifier_desk.specs.Replies.{DeskFields, own_lines, replies, reply, state_at}
+use Rattle.verifier_desk.specs.Replies.{DeskFields, judge_at, own_lines, replies, reply}
 
 -- a desk that serves one device alone
 abbrev pub alone : DeskFields → DeviceKey → DeskFields
@@ -64,53 +65,81 @@ abbrev pub accepted_counter : Answer → Result ReportFields FaultKind → List 
 accepted_counter (Judged Accept) report = counter_in report
 accepted_counter answer report = []
 
--- a line, and what it was judged by: another run may have another image, policy or key
-pub record JudgedLine : Type 0 where
-  pub judge : Judge
-  pub line : DeviceLine
+-- a counter, and the mark of the key under which it was requested or accepted
+pub record KeyCounter : Type 0 where
+  pub mark : List ℕ
+  pub counter : ℕ
 
--- the state of a device after its lines of all runs, the newest first
-abbrev pub state_through : List JudgedLine → DeviceState
-state_through [] = new_device
-state_through (now ∷ earlier) = state_after now.judge (state_through earlier) now.line
+abbrev pub under_mark : List ℕ → List ℕ → List KeyCounter
+under_mark mark counters = map (λ counter. record { mark = mark; counter = counter }) counters
 
--- of the lines with new numbers, newest first
-abbrev pub requested : List JudgedLine → List ℕ
-requested [] = []
-requested (now ∷ earlier) =
-    (if is_new now.line.number (state_through earlier).last
-    then counter_of (answer_after now.judge (state_through earlier) now.line) else [])
-    ++ requested earlier
+abbrev pub counters_in : List KeyCounter → List ℕ
+counters_in told = map (λ (one : KeyCounter). one.counter) told
 
-abbrev pub accepted : List JudgedLine → List ℕ
-accepted [] = []
-accepted (now ∷ earlier) =
-    (if is_new now.line.number (state_through earlier).last
-    then accepted_counter (answer_after now.judge (state_through earlier) now.line)
-    (report2_of now.line.words) else [])
-    ++ accepted earlier
+-- of the lines with new numbers, newest first, from a last entry at the start
+abbrev pub requested : List ℕ → Option Entry → List JudgedLine → List KeyCounter
+requested name start [] = []
+requested name start (now ∷ earlier) =
+    let entry = entry_through name start earlier in
+    (if is_new_to entry now then under_mark (mark_of now) (counter_of (answer_to entry now)) else [])
+    ++ requested name start earlier
+
+abbrev pub accepted : List ℕ → Option Entry → List JudgedLine → List KeyCounter
+accepted name start [] = []
+accepted name start (now ∷ earlier) =
+    let entry = entry_through name start earlier in
+    (if is_new_to entry now
+    then under_mark (mark_of now)
+    (accepted_counter (answer_to entry now) (report2_of now.line.words)) else [])
+    ++ accepted name start earlier
+
+-- what is outstanding at the start, which was requested before
+abbrev pub counter_in_state : Option ℕ → List ℕ
+counter_in_state None = []
+counter_in_state (Some count) = count ∷ []
+
+abbrev pub outstanding_in : Option Entry → List KeyCounter
+outstanding_in None = []
+outstanding_in (Some entry) = under_mark entry.mark (counter_in_state entry.state.outstanding)
+
+abbrev pub count_in : Option Entry → ℕ
+count_in None = 0
+count_in (Some entry) = entry.state.count
+
+-- the outstanding request is one of those that were counted
+abbrev pub IsSound : DeviceState → Type 0
+IsSound state = IfSome state.outstanding (λ n. n ≤ state.count)
+
+abbrev pub StartsSound : Option Entry → Type 0
+StartsSound entry = IfSome entry (λ (one : Entry). IsSound one.state)
 
 -- each number is greater than all that follow: none comes twice
 abbrev pub Descends : List ℕ → Type 0
 Descends [] = Unit {0}
 Descends (n ∷ ns) = All (λ m. m < n) ns × Descends ns
 
--- no counter is requested twice or accepted twice, and what is accepted was requested: through all
--- runs, whatever each judges by
+-- from any sound entry on, whatever each line is judged by: no counter is requested twice or
+-- accepted twice, none is requested that the start has counted, and what is accepted was requested
+-- under the key that it is accepted under, or was outstanding so at the start
 abbrev pub IsAcceptedOnce : Type 0
 IsAcceptedOnce =
-    (lines : List JudgedLine)
-    → Descends (requested lines) × Descends (accepted lines)
-    × All (λ n. Contains (requested lines) n) (accepted lines)
+    (name : List ℕ) (start : Option Entry) (lines : List JudgedLine) → StartsSound start
+    → Descends (counters_in (requested name start lines))
+    × Descends (counters_in (accepted name start lines))
+    × All (λ one. count_in start < one.counter) (requested name start lines)
+    × All (λ one. Contains (requested name start lines ++ outstanding_in start) one)
+    (accepted name start lines)
 
--- the same number again gets the same answer, and changes nothing
+-- the same number again gets the same answer under the same key, and is stale under another one;
+-- either changes nothing
 abbrev pub IsRepeated : Type 0
 IsRepeated =
-    (judge : Judge) (state : DeviceState) (line again : DeviceLine)
-    → again.number ≡ line.number
-    → (answer_after judge state line ≡ Stale → ⊥)
-    → (answer_after judge (state_after judge state line) again ≡ answer_after judge state line)
-    × (state_after judge (state_after judge state line) again ≡ state_after judge state line)
+    (name : List ℕ) (entry : Option Entry) (now again : JudgedLine)
+    → again.line.number ≡ now.line.number
+    → (answer_to entry now ≡ Stale → ⊥)
+    → (answer_to (entry_after name entry now) again
+    ≡ (if bytes_eq (mark_of now) (mark_of again) then answer_to entry now else Stale))
+    × (entry_after name (entry_after name entry now) again ≡ entry_after name entry now)
 
 -- a report that is accepted answers the outstanding request: its counter and its challenge
 abbrev pub AnswersRequest : Judge → Option ℕ → Result ReportFields FaultKind → Type 0
@@ -126,23 +155,26 @@ IsAnswered =
     → answer_after judge state line ≡ Judged Accept
     → AnswersRequest judge state.outstanding (report2_of line.words)
 
--- the state of the device of a name after lines, where it has a key
-abbrev pub remembered :
-    DeskFields → List ℕ → Option (List ℕ) → List (List ℕ) → DeviceState
-remembered desk name None lines = state_named desk.entries name
-remembered desk name (Some key) lines =
-    state_at desk (record { name = name; key = key }) (own_lines desk.devices name lines)
+-- the lines of the device of a name at a desk that has its key, and what they were judged by
+abbrev pub judged_at : DeskFields → List ℕ → Option (List ℕ) → List DeviceLine → List JudgedLine
+judged_at desk name None lines = []
+judged_at desk name (Some key) lines =
+    judged_by (judge_at desk (record { name = name; key = key })) lines
+
+abbrev pub judged_lines : DeskFields → List ℕ → List (List ℕ) → List JudgedLine
+judged_lines desk name lines =
+    judged_at desk name (key_named name desk.devices) (own_lines desk.devices name lines)
 
 -- a desk that is started with what the memory of another had after these lines
 abbrev pub started_after : DeskFields → List (List ℕ) → DeskFields
 started_after desk lines = record desk { entries = entries_after desk lines }
 
--- the memory has the state of each device after its lines, and of other names what it had
+-- the memory has the last entry of each device after its lines, and of other names what it had
 abbrev pub IsRemembered : Type 0
 IsRemembered =
     (desk : DeskFields) (lines : List (List ℕ)) (name : List ℕ)
-    → state_named (entries_after desk lines) name
-    ≡ remembered desk name (key_named name desk.devices) lines
+    → last_in (entries_after desk lines) name
+    ≡ entry_through name (last_in desk.entries name) (judged_lines desk name lines)
 
 -- so a desk that is started anew goes on as if it had not been stopped, and so does its memory
 abbrev pub IsGoneOn : Type 0

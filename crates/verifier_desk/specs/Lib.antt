@@ -5,6 +5,8 @@ pub mod DeviceKey
 pub mod DeviceLine
 pub mod DeviceReply
 pub mod HeldLine
+pub mod Judged
+pub mod KeyMessage
 pub mod KeyOwner
 pub mod Law
 pub mod LineCut

@@ -2,18 +2,17 @@
 use Rattle.std.specs.Prelude.{ℕ, List, [], ◌∷◌, if◌then◌else◌, Option, Some, None}
 use Rattle.desk_memory.specs.DeviceState.{is_new}
 use Rattle.desk_memory.specs.Entry.{Entry, with_entry}
-use Rattle.desk_memory.specs.KeyMark.{key_mark}
 use Rattle.verifier_desk.specs.DeskLine.{DeskLine, Own, desk_line_of}
 use Rattle.verifier_desk.specs.DeviceKey.{DeviceKey}
 use Rattle.verifier_desk.specs.DeviceLine.{DeviceLine}
-use Rattle.verifier_desk.specs.Replies.{DeskFields, lines_said, state_at}
+use Rattle.verifier_desk.specs.Replies.{DeskFields, lines_said, mark_at, state_at}
 
 -- the entry of a device after these lines of it
 abbrev pub entry_at : DeskFields → DeviceKey → List DeviceLine → Entry
 entry_at desk device lines =
     record {
       name = device.name;
-      mark = key_mark desk.digest device.key;
+      mark = mark_at desk device;
       state = state_at desk device lines;
     }
 

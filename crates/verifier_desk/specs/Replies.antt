@@ -12,7 +12,8 @@ use Rattle.report_verifier.specs.Policy.{PolicyFields}
 use Rattle.desk_memory.specs.declared.answer.Answer.{Answer}
 use Rattle.desk_memory.specs.declared.answer.Answer.TheVariants.{Stale, Bad, Spent, Requested, Judged}
 use Rattle.desk_memory.specs.declared.device_state.DeviceState.{DeviceState}
-use Rattle.desk_memory.specs.Entry.{Entry, state_named}
+use Rattle.desk_memory.specs.Entry.{Entry, last_in, state_under}
+use Rattle.desk_memory.specs.KeyMark.{key_mark}
 use Rattle.text_scan.specs.FaultName.{fault_name}
 use Rattle.verifier_desk.specs.DeskLine.{DeskLine, TooLong, Silent, Foreign, Own, desk_line_of}
 use Rattle.verifier_desk.specs.DeviceKey.{DeviceKey}
@@ -36,10 +37,16 @@ judge_at desk device =
       policy = desk.policy;
     }
 
--- the state of a device after these lines of it, newest first
+-- the mark of a device's key
+abbrev pub mark_at : DeskFields → DeviceKey → List ℕ
+mark_at desk device = key_mark desk.digest device.key
+
+-- the state of a device after these lines of it, newest first: as it starts, that of its last entry
+-- under its key
 abbrev pub state_at : DeskFields → DeviceKey → List DeviceLine → DeviceState
 state_at desk device lines =
-    state_from (judge_at desk device) (state_named desk.entries device.name) lines
+    state_from (judge_at desk device)
+    (state_under (mark_at desk device) (last_in desk.entries device.name)) lines
 
 -- a request with the desk's challenge of this counter
 abbrev pub requested_pieces : (List ℕ → List ℕ) → List ℕ → ℕ → List (List ℕ)
@@ -80,11 +87,14 @@ own_lines devices name (line ∷ earlier) =
 abbrev pub lines_said : DeskFields → List (List ℕ) → List ℕ → List DeviceLine
 lines_said desk lines name = own_lines desk.devices name lines
 
--- the reply to a line of a device, where these were its earlier ones
+-- the answer to a line of a device, where these were its earlier ones, and the reply
+abbrev pub own_answer : DeskFields → List DeviceLine → DeviceKey → DeviceLine → Answer
+own_answer desk earlier device line =
+    answer_after (judge_at desk device) (state_at desk device earlier) line
+
 abbrev pub own_reply : DeskFields → List DeviceLine → DeviceKey → DeviceLine → List ℕ
 own_reply desk earlier device line =
-    answer_line desk.digest device line.number
-    (answer_after (judge_at desk device) (state_at desk device earlier) line)
+    answer_line desk.digest device line.number (own_answer desk earlier device line)
 
 -- the reply to what a line says, where these were the earlier lines of the device of each name
 abbrev pub reply_to : DeskFields → (List ℕ → List DeviceLine) → DeskLine → List ℕ

@@ -1,7 +1,9 @@
 ghost use Rattle.std.specs.Prelude.{◌≡◌, ◌<◌, ◌↔◌, ◌∷◌, ℕ, List, Ok, All, None, IsTrue, IfOk, OnOk, OnErr, length, slice_index_or, vec_len, []};
+ghost use Rattle.sha2.specs.Sha256.{sha256};
 ghost use Rattle.mem_map.specs.Image.{byte_in};
 ghost use Rattle.text_scan.specs.Word.{words_of};
-ghost use Rattle.desk_memory.specs.Entry.{state_named};
+ghost use Rattle.desk_memory.specs.Entry.{last_in, state_under};
+ghost use Rattle.desk_memory.specs.KeyMark.{key_mark};
 ghost use Rattle.verifier_desk.specs.declared.desk_line.SaidLine.TheVariants.{Silent};
 ghost use Rattle.verifier_desk.specs.DeskLine.{Own, desk_line_of_words};
 ghost use Rattle.verifier_desk.specs.DeviceKey.{DeviceKey as DeviceFields, key_named};
@@ -17,7 +19,7 @@ use crate::device_answer::answer_device;
 use crate::key_list::KeyList;
 use crate::noting::note_new;
 use crate::reply::Reply;
-use desk_memory::{DeviceState, Entry, Memory, state_of};
+use desk_memory::{DeviceState, Entry, Memory, mark_of, state_of};
 use mem_map::Image;
 use report_verifier::{Policy, Verifier};
 use std::alloc::{AllocError, Global};
@@ -33,7 +35,19 @@ pub struct Desk {
     ghost whole: { vec_len states ≡ length keys },
 }
 
-// The states of devices, in their order, as these entries have them.
+// The state of the device at a place under its key, as these entries have it.
+fn state_at(keys: &KeyList, place: usize, entries: &[Entry]) -> DeviceState
+    requires { place < length keys.now }
+    ensures { (d : DeviceFields) → result
+        ≡ state_under (key_mark sha256 (slice_index_or keys.now place d).key)
+        (last_in entries.now (slice_index_or keys.now place d).name) }
+{
+    let device = keys.device_at(place);
+    let mark = mark_of(device.key());
+    state_of(entries, device.name(), &mark)
+}
+
+// The states of devices under their keys, in their order, as these entries have them.
 fn states_in(
     alloc: Global,
     keys: &KeyList,
@@ -43,11 +57,12 @@ fn states_in(
     ensures states { IfOk result (λ states. (i : ℕ) (d : DeviceFields) (s : DeviceState)
         → i < length keys.now
         → slice_index_or states.items i s
-        ≡ state_named entries.now (slice_index_or keys.now i d).name) }
+        ≡ state_under (key_mark sha256 (slice_index_or keys.now i d).key)
+        (last_in entries.now (slice_index_or keys.now i d).name)) }
 {
     let mut states = Vec::new(alloc);
     for place in 0..keys.len() {
-        states.push(state_of(entries, keys.device_at(place).name()))?;
+        states.push(state_at(keys, place, entries))?;
     }
     Ok(states)
 }

@@ -1,5 +1,6 @@
 ghost use Rattle.verifier_desk.specs.HeldLine.{IsCutAnywhere, IsHeld, IsPlain};
-ghost use Rattle.verifier_desk.specs.KeyOwner.{IsKeyKept, IsUnderOneName};
+ghost use Rattle.verifier_desk.specs.KeyMessage.{MessagesStandApart};
+ghost use Rattle.verifier_desk.specs.KeyOwner.{IsKeyBound, IsKeyKept, IsUnderOneName};
 ghost use Rattle.verifier_desk.specs.Law.{IsServedAlone, IsAcceptedOnce, IsAnswered, IsGoneOn, IsRemembered, IsRepeated};
 ghost use Rattle.verifier_desk.specs.Run.{IsOfAllRuns};
 ghost use Rattle.verifier_desk.specs.Standing.{IsKeptAtItsPlace};
@@ -9,13 +10,14 @@ pub fn device_is_served_alone()
     ensures { IsServedAlone }
 {}
 
-/// No counter is requested twice or accepted twice, and what is accepted was requested, through all
-/// runs.
+/// No counter is requested twice or accepted twice, and what is accepted was requested under its
+/// key, through all runs from any sound entry on.
 pub fn report_is_accepted_once()
     ensures { IsAcceptedOnce }
 {}
 
-/// The same number again gets the same answer, and changes nothing.
+/// The same number again gets the same answer under the same key, is stale under another one, and
+/// changes nothing.
 pub fn answer_is_repeated()
     ensures { IsRepeated }
 {}
@@ -45,7 +47,7 @@ pub fn state_is_kept_at_its_place()
     ensures { IsKeptAtItsPlace }
 {}
 
-/// The memory has the state of each device after its lines, and of other names what it had.
+/// The memory has the last entry of each device after its lines, and of other names what it had.
 pub fn memory_has_states()
     ensures { IsRemembered }
 {}
@@ -56,17 +58,28 @@ pub fn desk_goes_on()
     ensures { IsGoneOn }
 {}
 
-/// The memory has the state of each device after its lines of all runs, each judged as in its run.
+/// The memory has the last entry of each device after its lines of all runs, each judged as in its
+/// run.
 pub fn memory_has_all_runs()
     ensures { IsOfAllRuns }
 {}
 
-/// Keys that stand apart go on to, and a device that was served owns its key.
+/// Keys that stand apart go on to, each under its name.
 pub fn keys_are_kept()
     ensures { IsKeyKept }
+{}
+
+/// Whatever answer but `stale` a device is told, its key stands under its name with it.
+pub fn told_key_is_bound()
+    ensures { IsKeyBound }
 {}
 
 /// No key is served under two names, through all runs.
 pub fn key_is_under_one_name()
     ensures { IsUnderOneName }
+{}
+
+/// Of the messages of tokens, challenges and marks, none of one kind begins one of another.
+pub fn messages_stand_apart()
+    ensures { MessagesStandApart }
 {}

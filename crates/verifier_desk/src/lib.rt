@@ -40,8 +40,8 @@ pub use key_owner::first_taken;
 pub use law::{
     accept_answers_request, answer_is_repeated, bytes_are_cut_anywhere, desk_goes_on,
     device_is_served_alone, key_is_under_one_name, keys_are_kept, line_is_held_whole,
-    memory_has_all_runs, memory_has_states, plain_piece_lengthens_line, report_is_accepted_once,
-    state_is_kept_at_its_place,
+    memory_has_all_runs, memory_has_states, messages_stand_apart, plain_piece_lengthens_line,
+    report_is_accepted_once, state_is_kept_at_its_place, told_key_is_bound,
 };
 pub use reply::Reply;
 pub use served::Served;

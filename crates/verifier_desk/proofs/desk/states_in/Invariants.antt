@@ -1,7 +1,9 @@
 use Rattle.std.proofs.Common.{◌≡◌, ◌<◌, ℕ, vec_len}
 use Rattle.std.specs.Prelude.{slice_index_or}
 use Rattle.desk_memory.specs.declared.device_state.DeviceState.{DeviceState}
-use Rattle.desk_memory.specs.Entry.{state_named}
+use Rattle.sha2.specs.Sha256.{sha256}
+use Rattle.desk_memory.specs.Entry.{last_in, state_under}
+use Rattle.desk_memory.specs.KeyMark.{key_mark}
 use Rattle.verifier_desk.specs.DeviceKey.{DeviceKey}
 use Rattle.verifier_desk.proofs.desk.states_in.Given as goal
 
@@ -10,4 +12,5 @@ invariant-loop-place l =
     (vec_len l.states ≡ l.place)
     × ((i : ℕ) (d : DeviceKey) (s : DeviceState) → i < l.place
     → slice_index_or l.states.items i s
-    ≡ state_named l.entries (slice_index_or l.keys i d).name)
+    ≡ state_under (key_mark sha256 (slice_index_or l.keys i d).key)
+    (last_in l.entries (slice_index_or l.keys i d).name))

@@ -1,0 +1,18 @@
+-- The messages of tokens, challenges and marks.
+use Rattle.std.proofs.Common.{◌≡◌, ◌++◌, ◌∷◌, ℕ, List, refl}
+use Rattle.verifier_desk.specs.KeyMessage.{MessagesStandApart}
+
+-- two lists of unequal first bytes
+unlike_first : (rest others : List ℕ) → 1 ∷ rest ≡ 2 ∷ others → ⊥
+unlike_first rest others same = cc same
+
+pub messages_stand_apart : MessagesStandApart
+messages_stand_apart =
+    record {
+      token = λ digest key challenge counter. refl;
+      challenge = λ digest key count. refl;
+      mark = λ digest key. refl;
+      token_challenge = λ challenge counter count rest others same. cc same;
+      token_mark = λ challenge counter rest others same. cc same;
+      challenge_mark = λ count rest others same. cc same;
+    }
