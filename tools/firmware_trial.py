@@ -154,6 +154,7 @@ def stale_images(trial):
             shutil.copy(f"{EXAMPLES}/pump/{name}", folder)
         images = [made_image(trial, folder, PLACE)]
         os.remove(f"{folder}/guard.s")
+        shutil.copy(f"{EXAMPLES}/pump/no_guard.s", folder)
         made_image(trial, folder)
         images.append(made_image(trial, folder, PLACE))
         if images != [read(f"{EXAMPLES}/pump/{name}/image.hex") for name in ("guarded", "forged")]:

@@ -212,9 +212,7 @@ WRONG = {
     "too few bytes": (
         {"before": (NESTS % "REGION static").replace("{", "{ NEEDS_STACK(2);", 1),
          "value": " + nests(2)"},
-        "main.c:8: error: NEEDS_STACK of 'nests' names too few bytes: at least 16 more"),
-    "odd stack": (
-        {"before": '__asm__(".section .er.mine, \"ax\"");'}, ""),
+        "main.c:7: error: NEEDS_STACK of 'nests' names too few bytes: at least 16 more"),
     "output": (
         {"first": " = 5"},
         "main.c:3: error: the output 'measurement' has an initializer, and nothing lays it there: "
