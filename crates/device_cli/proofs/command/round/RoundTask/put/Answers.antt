@@ -25,7 +25,7 @@ end_verdicts-requires g c =
     omega (
       arith,
       (verdicts-few judge (start_in device_play) device_play.play c.in_ok-tally.tally
-      watched.counted).1,
+          watched.counted).1,
       length-play_of (events_of values.0.1) self.steps,
       self.few,
     )
