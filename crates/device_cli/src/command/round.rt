@@ -34,6 +34,32 @@ pub struct Round<'a> {
 /// The values of a play's files, and the policy.
 pub type RoundValues = (PlayValues, report_verifier::Policy);
 
+impl<'a> Round<'a> {
+    ghost use Rattle.std.specs.Prelude.{◌≡◌, option_map};
+    ghost use Rattle.input_files.specs.Argument.{texts};
+    ghost use Rattle.device_cli.specs.Round.{round_row, round_row_with};
+
+    // The command that the arguments spell, with the word `--all` or without it.
+    fn with_all(all: bool, arguments: &'a [String]) -> Option<Round<'a>>
+        ensures { option_map (λ round. round_row round.all round.files.0.0.1.name.now
+            round.files.0.1.name.now round.files.0.0.0.name.now round.files.1.name.now
+            round.steps) result
+            ≡ round_row_with all (texts arguments.now) }
+    {
+        let [image, script, key, policy, steps] = arguments else {
+            return None;
+        };
+        let steps = decimal(steps.as_bytes(), 1, MOST_STEPS).ok()?;
+        let play = play_files(image.as_str(), script.as_str(), key.as_str());
+        let policy = File::new(policy.as_str(), Policy);
+        Some(Round {
+            all,
+            files: (play, policy),
+            steps,
+        })
+    }
+}
+
 impl<'a> Task<'a> for Round<'a> {
     ghost use Rattle.std.specs.Prelude.{[]};
     ghost use Rattle.mem_map.specs.Image.{byte_in};
@@ -62,17 +88,7 @@ impl<'a> Task<'a> for Round<'a> {
     /// STEPS is a decimal in 1..10,000,000.
     fn from_arguments(arguments: &'a [String]) -> Option<Round<'a>> {
         let (all, others) = split_all(arguments);
-        let [image, script, key, policy, steps] = others else {
-            return None;
-        };
-        let steps = decimal(steps.as_bytes(), 1, MOST_STEPS).ok()?;
-        let play = play_files(image.as_str(), script.as_str(), key.as_str());
-        let policy = File::new(policy.as_str(), Policy);
-        Some(Round {
-            all,
-            files: (play, policy),
-            steps,
-        })
+        Round::with_all(all, others)
     }
 
     fn read<S: Shelf>(&self, alloc: Global, shelf: &mut S) -> Result<RoundValues, Refusal> {

@@ -25,12 +25,20 @@ pub fn print_verdicts<D: Digest32, W: Sink>(
     ensures counts { CountsFaults W.faults sink.old sink.new result }
 {
     let mut tally = Tally::new();
-    for i in 0..reports.len() {
+    for i in 0..count_of(reports) {
         let decision = verdict_at::<D>(verifier, reports, i);
         print_verdict(i as u64 + 1, decision, sink)?;
         tally = tally.with_verdict(decision);
     }
     Ok(tally)
+}
+
+// How many reports there are.
+fn count_of(reports: &[Report]) -> usize
+    ensures count { result ≡ length reports.now }
+    ensures few { result < 2 ^ 63 }
+{
+    reports.len()
 }
 
 // The verdict on a report of the list, numbered from 0.

@@ -7,15 +7,8 @@ returns-in_err-verdict-clause-puts g c = λ start flags writes stands tells.
     (puts-failed g.W.Sink.stands _ _ _ c.from_residual.result c.from_residual.ensures.0
     (c.in_err-verdict.ensures.puts start flags writes stands (rw c.in-Some.is at tells)).prefix)
 
-pub returns-then-tally-clause-puts : goal.returns-then-tally-clause-puts
-returns-then-tally-clause-puts g c = λ start flags writes stands tells.
-    rw c.in-Some.is (record {
-      all = (c.in_ok-verdict.ensures.puts start flags writes stands (rw c.in-Some.is at tells)).all;
-      prefix = tt;
-    })
-
-pub returns-else-tally-clause-puts : goal.returns-else-tally-clause-puts
-returns-else-tally-clause-puts g c = λ start flags writes stands tells.
+pub returns-clause-puts : goal.returns-clause-puts
+returns-clause-puts g c = λ start flags writes stands tells.
     rw c.in-Some.is (record {
       all = (c.in_ok-verdict.ensures.puts start flags writes stands (rw c.in-Some.is at tells)).all;
       prefix = tt;

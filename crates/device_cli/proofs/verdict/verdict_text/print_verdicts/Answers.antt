@@ -1,11 +1,12 @@
-use Rattle.std.proofs.Common.{◌∙◌, ◌+◌, ◌++◌, [], refl, arith, append-nil, take}
+use Rattle.std.proofs.Common.{◌∙◌, ◌+◌, ◌++◌, ◌<◌, ◌^◌, [], refl, arith, append-nil, take}
+use Rattle.std.proofs.lemmas.List.{length-take-le}
 use Rattle.std.proofs.lemmas.Result.{err_from_is_err_and}
 use Rattle.outside_edge.proofs.SinkLemmas.{takes_both, prefix_after, prefix_of_more}
 use Rattle.report_verifier.specs.Judge.{judge_of}
 use Rattle.report_text.specs.VerdictLine.{verdict_line}
 use Rattle.device_cli.specs.Verdicts.{lines_from, verdicts}
 use Rattle.device_play.proofs.PutsLemmas.{takes-nothing}
-use Rattle.device_cli.proofs.Tallies.{counts-more}
+use Rattle.device_cli.proofs.Tallies.{counted-few, counts-more}
 use Rattle.device_cli.proofs.Verdicts.{verdicts_ahead, ahead-next, ahead-end, lines-next, verdicts-all, verdicts-taken}
 use Rattle.device_cli.proofs.verdict.verdict_text.print_verdicts.Goals as goal
 
@@ -63,15 +64,46 @@ pub returns-clause-puts : goal.returns-clause-puts
 returns-clause-puts g c =
     let at = c.loop-i in
     let none = ahead-end (judge_of g.D.Digest32.hash.digest_of c.args.verifier.now)
-    c.args.reports.now at.i (omega (arith, c.loop-i-test.false)) in
+    c.args.reports.now at.i (omega (arith, c.loop-i-test.false, c.count_of-i-end.ensures.count)) in
     let takes = at.invariant.taken in
     record {
       all = rw (← (rw (none, append-nil) at takes.2)) takes.1;
       prefix = tt;
     }
 
+pub with_verdict-tally-requires : goal.with_verdict-tally-requires
+with_verdict-tally-requires g c =
+    let at = c.loop-i in
+    let reports = c.args.reports.now in
+    let before = c.loop-i-test.true in
+    omega (
+      arith,
+      (counted-few (judge_of g.D.Digest32.hash.digest_of c.args.verifier.now) (take at.i reports)
+          at.tally at.invariant.tally).0,
+      length-take-le at.i reports (omega (arith, before, c.count_of-i-end.ensures.count)),
+      before,
+      c.count_of-i-end.ensures.few,
+    )
+
+pub returns-clause-few : goal.returns-clause-few
+returns-clause-few g c =
+    let at = c.loop-i in
+    let judge = judge_of g.D.Digest32.hash.digest_of c.args.verifier.now in
+    let reports = c.args.reports.now in
+    let counts = rw (verdicts-all judge reports at.i (omega (
+      arith,
+      c.loop-i-test.false,
+      c.count_of-i-end.ensures.count,
+    ))) at at.invariant.tally in
+    let few : at.tally.verdicts < 2 ^ 63 = omega (
+      arith,
+      (counted-few judge reports at.tally counts).0,
+      c.count_of-i-end.ensures.count,
+      c.count_of-i-end.ensures.few,
+    ) in few
+
 pub returns-clause-tally : goal.returns-clause-tally
 returns-clause-tally g c =
     let at = c.loop-i in
     rw (verdicts-all (judge_of g.D.Digest32.hash.digest_of c.args.verifier.now)
-    c.args.reports.now at.i (omega (arith, c.loop-i-test.false))) at at.invariant.tally
+    c.args.reports.now at.i (omega (arith, c.loop-i-test.false, c.count_of-i-end.ensures.count))) at at.invariant.tally

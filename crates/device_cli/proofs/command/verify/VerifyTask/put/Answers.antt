@@ -23,38 +23,41 @@ returns-in_err-tally-clause-puts g c =
     let values = c.args.values.now in
     let all = c.args.self.now.all in
     let judge : Judge = judge_with values.0.0 (byte_in values.0.1) values.1.0 in
-    let decisions = verdicts judge values.1.1 in
-    fails g.W.Sink.stands g.W.Sink.faults c.args.sink.now c.print_verdicts.new.sink
-    (verify_outcome all judge values.1.1) c.from_residual.result c.from_residual.ensures.1
+    let reports = c.deref.result.now in
+    let decisions = verdicts judge reports in
+    rw (← c.deref.ensures.value) (fails g.W.Sink.stands g.W.Sink.faults c.args.sink.now c.print_verdicts.new.sink
+    (verify_outcome all judge reports) c.from_residual.result c.from_residual.ensures.1
     (prefix_of_more g.W.Sink.stands c.args.sink.now c.print_verdicts.new.sink
     (lines_from 1 decisions)
     (unanswered_lines (unanswered_if all judge.policy.requests decisions))
     c.in_err-tally.ensures.puts.prefix)
-    c.in_err-tally.ensures.counts.failed
+    c.in_err-tally.ensures.counts.failed)
 
 pub returns-in_err-end_verdicts-clause-puts : goal.returns-in_err-end_verdicts-clause-puts
 returns-in_err-end_verdicts-clause-puts g c =
     let values = c.args.values.now in
     let all = c.args.self.now.all in
     let judge : Judge = judge_with values.0.0 (byte_in values.0.1) values.1.0 in
-    let decisions = verdicts judge values.1.1 in
-    end-failed g.W.Sink.stands g.W.Sink.faults c.args.sink.now c.print_verdicts.new.sink
+    let reports = c.deref.result.now in
+    let decisions = verdicts judge reports in
+    rw (← c.deref.ensures.value) (end-failed g.W.Sink.stands g.W.Sink.faults c.args.sink.now c.print_verdicts.new.sink
     c.end_verdicts.new.sink (verdicts_outcome decisions)
     (unanswered_if all judge.policy.requests decisions)
     c.from_residual-in_err-end_verdicts.result c.from_residual-in_err-end_verdicts.ensures.1
     c.in_ok-tally.ensures.puts.all c.in_ok-tally.ensures.counts.quiet
     (c.in_err-end_verdicts.ensures.puts decisions c.in_ok-tally.ensures.tally).prefix
-    c.in_err-end_verdicts.ensures.counts.failed
+    c.in_err-end_verdicts.ensures.counts.failed)
 
 pub returns-clause-puts : goal.returns-clause-puts
 returns-clause-puts g c =
     let values = c.args.values.now in
     let all = c.args.self.now.all in
     let judge : Judge = judge_with values.0.0 (byte_in values.0.1) values.1.0 in
-    let decisions = verdicts judge values.1.1 in
-    ended g.W.Sink.stands g.W.Sink.faults c.args.sink.now c.print_verdicts.new.sink
+    let reports = c.deref.result.now in
+    let decisions = verdicts judge reports in
+    rw (← c.deref.ensures.value) (ended g.W.Sink.stands g.W.Sink.faults c.args.sink.now c.print_verdicts.new.sink
     c.end_verdicts.new.sink (verdicts_outcome decisions)
     (unanswered_if all judge.policy.requests decisions) _
     (c.in_ok-end_verdicts.ensures.ending decisions c.in_ok-tally.ensures.tally)
     c.in_ok-tally.ensures.puts.all
-    (c.in_ok-end_verdicts.ensures.puts decisions c.in_ok-tally.ensures.tally).all
+    (c.in_ok-end_verdicts.ensures.puts decisions c.in_ok-tally.ensures.tally).all)
