@@ -128,6 +128,7 @@ NESTS = """%s uint16_t nests(uint16_t times) {
     }
     return times ? nests(times - 1) + of[7] : 0;
 }"""
+NEEDS = (NESTS % "REGION static").replace("{", "{ NEEDS_STACK(40);", 1)
 
 # Firmware with a region that is whole; what makes it another stands in {}.
 FIRMWARE = """#include "foldgneiss.h"
@@ -266,8 +267,7 @@ RIGHT = (
     {"before": "REGION static uint16_t twice(void) { return P1IN + P1IN; }", "value": "+ twice()"},
     {"before": "FOREIGN volatile uint16_t scale = 3;", "value": " * scale"},
     {"before": 'static const char *const words[] = {"one", "two"};', "value": " + words[P1IN][1]"},
-    {"before": (NESTS % "REGION static").replace("{", "{ NEEDS_STACK(20);", 1),
-     "value": " + nests(2)"},
+    {"before": NEEDS, "value": " + nests(2)"},
     {"before": HANDLER % "STXD = SRXD;", "behind": "REGION void other(void) { region(); }"},
     {"before": "static volatile uint8_t log[7804];", "main": "log[P1IN] = 1;"},
 )
@@ -288,7 +288,7 @@ def bounds_of(regions):
 
 class Device:
     """A device with the image that the kit makes of a source, and of others beside it, a request,
-    and the policy for it.
+    two bytes behind it, and the policy for it.
     """
 
     def __init__(self, trial, files, source, *options, **others):
@@ -297,15 +297,14 @@ class Device:
         self.memory, self.image = read_image(image), files.add("attested.hex", image)
         challenge = bytes(range(32))
         token = attestation_model.token(bytes.fromhex(read(files.key).decode()), challenge, 1)
-        self.script = files.add("attested.script", (
-            f"at 0 p1 0017\nat 1000 rx {challenge.hex()}01000000\n"
-            f"at 2500 rx {token.hex()}\n").encode())
+        self.sent = f"at 1000 rx {challenge.hex()}01000000\nat 2500 rx {token.hex()}4142\n"
         self.policy = files.add("attested.policy", b"version 2\n%sflag exec\nask %s 1\n" % (
             regions, challenge.hex().encode()))
         self.bounds = bounds_of(regions)
 
-    def played(self, command, image):
-        return self.trial.expect(0, "", command, image, self.script, self.files.key, str(STEPS))
+    def played(self, command, image, pins=0x0017):
+        script = self.files.add("attested.script", f"at 0 p1 {pins:04x}\n{self.sent}".encode())
+        return self.trial.expect(0, "", command, image, script, self.files.key, str(STEPS))
 
     def data(self, text):
         """The output of the first report in this text, None where there is none."""
@@ -429,7 +428,7 @@ def stacks(trial, files):
         answer = checked(trial, files, changes)
         is_told = answer.status == 2 and answer.line.startswith(words) if words else (
             answer.ending == (0, ""))
-        if not is_told or not changes and not answer.output.endswith(GUARD):
+        if not is_told or not changes and not answer.output.startswith(GUARD):
             trial.fault(f"firmware: check of {changes}: {answer}")
 
 
@@ -443,6 +442,11 @@ def needs(trial, sources, count, told):
             line = answer.line.split("\n")[0]
             if (answer.status, line) != ending:
                 trial.fault(f"firmware: with {size} bytes of stack: {answer}, not {ending}")
+
+
+def below_stack(trace):
+    """Whether what lies below the region's stack, and over the metadata, is accessed."""
+    return re.search(rb"^t .* [rwb]02[9a-f][0-9a-f]", trace, re.M)
 
 
 def bounds(trial, files):
@@ -462,15 +466,30 @@ def bounds(trial, files):
             answer = trial.call(folder, f"CFLAGS={level}", "REGION_STACK=2", command=MAKE)
         size = re.search(r"or (REGION_STACK=\d+)$", answer.line, re.M)
         device = Device(trial, files, CLOSED, f"CFLAGS={level}", size[1] if size else "")
-        text = device.played("trace", device.image)
-        below = re.search(rb"^t .* [rwb]02[9a-f][0-9a-f]", text, re.M)
+        below = below_stack(device.played("trace", device.image))
         if not size or below or not device.accepts(device.played("play", device.image)):
             trial.fault(f"firmware: {level}: {size}: the region's stack grows out of its place")
+
+
+def nested(trial, files):
+    """A region with NEEDS_STACK is accepted where its stack suffices in a run; where it does not it
+    is left before that, and there is no report.
+    """
+    source = (HEADER + b"OUTPUT static uint16_t measurement;\n" + NEEDS.encode()
+              + b"\nREGION void region(void) { measurement = nests(P1IN); }\n" + MAIN)
+    for level in ("-O0", "-Os"):
+        device = Device(trial, files, source, f"CFLAGS={level}")
+        for pins, is_accepted in ((2, True), (40, False)):
+            text = device.played("play", device.image, pins)
+            if (device.accepts(text), device.data(text) is not None) != (is_accepted,) * 2:
+                trial.fault(f"firmware: {level}: a region that nests {pins} times: {text}")
+            if below_stack(device.played("trace", device.image, pins)):
+                trial.fault(f"firmware: {level}: a region that nests {pins} times leaves its stack")
 
 
 def region(trial, files):
     if is_compiler_there(trial):
         refusals(trial)
         same_region(trial)
-        for group in (accepted, cleared, attested, stacks, bounds):
+        for group in (accepted, cleared, attested, stacks, bounds, nested):
             group(trial, files)
