@@ -1,18 +1,20 @@
 """Programs that lie around a region of the kit in firmware/, where clang is: each leaves what it
-likes in registers, RAM, timer and program. No report of a region may tell of it: the region is the
-same for an honest program, or it is refused.
+likes in registers, RAM, timer and program. A report tells of it only where the region reads what it
+may believe: the region is the same for an honest program, or it is refused.
 """
 import glob
 import os
 import re
+import shutil
 
 from firmware_trial import MAKE, PLACE, folder_of, image_of, is_compiler_there
 from region_trial import HEADER, MAIN, Device, attestable
 from sample_files import EXAMPLES, read
+from trial import ROOT
 
 LEVELS = ("-O0", "-Os", "-O2", "-O3", "-Os -flto")
-# Takes a request, leaves 5A5A in all registers, in RAM and at FF00, has the timer count, and runs
-# the region.
+# Takes a request, with another end of the output where the highest pin is 1, and a byte more,
+# leaves 5A5A in all registers, in RAM and at FF00, has the timer count, and runs the region.
 LIAR = b"""
         .section .start, "ax"
         .globl  start
@@ -24,9 +26,14 @@ start:  mov     #0x2200, r1
         mov     #er_max, &0x0262
         mov     #or_min, &0x0264
         mov     #or_max, &0x0266
+        tst     &0x0020
+        jge     counter
+        decd    &0x0266
+counter:
         mov     #0x026c, r13
         mov     #0x0290, r14
         call    #take
+        mov     &0x0074, r12
         mov     #0x0300, r12
 fill:   mov     #0x5a5a, 0(r12)
         incd    r12
@@ -51,11 +58,23 @@ take:   bit     #1, &0x0072
         jne     take
         ret
 """
-# Regions that read what they did not set: a list that is filled in part, a variable that is set
-# under a condition, the padding of a struct, and most of the stack.
-UNSET = (b"""
-OUTPUT static uint16_t results[8];
-REGION void region(void) {
+# A region with a way for each number of its upper pins. The first ones read what they did not set:
+# a list that is filled in part, a variable that is set under a condition, the padding of a struct,
+# and an array of 600 bytes, behind a chain of calls. The others read what a region may: a FOREIGN
+# variable, received bytes, a register, and metadata.
+WAYS = HEADER + b"""
+struct sample {
+    uint8_t kind;
+    uint16_t value;
+};
+OUTPUT static uint16_t results[300];
+FOREIGN static volatile uint16_t limit;
+REGION static void keep(const uint16_t *samples, uint16_t count) {
+    for (uint16_t place = 0; place < count; place++) {
+        results[place] = samples[place];
+    }
+}
+REGION static void in_part(void) {
     uint16_t samples[8];
     for (uint16_t place = 0; place < (P1IN & 3); place++) {
         samples[place] = P1IN;
@@ -64,48 +83,57 @@ REGION void region(void) {
         results[place] = samples[place];
     }
 }
-""", b"""
-OUTPUT static uint16_t measurement;
-REGION static void limit(uint16_t *value) {
+REGION static void set_limit(uint16_t *value) {
     if (P1IN & 0x0100) {
         *value = 7;
     }
 }
-REGION void region(void) {
+REGION static void conditional(void) {
     uint16_t value;
-    limit(&value);
-    measurement = value;
+    set_limit(&value);
+    results[0] = value;
 }
-""", b"""
-struct sample {
-    uint8_t kind;
-    uint16_t value;
-};
-OUTPUT static uint8_t bytes[sizeof(struct sample)];
 REGION static void send(const struct sample *sample) {
     for (uint16_t place = 0; place < sizeof *sample; place++) {
-        bytes[place] = ((const uint8_t *)sample)[place];
+        results[place] = ((const uint8_t *)sample)[place];
     }
 }
-REGION void region(void) {
+REGION static void padded(void) {
     struct sample sample;
     sample.kind = P1IN;
     sample.value = P1IN;
     send(&sample);
 }
-""", b"""
-OUTPUT static uint16_t results[50];
-REGION static void keep(const uint16_t *samples) {
-    for (uint16_t place = 0; place < 50; place++) {
-        results[place] = samples[place];
+REGION static void deep(void) {
+    uint16_t samples[300];
+    samples[P1IN & 1] = 1;
+    keep(samples, 300);
+}
+REGION static uint16_t received(void) {
+    while (!(SSTAT & 1)) {
     }
+    return SRXD;
 }
 REGION void region(void) {
-    uint16_t samples[50];
-    samples[P1IN & 1] = 1;
-    keep(samples);
+    switch (P1IN >> 12) {
+    case 0: in_part(); break;
+    case 1: conditional(); break;
+    case 2: padded(); break;
+    case 3: deep(); break;
+    case 4: results[0] = limit; break;
+    case 5: results[0] = received(); break;
+    case 6: results[0] = TCNT; break;
+    default: results[0] = FOLDGNEISS_WORD(0x0266);
+    }
 }
-""")
+"""
+# For the pins of each way, whether the liar has other data, and whether its report is accepted.
+SAME, BELIEVED, REFUSED = (False, True), (True, True), (True, False)
+LIES = {0x0017: SAME, 0x1017: SAME, 0x2017: SAME, 0x3017: SAME, 0x4017: BELIEVED,
+        0x5017: BELIEVED, 0x6017: BELIEVED, 0x8017: REFUSED}
+# What the build says of the stack of that region, unless it is given.
+DEEP = (r"error: the region's stack has 128 bytes, and needs (\d+): "
+        r"(er_min \d+, region \d+, deep 6\d\d(?:, keep \d+)?): .*, or (REGION_STACK=\1)$")
 # One in assembler, which reads the registers of its caller, and each word of its stack.
 UNSET_REGISTERS = b"""
         .section .er, "ax"
@@ -130,7 +158,7 @@ measured:
 """
 # A region that is whole, with tables of structs, of functions and of texts, structs as results, an
 # argument on the stack, numbers of 32 and 64 bits, a switch, and a handler with its guard.
-WHOLE = b"""struct pair { uint16_t low, high; };
+WHOLE = b"#include <string.h>\n" + HEADER + b"""struct pair { uint16_t low, high; };
 struct sensor { const uint16_t *curve; uint16_t count; uint16_t (*read)(uint16_t); };
 OUTPUT static struct { struct pair range; uint32_t sums[3]; uint8_t name[6]; uint16_t stops; } told;
 FOREIGN static volatile uint16_t stops;
@@ -182,7 +210,7 @@ REGION void region(void) {
 """
 GUARD = read(f"{EXAMPLES}/pump/guard.s").replace(b"on_stop", b"on_byte")
 # Functions of a region that reach places outside of it, and what is said of them, at any level.
-STRAY = b"""
+STRAY = HEADER + b"""
 typedef const volatile uint16_t *place_t;
 typedef uint16_t (*function_t)(void);
 OUTPUT static uint16_t results[2];
@@ -273,25 +301,43 @@ def toolchains():
     return [(), *((f"PATH={os.path.dirname(path)}:{os.environ['PATH']}",) for path in newer[-1:])]
 
 
-def is_lie(trial, files, name, region, *options):
-    """Whether the report of the liar is accepted by the policy for the honest image, with other
-    data than the honest one's.
+def code_of(trial, files, region, level, tools):
+    """What clang makes of a region at this level, as text."""
+    clang = shutil.which("clang", path="".join(tools)[len("PATH="):] or None)
+    code = trial.expect(0, "", "--target=msp430", "-S", "-ffreestanding", "-fno-ident",
+                        f"-I{ROOT}/firmware", *level.split(), "-o", "-",
+                        files.add("region.c", region), command=[clang])
+    return code.replace(b"\t.p2align\t1, 0x0\n", b"\t.p2align\t1\n")  # (as LLVM 16 writes it)
+
+
+def told_lies(trial, files, name, region, all_pins, *options):
+    """For each of these pins whether the report of the liar has other data than that of an honest
+    program around the same region, and whether the policy for the honest image accepts it.
     """
     honest = Device(trial, files, HEADER + MAIN, *options, PLACE, **{name: region})
-    text = honest.played("play", honest.image)
-    if not honest.accepts(text):
-        trial.fault(f"lies: {options}: {region}: the honest report is not accepted")
     image, _ = attestable(trial, {name: region, "liar.s": LIAR}, *options, PLACE)
-    lie = honest.played("play", files.add("liar.hex", image))
-    return honest.data(lie) != honest.data(text) and honest.accepts(lie)
+    liar = files.add("liar.hex", image)
+    lies = {}
+    for pins in all_pins:
+        text, lie = (honest.played("play", program, pins) for program in (honest.image, liar))
+        if not honest.accepts(text) or not honest.data(lie):
+            trial.fault(f"lies: {options}: {name}: {pins:04x}: {text} {lie}")
+        lies[pins] = honest.data(lie) != honest.data(text), honest.accepts(lie)
+    return lies
 
 
-def unset(trial, files, *options):
-    """What a region does not set is 0 in each program around it."""
-    regions = [("region.c", HEADER + region) for region in UNSET] + [("region.s", UNSET_REGISTERS)]
-    for name, region in regions:
-        if is_lie(trial, files, name, region, *options):
-            trial.fault(f"lies: {options}: the program around {region} has its data")
+def ways(trial, files, *options):
+    """What a region does not set is 0 in each program around it, however deep its stack; what it
+    believes is another's; and other metadata are refused.
+    """
+    with folder_of({"region.c": WAYS, "main.c": HEADER + MAIN}) as folder:
+        answer = trial.call(folder, *options, command=MAKE)
+    deep = re.search(DEEP, answer.line, re.M)
+    if not deep or int(deep[1]) != sum(map(int, re.findall(r" (\d+)", deep[2]))):
+        return trial.fault(f"lies: {options}: the stack of a deep region: {answer}")
+    told = told_lies(trial, files, "region.c", WAYS, LIES, *options, deep[3])
+    if told != LIES:
+        trial.fault(f"lies: {options}: {told}")
 
 
 def stray(trial, name, region, texts, *options):
@@ -305,17 +351,36 @@ def stray(trial, name, region, texts, *options):
         trial.fault(f"lies: {options}: {name}: {len(lines)} lines, not {missing}: {answer.line}")
 
 
-def lies(trial, files):
-    if not is_compiler_there(trial):
-        return
+def whole(trial, files, *options):
+    """A region that is whole is linked."""
+    image_of(trial, {"region.c": WHOLE, "guard.s": GUARD, "main.c": HEADER + MAIN}, *options,
+             "REGION_STACK=300")
+
+
+def strays(trial, files, *options):
+    stray(trial, "region.c", STRAY, STRAY_TEXTS, *options)
+
+
+def assembler(trial, files, *options):
+    """A region in assembler is refused its ways outside, and reads nothing of its caller."""
     texts = [re.escape(text.replace("{}", f"way_{number}"))
              for number, (_, text) in enumerate(STRAY_CODE)]
-    whole = {"region.c": b"#include <string.h>\n" + HEADER + WHOLE, "guard.s": GUARD,
-             "main.c": HEADER + MAIN}
+    stray(trial, "region.s", assembler_of([body for body, _ in STRAY_CODE]), texts, *options)
+    told = told_lies(trial, files, "region.s", UNSET_REGISTERS, [0x0017], *options)
+    if told != {0x0017: SAME}:
+        trial.fault(f"lies: {options}: a region in assembler: {told}")
+
+
+def lies(trial, files):
+    """Each region in C is tried where its code is another than at the levels before."""
+    if not is_compiler_there(trial):
+        return
+    seen = set()
     for tools in toolchains():
-        stray(trial, "region.s", assembler_of([body for body, _ in STRAY_CODE]), texts, *tools)
+        assembler(trial, files, *tools)
         for level in LEVELS:
-            options = (*tools, f"CFLAGS={level}")
-            image_of(trial, whole, *options, "REGION_STACK=300")
-            stray(trial, "region.c", HEADER + STRAY, STRAY_TEXTS, *options)
-            unset(trial, files, *options)
+            for region, tried in ((WHOLE, whole), (STRAY, strays), (WAYS, ways)):
+                code = code_of(trial, files, region, level, tools)
+                if code not in seen:
+                    seen.add(code)
+                    tried(trial, files, *tools, f"CFLAGS={level}")
