@@ -3,6 +3,7 @@ import re
 import sys
 
 from firmware_trial import is_compiler_there
+from lying_trial import toolchains
 from sample_files import EXAMPLES, read, write
 from trial import ROOT
 from where_trial import ELF, WHERE, Run, run_of
@@ -190,9 +191,22 @@ def aux_is_told(trial):
     is_quoted(trial, run.make("data"))
     sensor = run_of(trial, "sensor")
     is_quoted(trial, sensor.make("attested"))
+    walk_is_true(trial, sensor)
     other = Told(sensor, run.trace).answer
     if other.ending != (1, "where: the trace is of another region than that of the ELF"):
         trial.fault(f"attested: a trace of another image: {other}")
+
+
+def walk_is_true(trial, run):
+    """docs/debug.md has the line before which EXEC rose, and what is printed up to the reset."""
+    page = read(f"{ROOT}/docs/debug.md").decode()
+    rise = int(re.search(rb"^t (\d+) (?:\S+ ){13}1 ", read(run.trace), re.M)[1])
+    line = re.search(rf"^ +{rise + 1} .* crt0\.s:(\d+)$", run.where("lines", run.trace), re.M)[1]
+    source = read(f"{ROOT}/firmware/crt0.s").decode().split("\n")[int(line) - 1]
+    printed = re.search(r"(.*\n)+?reset .*\n", run.play())[0]
+    for text in (f"crt0.s:{line}\n{line}\t{source}\n", re.sub(" chal .*", " ..", printed)):
+        if text not in re.sub("^    ", "", page, flags=re.M):
+            trial.fault(f"docs/debug.md has not: {text}")
 
 
 def is_quoted(trial, text):
@@ -207,9 +221,10 @@ def made(trial, run):
     text = run.make("attested")
     if text not in run.make("check") or not text:
         trial.fault("attested: make check does not say it")
-    values = re.sub(r"^report2 .*\n", "", run.make("data"), flags=re.M)
-    if values != DATA % (23, "STOPPED") + DATA % (24, "GIVEN"):
-        trial.fault(f"data: {values}")
+    for tools in toolchains():  # (LLVM 14 counts a bit-field from the other end)
+        values = re.sub(r"^report2 .*\n", "", run.make("clean", "data", *tools), flags=re.M)
+        if values != DATA % (23, "STOPPED") + DATA % (24, "GIVEN"):
+            trial.fault(f"data: {tools}: {values}")
 
 
 def data_of_others(trial, run):
@@ -221,11 +236,13 @@ def data_of_others(trial, run):
     text = trial.expect(0, "", f"{run.folder}/bare.elf", input=report, command=words).decode()
     if "    last = 0b" not in text or "    given = 17 00 ff ff 01 68 69" not in text:
         trial.fault(f"data: {text}")
-    other = trial.call(f"{run.folder}/{ELF}", input=report.replace(b" or 0", b" or 1"),
-                       command=words)
-    if other.status != 1 or not re.fullmatch(
-            r"data\.py: report2 \d+ .*: its regions are not those of .*", other.line):
-        trial.fault(f"data: a report of other regions: {other}")
+    bounds = re.search(rb" er (\w+) (\w+) or (\w+) (\w+) data ", report)
+    for at in map(bounds.start, (1, 2, 3, 4)):
+        other = trial.call(f"{run.folder}/{ELF}", input=report[:at] + b"f" + report[at + 1:],
+                           command=words)
+        if other.status != 1 or not re.fullmatch(
+                r"data\.py: report2 \d+ .*: its regions are not those of .*", other.line):
+            trial.fault(f"data: a report of other regions: {other}")
     trial.prints(b"there is no report\n", f"{run.folder}/{ELF}", input=b"end 5 pc c006 exec 0\n",
                  command=words)
 
