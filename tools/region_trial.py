@@ -120,6 +120,7 @@ quiet:  ret
 """
 GUARD = b"stack_guard: 5afe at 0384\n"
 STEPS = 100_000
+BOUND_LEVELS = ("-O0", "-Os", "-Os -flto")
 # A function that nests, and fills 16 bytes of stack and more each time.
 NESTS = """%s uint16_t nests(uint16_t times) {
     volatile uint16_t of[8];
@@ -355,13 +356,14 @@ def same_region(trial):
 
 
 def accepted(trial, files):
-    """At each level of optimization a region with all that clang lays elsewhere is accepted, and so
-    is one that ends with an odd number of bytes, and one in assembler.
+    """At each level of optimization a region with all that clang lays elsewhere is accepted, at
+    some of them in `bounds`, and so is one that ends with an odd number of bytes, and one in
+    assembler.
     """
     def is_accepted(source, *options, **others):
         device = Device(trial, files, source, *options, **others)
         return device.accepts(device.played("play", device.image))
-    for level in LEVELS:
+    for level in set(LEVELS) - set(BOUND_LEVELS):
         if not is_accepted(CLOSED, f"CFLAGS={level} -Wall -Wextra"):
             trial.fault(f"firmware: {level}: a closed region is not accepted")
     text = (b'OUTPUT static uint16_t measurement;\n'
@@ -461,11 +463,12 @@ def bounds(trial, files):
           "chain.s:4: error: the region's stack has 28 bytes, and needs 30: er_min 2, region 12, "
           "outer 4, inner 4, an interrupt 4, on_byte 4: smaller arrays, fewer nested "
           "calls, or REGION_STACK=30")
-    for level in ("-O0", "-Os", "-Os -flto"):
+    for level in BOUND_LEVELS:
+        options = f"CFLAGS={level} -Wall -Wextra"
         with folder_of({"main.c": CLOSED}) as folder:
-            answer = trial.call(folder, f"CFLAGS={level}", "REGION_STACK=2", command=MAKE)
+            answer = trial.call(folder, options, "REGION_STACK=2", command=MAKE)
         size = re.search(r"or (REGION_STACK=\d+)$", answer.line, re.M)
-        device = Device(trial, files, CLOSED, f"CFLAGS={level}", size[1] if size else "")
+        device = Device(trial, files, CLOSED, options, size[1] if size else "")
         below = below_stack(device.played("trace", device.image))
         if not size or below or not device.accepts(device.played("play", device.image)):
             trial.fault(f"firmware: {level}: {size}: the region's stack grows out of its place")
