@@ -2,15 +2,16 @@
 import re
 from collections import namedtuple
 
-from netlist import number
-from values import Function, Later, applied, branch, combined
+from netlist import constant
+from values import Function, Later, applied, branch
 
-TOKEN = re.compile(r"\s*(--[^\n]*|0x[0-9A-Fa-f]+|\d+|\[\]|&&|\|\||==|\+\+|-ℤ|\.(?=\w)"
-                   r"|[λ∷→(){},;=:.+\-*/%^]|[^\W\d][\w']*)")
-# Operators by how tightly they bind, each with whether its operand on the right may be of the same.
-OPERATORS = ((("||",), True), (("&&",), True), (("==",), False), (("∷", "++"), True),
-             (("+", "-", "-ℤ"), False), (("*", "/", "%"), False), (("^",), False))
-KEYWORDS = ("then", "else", "in", "if", "let", "λ")
+# `.x` of a field stands behind its record without a space, and is one word.
+WORD = re.compile(r"0x[0-9A-Fa-f]+|\d+|\[\]|&&|\|\||==|\+\+|-ℤ|(?<=\S)\.\w[\w']*"
+                  r"|[λ∷→(){},;=:.+\-*/%^]|[^\W\d][\w']*")
+# Operators by how tightly they bind, and how much tighter the operand on their right has to.
+OPERATORS = ((("||",), 0), (("&&",), 0), (("==",), 1), (("∷", "++"), 0), (("+", "-", "-ℤ"), 1),
+             (("*", "/", "%"), 1), (("^",), 1))
+ATOM = re.compile(r"(?!(?:then|else|in|if|let|λ)$)(?:\(|\[\]|\w)")  # how one begins
 Equation = namedtuple("Equation", "patterns body")
 Pattern = namedtuple("Pattern", "name parts")  # a constructor, or a name that it binds
 
@@ -21,32 +22,30 @@ class Reader:
     """
 
     def __init__(self, text, named):
-        self.words, self.at, self.named, place = [], 0, named, 0
-        self.touching = set()  # the dots of fields, which stand behind a word without a space
-        while text[place:].strip():
-            found = TOKEN.match(text, place)
-            if not found:
-                raise SyntaxError(f"no word of a definition at {text[place:place + 40]!r}")
-            if re.match(r"\S\.\w", text[place - 1:place + 2]) and found[1] == ".":
-                self.touching.add(len(self.words))
-            if not found[1].startswith("--"):
-                self.words.append(found[1])
-            place = found.end()
-
-    def peek(self):
-        return self.words[self.at] if self.at < len(self.words) else ""
+        text, self.named = re.sub("--.*", "", text), named
+        unknown = WORD.sub("", text).strip()
+        if unknown:
+            raise SyntaxError(f"no word of a definition: {unknown!r} in {text!r}")
+        self.others = iter(WORD.findall(text))
+        self.word = next(self.others, "")  # the one that is read next, "" at the end
 
     def take(self, wanted=None):
-        word = self.peek()
-        if wanted and word != wanted:
-            raise SyntaxError(f"{word} in place of {wanted} in {' '.join(self.words)}")
-        self.at += 1
+        word, self.word = self.word, next(self.others, "")
+        if word != wanted and (wanted is not None or not word):
+            raise SyntaxError(f"{word!r} in place of {wanted or 'another word'!r}")
         return word
 
     def takes(self, word):
         """Whether this word stands here, and then passes it."""
-        found = self.peek() == word
-        self.at += found
+        return self.word == word and self.take() == word
+
+    def until(self, end, part, between=None):
+        """The parts up to a word, with another one between them where that is named."""
+        found = []
+        while not self.takes(end):
+            found.append(part())
+            if between and self.word != end:
+                self.take(between)
         return found
 
     def behind(self, word):
@@ -55,20 +54,17 @@ class Reader:
 
     def equation(self):
         self.take()
-        patterns = []
-        while not self.takes("="):
-            patterns.append(self.pattern())
-        return Equation(patterns, self.term())
+        found = Equation(self.until("=", self.pattern), self.term())
+        self.take("")
+        return found
 
     def pattern(self):
         if not self.takes("("):
             return Pattern(self.take(), [])
-        words = []
-        while not self.takes(")"):
-            words.append(self.pattern())
-        if words[1:2] == [Pattern("∷", [])]:
-            return Pattern("∷", [words[0], words[2]])
-        return Pattern(words[0].name, words[1:])
+        first, *others = self.until(")", self.pattern)
+        if others[:1] == [Pattern("∷", [])]:
+            return Pattern("∷", [first, *others[1:]])
+        return Pattern(first.name, others)
 
     def term(self, level=0):
         if self.takes("λ"):
@@ -78,67 +74,55 @@ class Reader:
             test, true, false = self.term(), self.behind("then"), self.behind("else")
             return lambda bound: branch(test(bound), Later(true, bound), Later(false, bound))
         if self.takes("let"):
-            name = self.take()
-            while self.peek() != "=":  # (its type)
-                self.take()
-            value, body = self.behind("="), self.behind("in")
+            name, _ = self.take(), self.until("=", self.take)  # (its type)
+            value, body = self.term(), self.behind("in")
             return lambda bound: body({**bound, name: Later(value, bound)})
         return self.operation(level)
 
     def operation(self, level):
         if level == len(OPERATORS):
             return self.application()
-        operators, to_the_right = OPERATORS[level]
-        left = self.operation(level + 1)
-        while self.peek() in operators:
-            operator = self.take()
-            left = self.joined(operator, left, self.term(level + (not to_the_right)))
-        return left
-
-    def joined(self, operator, left, right):
-        if operator in ("∷", "++"):
-            return lambda bound: applied(self.named(operator),
-                                         [Later(left, bound), Later(right, bound)])
-        return lambda bound: combined(operator, left(bound), Later(right, bound))
+        operators, tighter = OPERATORS[level]
+        found = self.operation(level + 1)
+        while self.word in operators:
+            found = self.call(self.name(self.take()), [found, self.term(level + tighter)])
+        return found
 
     def application(self):
         function, arguments = self.atom(), []
-        while re.match(r"\(|\[\]|\w", self.peek()) and self.peek() not in KEYWORDS:
+        while ATOM.match(self.word):
             arguments.append(self.atom())
+        return self.call(function, arguments)
+
+    def call(self, function, arguments):
         return lambda bound: applied(function(bound), [Later(each, bound) for each in arguments])
 
     def atom(self):
+        if not ATOM.match(self.word):
+            raise SyntaxError(f"{self.word!r} in place of a term")
         word = self.take()
         if word == "(":
-            parts = [self.term()]
-            while self.takes(","):
-                parts.append(self.term())
-            self.take(")")
+            parts = self.until(")", self.term, ",")
             found = self.record(None, dict(zip("0123", parts))) if parts[1:] else parts[0]
         elif word == "record":
-            found = self.record(None if self.peek() == "{" else self.atom(), self.fields())
+            changed = None if self.word == "{" else self.atom()
+            self.take("{")
+            fields = self.until("}", lambda: (self.take(), self.behind("=")), ";")
+            found = self.record(changed, dict(fields))
         else:
-            value = number(int(word, 0)) if word[0].isdigit() else None
-            found = self.name(word) if value is None else lambda bound: value
-        while self.at in self.touching:
-            found = self.field(found, self.take(".") and self.take())
+            found = self.name(word)
+        while re.match(r"\.\w", self.word):
+            found = self.field(found, self.take()[1:])
         return found
 
     def name(self, word):
+        if word[0].isdigit():
+            return lambda bound: constant(int(word, 0))
         return lambda bound: bound[word].get() if word in bound else self.named(word)
 
-    def field(self, of, name):
-        return lambda bound: of(bound)[name].get()
+    def field(self, record, name):
+        return lambda bound: record(bound)[name].get()
 
     def record(self, changed, fields):
         return lambda bound: {**(changed(bound) if changed else {}), **{
             name: Later(value, bound) for name, value in fields.items()}}
-
-    def fields(self):
-        found = {}
-        self.take("{")
-        while not self.takes("}"):
-            name = self.take()
-            found[name] = self.behind("=")
-            self.takes(";")
-        return found

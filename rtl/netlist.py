@@ -1,35 +1,32 @@
 """Terms over the wires of a module, and their Verilog: Booleans, which have the width 0, and
 natural numbers, each wide enough that nothing of it is lost.
-
-Equal terms are one object, so that they become one wire.
 """
-from functools import lru_cache
+from functools import lru_cache, partial
 
-WRITTEN = {"and": "{} & {}", "or": "{} | {}", "not": "~{}", "==": "{} == {}", "<=": "{} <= {}",
+LEAVES = {"true": "1'b1", "false": "1'b0", "wire": "{}", "number": "{width}'h{:x}"}
+WRITTEN = {"&&": "{} & {}", "||": "{} | {}", "not": "~{}", "==": "{} == {}", "<=": "{} <= {}",
            "<": "{} < {}", "+": "{} + {}", "choice": "{} ? {} : {}", "slice": "{}[{}:{}]",
            "shifted": "{{{}, {}'b0}}"}
+COMPUTED = {"==": int.__eq__, "<=": int.__le__, "<": int.__lt__, "+": int.__add__,
+            "-": lambda left, right: max(0, left - right), "*": int.__mul__,
+            "/": int.__floordiv__, "%": int.__mod__, "^": int.__pow__}
 
 
 class Term:
     """An operation and its operands: terms, or numbers and names."""
 
-    def __init__(self, operation, operands, width):
+    def __init__(self, operation, *operands, width=0):
         self.operation, self.operands, self.width = operation, operands, width
 
 
-@lru_cache(None)
-def term(operation, *operands, width=0):
-    return Term(operation, operands, width)
-
-
+term = lru_cache(None)(Term)  # equal terms are one object, so that they become one wire
 TRUE, FALSE = term("true"), term("false")
 
 
-def truth(value):
-    return TRUE if value else FALSE
-
-
-def number(value):
+def constant(value):
+    """The term of a Boolean or of a number."""
+    if isinstance(value, bool):
+        return TRUE if value else FALSE
     return term("number", value, width=max(1, value.bit_length()))
 
 
@@ -37,65 +34,43 @@ def wire(name, width=0):
     return term("wire", name, width=width)
 
 
-def value_of(one):
-    """The number that a term is, None where it depends on a wire."""
-    return one.operands[0] if one.operation == "number" else None
-
-
 def negation(one):
     if one in (TRUE, FALSE):
-        return truth(one is FALSE)
+        return constant(one is FALSE)
     return one.operands[0] if one.operation == "not" else term("not", one)
 
 
-def conjunction(left, right):
-    if FALSE in (left, right) or negation(left) is right:
-        return FALSE
-    if TRUE in (left, right) or left is right:
-        return right if left is TRUE else left
-    return term("and", left, right)
+def joined(operator, left, right):
+    """By `&&` or `||`: of each one Boolean is neutral, and the other decides."""
+    neutral, decisive = (TRUE, FALSE) if operator == "&&" else (FALSE, TRUE)
+    if decisive in (left, right) or negation(left) is right:
+        return decisive
+    if left is neutral or left is right:
+        return right
+    return left if right is neutral else term(operator, left, right)
 
 
-def disjunction(left, right):
-    if TRUE in (left, right) or negation(left) is right:
-        return TRUE
-    if FALSE in (left, right) or left is right:
-        return right if left is FALSE else left
-    return term("or", left, right)
+conjunction, disjunction = partial(joined, "&&"), partial(joined, "||")
 
 
 def choice(guard, left, right):
-    """One term where the guard holds, else the other."""
-    if guard is TRUE or left is right:
-        return left
-    if guard is FALSE:
-        return right
+    """One of two terms, the left one where the guard holds, of which that is not known."""
     if not left.width:
         return disjunction(conjunction(guard, left), conjunction(negation(guard), right))
     return term("choice", guard, left, right, width=max(left.width, right.width))
 
 
-COMPARISONS = {"==": int.__eq__, "<=": int.__le__, "<": int.__lt__}
-
-
-def comparison(operator, left, right):
-    values = value_of(left), value_of(right)
-    if None not in values:
-        return truth(COMPARISONS[operator](*values))
-    return TRUE if operator == "<=" and values[0] == 0 else term(operator, left, right)
-
-
-NUMBERS = {"+": int.__add__, "-": lambda left, right: max(0, left - right), "*": int.__mul__,
-           "/": int.__floordiv__, "%": int.__mod__, "^": int.__pow__}
-
-
-def arithmetic(operator, left, right):
-    """Of numbers that depend on wires: sums, and products, quotients and remainders by a power of
-    two.
+def operation(operator, left, right):
+    """Of two Booleans or numbers. Of numbers that depend on wires it is a comparison, a sum, or a
+    product, quotient or remainder by a power of two.
     """
-    values = value_of(left), value_of(right)
+    if operator in ("&&", "||"):
+        return joined(operator, left, right)
+    values = [each.operands[0] if each.operation == "number" else None for each in (left, right)]
     if None not in values:
-        return number(NUMBERS[operator](*values))
+        return constant(COMPUTED[operator](*values))
+    if operator in ("==", "<=", "<"):
+        return TRUE if operator == "<=" and values[0] == 0 else term(operator, left, right)
     if operator == "+":
         return term("+", left, right, width=max(left.width, right.width) + 1)
     bits = (values[1] or 0).bit_length() - 1
@@ -103,13 +78,12 @@ def arithmetic(operator, left, right):
         raise ValueError(f"no wires for {operator} by {values[1]}")
     if operator == "*":
         return term("shifted", left, bits, width=left.width + bits) if bits else left
-    kept, dropped = (bits, left.width - bits) if operator == "%" else (left.width - bits, bits)
-    if kept <= 0:
-        return number(0)
-    if dropped <= 0:
+    first, end = (0, min(bits, left.width)) if operator == "%" else (bits, left.width)
+    if first >= end:
+        return constant(0)
+    if end - first == left.width:
         return left
-    first = 0 if operator == "%" else bits
-    return term("slice", left, first + kept - 1, first, width=kept)
+    return term("slice", left, end - 1, first, width=end - first)
 
 
 def width_text(width):
@@ -120,21 +94,15 @@ class Netlist:
     """The wires of terms, in an order in which each comes behind those that it needs."""
 
     def __init__(self):
-        self.names, self.lines = {TRUE: "1'b1", FALSE: "1'b0"}, []
+        self.names, self.lines = {}, []
 
     def name(self, one):
-        """The wire of a term."""
+        """What a term is written as: its wire, which it gets here, or itself where it is a leaf."""
+        if one.operation in LEAVES:
+            return LEAVES[one.operation].format(*one.operands, width=one.width)
         if one not in self.names:
-            self.names[one] = self.new_name(one)
+            text = WRITTEN[one.operation].format(*(
+                self.name(each) if isinstance(each, Term) else each for each in one.operands))
+            self.names[one] = f"n{len(self.lines)}"
+            self.lines.append(f"    wire {width_text(one.width)}{self.names[one]} = {text};")
         return self.names[one]
-
-    def new_name(self, one):
-        if one.operation == "wire":
-            return one.operands[0]
-        if one.operation == "number":
-            return f"{one.width}'h{one.operands[0]:x}"
-        text = WRITTEN[one.operation].format(*(
-            self.name(each) if isinstance(each, Term) else each for each in one.operands))
-        name = f"n{len(self.lines)}"
-        self.lines.append(f"    wire {width_text(one.width)}{name} = {text};")
-        return name

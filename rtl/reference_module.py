@@ -13,52 +13,50 @@ import sys
 
 sys.dont_write_bytecode = True
 sys.path.insert(0, os.path.join(os.path.dirname(os.path.realpath(__file__)), "../tools"))
-from netlist import (FALSE, Netlist, TRUE, choice, comparison, conjunction, negation,  # noqa: E402
-                     number, width_text, wire)
+from netlist import (FALSE, Netlist, TRUE, conjunction, constant, negation,  # noqa: E402
+                     operation, width_text, wire)
 from reference import RULES  # noqa: E402
 from symbolic import Evaluation  # noqa: E402
-from values import Alternative, Data, Opaque, called, data, known  # noqa: E402
+from values import Data, Opaque, branch, called, data, known, merged  # noqa: E402
 
-ROOT = os.path.dirname(os.path.dirname(os.path.realpath(__file__)))
 KINDS = ("Boot", "Cpu", "Idle", "Irq", "Rom")  # as the wire `kind` numbers them
 BOUNDS = ("er_min", "er_max", "or_min", "or_max")
-LAST = Data([Alternative(negation(wire("last_some")), "None", []),
-             Alternative(wire("last_some"), "Some", [known(wire("last_pc", 16))])])
-CLEAN = ("trace_audit", "Clean")
 FLAGS = {"exec": ("bus_signals", "ExecFlag", "exec"),
          "aux": ("part_definitions", "TrustedFlag", "aux")}
+LAST = merged(negation(wire("last_some")), data("None"), data("Some", known(wire("last_pc", 16))))
+# Functions of the lines before, each with what stands for it and what it is of no lines.
+LEFT = ((("bus_signals", "ExecFlag", "last_pc"), LAST, data("None")),
+        *((place, wire(f"{flag}_q"), FALSE) for flag, place in FLAGS.items()))
 # The files of single rules and conditions, each with what is given to them beside the `pc` before.
-SINGLE = {("part_definitions", "MonitorRule"): "signals",
-          ("part_definitions", "FirstRule"): "signals",
-          ("bus_signals", "ExecFlag"): "seen",
-          ("part_definitions", "TrustedFlag"): "seen"}
+SINGLE = {("part_definitions", "MonitorRule"): "signals_in",
+          ("part_definitions", "FirstRule"): "signals_in",
+          ("bus_signals", "ExecFlag"): "seen_in",
+          ("part_definitions", "TrustedFlag"): "seen_in"}
 CONDITION = re.compile(r"(?:breaks|clears)_([a-z]\d+)|(starts)_run")
 
 
-def by_number(one, constructors):
-    """The constructor of a number; every number that is left is of the last one."""
-    guards = [comparison("==", one, number(place)) for place in range(len(constructors))]
+def by_number(one, values):
+    """The data of a number; every number that is left is of the last one."""
     found, rest = [], TRUE
-    for guard, (constructor, *arguments) in zip([*guards[:-1], TRUE], constructors):
-        found.append(Alternative(conjunction(rest, guard), constructor, arguments))
+    guards = [operation("==", one, constant(place)) for place in range(len(values) - 1)]
+    for guard, value in zip([*guards, TRUE], values):
+        found.append(value.alternatives[0]._replace(guard=conjunction(rest, guard)))
         rest = conjunction(rest, negation(guard))
     return Data(found)
 
 
 def access(master):
     """0 none, 1 a fetch, 2 a read, 3 a write."""
-    byte, place = wire(f"{master}_byte"), known(wire(f"{master}_addr", 16))
-    size = known(Data([Alternative(byte, "Byte", []), Alternative(negation(byte), "Word", [])]))
-    some = by_number(wire(f"{master}_op", 2), [
-        ["None"], ["Fetch", place], ["Read", place, size],
-        ["Write", place, size, known(wire(f"{master}_number", 16))]])
-    none, *others = some.alternatives
-    is_some = negation(none.guard)
-    return Data([none, Alternative(is_some, "Some", [known(Data(others))])])
+    place, number = known(wire(f"{master}_addr", 16)), known(wire(f"{master}_number", 16))
+    size = known(merged(wire(f"{master}_byte"), data("Byte"), data("Word")))
+    none, *others = by_number(wire(f"{master}_op", 2), [
+        data("None"), data("Fetch", place), data("Read", place, size),
+        data("Write", place, size, number)]).alternatives
+    return merged(none.guard, data("None"), data("Some", known(Data(others))))
 
 
 def line_of_wires():
-    fields = {"kind": by_number(wire("kind", 3), [[kind] for kind in KINDS]),
+    fields = {"kind": by_number(wire("kind", 3), [*map(data, KINDS)]),
               "cpu": access("cpu"), "dma": access("dma"), "irq": wire("irq"),
               "asked": wire("ext_reset"), "exec": FALSE, "rule": data("None"),
               "bounds": {name: known(wire(name, 16)) for name in BOUNDS},
@@ -68,58 +66,50 @@ def line_of_wires():
 
 def rule_number(rule):
     """The place of a rule in the order in which they are tried, from 1; 0 for none."""
-    found, names = number(0), [*RULES]
+    found, names = constant(0), [*RULES]
     for guard, constructor, arguments in rule.alternatives:
         for own, name, _ in arguments[0].get().alternatives if constructor == "Some" else ():
-            found = choice(conjunction(guard, own), number(names.index(name) + 1), found)
+            place = constant(names.index(name) + 1)
+            found = branch(conjunction(guard, own), known(place), known(found))
     return found
 
 
 class Step:
-    """One line behind a list of which nothing is known; `registers` are what is left of that."""
+    """One line behind a list of which nothing is known."""
 
-    def __init__(self, root=ROOT):
-        self.of = Evaluation(root)
-        self.line, before = line_of_wires(), Opaque("before")
-        history = self.call("map", self.named("seen_in"), before)
-        self.registers = {f"(last_pc {history.text})": LAST}
-        for flag, place in FLAGS.items():  # its value before, by its own definition
-            left = called(self.of.named(*place), history)
-            self.registers[left.text] = wire(f"{flag}_q")
-            if called(self.of.named(*place), data("[]")) is not FALSE:
-                raise ValueError(f"{flag} of no lines is not false")
-        self.of.registers.update(self.registers)
-        first = called(self.of.named("bus_signals", "ExecFlag", "last_pc"), data("[]"))
-        if first != data("None"):
-            raise ValueError("there is a pc before the first line")
+    def __init__(self):
+        self.of, self.line, before = Evaluation(), line_of_wires(), Opaque("before")
+        history = self.seen_in(before)
+        for place, now, first in LEFT:
+            function = self.of.named(*place)
+            self.of.registers[called(function, history).text] = now
+            if called(function, data("[]")) != first:
+                raise ValueError(f"the register of {place} begins otherwise than that")
         rule = called(self.named("right_rule"), before, self.line)
         self.line["rule"] = known(rule)
-        lines = data("∷", known(self.line), known(before))
-        records = self.call("map", self.named("seen_in"), lines)
-        self.outputs = {"rule": rule_number(rule), **{
-            flag: called(self.of.named(*place), records) for flag, place in FLAGS.items()}}
-        self.outputs.update(self.conditions())
+        records = self.seen_in(data("∷", known(self.line), known(before)))
+        flags = {flag: called(self.of.named(*place), records) for flag, place in FLAGS.items()}
+        self.outputs = {"rule": rule_number(rule), **flags, **dict(self.conditions())}
 
     def named(self, name):
-        return self.of.named(*CLEAN, name)
+        return self.of.named("trace_audit", "Clean", name)
 
-    def call(self, name, *values):
-        return called(self.of.library.value(name), *values)
+    def seen_in(self, lines):
+        """The records that the flags are of."""
+        return called(self.of.library.value("map"), self.named("seen_in"), lines)
 
     def conditions(self):
         """Each rule and each condition of a flag by itself, whatever others hold."""
-        given = {"signals": called(self.named("signals_in"), self.line),
-                 "seen": called(self.named("seen_in"), self.line)}
-        for place, kind in SINGLE.items():
-            for name in self.of.crates.specs(*place).definitions:
-                found = CONDITION.fullmatch(name)
-                if found:
-                    function = self.of.named(*place, name)
-                    last = [LAST] * (function.arity - 1)
-                    yield found[1] or found[2], called(function, *last, given[kind])
+        for place, view in SINGLE.items():
+            given = called(self.named(view), self.line)
+            names = self.of.crates.specs(*place).definitions
+            for found in filter(None, map(CONDITION.fullmatch, names)):
+                function = self.of.named(*place, found[0])
+                last = [LAST] * (function.arity - 1)
+                yield found[1] or found[2], called(function, *last, given)
 
 
-HEAD = """\
+MODULE = """\
 // Made from the definitions in specs/ by rtl/reference_module.py. Of the lines before it knows:
 {registers}
 module reference
@@ -129,8 +119,8 @@ module reference
 {outputs},
     output reg last_some, exec_q, aux_q, output reg [15:0] last_pc);
     initial begin last_some = 0; exec_q = 0; aux_q = 0; last_pc = 0; end
-"""
-TAIL = """    always @(posedge clk) begin
+{lines}
+    always @(posedge clk) begin
         last_some <= ~por;
         exec_q <= exec & ~por;
         aux_q <= aux & ~por;
@@ -145,9 +135,9 @@ def verilog(step):
     assigned = [f"    assign {name} = {netlist.name(one)};" for name, one in step.outputs.items()]
     outputs = ",\n".join(f"    output wire {width_text(one.width)}{name}"
                          for name, one in step.outputs.items())
-    registers = "\n".join(f"//   {text}" for text in step.registers)
-    return (HEAD.format(registers=registers, outputs=outputs)
-            + "\n".join([*netlist.lines, *assigned]) + "\n" + TAIL)
+    return MODULE.format(
+        registers="\n".join(f"//   {text}" for text in step.of.registers), outputs=outputs,
+        lines="\n".join([*netlist.lines, *assigned]))
 
 
 if __name__ == "__main__":

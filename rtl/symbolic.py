@@ -1,13 +1,11 @@
 """What the definitions of specs/ come to, by their equations."""
-import os
 import re
-import sys
+from functools import lru_cache, partial
 
-sys.path.insert(0, os.path.join(os.path.dirname(os.path.realpath(__file__)), "../tools"))
-from definitions import Crates  # noqa: E402
-from equations import Reader  # noqa: E402
-from netlist import FALSE, TRUE, comparison, negation  # noqa: E402
-from values import Data, Function, Opaque, branch, data, known, replaced, shown  # noqa: E402
+from definitions import Crates
+from equations import Reader
+from netlist import FALSE, TRUE, negation, operation
+from values import Data, Function, Opaque, call_text, data, of_each, replaced
 
 # What the definitions take from the standard library.
 LIBRARY = {
@@ -20,34 +18,36 @@ LIBRARY = {
     "option_or": ["option_or None other = other", "option_or (Some x) other = Some x"],
     "option_to_list": ["option_to_list None = []", "option_to_list (Some x) = x ∷ []"],
 }
+CONSTRUCTORS = ("[]", "∷", "None", "Some")  # of the library
+
+
+def combined(operator, left, right):
+    """`&&` and `||` ask for their second operand where the first does not decide."""
+    if (operator, left.get()) in (("&&", FALSE), ("||", TRUE)):
+        return left.get()
+    return operation(operator, left.get(), right.get())
+
+
+OPERATIONS = {"nat_le": "<=", "nat_lt": "<", **{
+    sign: sign for sign in ("&&", "||", "==", "+", "-", "*", "/", "%", "^")}}
 BUILT_IN = {
-    "true": TRUE,
-    "false": FALSE,
-    "not": Function("not", 1, lambda one: negation(one.get())),
-    "nat_le": Function("nat_le", 2, lambda one, two: comparison("<=", one.get(), two.get())),
-    "nat_lt": Function("nat_lt", 2, lambda one, two: comparison("<", one.get(), two.get())),
+    "true": TRUE, "false": FALSE, "not": Function("not", 1, lambda one: negation(one.get())),
+    **{name: Function(name, 2, partial(combined, sign)) for name, sign in OPERATIONS.items()},
 }
-OF_LIBRARY = ("[]", "∷", "None", "Some")  # constructors
 
 
 class Scope:
     """The names of a file of specs/, of the library alone where there is no file."""
 
     def __init__(self, evaluation, file=None):
-        self.evaluation, self.file, self.values = evaluation, file, {}
+        self.evaluation, self.file = evaluation, file
+        self.value = lru_cache(None)(self.find)
 
     def constructor(self, name):
         """The constructor that a name is of, None where it is of none."""
-        if name in OF_LIBRARY or not self.file:
-            return name if name in OF_LIBRARY else None
-        path, item = self.file.imports.get(name, ([], ""))
-        is_variant = "TheVariants" in path or self.file.crates.has_variant(path, item)
-        return item if is_variant else None
-
-    def value(self, name):
-        if name not in self.values:
-            self.values[name] = self.find(name)
-        return self.values[name]
+        if self.file and self.file.is_variant(name):
+            return self.file.imports.get(name, ([], name))[1]
+        return name if name in CONSTRUCTORS else None
 
     def find(self, name):
         constructor = self.constructor(name)
@@ -56,65 +56,41 @@ class Scope:
         if name in BUILT_IN:
             return BUILT_IN[name]
         if name in LIBRARY:
-            return self.evaluation.function(name, LIBRARY[name], self.evaluation.library)
+            return self.evaluation.library.defined(name, LIBRARY[name])
         definition = self.file and self.file.find(name)
         if not definition:
             raise NameError(f"nothing is called {name}")
         text = definition.file.text_of(definition.lines)
-        _, *equations = re.split(r"\n(?=\S)", re.sub(r"^ *--.*\n", "", text, flags=re.M))
-        return self.evaluation.function(definition.name, equations,
-                                        self.evaluation.scope(definition.file))
+        _, *equations = re.split(r"\n(?=[^\s-])", text)  # (a comment stays with those before it)
+        return self.evaluation.scope(definition.file).defined(definition.name, equations)
 
-
-class Evaluation:
-    """`registers` are the values that stand for functions of the unknown list, by their texts."""
-
-    def __init__(self, root):
-        self.crates, self.registers, self.scopes = Crates(root), {}, {}
-        self.library = Scope(self)
-
-    def scope(self, file):
-        return self.scopes.setdefault(file.path, Scope(self, file))
-
-    def named(self, crate, module, name):
-        return self.scope(self.crates.specs(crate, module)).value(name)
-
-    def function(self, name, texts, scope):
-        equations = [Reader(text, scope.value).equation() for text in texts]
+    def defined(self, name, texts):
+        """What equations define: a function, or a value."""
+        equations = [Reader(text, self.value).equation() for text in texts]
         arity = len(equations[0].patterns)
         if not arity:
             return equations[0].body({})
-        return Function(name, arity, lambda *arguments: self.chosen(
-            name, equations, list(arguments), scope))
+        return Function(name, arity, lambda *arguments: self.chosen(name, equations, arguments))
 
-    def chosen(self, name, equations, arguments, scope):
+    def chosen(self, name, equations, arguments):
         """By the first equation that fits; of data with several alternatives by that of each."""
         for patterns, body in equations:
             bound = {}
-            misfit = self.misfit(patterns, arguments, bound, scope)
+            misfit = self.misfit(patterns, arguments, bound)
             if misfit is None:
                 return body(bound)
             if isinstance(misfit, Opaque):
-                text = f"({' '.join([name, *map(shown, arguments)])})"
-                return self.registers.get(text, Opaque(text))
+                text = call_text(name, arguments)
+                return self.evaluation.registers.get(text, Opaque(text))
             if isinstance(misfit, Data):
-                return self.of_each(misfit, lambda one: self.chosen(
-                    name, equations, [replaced(each, misfit, one) for each in arguments], scope))
+                return of_each(misfit, lambda one: self.chosen(
+                    name, equations, [replaced(each, misfit, one) for each in arguments]))
         raise ValueError(f"no equation of {name} fits")
 
-    def of_each(self, target, value_of):
-        *others, last = target.alternatives
-        found = value_of(data(last.constructor, *last.arguments))
-        for guard, constructor, arguments in others:
-            found = branch(guard, known(value_of(data(constructor, *arguments))), known(found))
-        return found
-
-    def misfit(self, patterns, arguments, bound, scope):
-        """Binds the names of patterns. What keeps these from fitting: the value of which it is not
-        known, or FALSE; None where they fit.
-        """
+    def misfit(self, patterns, arguments, bound):
+        """What keeps patterns from fitting: an unknown value, FALSE, or None; binds their names."""
         for pattern, argument in zip(patterns, arguments):
-            wanted = scope.constructor(pattern.name)
+            wanted = self.constructor(pattern.name)
             if not wanted:
                 bound[pattern.name] = argument
                 continue
@@ -122,8 +98,19 @@ class Evaluation:
             if isinstance(value, Opaque) or len(value.alternatives) > 1:
                 return value
             _, constructor, values = value.alternatives[0]
-            found = FALSE if wanted != constructor else (
-                self.misfit(pattern.parts, values, bound, scope))
+            found = FALSE if wanted != constructor else self.misfit(pattern.parts, values, bound)
             if found is not None:
                 return found
         return None
+
+
+class Evaluation:
+    """`registers` are the values that stand for functions of the unknown list, by their texts."""
+
+    def __init__(self):
+        self.crates, self.registers = Crates(), {}
+        self.library = Scope(self)
+        self.scope = lru_cache(None)(partial(Scope, self))  # (of a file)
+
+    def named(self, crate, module, name):
+        return self.scope(self.crates.specs(crate, module)).value(name)

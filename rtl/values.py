@@ -3,8 +3,7 @@ Booleans, data of which wires say the constructor, and a list of which nothing i
 """
 from collections import namedtuple
 
-from netlist import (FALSE, TRUE, arithmetic, choice, comparison, conjunction, disjunction,
-                     negation)
+from netlist import FALSE, TRUE, choice, conjunction, disjunction, negation
 
 Opaque = namedtuple("Opaque", "text")  # a list, or a function of one, of which nothing is known
 Data = namedtuple("Data", "alternatives")
@@ -15,8 +14,8 @@ Function = namedtuple("Function", "name arity call given", defaults=((),))
 class Later:
     """A value that is computed when it is asked for."""
 
-    def __init__(self, compute, *arguments):
-        self.compute, self.arguments, self.value = compute, arguments, None
+    def __init__(self, compute, *arguments, value=None):
+        self.compute, self.arguments, self.value = compute, arguments, value
 
     def get(self):
         if self.compute:
@@ -25,9 +24,7 @@ class Later:
 
 
 def known(value):
-    later = Later(lambda: value)
-    later.get()
-    return later
+    return Later(None, value=value)
 
 
 def data(constructor, *arguments):
@@ -49,16 +46,6 @@ def applied(function, arguments):
 
 def called(function, *values):
     return applied(function, [known(value) for value in values])
-
-
-def combined(operator, left, right):
-    """`&&` and `||` ask for their second operand where the first does not decide."""
-    if (operator, left) in (("&&", FALSE), ("||", TRUE)):
-        return left
-    operation = {"&&": conjunction, "||": disjunction}.get(operator)
-    if operation:
-        return operation(left, right.get())
-    return (comparison if operator == "==" else arithmetic)(operator, left, right.get())
 
 
 def branch(guard, true, false):
@@ -88,6 +75,15 @@ def merged(guard, left, right):
     return Data([*found.values()])
 
 
+def of_each(some, value_of):
+    """The value of a function of data, by that of each alternative."""
+    *others, (_, found) = ((each.guard, value_of(Data([each._replace(guard=TRUE)])))
+                           for each in some.alternatives)
+    for guard, value in others:
+        found = branch(guard, known(value), known(found))
+    return found
+
+
 def replaced(later, target, one):
     """A value in which this one stands in the place of some data."""
     value = later.value  # (None where it is not computed yet)
@@ -99,8 +95,8 @@ def replaced(later, target, one):
     return known(data(constructor, *(replaced(each, target, one) for each in arguments)))
 
 
-def shown(later):
-    value = later.get()
-    if isinstance(value, Function) and value.given:
-        return f"({' '.join([value.name, *map(shown, value.given)])})"
-    return value.name if isinstance(value, Function) else getattr(value, "text", "?")
+def call_text(name, arguments):
+    """A call, with `?` for each argument that is no function, and none of what is not known."""
+    texts = [call_text(each.name, each.given) if isinstance(each, Function)
+             else getattr(each, "text", "?") for each in (later.get() for later in arguments)]
+    return f"({' '.join([name, *texts])})" if texts else name

@@ -20,7 +20,7 @@ import formula_readings  # noqa: E402
 import formulas  # noqa: E402
 import mutants  # noqa: E402
 from foreign_lines import foreign_trace  # noqa: E402
-from netlist import FALSE, TRUE, number  # noqa: E402
+from netlist import FALSE, TRUE, constant  # noqa: E402
 from proofs import MODULE, Proofs, equality  # noqa: E402
 from proofs import formulas as formula_runs  # noqa: E402
 from reference_module import BOUNDS  # noqa: E402
@@ -86,6 +86,7 @@ TERMS = {"1 + 2 * 3 == 7 && true": TRUE, "false || not false && false": FALSE,
          "is_none (option_or None (Some 1))": FALSE, "2 ^ 3 - 1 == 7": TRUE,
          "list_any (λ x. x == 3) (map (λ x. x + 1) ((1 ∷ []) ++ (2 ∷ [])))": TRUE}
 REFUSED = {"x": NameError, "1 ? 2": SyntaxError, "if true then 1": SyntaxError,
+           "true )": SyntaxError, "(1, 2": SyntaxError, "- 1": SyntaxError,
            "is_some 1": AttributeError}
 
 
@@ -93,23 +94,23 @@ def reference_tool(trial):
     """The tool that makes the reference: terms, words that are illegal, and bounds that are valid,
     beside the models of tools/.
     """
-    evaluation = Evaluation(ROOT)
+    evaluation = Evaluation()
     for text, value in TERMS.items():
-        if evaluation.function("f", [f"f = {text}"], evaluation.library) is not value:
+        if evaluation.library.defined("f", [f"f = {text}"]) is not value:
             trial.fault(f"{text} is not {value.operation}")
     for text, error in REFUSED.items():
         try:
-            evaluation.function("f", [f"f = {text}"], evaluation.library)
+            evaluation.library.defined("f", [f"f = {text}"])
             trial.fault(f"{text} is read")
         except error:
             pass
     illegal = evaluation.named("part_definitions", "NextAccess", "is_illegal")
     for word in [*range(0, 0x10000, 97), *range(0x1000, 0x1400)]:
-        if (called(illegal, number(word)) is TRUE) != is_illegal(word):
+        if (called(illegal, constant(word)) is TRUE) != is_illegal(word):
             trial.fault(f"is_illegal {word:04x}")
     valid = evaluation.named("bus_signals", "Bounds", "are_valid")
     for line in foreign_trace(2, False, 400):
-        bounds = {name: known(number(place)) for name, place in zip(BOUNDS, line.bounds)}
+        bounds = {name: known(constant(place)) for name, place in zip(BOUNDS, line.bounds)}
         if (called(valid, bounds) is TRUE) != is_valid(line.bounds, 2):
             trial.fault(f"are_valid {line.bounds}")
     trial.tries += len(TERMS) + len(REFUSED)
