@@ -83,7 +83,7 @@ TERMS = {"1 + 2 * 3 == 7 && true": TRUE, "false || not false && false": FALSE,
          "(record { a = 3; b = 4 }).b == 0x4": TRUE, "9 / 2 * 2 == 8": TRUE, "9 % 4 == 1": TRUE,
          "list_any (λ x. x == 2) (1 ∷ 2 ∷ [])": TRUE,
          "list_all is_some (Some 1 ∷ None ∷ [])": FALSE,
-         "is_none (option_or None (Some 1))": FALSE, "2 ^ 3 - 1 == 7": TRUE,
+         "is_none (option_or None (Some 1))": FALSE, "2 ^ 3 - 1 - 1 == 6": TRUE,
          "list_any (λ x. x == 3) (map (λ x. x + 1) ((1 ∷ []) ++ (2 ∷ [])))": TRUE}
 REFUSED = {"x": NameError, "1 ? 2": SyntaxError, "if true then 1": SyntaxError,
            "true )": SyntaxError, "(1, 2": SyntaxError, "- 1": SyntaxError,
