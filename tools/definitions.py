@@ -18,6 +18,7 @@ CLAUSE = re.compile(r"    (?:ensures|requires) (?:(\w+) )?\{")
 WORD = re.compile(r"[^\W\d]\w*")
 USED = re.compile(r"^ *(?:pub )?(?:ghost )?use ([^;{\s]+?)(?:(?:\.|::)\{([^}]*)\})?"
                   r"(?: as ([^;\s]+))?;?$", re.M)
+FUNCTION = r' *pub (?:extern "C" )?fn {}[<(]'  # of a name
 ROOT = os.path.dirname(os.path.dirname(os.path.realpath(__file__)))
 COMMENTS = ("--", "//", "#[")
 
@@ -165,7 +166,7 @@ class SourceFile(File):
     def contract(self, name, labels=()):
         """The contract of a function as a definition, with these of its clauses, or with all."""
         first = next(number for number, line in enumerate(self.lines)
-                     if re.match(rf" *pub fn {name}[<(]", line))
+                     if re.match(FUNCTION.format(name), line))
         last = first
         while self.lines[last].strip() not in ("{", "{}"):
             last += 1
@@ -245,13 +246,13 @@ class Crates:
                 return file.definitions[name]
         return None
 
-    def function(self, crate, name):
-        """The contract of a function of a crate."""
+    def function(self, crate, name, labels=()):
+        """The contract of a function of a crate, with these of its clauses, or with all."""
         root = f"{self.root}/crates/{crate}/src/"
         for path in sorted(glob.glob(f"{root}**/*.rt", recursive=True)):
             file = self.source(crate, path[len(root):-3])
-            if re.search(rf"^ *pub fn {name}[<(]", "\n".join(file.lines), re.M):
-                return file.contract(name)
+            if re.search(f"^{FUNCTION.format(name)}", "\n".join(file.lines), re.M):
+                return file.contract(name, labels)
         raise SystemExit(f"reading-list: no function {name} in {crate}")
 
     def has_variant(self, path, name):
