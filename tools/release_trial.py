@@ -13,6 +13,8 @@ from trial import ROOT
 NAME = f"foldgneiss-{VERSION}-x86_64"
 ARCHIVE, PACKAGE = f"{NAME}.tar.gz", f"foldgneiss_{VERSION}_amd64.deb"
 TOOLS = ("git", "dpkg-deb")
+MADE = "crates/device_library/out"
+PARTS = ("libfoldgneiss_device.so", "device.wasm", "device.html")
 
 
 def checkout(trial, folder):
@@ -28,6 +30,10 @@ def checkout(trial, folder):
         os.makedirs(f"{folder}/crates/{crate}/out")
         made = shutil.copy(program, f"{folder}/crates/{crate}/out/{crate}")
         write(f"{made}.origin", origin.encode())
+    os.makedirs(f"{folder}/{MADE}")
+    for name in PARTS:
+        write(f"{folder}/{MADE}/{name}", name.encode())
+    write(f"{folder}/{MADE}/device_library.origin", origin.encode())
     return origin
 
 
@@ -68,6 +74,11 @@ def works(trial, files, root, command, origin):
     trial.expect(127, "foldgneiss: a release has no sources to build: that needs the repository "
                       "and the Rattle kit, see README.md", "build", command=[command])
     trial.expect(0, "", "--quiet", "-c", "SHA256SUMS", command=["sha256sum"], cwd=root)
+    sums, proved = read(f"{root}/SHA256SUMS").decode(), read(f"{root}/PROVED").decode()
+    for name in PARTS:
+        if read(f"{root}/{MADE}/{name}") != name.encode() or f"  {MADE}/{name}\n" not in sums or (
+                f"  {MADE}/{name}\n" not in proved):
+            trial.fault(f"release: {name} is not there, or has no sum")
     trial.expect(0, "", f"{root}/examples/desk/carry.sh", command=["bash"])
 
 
@@ -76,9 +87,18 @@ def refusals(trial, folder):
     tool = [f"{folder}/tools/release"]
     out = f"{folder}/crates/desk_main/out/desk_main"
     origin = read(f"{out}.origin")
-    write(f"{out}.origin", origin.replace(b"sources ", b"sources 0"))
+    other = origin.replace(b"sources ", b"sources 0")
+    write(f"{out}.origin", other)
     trial.expect(1, "release: desk_main is of other sources than the program of the device",
                  f"{folder}-refused", command=tool)
+    write(f"{out}.origin", origin)
+    write(f"{folder}/{MADE}/device_library.origin", other)
+    trial.expect(1, "release: the library and the page are not made of these sources: "
+                    "tools/make-page", f"{folder}-refused", command=tool)
+    write(f"{folder}/{MADE}/device_library.origin", origin)
+    os.remove(f"{folder}/{MADE}/device.html")
+    trial.expect(1, f"release: there is no {MADE}/device.html", f"{folder}-refused", command=tool)
+    write(f"{folder}/{MADE}/device.html", b"device.html")
     changelog = read(f"{folder}/CHANGELOG.md").replace(b"## ", b"## 0.9.0, 2027-01-01\n\n## ", 1)
     write(f"{folder}/CHANGELOG.md", changelog)
     trial.expect(1, "release: CHANGELOG.md begins with 0.9.0, and tools/reference.py has "
