@@ -14,6 +14,18 @@ OTHER_IMAGES = {
 }
 MARKS = (b"\xef\xbb\xbf", b"\xff\xfe", b"\xfe\xff")  # byte order marks
 START = 1 << 16  # of a file, in which a line tells of what kind it is
+# What is said here and in the page.
+SAID = {
+    "marked": "it begins with a byte order mark, which no file here has",
+    "utf16": "it is UTF-16, and UTF-8 is wanted",
+    "hex": "it is {}, and Intel HEX is wanted",
+    "misplaced": "{} is {}, in the place of {}",
+    "key_in_bytes": "it is a key in bytes, and the digits of them are wanted",
+    "bytes": "it is no text and has {} bytes, and a key has 64",
+    "digits": "it has {} digits{}, and a key has 128, of 64 bytes",
+    "beside": "it has {}; the digits alone stand in one line",
+    "version": "with `flag` and `ask` a policy is of version 2, and begins so",
+}
 
 
 class Form(NamedTuple):
@@ -75,9 +87,8 @@ def about_mark(name, text):
     if not mark:
         return None
     if len(mark) == 3:
-        return ("it begins with a byte order mark, which no file here has: "
-                f"sed -i '1s/^\\xef\\xbb\\xbf//' {name}")
-    return f"it is UTF-16, and UTF-8 is wanted: iconv -f UTF-16 -t UTF-8 {name} > utf8.txt"
+        return f"{SAID['marked']}: sed -i '1s/^\\xef\\xbb\\xbf//' {name}"
+    return f"{SAID['utf16']}: iconv -f UTF-16 -t UTF-8 {name} > utf8.txt"
 
 
 def about_image(name, text):
@@ -86,7 +97,7 @@ def about_image(name, text):
         if re.match(beginning, text):
             elf = name if form == "an ELF file" else "firmware.elf"
             source = "" if form == "an ELF file" else ", of the ELF file that it was made of"
-            return (f"it is {form}, and Intel HEX is wanted{source}: "
+            return (f"{SAID['hex'].format(form)}{source}: "
                     f"llvm-objcopy -O ihex {elf} image.hex")
     return None
 
@@ -97,22 +108,21 @@ def about_key(name, text):
         return None
     if re.search(rb"[^\t-\r -~]", text):
         if len(text) != 64:
-            return f"it is no text and has {len(text)} bytes, and a key has 64"
-        return ("it is a key in bytes, and the digits of them are wanted: "
-                f"(umask 077; xxd -p -c 64 {name} > new.txt)")
+            return SAID["bytes"].format(len(text))
+        return f"{SAID['key_in_bytes']}: (umask 077; xxd -p -c 64 {name} > new.txt)"
     digits = re.sub(rb"^0[xX]|[\s:]", b"", text.strip())
     if not digits or re.search(rb"[^0-9A-Fa-f]", digits):
         return None
     if len(digits) != 128:
         count = f", {len(digits) // 2} bytes" if len(digits) % 2 == 0 else ""
-        return f"it has {len(digits)} digits{count}, and a key has 128, of 64 bytes"
+        return SAID["digits"].format(len(digits), count)
     lines = len(text.splitlines())
     faults = {"a 0x in front": re.match(rb"\s*0[xX]", text),
               f"{lines} lines": lines > 1, "a blank": re.search(rb"[ \t]", text),
               "a colon": b":" in text}
-    return (f"it has {' and '.join(fault for fault, holds in faults.items() if holds)}; the digits "
-            f"alone stand in one line: (umask 077; sed 's/^0[xX]//' {name} | tr -d ': \\t\\r\\n' "
-            "> new.txt)")
+    found = " and ".join(fault for fault, holds in faults.items() if holds)
+    return (f"{SAID['beside'].format(found)}: (umask 077; sed 's/^0[xX]//' {name} | "
+            "tr -d ': \\t\\r\\n' > new.txt)")
 
 
 def about_policy(name, text):
@@ -120,8 +130,7 @@ def about_policy(name, text):
     firsts = [line.split()[0] for line in text.split(b"\n") if line.strip()]
     if b"version" in firsts or not {b"flag", b"ask"} & {*firsts}:
         return None
-    return (f"with `flag` and `ask` a policy is of version 2, and begins so: "
-            f"sed -i '1i version 2' {name}")
+    return f"{SAID['version']}: sed -i '1i version 2' {name}"
 
 
 ABOUT = {"image": about_image, "key": about_key, "policy": about_policy}
