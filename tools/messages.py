@@ -20,8 +20,8 @@ import memory_faults  # noqa: E402
 import mistaken_files  # noqa: E402
 import reference_texts  # noqa: E402
 from readers import READERS  # noqa: E402
-from reference import (COMMANDS, FAULTS, FILES, STATUSES, VALUES, WITH_INPUT,  # noqa: E402
-                       said_of)
+from reference import (FAULTS, FILES, SCRIPT_COMMANDS, STATUSES, VALUES,  # noqa: E402
+                       WITH_INPUT, said_of)
 
 WIDTH = 76
 LONG_DIGITS = re.compile("[0-9A-Fa-f]{65,}")  # more than a challenge has: a key, or a part of one
@@ -39,7 +39,7 @@ there, and 1 where a crate does not prove in build.
 # What stands in the place of a command, with what may follow.
 OTHER_USAGES = {"build": "build", "folder": "folder", "--version": "--version",
                 "help": "help [COMMAND]", "-h": "-h [COMMAND]", "--help": "--help [COMMAND]"}
-COMMAND_NAMES = ", ".join([*COMMANDS, "build", "folder", "help"])
+COMMAND_NAMES = ", ".join([*SCRIPT_COMMANDS, "build", "folder", "help"])
 
 
 def unknown_command(name):
@@ -58,9 +58,9 @@ def wrong_words(words):
     name, *arguments = words
     if name in OTHER_USAGES:
         return f"too many words behind {name}"
-    if name not in COMMANDS:
+    if name not in SCRIPT_COMMANDS:
         return unknown_command(name)
-    command = COMMANDS[name]
+    command = SCRIPT_COMMANDS[name]
     arguments, most = command.behind_option(arguments), len(command.all_words)
     if not len(command.words) <= len(arguments) <= most:
         counts = f"{len(command.words)} or {most}" if command.last else most
@@ -80,8 +80,8 @@ def wrong_words(words):
 
 def usage_of(name):
     """How the command of this name is called; of none, or of an unknown one, all commands."""
-    if name in COMMANDS:
-        return f"usage: foldgneiss {COMMANDS[name].usage}\n"
+    if name in SCRIPT_COMMANDS:
+        return f"usage: foldgneiss {SCRIPT_COMMANDS[name].usage}\n"
     if name in OTHER_USAGES:
         return f"usage: foldgneiss {OTHER_USAGES[name]}\n"
     return reference_texts.usages()
@@ -89,7 +89,7 @@ def usage_of(name):
 
 def names_of(words):
     """What stands in a call for each of its command's words."""
-    command = COMMANDS[words[0]]
+    command = SCRIPT_COMMANDS[words[0]]
     return dict(zip(command.all_words, command.behind_option(words[1:])))
 
 
@@ -139,10 +139,11 @@ def misplaced(kind, words):
         form = mistaken_files.kind_of(start or b"")
         if form not in (None, place):
             what = mistaken_files.FORMS[form].name
-            found[place] = f"{name} is {what}, in the place of {place.upper()}"
+            found[place] = mistaken_files.SAID["misplaced"].format(
+                name, what, place.upper())
     if kind not in found:
         return []
-    command, *order = COMMANDS[words[0]].usage.split()
+    command, *order = SCRIPT_COMMANDS[words[0]].usage.split()
     return ["; ".join([*found.values(), f"{command} takes {' '.join(order)}"])]
 
 
@@ -272,7 +273,7 @@ def help_on(name):
         return reference_texts.help_text() + SCRIPT_HELP
     if name in ("build", "folder"):
         return SCRIPT_HELP.lstrip()
-    return reference_texts.command_help(name) if name in COMMANDS else None
+    return reference_texts.command_help(name) if name in SCRIPT_COMMANDS else None
 
 
 def print_help(words):

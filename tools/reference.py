@@ -30,7 +30,7 @@ class Command(NamedTuple):
 
     @property
     def files(self):
-        return [word for word in self.words if word in FILES]
+        return [word for word in self.all_words if word in FILES]
 
     def behind_option(self, arguments):
         """The arguments without the option in front of them."""
@@ -178,6 +178,15 @@ COMMANDS = {command.name: command for command in (
             "text.",
             "work 7"),
 )}
+
+# The command of the script ./foldgneiss alone, which calls the program of the device for it.
+PICTURE = Command(
+    "picture", ("image", "script", "key", "steps"),
+    "a page for a browser that shows this run over its steps, with the policy as `round` judges it",
+    "Prints a page for a browser, one file, that shows what play or, with POLICY, round prints of "
+    "this run, and over its steps the signals, registers and instructions. It ends as they do.",
+    "picture image.hex script.txt key.txt 5000 > run.html", "", ("policy",))
+SCRIPT_COMMANDS = {**COMMANDS, PICTURE.name: PICTURE}  # those of ./foldgneiss
 
 PROGRAMS = ("device_main", "desk_main", "debug_main")
 

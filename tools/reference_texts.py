@@ -1,8 +1,8 @@
 """The texts that are written from the table of reference.py."""
 import textwrap
 
-from reference import (ALL, COMMANDS, FAULTS, FILES, RULES, STATUSES, VALUES, VERSION, WITH_ALL,
-                       said_of)
+from reference import (ALL, COMMANDS, FAULTS, FILES, RULES, SCRIPT_COMMANDS, STATUSES, VALUES,
+                       VERSION, WITH_ALL, said_of)
 
 WIDTH = 80
 
@@ -13,7 +13,7 @@ def entry(name, text, indent):
                          subsequent_indent=" " * indent, break_on_hyphens=False) + "\n"
 
 
-def usages(commands=tuple(COMMANDS.values())):
+def usages(commands=tuple(SCRIPT_COMMANDS.values())):
     return "".join(f"{'usage:' if not number else '      '} foldgneiss {command.usage}\n"
                    for number, command in enumerate(commands))
 
@@ -112,7 +112,7 @@ def help_on(commands):
 
 def help_text():
     """What ./foldgneiss --help says: of the commands of all programs."""
-    return help_on(list(COMMANDS.values()))
+    return help_on(list(SCRIPT_COMMANDS.values()))
 
 
 def program_help(program):
@@ -122,7 +122,7 @@ def program_help(program):
 
 def command_help(name):
     """What --help says of one command."""
-    command = COMMANDS[name]
+    command = SCRIPT_COMMANDS[name]
     parts = [f"usage: foldgneiss {command.usage}\n", *command_entries([command]),
              "Arguments:\n" + arguments_of([command])]
     if command.files:
@@ -139,7 +139,8 @@ def table(*rows):
 
 def command_table():
     return table(("Command", "Prints"),
-                 *((f"`{command.usage}`", command.prints) for command in COMMANDS.values()))
+                 *((f"`{command.usage}`", command.prints)
+                   for command in SCRIPT_COMMANDS.values()))
 
 
 def status_table():
@@ -163,7 +164,7 @@ def man_page():
 
     def section(name, *parts):
         return f".SH {name}\n" + "".join(parts)
-    commands = COMMANDS.values()
+    commands = SCRIPT_COMMANDS.values()
     faults = (tagged(fault, f"{meaning} ({', '.join(kinds)})")
               for (fault, meaning), kinds in faults_by_meaning(commands))
     return "".join([
@@ -184,14 +185,15 @@ def man_page():
 
 def completion():
     """docs/foldgneiss.bash: completion in Bash, of the commands and of the names of files."""
+    names = " ".join(SCRIPT_COMMANDS)
     return f"""\
 # Completion in Bash: source docs/foldgneiss.bash
 _foldgneiss() {{
     local word=${{COMP_WORDS[COMP_CWORD]}}
     if [ "$COMP_CWORD" -eq 1 ]; then
-        mapfile -t COMPREPLY < <(compgen -W '{" ".join(COMMANDS)} build folder help' -- "$word")
+        mapfile -t COMPREPLY < <(compgen -W '{names} build folder help' -- "$word")
     elif [ "${{COMP_WORDS[1]}}" = help ]; then
-        mapfile -t COMPREPLY < <(compgen -W '{" ".join(COMMANDS)} build folder' -- "$word")
+        mapfile -t COMPREPLY < <(compgen -W '{names} build folder' -- "$word")
     elif [ "$COMP_CWORD" -eq 2 ] && [[ ${{COMP_WORDS[1]}} =~ ^({"|".join(WITH_ALL)})$ ]]; then
         mapfile -t COMPREPLY < <(compgen -f -W '{ALL}' -- "$word")
     else

@@ -69,6 +69,8 @@ def works(trial, files, root, command, origin):
     prints(f"foldgneiss {VERSION}\n{origin}".encode(), "--version")
     prints(f"{root}\n".encode(), "folder")
     prints(files.texts["listing"], "list", files.image)
+    if b"tx 4 41" not in trial.expect(0, "", "picture", *files.letter, "5", command=[command]):
+        trial.fault("release: no run in its picture")
     call = files.each_desk_call()[0]
     trial.prints(call.text, *call.words, input=call.input, command=[command])
     trial.expect(127, "foldgneiss: a release has no sources to build: that needs the repository "
