@@ -1,19 +1,17 @@
 -- How a call ends: by the run whose text was kept.
-use Rattle.std.proofs.Common.{rules, ◌≡◌, ◌⊎◌, [], ℕ, List, Option, Some, None, Ok, inl, inr, ap, refl, subst, sym, arith}
+use Rattle.std.proofs.Common.{rules, ◌≡◌, [], ℕ, List, Option, Some, None, Ok, inl, inr, ap, refl, subst, sym, arith}
 use Rattle.outside_edge.specs.Count.{Rose}
 use Rattle.outside_edge.specs.Shelf.{SureShelf}
-use Rattle.outside_edge.specs.Sink.{Takes}
-use Rattle.input_files.specs.declared.bad_file.BadFile.{BadFile}
 use Rattle.input_files.specs.declared.status.Status.{Status}
 use Rattle.input_files.specs.declared.status.Status.TheVariants.{Done, Rejected, Words, Absent, ReadFault, WriteFault, Memory, Bad, Spent, BadMemory, TakenKey, InUse, Unwritten}
 use Rattle.input_files.specs.Reading.{Files, IsRefusal, first_refusal}
 use Rattle.device_cli.specs.Answer.{Answers, Follows, HasOutcome, PutsAll}
-use Rattle.device_cli.specs.Row.{Outcome, Row, ending_of}
+use Rattle.device_cli.specs.Row.{Row, ending_of}
 use Rattle.device_cli.specs.Run.{IsRun}
 use Rattle.device_cli.specs.Status.{status_of_put}
 use Rattle.device_library.specs.Call.{IsAnswer, IsCall}
 use Rattle.device_library.specs.KeptText.{KeptBytes}
-use Rattle.device_library.specs.Shown.{IsShown, IsTold, Shows, ShowsFirst}
+use Rattle.device_library.specs.Shown.{IsTold, Shows, ShowsFirst}
 
 abbrev kept_is : KeptBytes → List ℕ → Type 0
 kept_is text bytes = bytes ≡ text.held
@@ -188,6 +186,13 @@ told-words shelf shelf_after before after None how told piece count empty ran is
     inl (subst (λ (how : Status). IsTold how after.held piece count told) (ran.words.1 refl) is)
 told-words shelf shelf_after before after (Some row) how told piece count empty ran is =
     told-row shelf shelf_after before after row how told piece count empty ran.answers is
+
+-- a call for which there was no memory
+pub memory-call : (contents : List (List ℕ × List ℕ)) (row : Option Row) (piece : List ℕ)
+    (count : ℕ) (told : Status) → told ≡ Memory → IsCall contents row piece count told
+memory-call contents None piece count told is = inr is
+memory-call contents (Some row) piece count told is =
+    rw is (record { text = tt; longer = tt; refusal = tt })
 
 -- the same over these files, where this text was kept
 pub told-call : (contents : List (List ℕ × List ℕ)) (text : List ℕ)
