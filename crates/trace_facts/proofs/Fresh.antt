@@ -1,24 +1,19 @@
 -- In the middle of an instruction or of an interrupt entry the last record is one of it.
-use Rattle.std.proofs.Common.{◌≡◌, ℕ, Bool, List, [], ◌∷◌, Option, Some, None, refl}
+use Rattle.std.proofs.Common.{◌≡◌, ℕ, List, Option, Some, refl}
 use Rattle.std.proofs.lemmas.Bool.{cond_both}
 use Rattle.bus_signals.specs.declared.access.Access.{Access}
-use Rattle.bus_signals.specs.declared.event.Event.{Event}
 use Rattle.bus_signals.specs.declared.kind.Kind.{Kind}
-use Rattle.bus_signals.specs.declared.kind.Kind.TheVariants.{Boot, Cpu, Idle, Irq, Rom}
-use Rattle.bus_signals.specs.declared.rule.Rule.{Rule}
 use Rattle.part_definitions.specs.Attestation.{call_item, is_return, word_passed}
 use Rattle.part_definitions.specs.CpuRegister.{pc_of}
 use Rattle.part_definitions.specs.CpuState.{CpuState, Boundary, Executing, Entering, cpu_pc, with_value, completion_or}
-use Rattle.part_definitions.specs.FirstRule.{first_rule}
-use Rattle.bus_signals.specs.ExecFlag.{last_pc}
 use Rattle.part_definitions.specs.NextAccess.{Next, Asks, Completes}
 use Rattle.device_trace.specs.Play.{Play}
-use Rattle.device_trace.specs.Logs.{Logs, step_progress, progress_after, with_events, with_record}
+use Rattle.device_trace.specs.Logs.{Logs}
 use Rattle.device_trace.specs.Progress.{Progress, Held, Runs, InCall, next_pc_of, after_return, call_after, cpu_state_after, next_progress}
-use Rattle.device_trace.specs.Signals.{step_kind, signals_at, signals_of}
+use Rattle.device_trace.specs.Signals.{step_kind}
 use Rattle.device_trace.specs.Start.{Start}
-use Rattle.device_trace.specs.Step.{record_of, next_record}
-use Rattle.device_trace.specs.Trace.{next_logs, logs_after}
+use Rattle.device_trace.specs.Trace.{logs_after}
+use Rattle.trace_facts.proofs.EachPlay.{HoldsAfter, logs_after-kept, cpu_state_after-kept}
 
 -- of the processor and the `pc` of the last record
 abbrev pub IsOfLast : CpuState → Option ℕ → Type 0
@@ -49,15 +44,9 @@ completion_or-fresh cpu (Completes regs) last fresh = tt
 
 cpu_state_after-fresh : (kind : Kind) (cpu : CpuState) (value : ℕ)
     → IsOfLast (cpu_state_after kind cpu value) (Some (cpu_pc cpu))
-cpu_state_after-fresh Idle cpu value = own_pc cpu
-cpu_state_after-fresh Boot cpu value =
-    completion_or-fresh (with_value cpu value) _ _ (after_value-fresh cpu value)
-cpu_state_after-fresh Cpu cpu value =
-    completion_or-fresh (with_value cpu value) _ _ (after_value-fresh cpu value)
-cpu_state_after-fresh Irq cpu value =
-    completion_or-fresh (with_value cpu value) _ _ (after_value-fresh cpu value)
-cpu_state_after-fresh Rom cpu value =
-    completion_or-fresh (with_value cpu value) _ _ (after_value-fresh cpu value)
+cpu_state_after-fresh kind cpu value =
+    cpu_state_after-kept (λ after. IsOfLast after (Some (cpu_pc cpu))) kind cpu value (own_pc cpu)
+    (completion_or-fresh (with_value cpu value) _ _ (after_value-fresh cpu value))
 
 call_after-fresh : (regs words : List ℕ) (word : ℕ) (last : Option ℕ)
     → IsFresh (call_after regs words word) last
@@ -74,31 +63,13 @@ next_progress-fresh kind (Runs cpu) access value = cpu_state_after-fresh kind cp
 next_progress-fresh kind (InCall regs words) access value =
     call_after-fresh regs words (word_passed access value) _
 
-progress_after-fresh : (rule : Option Rule) (kind : Kind) (progress : Progress)
-    (access : Option Access) (value : ℕ)
-    → IsFresh (progress_after rule kind progress access value) (Some (next_pc_of progress))
-progress_after-fresh None kind progress access value =
-    next_progress-fresh kind progress access value
-progress_after-fresh (Some rule) kind progress access value = tt
-
 abbrev pub LogsAreFresh : Logs → Type 0
-LogsAreFresh logs = IsFresh logs.progress (last_pc logs.records)
-
-after_record-fresh : (start : Start) (logs : Logs) (reset : Bool)
-    → LogsAreFresh (with_record start logs (record_of start logs reset))
-unfolding with_record record_of signals_at
-after_record-fresh start logs reset =
-    progress_after-fresh (first_rule (last_pc logs.records) (signals_of start logs reset))
-    (step_kind logs)
-    (step_progress logs (step_kind logs)) _ _
-
-next_logs-fresh : (start : Start) (logs : Logs) (events : List Event)
-    → LogsAreFresh (next_logs start logs events)
-unfolding next_record
-next_logs-fresh start logs events = after_record-fresh start (with_events logs events) _
+LogsAreFresh logs = HoldsAfter IsFresh logs
 
 pub logs_after-fresh : (start : Start) (play : Play)
     → LogsAreFresh (logs_after start play)
-unfolding logs_after
-logs_after-fresh start [] = tt
-logs_after-fresh start (events ∷ play) = next_logs-fresh start (logs_after start play) events
+logs_after-fresh =
+    logs_after-kept IsFresh (record {
+      held = λ last. tt;
+      goes_on = λ start logs reset fresh none. next_progress-fresh (step_kind logs) _;
+    })

@@ -1,4 +1,5 @@
 pub mod BreaksNoRule
+pub mod EachPlay
 pub mod Sound
 pub mod SoundPlay
 pub mod Choices

@@ -1,12 +1,11 @@
 -- Rules A1 and K3 hold in no step.
-use Rattle.std.proofs.Common.{◌≡◌, ◌+◌, ◌*◌, ◌/◌, ◌<◌, ℕ, zero, suc, Bool, true, false, not, List, [], ◌∷◌, length, Option, Some, All, refl, sym, ◌∙◌, arith, lit≤}
+use Rattle.std.proofs.Common.{◌≡◌, ◌+◌, ◌*◌, ◌/◌, ◌<◌, ℕ, Bool, true, false, not, length, Option, Some, All, refl, sym, ◌∙◌, arith, lit≤}
 use Rattle.std.specs.Prelude.{◌==◌, ◌&&◌}
 use Rattle.std.proofs.lemmas.Bool.{cond_both, and_left, and_right, not_from_true}
 use Rattle.std.proofs.lemmas.Bool.Decides.{nat_tests}
 use Rattle.word_arith.specs.declared.size.Size.TheVariants.{Word}
 use Rattle.bus_signals.specs.declared.access.Access.TheVariants.{Write}
 use Rattle.bus_signals.specs.declared.bounds.Bounds.{Bounds}
-use Rattle.bus_signals.specs.declared.event.Event.{Event}
 use Rattle.bus_signals.specs.declared.kind.Kind.{Kind}
 use Rattle.bus_signals.specs.declared.rule.Rule.TheVariants.{A1, K3}
 use Rattle.bus_signals.specs.Access.{some_writes}
@@ -19,16 +18,16 @@ use Rattle.part_definitions.specs.FirstRule.{first_rule}
 use Rattle.bus_signals.specs.ExecFlag.{last_pc}
 use Rattle.part_definitions.specs.MonitorRule.{in_rom, was_inside, leaves_stack_and_mac, breaks_a1, breaks_k3}
 use Rattle.device_trace.specs.Play.{Play}
-use Rattle.device_trace.specs.Logs.{Logs, vector_of, step_progress, with_events}
+use Rattle.device_trace.specs.Logs.{Logs, vector_of, step_progress}
 use Rattle.device_trace.specs.Progress.{Progress, Held, Runs, InCall, next_pc_of, kind_of, progress_within, access_of}
 use Rattle.device_trace.specs.Signals.{step_kind, signals_at, signals_of}
 use Rattle.device_trace.specs.Start.{Start}
-use Rattle.device_trace.specs.Step.{asks_reset, record_of, next_record}
-use Rattle.device_trace.specs.Trace.{logs_after, trace}
+use Rattle.device_trace.specs.Step.{record_of}
+use Rattle.device_trace.specs.Trace.{trace}
 use Rattle.trace_facts.specs.Naming.{NamesNeitherA1NorK3}
 use Rattle.trace_facts.proofs.CallPlaces.{ItemFits, item_after-fits}
 use Rattle.trace_facts.proofs.Sound.{IsSound, IsWithin, progress_within-right}
-use Rattle.trace_facts.proofs.SoundPlay.{LogsAreSound, with_events-sound, logs_after-sound}
+use Rattle.trace_facts.proofs.SoundPlay.{LogsAreSound, each_record}
 use Rattle.trace_facts.proofs.BreaksNoRule.{atomicity_rule-none, first_rule-a1, first_rule-k3}
 
 -- A1: the ROM is left at its exit alone
@@ -139,19 +138,7 @@ unfolding record_of
 record_of-names_neither start logs reset sound =
     record { a1 = no_a1 start logs reset sound; k3 = no_k3 start logs reset sound }
 
-pub next_record-names_neither : (start : Start) (logs : Logs) (events : List Event)
-    → LogsAreSound logs
-    → NamesNeitherA1NorK3 (next_record start logs events)
-unfolding next_record
-next_record-names_neither start logs events sound =
-    record_of-names_neither start (with_events logs events) (asks_reset events)
-    (with_events-sound logs events sound)
-
 pub trace-names_neither : (start : Start) (play : Play)
     → All NamesNeitherA1NorK3 (trace start play)
-unfolding trace
-trace-names_neither start [] place default within = absurd (omega (arith, within))
-trace-names_neither start (events ∷ play) zero default within =
-    next_record-names_neither start (logs_after start play) events (logs_after-sound start play)
-trace-names_neither start (events ∷ play) (suc place) default within =
-    trace-names_neither start play place default (omega (arith, within))
+trace-names_neither start =
+    each_record NamesNeitherA1NorK3 start (record_of-names_neither start)

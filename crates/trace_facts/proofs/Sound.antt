@@ -6,15 +6,14 @@ use Rattle.std.proofs.lemmas.Bool.{cond_both, and_from, and_left, not_from_false
 use Rattle.bus_signals.specs.declared.access.Access.{Access}
 use Rattle.bus_signals.specs.declared.kind.Kind.{Kind}
 use Rattle.bus_signals.specs.declared.kind.Kind.TheVariants.{Boot, Cpu, Idle, Irq, Rom}
-use Rattle.bus_signals.specs.declared.rule.Rule.{Rule}
 use Rattle.bus_signals.specs.Map.{ROM_ENTRY}
 use Rattle.part_definitions.specs.Attestation.{CallItem, KeyRead, MetadataRead, KeptRead, KeptWrite, DecisionWrite, DerivedKeyWrite, RegionRead, InnerDigestWrite, MacWrite, ReturnRead, call_item, item_pc, is_return, word_passed}
 use Rattle.part_definitions.specs.CpuRegister.{pc_of, is_asleep}
 use Rattle.part_definitions.specs.CpuState.{CpuState, Boundary, Executing, Entering, cpu_pc, with_value, completion_or}
 use Rattle.part_definitions.specs.NextAccess.{Next, Asks, Completes}
 use Rattle.part_definitions.specs.MonitorRule.{in_rom, was_inside}
-use Rattle.device_trace.specs.Logs.{progress_after}
 use Rattle.device_trace.specs.Progress.{Progress, Held, Runs, InCall, next_pc_of, boundary_kind, kind_of, progress_from_boundary, progress_within, after_return, call_after, cpu_state_after, next_progress}
+use Rattle.trace_facts.proofs.EachPlay.{cpu_state_after-kept}
 
 -- code that has begun is outside the ROM
 abbrev pub IsOutside : CpuState → Type 0
@@ -104,15 +103,9 @@ completion_or-outside cpu (Completes regs) outside = tt
 
 cpu_state_after-outside : (kind : Kind) (cpu : CpuState) (value : ℕ)
     → in_rom (cpu_pc cpu) ≡ false → IsOutside (cpu_state_after kind cpu value)
-cpu_state_after-outside Idle cpu value outside = outside_of cpu outside
-cpu_state_after-outside Boot cpu value outside =
-    completion_or-outside (with_value cpu value) _ (with_value-outside cpu value outside)
-cpu_state_after-outside Cpu cpu value outside =
-    completion_or-outside (with_value cpu value) _ (with_value-outside cpu value outside)
-cpu_state_after-outside Irq cpu value outside =
-    completion_or-outside (with_value cpu value) _ (with_value-outside cpu value outside)
-cpu_state_after-outside Rom cpu value outside =
-    completion_or-outside (with_value cpu value) _ (with_value-outside cpu value outside)
+cpu_state_after-outside kind cpu value outside =
+    cpu_state_after-kept IsOutside kind cpu value (outside_of cpu outside)
+    (completion_or-outside (with_value cpu value) _ (with_value-outside cpu value outside))
 
 return_pc : (item : CallItem) → is_return item ≡ true → was_inside (Some (item_pc item)) ≡ false
 return_pc (KeyRead i) returns = absurd (cc)
@@ -142,11 +135,3 @@ next_progress-sound kind (Runs cpu) access value within =
     (and_left (in_rom (cpu_pc cpu)) _ within, cpu_state_after-outside kind cpu value within)
 next_progress-sound kind (InCall regs words) access value within =
     call_after-sound regs words (word_passed access value)
-
-pub progress_after-sound : (rule : Option Rule) (kind : Kind) (progress : Progress)
-    (access : Option Access) (value : ℕ)
-    → (rule ≡ None → IsWithin kind progress)
-    → IsSound (progress_after rule kind progress access value) (Some (next_pc_of progress))
-progress_after-sound None kind progress access value within =
-    next_progress-sound kind progress access value (within refl)
-progress_after-sound (Some rule) kind progress access value within = tt
