@@ -1,13 +1,11 @@
 -- Where an interrupt entry leads: its steps have one PC, and then the handler's is next.
-use Rattle.std.proofs.Common.{◌≡◌, ◌<◌, ◌≤◌, ◌*◌, ◌/◌, ℕ, Bool, true, List, [], ◌∷◌, length, Option, Some, None, refl, ap, sym, ◌∙◌, arith}
+use Rattle.std.proofs.Common.{◌≡◌, ◌<◌, ◌≤◌, ◌*◌, ◌/◌, ℕ, true, List, [], ◌∷◌, length, Option, Some, None, refl, ap, sym, ◌∙◌, arith}
 use Rattle.std.specs.Prelude.{◌==◌}
 use Rattle.std.proofs.lemmas.Bool.{cond_both, eqb-true}
 use Rattle.bus_signals.specs.declared.access.Access.{Access}
 use Rattle.bus_signals.specs.declared.bounds.Bounds.{Bounds}
-use Rattle.bus_signals.specs.declared.event.Event.{Event}
 use Rattle.bus_signals.specs.declared.kind.Kind.{Kind}
 use Rattle.bus_signals.specs.declared.kind.Kind.TheVariants.{Boot, Cpu, Idle, Irq, Rom}
-use Rattle.bus_signals.specs.declared.rule.Rule.{Rule}
 use Rattle.bus_signals.specs.Access.{some_reads}
 use Rattle.bus_signals.specs.Bounds.{are_valid, executable_region}
 use Rattle.bus_signals.specs.Kind.{is_irq}
@@ -16,19 +14,17 @@ use Rattle.bus_signals.specs.Map.{lies_in, ROM_ENTRY}
 use Rattle.part_definitions.specs.Attestation.{call_item, is_return, word_passed}
 use Rattle.part_definitions.specs.CpuRegister.{pc_of, is_asleep}
 use Rattle.part_definitions.specs.CpuState.{CpuState, Boundary, Executing, Entering, cpu_access, cpu_after, completion_or}
-use Rattle.part_definitions.specs.FirstRule.{first_rule}
 use Rattle.part_definitions.specs.MonitorRule.{in_rom}
 use Rattle.part_definitions.specs.NextAccess.{Next, Asks, Completes, handler_registers, entry_access}
 use Rattle.part_definitions.proofs.CallItems.{first_pc}
 use Rattle.device_trace.specs.Play.{Play}
-use Rattle.device_trace.specs.Logs.{Logs, step_progress, progress_after, with_events, with_record}
-use Rattle.device_trace.specs.Progress.{access_of, kind_of, Progress, Held, Runs, InCall, next_pc_of, boundary_kind, progress_from_boundary, progress_within, after_return, call_after, cpu_state_after, next_progress}
-use Rattle.device_trace.specs.Signals.{step_kind, signals_at, signals_of}
+use Rattle.device_trace.specs.Logs.{vector_of}
+use Rattle.device_trace.specs.Progress.{access_of, kind_of, Progress, Held, Runs, InCall, next_pc_of, boundary_kind, progress_from_boundary, progress_within, after_return, call_after, next_progress}
+use Rattle.device_trace.specs.Signals.{step_kind}
 use Rattle.device_trace.specs.Start.{Start}
-use Rattle.device_trace.specs.Step.{record_of, next_record}
-use Rattle.device_trace.specs.Trace.{next_logs, logs_after}
+use Rattle.device_trace.specs.Trace.{logs_after}
 use Rattle.proof_of_execution.proofs.Regions.{inside-open}
-use Rattle.proof_of_execution.proofs.TrustedRuns.{StaysInside}
+use Rattle.trace_facts.proofs.EachPlay.{logs_after-kept, cpu_state_after-kept}
 
 -- an entry that has not read its vector yet
 abbrev IsEarlyState : CpuState → Type 0
@@ -59,14 +55,6 @@ cpu_after-early (Boundary regs) value = executing-early regs _ _
 cpu_after-early (Executing regs values) value = executing-early regs _ _
 cpu_after-early (Entering regs vector values) value = entering-early regs vector values value
 
-cpu_state_after-early : (kind : Kind) (cpu : CpuState) (value : ℕ) → IsEarlyState cpu
-    → IsEarlyState (cpu_state_after kind cpu value)
-cpu_state_after-early Idle cpu value early = early
-cpu_state_after-early Boot cpu value early = cpu_after-early cpu value
-cpu_state_after-early Cpu cpu value early = cpu_after-early cpu value
-cpu_state_after-early Irq cpu value early = cpu_after-early cpu value
-cpu_state_after-early Rom cpu value early = cpu_after-early cpu value
-
 call_after-early : (regs words : List ℕ) (word : ℕ) → IsEarly (call_after regs words word)
 call_after-early regs words word =
     cond_both (is_return (call_item words)) (after_return regs word) _ IsEarly
@@ -76,16 +64,10 @@ call_after-early regs words word =
 next_progress-early : (kind : Kind) (progress : Progress) (access : Option Access) (value : ℕ)
     → IsEarly progress → IsEarly (next_progress kind progress access value)
 next_progress-early kind Held access value early = tt
-next_progress-early kind (Runs cpu) access value early = cpu_state_after-early kind cpu value early
+next_progress-early kind (Runs cpu) access value early =
+    cpu_state_after-kept IsEarlyState kind cpu value early (cpu_after-early cpu value)
 next_progress-early kind (InCall regs words) access value early =
     call_after-early regs words (word_passed access value)
-
-progress_after-early : (rule : Option Rule) (kind : Kind) (progress : Progress)
-    (access : Option Access) (value : ℕ) → IsEarly progress
-    → IsEarly (progress_after rule kind progress access value)
-progress_after-early None kind progress access value early =
-    next_progress-early kind progress access value early
-progress_after-early (Some rule) kind progress access value early = tt
 
 from_boundary-early : (regs : List ℕ) (kind : Kind) (vector : Option ℕ)
     → IsEarly (progress_from_boundary regs kind vector)
@@ -104,26 +86,15 @@ within-early (Runs (Executing regs values)) kind vector early = early
 within-early (Runs (Entering regs choice values)) kind vector early = early
 within-early (InCall regs words) kind vector early = early
 
-after_record-early : (start : Start) (logs : Logs) (reset : Bool) → IsEarly logs.progress
-    → IsEarly (with_record start logs (record_of start logs reset)).progress
-unfolding with_record record_of signals_at
-after_record-early start logs reset early =
-    progress_after-early (first_rule _ (signals_of start logs reset)) (step_kind logs)
-    (step_progress logs (step_kind logs)) _ _
-    (within-early logs.progress (step_kind logs) _ early)
-
-next_logs-early : (start : Start) (logs : Logs) (events : List Event) → IsEarly logs.progress
-    → IsEarly (next_logs start logs events).progress
-unfolding next_record with_events
-next_logs-early start logs events early =
-    after_record-early start (with_events logs events) _ early
-
 pub logs_after-early : (start : Start) (play : Play)
     → IsEarly (logs_after start play).progress
-unfolding logs_after
-logs_after-early start [] = tt
-logs_after-early start (events ∷ play) =
-    next_logs-early start (logs_after start play) events (logs_after-early start play)
+logs_after-early =
+    logs_after-kept (λ progress last. IsEarly progress) (record {
+      held = λ last. tt;
+      goes_on = λ start logs reset early none access value.
+          next_progress-early (step_kind logs) _ access value
+          (within-early logs.progress (step_kind logs) (vector_of logs) early);
+    })
 
 -- at a boundary the next step has the PC of the registers, whatever it is
 boundary-pc : (regs : List ℕ) (vector : Option ℕ)
@@ -147,6 +118,13 @@ handler-pc : (regs : List ℕ) (word : ℕ) → 0 < pc_of regs
     → pc_of (handler_registers regs word) ≡ word / 2 * 2
 handler-pc [] word above = absurd (omega (arith, above))
 handler-pc (pc ∷ regs) word above = refl
+
+-- the next step is in the region, whichever interrupt could be accepted
+abbrev pub StaysInside : Bounds → Progress → Type 0
+StaysInside bounds progress =
+    (vector : Option ℕ)
+    → lies_in (executable_region bounds)
+    (next_pc_of (progress_within progress (kind_of progress vector) vector)) ≡ true
 
 -- an entry in the region, whose handler is in the region, stays in it
 entry-inside : (bounds : Bounds) (regs : List ℕ) (vector : ℕ) (values : List ℕ) (value : ℕ)

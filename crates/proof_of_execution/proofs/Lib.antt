@@ -1,9 +1,8 @@
 pub mod Keeps
 pub mod Regions
-pub mod Runs
 pub mod Entries
-pub mod Plays
 pub mod KeepsAux
-pub mod TrustedRuns
 pub mod InterruptEntries
-pub mod TrustedPlays
+pub mod Runs
+pub mod Flags
+pub mod Plays

@@ -1,91 +1,142 @@
--- A run of the executable region over a history, one record more at a time.
-use Rattle.std.proofs.Common.{◌≡◌, ℕ, true, false, not, List, [], ◌∷◌, ◌++◌, Option, Some, refl, ap, sym, ◌∙◌}
-use Rattle.std.specs.Prelude.{◌==◌, ◌&&◌}
+-- A run of the executable region over a history, one record more at a time, whichever interrupts it
+-- may have.
+use Rattle.std.proofs.Common.{◌≡◌, ℕ, true, false, not, List, [], ◌∷◌, ◌++◌, ◌⊎◌, inl, inr, Option, Some, refl, ap, sym, ◌∙◌}
+use Rattle.std.specs.Prelude.{◌==◌}
 use Rattle.std.specs.List.{list_all}
-use Rattle.std.proofs.lemmas.Bool.{and_from, and_parts, not_from_false, eqb-true}
+use Rattle.std.proofs.lemmas.Bool.{cases_Bool, and_from, and_parts, not_from_false, eqb-true}
 use Rattle.bus_signals.specs.declared.bus_record.BusRecord.{BusRecord}
 use Rattle.bus_signals.specs.declared.bounds.Bounds.{Bounds}
 use Rattle.bus_signals.specs.Bounds.{are_valid, executable_region}
+use Rattle.bus_signals.specs.Kind.{is_irq}
 use Rattle.bus_signals.specs.Map.{lies_in}
 use Rattle.bus_signals.specs.SeenRecord.{SeenRecord}
-use Rattle.bus_signals.specs.ExecFlag.{is_opcode_fetch, starts_run, ran_inside, ran_at, runs_inside}
-use Rattle.device_trace.specs.RegionRun.{NoInterrupts, is_inside, runs_with, keeps_code, keeps_output, begins_run, has_left, WholeRun}
-use Rattle.proof_of_execution.proofs.Keeps.{Keeps, undisturbed-kept, code-kept, output-kept, leaves_at_end}
+use Rattle.bus_signals.specs.ExecFlag.{is_opcode_fetch, fetches_first, ran_inside, ran_at, runs_inside}
+use Rattle.device_trace.specs.Progress.{Progress}
+use Rattle.device_trace.specs.RegionRun.{Interrupts, NoInterrupts, TrustedInterrupts, is_inside, runs_with, keeps_code_with, keeps_output, begins_run, ends_run, has_left, RegionRun}
+use Rattle.proof_of_execution.proofs.Entries.{Sleeps}
+use Rattle.proof_of_execution.proofs.InterruptEntries.{StaysInside}
+use Rattle.proof_of_execution.proofs.Keeps.{KeepsBoth, output-kept, leaves_at_end}
 use Rattle.proof_of_execution.proofs.Regions.{min-inside}
 
+-- asleep at the region's first place, which is told of a run with no interrupts alone
+abbrev pub Rests : Interrupts → Bounds → Progress → Type 0
+Rests NoInterrupts bounds progress = Sleeps bounds progress
+Rests TrustedInterrupts bounds progress = ⊥
+
+-- after an interrupt entry that a run may have the next step is in the region
+abbrev pub Leads : Interrupts → Bounds → BusRecord → Progress → Type 0
+Leads NoInterrupts bounds entry progress = Unit {0}
+Leads TrustedInterrupts bounds entry progress =
+    is_irq entry.kind ≡ true → StaysInside bounds progress
+
 -- a run that has begun and goes on, with its newest record
-pub record Inside (bounds : Bounds) (history : List BusRecord) (last : Option ℕ) : Type 0 where
+pub record Inside (allowed : Interrupts) (bounds : Bounds) (history : List BusRecord)
+    (progress : Progress) (last : Option ℕ) : Type 0 where
   pub newest : BusRecord
   pub older : List BusRecord
   pub before : List BusRecord
   pub parts : history ≡ (newest ∷ older) ++ before
   pub begins : begins_run bounds (newest ∷ older) ≡ true
-  pub undisturbed : list_all (runs_with NoInterrupts bounds) (newest ∷ older) ≡ true
-  pub code : list_all (keeps_code bounds) (newest ∷ older) ≡ true
+  pub runs : list_all (runs_with allowed bounds) (newest ∷ older) ≡ true
+  pub code : list_all (keeps_code_with allowed bounds) (newest ∷ older) ≡ true
   pub is_last : last ≡ Some newest.pc
   pub inside : is_inside bounds newest ≡ true
+  pub leads : Leads allowed bounds newest progress
 
 -- a whole run, and the last record is outside
-pub record Outside (bounds : Bounds) (history : List BusRecord) (last : Option ℕ) : Type 0 where
-  pub whole : WholeRun bounds history
+pub record Outside (allowed : Interrupts) (bounds : Bounds) (history : List BusRecord)
+    (last : Option ℕ) : Type 0 where
+  pub whole : RegionRun allowed bounds history
   pub outside : ran_inside last (executable_region bounds) ≡ false
 
+-- in the region, after a whole run, or asleep at the region's first place
+pub record RunState (allowed : Interrupts) (bounds : Bounds) (history : List BusRecord)
+    (progress : Progress) (last : Option ℕ) : Type 0 where
+  pub valid : are_valid bounds ≡ true
+  pub run :
+      Inside allowed bounds history progress last
+      ⊎ (Outside allowed bounds history last
+      ⊎ (Rests allowed bounds progress × (ran_inside last (executable_region bounds) ≡ true)))
+
+-- what is known of a record that is not refused and clears no flag
+pub record Goes (allowed : Interrupts) (last : Option ℕ) (now : SeenRecord)
+    (before after : Progress) : Type 0 where
+  pub both : KeepsBoth last now
+  pub code : keeps_code_with allowed now.bounds now.entry ≡ true
+  pub runs : runs_inside now ≡ true → runs_with allowed now.bounds now.entry ≡ true
+  pub leads : runs_inside now ≡ true → Leads allowed now.bounds now.entry after
+  pub enters : runs_inside now ≡ true → ran_inside last (executable_region now.bounds) ≡ false
+      → (fetches_first now.bounds now.entry ≡ true) ⊎ Rests allowed now.bounds after
+  pub ends : (newest : BusRecord) (older : List BusRecord) → Leads allowed now.bounds newest before
+      → runs_inside now ≡ false → (newest.pc == now.bounds.er_max) ≡ true
+      → ends_run allowed now.bounds (newest ∷ older) ≡ true
+  pub rests : Rests allowed now.bounds before
+      → (runs_inside now ≡ true) × Rests allowed now.bounds after
+
+-- the state with one record more
+abbrev pub StateWith : Interrupts → SeenRecord → List BusRecord → Progress → Type 0
+StateWith allowed now history after =
+    RunState allowed now.bounds (now.entry ∷ history) after (Some now.entry.pc)
+
 -- the run begins
-pub run_starts : (last : Option ℕ) (now : SeenRecord) (history : List BusRecord)
-    → Keeps last now → starts_run now ≡ true
-    → Inside now.bounds (now.entry ∷ history) (Some now.entry.pc)
-run_starts last now history keeps starts =
-    let valid = and_parts (is_opcode_fetch now.entry && (now.entry.pc == now.bounds.er_min))
-    (are_valid now.bounds) starts in
-    let place = and_parts (is_opcode_fetch now.entry) (now.entry.pc == now.bounds.er_min) valid.0 in
+pub run_begins : (allowed : Interrupts) (last : Option ℕ) (now : SeenRecord)
+    (history : List BusRecord) (before after : Progress)
+    → Goes allowed last now before after → are_valid now.bounds ≡ true
+    → fetches_first now.bounds now.entry ≡ true → StateWith allowed now history after
+run_begins allowed last now history before after goes valid first =
+    let place = and_parts (is_opcode_fetch now.entry) (now.entry.pc == now.bounds.er_min) first in
     let inside : runs_inside now ≡ true =
     ap (lies_in (executable_region now.bounds)) (eqb-true now.entry.pc now.bounds.er_min place.1)
-    ∙ min-inside now.bounds valid.1 in
+    ∙ min-inside now.bounds valid in
     record {
-      newest = now.entry;
-      older = [];
-      before = history;
-      parts = refl;
-      begins = valid.0;
-      undisturbed =
-          and_from (runs_with NoInterrupts now.bounds now.entry) true
-          (undisturbed-kept last now keeps inside) refl;
-      code = and_from (keeps_code now.bounds now.entry) true (code-kept last now keeps.both) refl;
-      is_last = refl;
-      inside = inside;
+      valid = valid;
+      run = inl (record {
+        newest = now.entry;
+        older = [];
+        before = history;
+        parts = refl;
+        begins = first;
+        runs = and_from (runs_with allowed now.bounds now.entry) true (goes.runs inside) refl;
+        code = and_from (keeps_code_with allowed now.bounds now.entry) true goes.code refl;
+        is_last = refl;
+        inside = inside;
+        leads = goes.leads inside;
+      });
     }
 
 -- it goes on
-pub run_goes_on : (last : Option ℕ) (now : SeenRecord) (history : List BusRecord)
-    → Keeps last now → runs_inside now ≡ true → Inside now.bounds history last
-    → Inside now.bounds (now.entry ∷ history) (Some now.entry.pc)
-run_goes_on last now history keeps inside run =
+run_goes_on : (allowed : Interrupts) (last : Option ℕ) (now : SeenRecord)
+    (history : List BusRecord) (before after : Progress)
+    → Goes allowed last now before after → runs_inside now ≡ true
+    → Inside allowed now.bounds history before last
+    → Inside allowed now.bounds (now.entry ∷ history) after (Some now.entry.pc)
+run_goes_on allowed last now history before after goes inside run =
     record {
       newest = now.entry;
       older = run.newest ∷ run.older;
       before = run.before;
       parts = ap (λ (entries : List BusRecord). now.entry ∷ entries) run.parts;
       begins = run.begins;
-      undisturbed =
-          and_from (runs_with NoInterrupts now.bounds now.entry) _
-          (undisturbed-kept last now keeps inside) run.undisturbed;
-      code = and_from (keeps_code now.bounds now.entry) _ (code-kept last now keeps.both) run.code;
+      runs = and_from (runs_with allowed now.bounds now.entry) _ (goes.runs inside) run.runs;
+      code = and_from (keeps_code_with allowed now.bounds now.entry) _ goes.code run.code;
       is_last = refl;
       inside = inside;
+      leads = goes.leads inside;
     }
 
 -- it is left
-pub run_ends : (last : Option ℕ) (now : SeenRecord) (history : List BusRecord)
-    → Keeps last now → are_valid now.bounds ≡ true → runs_inside now ≡ false
-    → Inside now.bounds history last
-    → Outside now.bounds (now.entry ∷ history) (Some now.entry.pc)
-run_ends last now history keeps valid outside run =
+run_ends : (allowed : Interrupts) (last : Option ℕ) (now : SeenRecord)
+    (history : List BusRecord) (before after : Progress)
+    → Goes allowed last now before after → are_valid now.bounds ≡ true → runs_inside now ≡ false
+    → Inside allowed now.bounds history before last
+    → Outside allowed now.bounds (now.entry ∷ history) (Some now.entry.pc)
+run_ends allowed last now history before after goes valid outside run =
     let was_inside : ran_inside last (executable_region now.bounds) ≡ true =
     ap (λ (pc : Option ℕ). ran_inside pc (executable_region now.bounds)) run.is_last ∙ run.inside in
     let at_end : (run.newest.pc == now.bounds.er_max) ≡ true =
     ap (λ (pc : Option ℕ). ran_at pc now.bounds.er_max) (sym run.is_last)
-    ∙ leaves_at_end last now keeps.both was_inside outside in
-    let whole : WholeRun now.bounds (now.entry ∷ history) =
+    ∙ leaves_at_end last now goes.both was_inside outside in
+    let whole : RegionRun allowed now.bounds (now.entry ∷ history) =
     record {
       valid = valid;
       after = now.entry ∷ [];
@@ -93,26 +144,28 @@ run_ends last now history keeps valid outside run =
       before = run.before;
       parts = ap (λ (entries : List BusRecord). now.entry ∷ entries) run.parts;
       begins = run.begins;
-      ends = at_end;
-      runs = run.undisturbed;
+      ends = goes.ends run.newest run.older run.leads outside at_end;
+      runs = run.runs;
       left = and_from (not (is_inside now.bounds now.entry)) true (not_from_false _ outside) refl;
-      code = and_from (keeps_code now.bounds now.entry) _ (code-kept last now keeps.both) run.code;
+      code = and_from (keeps_code_with allowed now.bounds now.entry) _ goes.code run.code;
       output = and_from (keeps_output now.bounds now.entry) true
-          (output-kept last now keeps.both outside) refl;
+          (output-kept last now goes.both outside) refl;
     } in
     record { whole = whole; outside = outside }
 
-pub all_left : (bounds : Bounds) (after : List BusRecord)
+all_left : (bounds : Bounds) (after : List BusRecord)
     → has_left bounds after ≡ true → list_all (λ one. not (is_inside bounds one)) after ≡ true
 all_left bounds [] rest = refl
 all_left bounds (entry ∷ after) rest = rest
 
 -- more records outside
-pub stays_outside : (last : Option ℕ) (now : SeenRecord) (history : List BusRecord)
-    → Keeps last now → runs_inside now ≡ false → Outside now.bounds history last
-    → Outside now.bounds (now.entry ∷ history) (Some now.entry.pc)
-stays_outside last now history keeps outside run =
-    let whole : WholeRun now.bounds (now.entry ∷ history) =
+stays_outside : (allowed : Interrupts) (last : Option ℕ) (now : SeenRecord)
+    (history : List BusRecord) (before after : Progress)
+    → Goes allowed last now before after → runs_inside now ≡ false
+    → Outside allowed now.bounds history last
+    → Outside allowed now.bounds (now.entry ∷ history) (Some now.entry.pc)
+stays_outside allowed last now history before after goes outside run =
+    let whole : RegionRun allowed now.bounds (now.entry ∷ history) =
     record {
       valid = run.whole.valid;
       after = now.entry ∷ run.whole.after;
@@ -125,9 +178,73 @@ stays_outside last now history keeps outside run =
       left =
           and_from (not (is_inside now.bounds now.entry)) _ (not_from_false _ outside)
           (all_left now.bounds run.whole.after run.whole.left);
-      code = and_from (keeps_code now.bounds now.entry) _
-          (code-kept last now keeps.both) run.whole.code;
+      code = and_from (keeps_code_with allowed now.bounds now.entry) _ goes.code run.whole.code;
       output = and_from (keeps_output now.bounds now.entry) _
-          (output-kept last now keeps.both outside) run.whole.output;
+          (output-kept last now goes.both outside) run.whole.output;
     } in
     record { whole = whole; outside = outside }
+
+from_inside : (allowed : Interrupts) (last : Option ℕ) (now : SeenRecord)
+    (history : List BusRecord) (before after : Progress)
+    → Goes allowed last now before after → are_valid now.bounds ≡ true
+    → Inside allowed now.bounds history before last → StateWith allowed now history after
+from_inside allowed last now history before after goes valid run =
+    record {
+      valid = valid;
+      run =
+          elim (cases_Bool (runs_inside now)) [
+            | inl inside ↦ inl (run_goes_on allowed last now history before after goes inside run)
+            | inr outside ↦
+                inr (inl (run_ends allowed last now history before after goes valid outside run))
+          ];
+    }
+
+from_outside : (allowed : Interrupts) (last : Option ℕ) (now : SeenRecord)
+    (history : List BusRecord) (before after : Progress)
+    → Goes allowed last now before after → are_valid now.bounds ≡ true
+    → Outside allowed now.bounds history last → StateWith allowed now history after
+from_outside allowed last now history before after goes valid run =
+    elim (cases_Bool (runs_inside now)) [
+      | inl inside ↦
+          elim (goes.enters inside run.outside) [
+            | inl first ↦ run_begins allowed last now history before after goes valid first
+            | inr rests ↦ record { valid = valid; run = inr (inr (rests, inside)) }
+          ]
+      | inr outside ↦
+          record {
+            valid = valid;
+            run = inr (inl (stays_outside allowed last now history before after goes outside run));
+          }
+    ]
+
+-- one record more
+pub state_after : (allowed : Interrupts) (last : Option ℕ) (now : SeenRecord)
+    (history : List BusRecord) (before after : Progress)
+    → Goes allowed last now before after → RunState allowed now.bounds history before last
+    → StateWith allowed now history after
+state_after allowed last now history before after goes state =
+    elim state.run [
+      | inl inside ↦ from_inside allowed last now history before after goes state.valid inside
+      | inr rest ↦
+          elim rest [
+            | inl outside ↦
+                from_outside allowed last now history before after goes state.valid outside
+            | inr rests ↦
+                let on = goes.rests rests.0 in
+                record { valid = state.valid; run = inr (inr (on.1, on.0)) }
+          ]
+    ]
+
+-- where the last record is outside, the region has run whole
+pub run_outside : (allowed : Interrupts) (bounds : Bounds) (history : List BusRecord)
+    (progress : Progress) (last : Option ℕ)
+    → RunState allowed bounds history progress last
+    → ran_inside last (executable_region bounds) ≡ false → RegionRun allowed bounds history
+run_outside allowed bounds history progress last state outside =
+    let apart : ran_inside last (executable_region bounds) ≡ true → RegionRun allowed bounds history
+    = λ inside. let clash : true ≡ false = sym inside ∙ outside in absurd (cc) in
+    elim state.run [
+      | inl run ↦
+          apart (ap (λ pc. ran_inside pc (executable_region bounds)) run.is_last ∙ run.inside)
+      | inr rest ↦ elim rest [ inl run ↦ run.whole | inr rests ↦ apart rests.1 ]
+    ]

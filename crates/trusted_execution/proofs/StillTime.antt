@@ -1,22 +1,20 @@
 -- Through a call the second flag stays as it is.
-use Rattle.std.proofs.Common.{not, ◌≡◌, ◌&&◌, ℕ, Bool, true, false, List, [], ◌∷◌, inl, inr, Option, Some, None, map, refl, ap, sym, ◌∙◌, subst, length, is_some}
+use Rattle.std.proofs.Common.{not, ◌≡◌, ◌&&◌, ℕ, Bool, true, false, List, [], ◌∷◌, inl, inr, Option, Some, None, map, refl, ap, sym, ◌∙◌, subst, is_some}
 use Rattle.std.specs.Prelude.{◌==◌, is_none}
-use Rattle.std.proofs.lemmas.Bool.{cond_both, cases_Bool, cond-true, and_left, and_right, and_parts, eq-eqb, eqb-true}
+use Rattle.std.proofs.lemmas.Bool.{cond_both, cases_Bool, cond-true, and_left, and_right, and_parts, eq-eqb}
 use Rattle.bus_signals.specs.declared.access.Access.{Access}
 use Rattle.bus_signals.specs.declared.access.Access.TheVariants.{Fetch, Read, Write}
-use Rattle.bus_signals.specs.declared.bounds.Bounds.{Bounds}
 use Rattle.bus_signals.specs.declared.bus_record.BusRecord.{BusRecord}
-use Rattle.bus_signals.specs.declared.event.Event.{Event}
 use Rattle.bus_signals.specs.declared.kind.Kind.TheVariants.{Rom}
 use Rattle.bus_signals.specs.declared.rule.Rule.{Rule}
 use Rattle.bus_signals.specs.Access.{some_writes}
-use Rattle.bus_signals.specs.Bounds.{are_valid, executable_region}
+use Rattle.bus_signals.specs.Bounds.{are_valid}
 use Rattle.bus_signals.specs.Kind.{is_rom}
-use Rattle.bus_signals.specs.Map.{lies_in, ROM_ENTRY, ROM_EXIT}
+use Rattle.bus_signals.specs.Map.{ROM_ENTRY}
 use Rattle.bus_signals.specs.Report.{ReportFields}
 use Rattle.bus_signals.specs.SeenRecord.{SeenRecord, SeenHistory}
-use Rattle.bus_signals.specs.ExecFlag.{last_pc, ran_inside}
-use Rattle.part_definitions.specs.MonitorRule.{in_rom, leaves_stack_and_mac}
+use Rattle.bus_signals.specs.ExecFlag.{last_pc}
+use Rattle.part_definitions.specs.MonitorRule.{leaves_stack_and_mac}
 use Rattle.part_definitions.specs.TrustedFlag.{aux}
 use Rattle.part_definitions.proofs.CallItems.{first_pc}
 use Rattle.device_trace.specs.Play.{Play}
@@ -28,13 +26,11 @@ use Rattle.device_trace.specs.Start.{Start}
 use Rattle.device_trace.specs.Step.{record_of, asks_reset, next_record}
 use Rattle.device_trace.specs.Text.{last_report, last_decision, last_denial}
 use Rattle.device_trace.specs.Trace.{logs_after, trace}
-use Rattle.device_trace.specs.RegionRun.{TrustedRun}
+use Rattle.device_trace.specs.RegionRun.{TrustedInterrupts, TrustedRun}
 use Rattle.mac_coverage.proofs.ExecKept.{IsRomStep}
 use Rattle.mac_coverage.proofs.Plays.{rom_kind}
 use Rattle.mac_coverage.proofs.Steps.{rom_step-of_call, OnCall, other_step-no_call, record_of-call, record_of-kind, record_of-pc, IsInRom}
-use Rattle.proof_of_execution.proofs.Plays.{made_where, decision_finishes, denied_where}
-use Rattle.proof_of_execution.proofs.Regions.{inside-open}
-use Rattle.proof_of_execution.proofs.TrustedPlays.{play_state, aux-trusted_run}
+use Rattle.proof_of_execution.proofs.Plays.{play_state, finished-run, report-run, denied_where}
 use Rattle.trusted_execution.specs.SeenFlag.{aux_seen}
 use Rattle.trusted_execution.specs.TrustedCall.{AuxAfterCallMeansTrustedRun}
 use Rattle.trusted_execution.proofs.RomSteps.{aux-rom_step}
@@ -158,81 +154,56 @@ record_holds start logs reset valid holds =
     ])
     (λ broken. tt)
 
-step_holds : (start : Start) (logs : Logs) (events : List Event)
-    → (aux_seen logs ≡ true → are_valid (logged_bounds start logs) ≡ true)
-    → HoldsInCall logs.progress logs.records
-    → HoldsInCall
-    (with_record start (with_events logs events) (next_record start logs events)).progress
-    (with_record start (with_events logs events) (next_record start logs events)).records
-unfolding next_record with_events
-step_holds start logs events valid holds =
-    record_holds start (with_events logs events) (asks_reset events) valid holds
-
 valid_after : (start : Start) (play : Play)
     → aux_seen (logs_after start play) ≡ true
     → are_valid (logged_bounds start (logs_after start play)) ≡ true
-valid_after start play set = (play_state start play set).valid
+valid_after start play set = (play_state TrustedInterrupts start play set).valid
 
 play_holds : (start : Start) (play : Play)
     → HoldsInCall (logs_after start play).progress (logs_after start play).records
-unfolding logs_after
+unfolding logs_after next_record with_events
 play_holds start [] = tt
 play_holds start (events ∷ play) =
-    step_holds start (logs_after start play) events (valid_after start play) (play_holds start play)
-
--- of a step of the ROM that is not refused
-step_flag : (start : Start) (logs : Logs) (events : List Event)
-    → (aux_seen logs ≡ true → are_valid (logged_bounds start logs) ≡ true)
-    → HoldsInCall logs.progress logs.records
-    → (next_record start logs events).reset ≡ None
-    → (next_record start logs events).kind ≡ Rom
-    → CallState
-    (with_record start (with_events logs events) (next_record start logs events)).records
-unfolding next_record with_events
-step_flag start logs events valid holds none rom =
-    record_flag start (with_events logs events) (asks_reset events) valid holds none
-    (sym (record_of-kind start (with_events logs events) (asks_reset events)) ∙ rom)
+    record_holds start (with_events (logs_after start play) events) (asks_reset events)
+    (valid_after start play) (play_holds start play)
 
 -- the flag over the records until the call
 abbrev aux_until : Logs → Bool
 aux_until logs = aux (map blank_seen (records_until_call logs.records))
 
 -- at each moment of a play it is that over all records
-until_after : (start : Start) (logs : Logs) (events : List Event)
+until_after : (start : Start) (logs : Logs) (reset : Bool)
     → (aux_seen logs ≡ true → are_valid (logged_bounds start logs) ≡ true)
     → HoldsInCall logs.progress logs.records
-    → aux_until (with_record start (with_events logs events) (next_record start logs events))
-    ≡ aux_seen (with_record start (with_events logs events) (next_record start logs events))
+    → aux_until (with_record start logs (record_of start logs reset))
+    ≡ aux_seen (with_record start logs (record_of start logs reset))
 unfolding with_record
-until_after start logs events valid holds =
-    let entry : BusRecord = next_record start logs events in
-    let now : SeenRecord =
-    record { entry = entry; bounds = logged_bounds start (with_events logs events) } in
-    let records : List SeenRecord = now ∷ (with_events logs events).records in
+until_after start logs reset valid holds =
+    let entry : BusRecord = record_of start logs reset in
+    let records : List SeenRecord =
+    record { entry = entry; bounds = logged_bounds start logs } ∷ logs.records in
     let Claim : List SeenRecord → Type 0 =
     λ until. aux (map blank_seen until) ≡ aux (map blank_seen records) in
-    cond_both (goes_on_in_call entry) (records_until_call (with_events logs events).records) records
-    Claim
+    cond_both (goes_on_in_call entry) (records_until_call logs.records) records Claim
     (λ goes_on.
     let parts = and_parts (is_rom entry.kind && not (entry.pc == ROM_ENTRY)) (is_none entry.reset)
     goes_on in
     let rom = (and_parts (is_rom entry.kind) (not (entry.pc == ROM_ENTRY)) parts.0).0 in
     let state : CallState records =
-    step_flag start logs events valid holds (none_of entry.reset parts.1)
-    (rom_kind entry.kind rom) in
+    record_flag start logs reset valid holds (none_of entry.reset parts.1)
+    (sym (record_of-kind start logs reset) ∙ rom_kind entry.kind rom) in
     ap (λ (until : List SeenRecord). aux (map blank_seen until))
-    (sym (cond-true (goes_on_in_call entry)
-    (records_until_call (with_events logs events).records) records goes_on))
+    (sym (cond-true (goes_on_in_call entry) (records_until_call logs.records) records goes_on))
     ∙ state.flag)
     (λ other. refl)
 
 until-is : (start : Start) (play : Play)
     → aux_until (logs_after start play) ≡ aux_seen (logs_after start play)
-unfolding logs_after
+unfolding logs_after next_record with_events
 until-is start [] = refl
 until-is start (events ∷ play) =
-    until_after start (logs_after start play) events (valid_after start play)
-    (play_holds start play)
+    until_after start (with_events (logs_after start play) events) (asks_reset events)
+    (valid_after start play) (play_holds start play)
 
 -- so memory shows the flag as it is
 pub shown-is : (start : Start) (play : Play) → start.second_flag ≡ aux
@@ -242,54 +213,13 @@ shown-is start play is_aux =
     flag (map blank_seen (records_until_call (logs_after start play).records))) is_aux
     ∙ until-is start play
 
--- the last record is at the ROM's exit, which is outside
-exit_outside : (bounds : Bounds) (last : Option ℕ) → are_valid bounds ≡ true → last ≡ Some ROM_EXIT
-    → ran_inside last (executable_region bounds) ≡ false
-exit_outside bounds last valid is =
-    let outside : (inside : Bool) → lies_in (executable_region bounds) ROM_EXIT ≡ inside
-    → inside ≡ false =
-    λ inside. elim inside as (λ b. lies_in (executable_region bounds) ROM_EXIT ≡ b → b ≡ false) [
-      | true ↦ λ within.
-          let apart : in_rom ROM_EXIT ≡ false = (inside-open bounds ROM_EXIT valid within).0 in
-          absurd (cc)
-      | false ↦ λ apart. refl
-    ] in
-    ap (λ pc. ran_inside pc (executable_region bounds)) is ∙ outside _ refl
-
-last_after : (start : Start) (events : List Event) (play : Play)
-    → last_pc (logs_after start (events ∷ play)).records
-    ≡ Some (next_record start (logs_after start play) events).pc
-unfolding logs_after with_record
-last_after start events play = refl
-
--- a call is finished by a step of the ROM at its exit
-finished-exit : (start : Start) (events : List Event) (play : Play)
-    → is_some (last_decision start (events ∷ play)) ≡ true
-    → (next_record start (logs_after start play) events).pc ≡ ROM_EXIT
-unfolding logs_after
-finished-exit start events play finished =
-    let entry : BusRecord = next_record start (logs_after start play) events in
-    let call = and_parts (is_rom entry.kind && (entry.pc == ROM_EXIT)) (is_none entry.reset)
-    (decision_finishes start (with_events (logs_after start play) events) entry finished) in
-    eqb-true entry.pc ROM_EXIT (and_parts (is_rom entry.kind) (entry.pc == ROM_EXIT) call.0).1
-
-none_finished : (start : Start) → is_some (last_decision start []) ≡ true → ⊥
-unfolding logs_after
-none_finished start finished = cc
-
 -- after a finished call, whatever it decided
 pub finished-trusted_run : (start : Start) (play : Play) → start.second_flag ≡ aux
     → is_some (last_decision start play) ≡ true
     → aux_of start (logs_after start play) ≡ true
     → TrustedRun (logged_bounds start (logs_after start play)) (trace start play)
-finished-trusted_run start [] is_aux finished set = absurd (none_finished start finished)
-finished-trusted_run start (events ∷ play) is_aux finished set =
-    let seen = sym (shown-is start (events ∷ play) is_aux) ∙ set in
-    aux-trusted_run start (events ∷ play) seen
-    (exit_outside (logged_bounds start (logs_after start (events ∷ play)))
-    (last_pc (logs_after start (events ∷ play)).records)
-    (valid_after start (events ∷ play) seen)
-    (last_after start events play ∙ ap Some (finished-exit start events play finished)))
+finished-trusted_run start play is_aux finished set =
+    finished-run TrustedInterrupts start play finished (sym (shown-is start play is_aux) ∙ set)
 
 pub decision-trusted_run : (start : Start) (play : Play) → start.second_flag ≡ aux
     → AuxAfterCallMeansTrustedRun start play
@@ -299,14 +229,9 @@ decision-trusted_run start play is_aux decision is set =
 pub report-trusted_run : (start : Start) (play : Play) (report : ReportFields)
     → start.second_flag ≡ aux → last_report start play ≡ Some report → report.aux ≡ true
     → TrustedRun report.bounds (trace start play)
-report-trusted_run start [] report is_aux is set = absurd (cc)
-report-trusted_run start (events ∷ play) report is_aux is set =
-    let logs : Logs = logs_after start (events ∷ play) in
-    let made = made_where start logs (length play) logs.decision report is in
-    subst (λ (bounds : Bounds). TrustedRun bounds (trace start (events ∷ play)))
-    (ap (λ (r : ReportFields). r.bounds) made.1)
-    (finished-trusted_run start (events ∷ play) is_aux made.0
-    (ap (λ (r : ReportFields). r.aux) made.1 ∙ set))
+report-trusted_run start play report is_aux is set =
+    report-run TrustedInterrupts start play report is
+    (λ step made. sym (shown-is start play is_aux) ∙ (ap (λ (r : ReportFields). r.aux) made ∙ set))
 
 pub denial-trusted_run : (start : Start) (play : Play) (denial : ℕ)
     → start.second_flag ≡ aux → last_denial start play ≡ Some denial
