@@ -1,6 +1,6 @@
 -- Over a play the kept counter does not fall, and the counters of attested requests grow.
 use Rattle.std.proofs.Common.{◌≡◌, ℕ, ◌-◌, ◌<◌, ◌≤◌, Bool, true, false, List, [], ◌∷◌, ◌++◌, drop, inl, inr, Option, Some, None, length, ap, sym, ◌∙◌, arith}
-use Rattle.std.specs.Prelude.{◌==◌, ◌&&◌, is_none, IsFalse, IsTrue}
+use Rattle.std.specs.Prelude.{◌==◌, ◌&&◌, is_none, IsFalse}
 use Rattle.std.proofs.lemmas.Bool.{cases_lt, cond-true, eq-eqb}
 use Rattle.std.proofs.lemmas.List.{drop-append-le}
 use Rattle.bus_signals.specs.declared.access.Access.{Access}
@@ -15,17 +15,17 @@ use Rattle.part_definitions.specs.Hmac.{Digest}
 use Rattle.device_trace.specs.Play.{Play}
 use Rattle.device_trace.specs.Start.{Start, with_key}
 use Rattle.device_trace.specs.Trace.{trace}
-use Rattle.mac_coverage.specs.AttestedBytes.{AttestedBytes, counter_left, decision_of}
-use Rattle.mac_coverage.specs.Call.{ends_refused, last_call, mac_written}
-use Rattle.mac_coverage.specs.Coverage.{IsDeviceKey, IsOfBytes, call_length, contents_before, kept_before, kept_within}
+use Rattle.mac_coverage.specs.AttestedBytes.{AttestedBytes, decision_of}
+use Rattle.mac_coverage.specs.Call.{last_call, mac_written}
+use Rattle.mac_coverage.specs.Coverage.{IsDeviceKey, IsOfBytes, call_length, kept_before}
 use Rattle.mac_coverage.proofs.Device.{Device, start_of}
 use Rattle.mac_coverage.proofs.KeptStored.{kept-late}
-use Rattle.mac_coverage.proofs.Outcomes.{Outcome}
 use Rattle.mac_coverage.proofs.Plays.{outcome_at}
 use Rattle.mac_coverage.proofs.PlaySteps.{LastWroteHighWord, WritesHighWord}
 use Rattle.mac_coverage.proofs.Words.{are_bytes}
 use Rattle.request_freshness.specs.Freshness.{Attests, first_word, ends_between_words, kept_counter, writes_high_word}
-use Rattle.request_freshness.proofs.CounterSteps.{attests-newer, counter_step}
+use Rattle.request_freshness.proofs.Moments.{CallMoments, attests-newer, left_by, call-moments}
+use Rattle.request_freshness.proofs.CounterSteps.{counter_step}
 
 -- the moment between the two writes
 writes_high : (access : Option Access) → WritesHighWord access → writes_high_word access ≡ true
@@ -116,35 +116,27 @@ attests-here : (device : Device) (play : Play) (counter : ℕ)
     → Attests (start_of device) play counter → AttestsHere device play counter
 attests-here device play counter attests =
     let start : Start = start_of device in
-    let outcome : Outcome device play = outcome_at device play attests.in_call in
-    let covers = outcome.covers in
-    let decision : ℕ = decision_of device.digest device.key covers.contents covers.kept in
-    let left : List ℕ = counter_left device.digest device.key covers.contents covers.kept in
-    let first = first_word-is (mac_written (last_call (trace start play))) covers.later _ decision
-    ATTESTS attests.decision covers.words in
-    let late : 77 ≤ call_length start play = outcome.timed first.1 in
-    let goes : (steps : ℕ) → IsTrue (ends_refused (trace start play)) → 1 ≤ steps =
-    λ steps refuses.
-    (let wrong : true ≡ false = sym refuses ∙ attests.unrefused in absurd (cc)) in
-    let request : left ≡ counter_in covers.contents.metadata =
-    cond-true (decision == ATTESTS) (counter_in covers.contents.metadata) covers.kept
-    (eq-eqb decision ATTESTS first.0) in
-    let stands : contents_before start play 0 ≡ covers.contents =
-    covers.throughout 0 (record { begun = omega (arith, late); unrefused = goes 0 }) in
-    let asked : little_endian (counter_in covers.contents.metadata) ≡ counter =
-    ap (λ (contents : AttestedBytes). little_endian (counter_in contents.metadata)) (sym stands)
-    ∙ attests.request in
-    let now : kept_before start play 0 ≡ left =
-    covers.counter 0 (record { within = omega arith; unrefused = goes 0 })
-    ∙ kept-late covers.kept left (call_length start play - 0) (omega (arith, late)) in
-    let before : kept_before start play (call_length start play) ≡ covers.kept =
-    covers.counter (call_length start play)
-    (record { within = omega arith; unrefused = goes (call_length start play) })
-    ∙ ap (kept_within covers.kept left)
-    (let none : call_length start play - call_length start play ≡ 0 = omega arith in none) in
-    let newer = attests-newer device.digest device.key covers.contents.metadata covers.kept first.0
+    let call : CallMoments device play = call-moments device play attests.in_call attests.unrefused
     in
-    let number_before = ap little_endian before in
+    let contents : AttestedBytes = call.covers.contents in
+    let kept : Bytes = call.covers.kept in
+    let decision : ℕ = decision_of device.digest device.key contents kept in
+    let first = first_word-is (mac_written (last_call (trace start play))) call.covers.later _
+    decision ATTESTS attests.decision call.covers.words in
+    let late : 77 ≤ call_length start play =
+    (outcome_at device play attests.in_call).timed first.1 in
+    let request : left_by device play call.covers ≡ counter_in contents.metadata =
+    cond-true (decision == ATTESTS) (counter_in contents.metadata) kept
+    (eq-eqb decision ATTESTS first.0) in
+    let asked : little_endian (counter_in contents.metadata) ≡ counter =
+    ap (λ (bytes : AttestedBytes). little_endian (counter_in bytes.metadata)) (sym call.stands)
+    ∙ attests.request in
+    let now : kept_before start play 0 ≡ left_by device play call.covers =
+    call.at 0 (omega arith)
+    ∙ kept-late kept (left_by device play call.covers) (call_length start play - 0)
+    (omega (arith, late)) in
+    let newer = attests-newer device.digest device.key contents.metadata kept first.0 in
+    let number_before = ap little_endian call.before in
     record {
       kept = ap little_endian (now ∙ request) ∙ asked;
       late = late;

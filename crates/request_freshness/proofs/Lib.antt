@@ -1,4 +1,5 @@
 pub mod Untouched
+pub mod Moments
 pub mod CounterSteps
 pub mod Moves
 pub mod Grows

@@ -31,7 +31,7 @@ use Rattle.mac_coverage.proofs.Plays.{Reports, last_report-finishes, outcome_at,
 use Rattle.mac_coverage.proofs.PlaySteps.{IsTurnOfCall, entry-kind, entry-pc, entry-step, entry_at, log_at}
 use Rattle.mac_coverage.proofs.Steps.{IsOfCall, OnCall, other_step-no_call, progress-call_step, rom_step-of_call}
 use Rattle.request_freshness.specs.Freshness.{Attests, TellsNewCounter, first_word}
-use Rattle.request_freshness.proofs.CounterSteps.{later_or_first}
+use Rattle.request_freshness.proofs.Moments.{later_or_first}
 use Rattle.request_freshness.proofs.Grows.{counters-grow, device_of}
 
 -- the progress after a step of a call that is not refused

@@ -1,0 +1,292 @@
+-- The bytes of the kept counter at the moments of a call, and so what a step does to them.
+use Rattle.std.proofs.Common.{◌≡◌, ℕ, suc, ◌+◌, ◌-◌, ◌<◌, ◌≤◌, Bool, true, false, not, List, [], ◌∷◌, ◌++◌, take, drop, ◌⊎◌, inl, inr, length, refl, ap, sym, ◌∙◌, arith, subst}
+use Rattle.std.specs.Str.{bytes_eq}
+use Rattle.std.specs.Prelude.{◌==◌, is_some, nat_le, IsTrue, if◌then◌else◌}
+use Rattle.std.proofs.lemmas.Bool.{and_from, cases_Bool, cases_lt, cond-false, cond-true, eqb-true, leb-false}
+use Rattle.bus_signals.specs.declared.bus_record.BusRecord.{BusRecord}
+use Rattle.bus_signals.specs.declared.event.Event.{Event}
+use Rattle.bus_signals.specs.declared.kind.Kind.TheVariants.{Rom}
+use Rattle.bus_signals.specs.Kind.{is_rom}
+use Rattle.bus_signals.specs.Map.{ROM_ENTRY}
+use Rattle.part_definitions.specs.Metadata.{counter_in, kept_bytes, little_endian, token_in}
+use Rattle.part_definitions.specs.Request.{ATTESTS, request_decision, right_token}
+use Rattle.bus_signals.specs.Address.{Bytes}
+use Rattle.part_definitions.specs.Hmac.{Digest}
+use Rattle.part_definitions.proofs.CallItems.{first_pc}
+use Rattle.device_trace.specs.Play.{Play}
+use Rattle.device_trace.specs.Logs.{Logs, step_progress, vector_of, with_events}
+use Rattle.device_trace.specs.Progress.{InCall}
+use Rattle.device_trace.specs.Signals.{step_kind}
+use Rattle.device_trace.specs.Step.{asks_reset, next_record}
+use Rattle.device_trace.specs.Trace.{byte_after, logs_after, trace}
+use Rattle.trace_facts.proofs.SoundPlay.{logs_after-sound, with_events-sound}
+use Rattle.mac_coverage.specs.AttestedBytes.{AttestedBytes, counter_left, decision_of}
+use Rattle.mac_coverage.specs.Call.{begins_call, ends_in_call, ends_refused, last_call}
+use Rattle.mac_coverage.specs.Coverage.{MacCoversCall, call_length, contents_before, kept_before, kept_within}
+use Rattle.mac_coverage.proofs.Device.{Device, start_of}
+use Rattle.mac_coverage.proofs.KeptStored.{kept-early, kept-late}
+use Rattle.mac_coverage.proofs.Plays.{outcome_at, play_stands, rom_kind}
+use Rattle.mac_coverage.proofs.PlaySteps.{CallGoesOn, LastWroteHighWord, attested-is, entry-kind, entry-pc, entry_at, kept-is, log_at}
+use Rattle.mac_coverage.proofs.Steps.{IsOfCall, OnCall, rom_step-of_call}
+use Rattle.mac_coverage.proofs.WordPlan.{IsCounter, counter_left-is}
+use Rattle.request_freshness.proofs.Untouched.{other_step-leaves, refused_step-leaves}
+
+-- a request that is attested has a greater counter than the kept one
+abbrev pub choice : Bool → Bool → ℕ
+choice other old = if other then 3 else if old then 2 else 1
+
+last_choice : (other old : Bool) → choice other old ≡ ATTESTS → old ≡ false
+last_choice true old is = absurd (cc)
+last_choice false true is = absurd (cc)
+last_choice false false is = refl
+
+pub attests-newer : (digest : Digest) (key metadata kept : List ℕ)
+    → request_decision digest key metadata kept ≡ ATTESTS
+    → little_endian kept < little_endian (counter_in metadata)
+attests-newer digest key metadata kept attests =
+    leb-false (little_endian (counter_in metadata)) (little_endian kept)
+    (last_choice (not (bytes_eq (token_in metadata) (right_token digest key metadata)))
+    (nat_le (little_endian (counter_in metadata)) (little_endian kept)) attests)
+
+left-grows : (digest : Digest) (key : Bytes) (contents : AttestedBytes)
+    (kept : List ℕ)
+    → little_endian kept ≤ little_endian (counter_left digest key contents kept)
+left-grows digest key contents kept =
+    by_test (decision_of digest key contents kept == ATTESTS)
+    (λ attests.
+    (let newer = attests-newer digest key contents.metadata kept
+    (eqb-true (decision_of digest key contents kept) ATTESTS attests) in
+    omega (arith, newer)))
+  where
+    by_test : (test : Bool)
+        → (test ≡ true → little_endian kept ≤ little_endian (counter_in contents.metadata))
+        → little_endian kept
+        ≤ little_endian (if test then counter_in contents.metadata else kept)
+    by_test true newer = newer refl
+    by_test false newer = omega arith
+
+-- the bytes that a call leaves
+abbrev pub left_by : (device : Device) (play : Play)
+    → MacCoversCall device.digest device.key (start_of device) play → Bytes
+left_by device play covers = counter_left device.digest device.key covers.contents covers.kept
+
+-- a call whose last step is not refused
+pub record CallMoments (device : Device) (play : Play) : Type 0 where
+  pub in_call : ends_in_call (trace (start_of device) play) ≡ true
+  pub covers : MacCoversCall device.digest device.key (start_of device) play
+  pub begun : 1 ≤ call_length (start_of device) play
+  pub stands : contents_before (start_of device) play 0 ≡ covers.contents
+  pub at : (steps : ℕ) → steps ≤ call_length (start_of device) play
+      → kept_before (start_of device) play steps
+      ≡ kept_within covers.kept (left_by device play covers)
+      (call_length (start_of device) play - steps)
+  pub before : kept_before (start_of device) play (call_length (start_of device) play)
+      ≡ covers.kept
+  pub is_kept : IsCounter covers.kept
+  pub is_left : IsCounter (left_by device play covers)
+  pub grows : little_endian covers.kept ≤ little_endian (left_by device play covers)
+
+has_begun : (history : List BusRecord) → ends_in_call history ≡ true
+    → 1 ≤ length (last_call history)
+has_begun [] in_call = absurd (cc)
+has_begun (entry ∷ history) in_call = omega arith
+
+pub call-moments : (device : Device) (play : Play)
+    → ends_in_call (trace (start_of device) play) ≡ true
+    → ends_refused (trace (start_of device) play) ≡ false → CallMoments device play
+call-moments device play in_call unrefused =
+    let start = start_of device in
+    let count : ℕ = call_length start play in
+    let covers = (outcome_at device play in_call).covers in
+    let goes : (steps : ℕ) → IsTrue (ends_refused (trace start play)) → 1 ≤ steps =
+    λ steps refuses. (let wrong : true ≡ false = sym refuses ∙ unrefused in absurd (cc)) in
+    let left : Bytes = left_by device play covers in
+    let at : (steps : ℕ) → steps ≤ count
+    → kept_before start play steps ≡ kept_within covers.kept left (count - steps) =
+    λ steps within. covers.counter steps (record { within = within; unrefused = goes steps }) in
+    let before : kept_before start play count ≡ covers.kept =
+    at count (omega arith)
+    ∙ ap (kept_within covers.kept left) (let none : count - count ≡ 0 = omega arith in none) in
+    let begun : 1 ≤ count = has_begun (trace start play) in_call in
+    let stands : contents_before start play 0 ≡ covers.contents =
+    covers.throughout 0 (record { begun = begun; unrefused = goes 0 }) in
+    let is_kept : IsCounter covers.kept =
+    subst IsCounter before (kept-is device (drop count play)) in
+    record {
+      in_call = in_call;
+      covers = covers;
+      begun = begun;
+      stands = stands;
+      at = at;
+      before = before;
+      is_kept = is_kept;
+      is_left =
+          counter_left-is device.digest device.key covers.contents covers.kept
+          (attested-is device play covers.contents stands) is_kept;
+      grows = left-grows device.digest device.key covers.contents covers.kept;
+    }
+
+-- an earlier step of the call of this one
+pub record IsLaterStep (device : Device) (play : Play) (events : List Event)
+    : Type 0 where
+  pub count :
+      call_length (start_of device) (events ∷ play) ≡ call_length (start_of device) play + 1
+  pub high : call_length (start_of device) play ≡ 75
+      → LastWroteHighWord (trace (start_of device) play)
+  pub regs : List ℕ
+  pub words : List ℕ
+  pub progress : (logs_after (start_of device) play).progress ≡ InCall regs words
+
+pub later_or_first : (device : Device) (play : Play) (events : List Event)
+    → step_kind (log_at device play events) ≡ Rom
+    → (call_length (start_of device) (events ∷ play) ≡ 1) ⊎ IsLaterStep device play events
+unfolding trace with_events
+later_or_first device play events rom =
+    let entry : BusRecord = entry_at device play events in
+    let logs : Logs = log_at device play events in
+    let call : IsOfCall logs.progress (step_progress logs (step_kind logs)) =
+    rom_step-of_call logs.progress (vector_of logs) rom in
+    elim (cases_Bool (begins_call entry)) [
+      | inl begins ↦
+          inl (ap (λ (older : List BusRecord). length (entry ∷ older))
+          (cond-true (begins_call entry) [] (last_call (trace (start_of device) play)) begins))
+      | inr goes_on ↦
+          elim call.from [
+            | inl from ↦
+                let stands : CallGoesOn device play call.words =
+                subst (OnCall (λ regs words. CallGoesOn device play words)) from
+                (play_stands device play) in
+                inr (record {
+                  count =
+                      ap (λ (older : List BusRecord). length (entry ∷ older))
+                      (cond-false (begins_call entry) [] (last_call (trace (start_of device) play))
+                      goes_on)
+                      ∙ (let more : suc (length (last_call (trace (start_of device) play)))
+                      ≡ length (last_call (trace (start_of device) play)) + 1 = omega arith in
+                      more);
+                  high = λ count. stands.high (sym stands.made ∙ count);
+                  regs = call.regs;
+                  words = call.words;
+                  progress = from;
+                })
+            | inr none ↦
+                let first : begins_call entry ≡ true =
+                and_from (is_rom entry.kind) (entry.pc == ROM_ENTRY)
+                (ap is_rom (entry-kind device play events ∙ rom))
+                (ap (λ (pc : ℕ). pc == ROM_ENTRY)
+                (entry-pc device play events call.regs []
+                (record { kind = rom; progress = call.is ∙ ap (InCall call.regs) none })
+                ∙ first_pc)) in
+                let wrong : true ≡ false = sym first ∙ goes_on in
+                absurd (cc)
+          ]
+    ]
+
+-- a step leaves the bytes, or writes the high word of those that the call leaves, or the low one
+abbrev pub Leaves : Device → Play → List Event → Type 0
+Leaves device play events =
+    kept_bytes (byte_after (start_of device) (events ∷ play))
+    ≡ kept_bytes (byte_after (start_of device) play)
+
+pub record WritesHigh (device : Device) (play : Play) (events : List Event) (kept left : Bytes)
+    : Type 0 where
+  pub now :
+      kept_bytes (byte_after (start_of device) (events ∷ play)) ≡ take 2 kept ++ drop 2 left
+  pub before : kept_bytes (byte_after (start_of device) play) ≡ kept
+
+pub record WritesLow (device : Device) (play : Play) (events : List Event) (kept left : Bytes)
+    : Type 0 where
+  pub now : kept_bytes (byte_after (start_of device) (events ∷ play)) ≡ left
+  pub before : kept_bytes (byte_after (start_of device) play) ≡ take 2 kept ++ drop 2 left
+  pub older : kept_bytes (byte_after (start_of device) (drop 1 play)) ≡ kept
+  pub count : call_length (start_of device) play ≡ 75
+  pub high : LastWroteHighWord (trace (start_of device) play)
+
+-- what holds of a step, whatever it does
+pub record ByCases (device : Device) (play : Play) (events : List Event) (Holds : Type 0)
+    : Type 0 where
+  pub leaves : Leaves device play events → Holds
+  pub high : (call : CallMoments device (events ∷ play))
+      → WritesHigh device play events call.covers.kept (left_by device (events ∷ play) call.covers)
+      → Holds
+  pub low : (call : CallMoments device (events ∷ play))
+      → WritesLow device play events call.covers.kept (left_by device (events ∷ play) call.covers)
+      → Holds
+
+-- the steps of a call are those before the first write, the two writes, and those after
+by_count : (Holds : Type 0) (count : ℕ)
+    → (count < 75 → Holds) → (count ≡ 75 → Holds) → (count ≡ 76 → Holds) → (77 ≤ count → Holds)
+    → Holds
+by_count Holds count early high low late =
+    elim (cases_lt count 75) [
+      | inl before ↦ early before
+      | inr past ↦
+          elim (cases_lt count 76) [
+            | inl first ↦ high (omega (arith, past, first))
+            | inr beyond ↦
+                elim (cases_lt count 77) [
+                  | inl second ↦ low (omega (arith, beyond, second))
+                  | inr after ↦ late after
+                ]
+          ]
+    ]
+
+call_step : (device : Device) (play : Play) (events : List Event) (Holds : Type 0)
+    → ByCases device play events Holds → step_kind (log_at device play events) ≡ Rom
+    → CallMoments device (events ∷ play) → Holds
+call_step device play events Holds cases rom call =
+    let kept : Bytes = call.covers.kept in
+    let left : Bytes = left_by device (events ∷ play) call.covers in
+    let within : ℕ → Bytes = kept_within kept left in
+    let count : ℕ = call_length (start_of device) (events ∷ play) in
+    by_count Holds count
+    (λ early.
+    cases.leaves
+    (call.at 0 (omega arith) ∙ (kept-early kept left (count - 0) (omega (arith, early))
+    ∙ sym (call.at 1 call.begun ∙ kept-early kept left (count - 1) (omega (arith, early))))))
+    (λ high.
+    cases.high call (record {
+      now = call.at 0 (omega arith) ∙ ap (λ (n : ℕ). within (n - 0)) high;
+      before = call.at 1 call.begun ∙ ap (λ (n : ℕ). within (n - 1)) high;
+    }))
+    (λ low.
+    elim (later_or_first device play events rom) [
+      | inl first ↦ absurd (omega (arith, first, low))
+      | inr later ↦
+          let more = later.count in
+          let older : call_length (start_of device) play ≡ 75 = omega (arith, more, low) in
+          cases.low call (record {
+            now = call.at 0 (omega arith) ∙ ap (λ (n : ℕ). within (n - 0)) low;
+            before = call.at 1 call.begun ∙ ap (λ (n : ℕ). within (n - 1)) low;
+            older = call.at 2 (omega (arith, low)) ∙ ap (λ (n : ℕ). within (n - 2)) low;
+            count = older;
+            high = later.high older;
+          })
+    ])
+    (λ late.
+    cases.leaves
+    (call.at 0 (omega arith) ∙ (kept-late kept left (count - 0) (omega (arith, late))
+    ∙ sym (call.at 1 call.begun ∙ kept-late kept left (count - 1) (omega (arith, late))))))
+
+pub each_step : (device : Device) (play : Play) (events : List Event) (Holds : Type 0)
+    → ByCases device play events Holds → Holds
+unfolding logs_after trace next_record with_events
+each_step device play events Holds cases =
+    let logs : Logs = log_at device play events in
+    elim (cases_Bool (is_some (entry_at device play events).reset)) [
+      | inl refuses ↦
+          cases.leaves
+          (refused_step-leaves (start_of device) logs (entry_at device play events) refuses)
+      | inr no_reset ↦
+          elim (cases_Bool (is_rom (step_kind logs))) [
+            | inl rom ↦
+                call_step device play events Holds cases (rom_kind (step_kind logs) rom)
+                (call-moments device (events ∷ play)
+                (ap is_rom (entry-kind device play events) ∙ rom) no_reset)
+            | inr other ↦
+                cases.leaves
+                (other_step-leaves (start_of device) logs (asks_reset events)
+                (with_events-sound (logs_after (start_of device) play) events
+                (logs_after-sound (start_of device) play)) other)
+          ]
+    ]
