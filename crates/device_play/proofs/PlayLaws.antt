@@ -1,5 +1,5 @@
 -- A play obeys the laws of the device.
-use Rattle.std.proofs.Common.{◌≡◌, ◌∙◌, [], ◌∷◌, length, Bool, Some, ap, subst, sym}
+use Rattle.std.proofs.Common.{◌≡◌, ◌∙◌, Bool, Some, ap, subst, sym}
 use Rattle.std.proofs.lemmas.Bool.{false≢true}
 use Rattle.bus_signals.specs.Address.{Bytes, Contents}
 use Rattle.bus_signals.specs.Report.{ReportFields}
@@ -7,18 +7,18 @@ use Rattle.bus_signals.specs.SeenRecord.{SeenHistory}
 use Rattle.bus_signals.specs.declared.bounds.Bounds.{Bounds}
 use Rattle.part_definitions.specs.Hmac.{Digest}
 use Rattle.part_definitions.specs.Request.{ATTESTS}
-use Rattle.device_trace.specs.Logs.{Logs}
 use Rattle.device_trace.specs.Play.{Play}
 use Rattle.device_trace.specs.RegionRun.{TrustedRun, WholeRun}
 use Rattle.device_trace.specs.Start.{Start, with_key}
 use Rattle.device_trace.specs.Text.{last_report}
-use Rattle.device_trace.specs.Trace.{logs_after, trace}
+use Rattle.device_trace.specs.Trace.{trace}
 use Rattle.trace_facts.proofs.NeverBroken.{trace-names_neither}
+use Rattle.trace_facts.proofs.LastReport.{last_report-made}
 use Rattle.trace_facts.proofs.RomCode.{trace-in_call}
 use Rattle.key_isolation.proofs.TwoKeys.{looks_keyless}
 use Rattle.mac_coverage.specs.Coverage.{IsDeviceKey, IsOfBytes, MacCoversCall}
 use Rattle.mac_coverage.proofs.Plays.{last_report-finishes, mac_covers_call, some_same}
-use Rattle.proof_of_execution.proofs.Plays.{decision-whole_run, made_where}
+use Rattle.proof_of_execution.proofs.Plays.{decision-whole_run}
 use Rattle.request_freshness.proofs.Reports.{report-new}
 use Rattle.trusted_execution.proofs.StillTime.{decision-trusted_run}
 use Rattle.device_core.proofs.Outside.{keeps-counter}
@@ -45,12 +45,9 @@ pub lawful_report : (digest : Digest) (key : Bytes) (start : Start) (play : Play
     (report : ReportFields) → IsLawfulMoment digest key start play
     → last_report start play ≡ Some report
     → IsLawfulReport digest key start report play
-lawful_report digest key start [] report moment is = absurd (cc)
-lawful_report digest key start (events ∷ before) report moment is =
-    let play : Play = events ∷ before in
-    let logs : Logs = logs_after start play in
+lawful_report digest key start play report moment is =
     let made = last_report-finishes start play report is in
-    let same = (made_where start logs (length before) logs.decision report is).1 in
+    let same = (last_report-made start play report is).same in
     let covers : MacCoversCall digest key start play = moment.call made.in_call in
     record {
       contents = covers.contents;

@@ -17,7 +17,6 @@ use Rattle.device_trace.specs.Step.{access_recorded, dma_value_read, record_from
 use Rattle.device_trace.specs.Trace.{next_logs}
 use Rattle.device_trace.proofs.FormedAccess.{record_of-formed}
 use Rattle.trace_facts.proofs.Sound.{IsSound}
-use Rattle.trace_facts.proofs.SoundPlay.{with_events-sound}
 use Rattle.key_isolation.proofs.Hiding.{open_start, hide_progress, hide, vector_of-hide, step_progress-hide, vector_taken-hide, logged_bounds-hide, decision_after-hide}
 use Rattle.key_isolation.proofs.WrittenBytes.{memory_after-hide}
 use Rattle.key_isolation.proofs.Projections.{with_step-blank, released_words_after-blank}
@@ -147,32 +146,16 @@ step_hides_after_events start free more logs reset sound split =
           (follows_record start free logs reset is_same),
     )
 
-with_events-hide : (logs : Logs) (events : List Event)
-    → with_events (hide logs) events ≡ hide (with_events logs events)
-unfolding with_events
-with_events-hide logs events = refl
-
 pub step_hides : (start : Start) (free more : List ℕ) (logs : Logs) (events : List Event)
     → IsSound logs.progress (last_pc logs.records)
     → free ≡ (next_logs start logs events).released_words ++ more
     → StepHides start free logs events
-unfolding next_record with_record
+unfolding next_record with_record with_events
 step_hides start free more logs events sound split =
     let after : Logs = with_events logs events in
     let both =
-    step_hides_after_events start free more after (asks_reset events)
-    (with_events-sound logs events sound) split in
-    let entry : next_record (open_start free start) (hide logs) events
-    ≡ blank_record (next_record start logs events) =
-    ap (λ (ls : Logs). record_of (open_start free start) ls (asks_reset events))
-    (with_events-hide logs events)
-    ∙ both.0 in
+    step_hides_after_events start free more after (asks_reset events) sound split in
     record {
-      entry = entry;
-      after =
-          ap
-          (λ (ls : Logs). with_record (open_start free start) ls
-          (next_record (open_start free start) (hide logs) events))
-          (with_events-hide logs events)
-          ∙ (ap (with_record (open_start free start) (hide after)) entry ∙ both.1);
+      entry = both.0;
+      after = ap (with_record (open_start free start) (hide after)) both.0 ∙ both.1;
     }

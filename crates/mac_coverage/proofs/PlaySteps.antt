@@ -17,7 +17,7 @@ use Rattle.device_trace.specs.Progress.{InCall, next_pc_of}
 use Rattle.device_trace.specs.Signals.{step_kind}
 use Rattle.device_trace.specs.Step.{asks_reset, next_record}
 use Rattle.device_trace.specs.Trace.{byte_after, logs_after, trace}
-use Rattle.trace_facts.proofs.ExecFlag.{logs_after-valid, with_events-valid}
+use Rattle.trace_facts.proofs.ExecFlag.{logs_after-valid}
 use Rattle.mac_coverage.specs.AttestedBytes.{AttestedBytes, without_flag_words}
 use Rattle.mac_coverage.specs.Call.{begins_call, last_call}
 use Rattle.mac_coverage.specs.Coverage.{contents_before, kept_before}
@@ -193,8 +193,7 @@ unfolding logs_after with_events
 after_step-same device play events step later last =
     attested-same (byte_after (start_of device) (events ∷ play)) (byte_after (start_of device) play)
     (bytes-same (start_of device) (log_at device play events) (entry_at device play events) step
-    later (with_events-valid (start_of device) (logs_after (start_of device) play) events
-    (logs_after-valid (start_of device) play)) last)
+    later (logs_after-valid (start_of device) play) last)
 
 pub last-in_rom : (device : Device) (play : Play) (events : List Event)
     → IsRomStep (entry_at device play events)

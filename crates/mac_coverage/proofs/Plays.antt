@@ -1,7 +1,7 @@
 -- In every play the MAC covers the last call.
 use Rattle.std.proofs.Common.{◌≡◌, ℕ, ◌<◌, Bool, true, false, List, [], ◌∷◌, inl, inr, Option, Some, None, length, refl, ap, sym, ◌∙◌, arith, subst}
 use Rattle.std.specs.Prelude.{◌==◌, ◌&&◌, is_none, is_some, IsTrue}
-use Rattle.std.proofs.lemmas.Bool.{and_parts, cases_Bool, eqb-true}
+use Rattle.std.proofs.lemmas.Bool.{and_parts, cases_Bool}
 use Rattle.bus_signals.specs.declared.bus_record.BusRecord.{BusRecord}
 use Rattle.bus_signals.specs.declared.event.Event.{Event}
 use Rattle.bus_signals.specs.declared.kind.Kind.{Kind}
@@ -21,9 +21,8 @@ use Rattle.device_trace.specs.Logs.{Logs, progress_after, step_progress, vector_
 use Rattle.device_trace.specs.Signals.{step_kind}
 use Rattle.device_trace.specs.Start.{Start, with_key}
 use Rattle.device_trace.specs.Step.{next_record}
-use Rattle.device_trace.specs.Text.{last_decision, last_report, report_of, report_where}
+use Rattle.device_trace.specs.Text.{last_decision, last_report}
 use Rattle.device_trace.specs.Trace.{byte_after, logs_after, trace}
-use Rattle.trace_facts.proofs.Choices.{some_where}
 use Rattle.mac_coverage.specs.AttestedBytes.{tag_of}
 use Rattle.mac_coverage.specs.Call.{ends_finished, ends_in_call, ends_refused, last_call}
 use Rattle.mac_coverage.specs.Coverage.{Gives32Bytes, IsDeviceKey, IsOfBytes, MacCoversCall, MacCoversReport, contents_before}
@@ -33,6 +32,7 @@ use Rattle.mac_coverage.proofs.Outcomes.{Outcome, rom_outcome}
 use Rattle.mac_coverage.proofs.PlaySteps.{CallGoesOn, PlayStands, entry-kind, entry_at, log_at}
 use Rattle.mac_coverage.proofs.Steps.{OnCall, other_step-no_call}
 use Rattle.mac_coverage.proofs.Words.{are_bytes}
+use Rattle.trace_facts.proofs.LastReport.{last_report-made}
 
 -- another step
 other_next : (device : Device) (play : Play) (events : List Event)
@@ -94,6 +94,11 @@ mac_covers_call flag digest key image play device_key bytes in_call =
       image_bytes = bytes;
     }) play in_call).covers
 
+pub call_begun : (history : List BusRecord) → ends_in_call history ≡ true
+    → 0 < length (last_call history)
+call_begun [] in_call = absurd (cc)
+call_begun (entry ∷ history) in_call = omega arith
+
 -- where the last step makes a report, it finishes a call that attests, and the report tells what is
 -- in memory
 pub record Reports (start : Start) (play : Play) (report : ReportFields) : Type 0 where
@@ -111,22 +116,6 @@ some_or_none : (rule : Option Rule) → is_none rule ≡ true → is_some rule �
 some_or_none None none = refl
 some_or_none (Some rule) none = absurd (cc)
 
--- a report is made where a decision attests
-record ReportsWhere (start : Start) (logs : Logs) (step : ℕ) (decision : Option ℕ)
-    (report : ReportFields) : Type 0 where
-  attests : decision ≡ Some ATTESTS
-  same : report_of start logs step ≡ report
-
-report_where-is : (start : Start) (logs : Logs) (step : ℕ) (decision : Option ℕ)
-    (report : ReportFields)
-    → report_where start logs step decision ≡ Some report
-    → ReportsWhere start logs step decision report
-report_where-is start logs step None report is = absurd (cc)
-report_where-is start logs step (Some decision) report is =
-    let both = some_where (decision == ATTESTS) (report_of start logs step) report is in
-    let same : decision ≡ ATTESTS = eqb-true decision ATTESTS both.0 in
-    record { attests = ap (λ (d : ℕ). Some d) same; same = both.1 }
-
 pub last_report-finishes : (start : Start) (play : Play) (report : ReportFields)
     → last_report start play ≡ Some report → Reports start play report
 unfolding trace logs_after with_record
@@ -134,19 +123,18 @@ last_report-finishes start [] report is = absurd (cc)
 last_report-finishes start (events ∷ play) report is =
     let logs : Logs = with_events (logs_after start play) events in
     let entry : BusRecord = next_record start (logs_after start play) events in
-    let where_made = report_where-is start (logs_after start (events ∷ play)) (length play)
-    (last_decision start (events ∷ play)) report is in
+    let made = last_report-made start (events ∷ play) report is in
     let finishes = (decision_after-finishes (step_progress logs entry.kind) entry ATTESTS
-    where_made.attests).0 in
+    made.attests).0 in
     let parts = and_parts (is_rom entry.kind && (entry.pc == ROM_EXIT)) (is_none entry.reset)
     finishes in
     record {
       in_call = (and_parts (is_rom entry.kind) (entry.pc == ROM_EXIT) parts.0).0;
       refused = some_or_none entry.reset parts.1;
       finished = finishes;
-      attests = where_made.attests;
-      count = ap (λ (reports : ReportFields). reports.count) (sym where_made.same);
-      mac = ap (λ (reports : ReportFields). reports.mac) (sym where_made.same);
+      attests = made.attests;
+      count = ap (λ (reports : ReportFields). reports.count) (sym made.same);
+      mac = ap (λ (reports : ReportFields). reports.mac) (sym made.same);
     }
 
 pub reported_mac-is_tag : (flag : SeenHistory → Bool) (digest : Digest) (key : Bytes)
@@ -169,11 +157,6 @@ reported_mac-is_tag flag digest key image play report device_key bytes gives is 
     ∙ (covers.stored reports.finished
     (some_same (sym (covers.told reports.finished) ∙ reports.attests)) gives
     ∙ ap (tag_of digest key) (sym stands))
-  where
-    call_begun : (history : List BusRecord) → ends_in_call history ≡ true
-        → 0 < length (last_call history)
-    call_begun [] in_call = absurd (cc)
-    call_begun (entry ∷ history) in_call = omega arith
 
 pub report-covered : (flag : SeenHistory → Bool) (digest : Digest) (key : Bytes) (image : Contents)
     (play : Play) (report : ReportFields)

@@ -20,6 +20,24 @@ use Rattle.device_trace.specs.Start.{Start}
 use Rattle.trace_facts.proofs.Fresh.{IsFresh}
 use Rattle.trace_facts.proofs.NeverBroken.{item_pc-in_rom}
 use Rattle.proof_of_execution.proofs.Regions.{inside-open, min-inside, min-even}
+use Rattle.part_definitions.proofs.CallItems.{first_pc}
+
+-- at a boundary the next step has the PC of the registers, whatever it is
+pub boundary-pc : (regs : List ℕ) (vector : Option ℕ)
+    → next_pc_of (progress_from_boundary regs (boundary_kind regs vector) vector) ≡ pc_of regs
+boundary-pc regs None =
+    let Claim : Kind → Type 0 =
+    λ kind. next_pc_of (progress_from_boundary regs kind None) ≡ pc_of regs in
+    cond_both (pc_of regs == ROM_ENTRY) Rom _ Claim
+    (λ entry. first_pc ∙ sym (eqb-true (pc_of regs) ROM_ENTRY entry))
+    (λ other. cond_both (in_rom (pc_of regs)) Cpu _ Claim (λ rom. refl)
+    (λ outside. cond_both (is_asleep regs) Idle Cpu Claim (λ asleep. refl) (λ awake. refl)))
+boundary-pc regs (Some vector) =
+    let Claim : Kind → Type 0 =
+    λ kind. next_pc_of (progress_from_boundary regs kind (Some vector)) ≡ pc_of regs in
+    cond_both (pc_of regs == ROM_ENTRY) Rom _ Claim
+    (λ entry. first_pc ∙ sym (eqb-true (pc_of regs) ROM_ENTRY entry))
+    (λ other. cond_both (in_rom (pc_of regs)) Cpu Irq Claim (λ rom. refl) (λ outside. refl))
 
 -- asleep at the first place of the region
 pub record Sleeps (bounds : Bounds) (progress : Progress) : Type 0 where
@@ -137,22 +155,6 @@ pub record SleepsOn (bounds : Bounds) (progress : Progress) (vector : Option ℕ
       (next_progress (kind_of progress vector)
       (progress_within progress (kind_of progress vector) vector) access value)
 
-irq_inside : (bounds : Bounds) (regs : List ℕ) (vector : ℕ)
-    → in_rom (pc_of regs) ≡ false → lies_in (executable_region bounds) (pc_of regs) ≡ true
-    → lies_in (executable_region bounds)
-    (next_pc_of (progress_from_boundary regs (boundary_kind regs (Some vector)) (Some vector)))
-    ≡ true
-irq_inside bounds regs vector outside within =
-    let Claim : Kind → Type 0 =
-    λ kind. lies_in (executable_region bounds)
-    (next_pc_of (progress_from_boundary regs kind (Some vector))) ≡ true in
-    cond_both (pc_of regs == ROM_ENTRY) Rom _ Claim
-    (λ entry.
-    let rom : in_rom (pc_of regs) ≡ true = ap in_rom (eqb-true (pc_of regs) ROM_ENTRY entry) in
-    let clash : true ≡ false = sym rom ∙ outside in
-    absurd (cc))
-    (λ other. cond_both (in_rom (pc_of regs)) Cpu Irq Claim (λ rom. within) (λ apart. within))
-
 sleeper : (bounds : Bounds) (regs : List ℕ) (vector : Option ℕ)
     → is_asleep regs ≡ true → pc_of regs ≡ bounds.er_min
     → lies_in (executable_region bounds) (pc_of regs) ≡ true
@@ -163,7 +165,7 @@ sleeper : (bounds : Bounds) (regs : List ℕ) (vector : Option ℕ)
     ≡ false
     → SleepsOn bounds (Runs (Boundary regs)) vector
 sleeper bounds regs (Some vector) asleep at_start within outside quiet =
-    let inside = irq_inside bounds regs vector outside within in
+    let inside = ap (lies_in (executable_region bounds)) (boundary-pc regs (Some vector)) ∙ within in
     let clash : true ≡ false = sym inside ∙ quiet in
     absurd (cc)
 sleeper bounds regs None asleep at_start within outside quiet =
@@ -171,11 +173,7 @@ sleeper bounds regs None asleep at_start within outside quiet =
     let same : Sleeps bounds (Runs (Boundary regs)) =
     record { regs = regs; is_runs = refl; asleep = asleep; at_start = at_start } in
     record {
-      inside =
-          subst
-          (λ (kind : Kind). lies_in (executable_region bounds)
-          (next_pc_of (progress_from_boundary regs kind None)) ≡ true)
-          (sym idle) within;
+      inside = ap (lies_in (executable_region bounds)) (boundary-pc regs None) ∙ within;
       next = λ access value.
           subst
           (λ (kind : Kind). Sleeps bounds

@@ -1,7 +1,7 @@
 -- Where an interrupt entry leads: its steps have one PC, and then the handler's is next.
-use Rattle.std.proofs.Common.{◌≡◌, ◌<◌, ◌≤◌, ◌*◌, ◌/◌, ℕ, true, List, [], ◌∷◌, length, Option, Some, None, refl, ap, sym, ◌∙◌, arith}
+use Rattle.std.proofs.Common.{◌≡◌, ◌<◌, ◌≤◌, ◌*◌, ◌/◌, ℕ, true, List, [], ◌∷◌, length, Option, Some, None, refl, ap, ◌∙◌, arith}
 use Rattle.std.specs.Prelude.{◌==◌}
-use Rattle.std.proofs.lemmas.Bool.{cond_both, eqb-true}
+use Rattle.std.proofs.lemmas.Bool.{cond_both}
 use Rattle.bus_signals.specs.declared.access.Access.{Access}
 use Rattle.bus_signals.specs.declared.bounds.Bounds.{Bounds}
 use Rattle.bus_signals.specs.declared.kind.Kind.{Kind}
@@ -16,7 +16,6 @@ use Rattle.part_definitions.specs.CpuRegister.{pc_of, is_asleep}
 use Rattle.part_definitions.specs.CpuState.{CpuState, Boundary, Executing, Entering, cpu_access, cpu_after, completion_or}
 use Rattle.part_definitions.specs.MonitorRule.{in_rom}
 use Rattle.part_definitions.specs.NextAccess.{Next, Asks, Completes, handler_registers, entry_access}
-use Rattle.part_definitions.proofs.CallItems.{first_pc}
 use Rattle.device_trace.specs.Play.{Play}
 use Rattle.device_trace.specs.Logs.{vector_of}
 use Rattle.device_trace.specs.Progress.{access_of, kind_of, Progress, Held, Runs, InCall, next_pc_of, boundary_kind, progress_from_boundary, progress_within, after_return, call_after, next_progress}
@@ -25,6 +24,7 @@ use Rattle.device_trace.specs.Start.{Start}
 use Rattle.device_trace.specs.Trace.{logs_after}
 use Rattle.proof_of_execution.proofs.Regions.{inside-open}
 use Rattle.trace_facts.proofs.EachPlay.{logs_after-kept, cpu_state_after-kept}
+use Rattle.proof_of_execution.proofs.Entries.{boundary-pc}
 
 -- an entry that has not read its vector yet
 abbrev IsEarlyState : CpuState → Type 0
@@ -95,23 +95,6 @@ logs_after-early =
           next_progress-early (step_kind logs) _ access value
           (within-early logs.progress (step_kind logs) (vector_of logs) early);
     })
-
--- at a boundary the next step has the PC of the registers, whatever it is
-boundary-pc : (regs : List ℕ) (vector : Option ℕ)
-    → next_pc_of (progress_from_boundary regs (boundary_kind regs vector) vector) ≡ pc_of regs
-boundary-pc regs None =
-    let Claim : Kind → Type 0 =
-    λ kind. next_pc_of (progress_from_boundary regs kind None) ≡ pc_of regs in
-    cond_both (pc_of regs == ROM_ENTRY) Rom _ Claim
-    (λ entry. first_pc ∙ sym (eqb-true (pc_of regs) ROM_ENTRY entry))
-    (λ other. cond_both (in_rom (pc_of regs)) Cpu _ Claim (λ rom. refl)
-    (λ outside. cond_both (is_asleep regs) Idle Cpu Claim (λ asleep. refl) (λ awake. refl)))
-boundary-pc regs (Some vector) =
-    let Claim : Kind → Type 0 =
-    λ kind. next_pc_of (progress_from_boundary regs kind (Some vector)) ≡ pc_of regs in
-    cond_both (pc_of regs == ROM_ENTRY) Rom _ Claim
-    (λ entry. first_pc ∙ sym (eqb-true (pc_of regs) ROM_ENTRY entry))
-    (λ other. cond_both (in_rom (pc_of regs)) Cpu Irq Claim (λ rom. refl) (λ outside. refl))
 
 -- the handler's registers have its PC
 handler-pc : (regs : List ℕ) (word : ℕ) → 0 < pc_of regs

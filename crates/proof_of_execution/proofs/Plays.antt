@@ -1,5 +1,5 @@
 -- Where the flag of a run is set after a play, the executable region runs, has run whole, or sleeps.
-use Rattle.std.proofs.Common.{◌≡◌, ℕ, Bool, true, false, List, [], ◌∷◌, inl, inr, length, Option, Some, None, refl, ap, sym, ◌∙◌, subst}
+use Rattle.std.proofs.Common.{◌≡◌, ℕ, Bool, true, false, List, [], ◌∷◌, inl, inr, Option, Some, None, refl, ap, sym, ◌∙◌, subst}
 use Rattle.std.specs.Prelude.{◌==◌, ◌&&◌, is_some, IsTrue, if◌then◌else◌, is_none}
 use Rattle.std.specs.List.{list_any}
 use Rattle.std.proofs.lemmas.Bool.{and_parts, or_parts, eqb-true, false_from_ne_true}
@@ -11,7 +11,6 @@ use Rattle.bus_signals.specs.Kind.{is_rom}
 use Rattle.bus_signals.specs.Map.{lies_in, metadata_region, ROM_EXIT}
 use Rattle.bus_signals.specs.Report.{ReportFields}
 use Rattle.bus_signals.specs.SeenRecord.{SeenRecord}
-use Rattle.part_definitions.specs.Request.{ATTESTS}
 use Rattle.bus_signals.specs.ExecFlag.{accesses_in, writes_to, ran_inside, last_pc, fetches_first}
 use Rattle.part_definitions.specs.MonitorRule.{in_rom}
 use Rattle.device_trace.specs.Play.{Play}
@@ -19,10 +18,10 @@ use Rattle.device_trace.specs.Logs.{Logs, exec_of, logged_bounds, step_progress,
 use Rattle.device_trace.specs.Progress.{Progress}
 use Rattle.device_trace.specs.Start.{Start}
 use Rattle.device_trace.specs.Step.{record_of, asks_reset, next_record}
-use Rattle.device_trace.specs.Text.{report_of, report_where, denial_where, last_report, last_decision, last_denial}
+use Rattle.device_trace.specs.Text.{report_of, denial_where, last_report, last_decision, last_denial}
 use Rattle.device_trace.specs.Trace.{logs_after, trace}
 use Rattle.device_trace.specs.RegionRun.{WholeRun, Interrupts, NoInterrupts, RegionRun}
-use Rattle.trace_facts.proofs.Choices.{none_there, some_where}
+use Rattle.trace_facts.proofs.Choices.{none_there}
 use Rattle.trace_facts.proofs.BoundsStay.{logged_bounds-stay}
 use Rattle.trace_facts.proofs.Fresh.{LogsAreFresh, logs_after-fresh}
 use Rattle.proof_of_execution.specs.WholeCall.{ExecAfterCallMeansWholeRun}
@@ -30,6 +29,7 @@ use Rattle.proof_of_execution.proofs.Regions.{inside-open}
 use Rattle.proof_of_execution.proofs.Runs.{RunState, run_begins, state_after, run_outside}
 use Rattle.proof_of_execution.proofs.InterruptEntries.{IsEarly, logs_after-early}
 use Rattle.proof_of_execution.proofs.Flags.{KeepsFlag, flag_of, flag-none, flag-more, keeps-both, record_goes}
+use Rattle.trace_facts.proofs.LastReport.{last_report-made}
 
 -- of the logs of a play
 abbrev pub LogsState : Interrupts → Start → Logs → List BusRecord → Type 0
@@ -88,15 +88,6 @@ outside-run allowed start play set =
     (logs_after start play).progress (last_pc (logs_after start play).records)
     (play_state allowed start play set)
 
--- a report is made where a call was finished
-pub made_where : (start : Start) (logs : Logs) (step : ℕ) (decision : Option ℕ)
-    (report : ReportFields)
-    → report_where start logs step decision ≡ Some report
-    → (is_some decision ≡ true) × (report_of start logs step ≡ report)
-made_where start logs step None report is = absurd (cc)
-made_where start logs step (Some decision) report is =
-    (refl, (some_where (decision == ATTESTS) (report_of start logs step) report is).1)
-
 finished_where : (finishes : Bool) (decision : Option ℕ)
     → is_some (if finishes then decision else None) ≡ true → finishes ≡ true
 finished_where true decision some = refl
@@ -148,13 +139,12 @@ pub report-run : (allowed : Interrupts) (start : Start) (play : Play) (report : 
     → ((step : ℕ) → report_of start (logs_after start play) step ≡ report
     → flag_of allowed (logs_after start play).records ≡ true)
     → RegionRun allowed report.bounds (trace start play)
-report-run allowed start [] report is set = absurd (cc)
-report-run allowed start (events ∷ play) report is set =
-    let logs : Logs = logs_after start (events ∷ play) in
-    let made = made_where start logs (length play) logs.decision report is in
-    subst (λ (bounds : Bounds). RegionRun allowed bounds (trace start (events ∷ play)))
-    (ap (λ (r : ReportFields). r.bounds) made.1)
-    (finished-run allowed start (events ∷ play) made.0 (set (length play) made.1))
+report-run allowed start play report is set =
+    let made = last_report-made start play report is in
+    subst (λ (bounds : Bounds). RegionRun allowed bounds (trace start play))
+    (ap (λ (r : ReportFields). r.bounds) made.same)
+    (finished-run allowed start play (ap (λ (one : Option ℕ). is_some one) made.attests)
+    (set made.step made.same))
 
 -- a denial has a decision
 pub denied_where : (decision : Option ℕ) (denial : ℕ) → denial_where decision ≡ Some denial

@@ -19,13 +19,13 @@ use Rattle.device_trace.specs.Progress.{InCall}
 use Rattle.device_trace.specs.Signals.{step_kind}
 use Rattle.device_trace.specs.Step.{asks_reset, next_record}
 use Rattle.device_trace.specs.Trace.{byte_after, logs_after, trace}
-use Rattle.trace_facts.proofs.SoundPlay.{logs_after-sound, with_events-sound}
+use Rattle.trace_facts.proofs.SoundPlay.{logs_after-sound}
 use Rattle.mac_coverage.specs.AttestedBytes.{AttestedBytes, counter_left, decision_of}
 use Rattle.mac_coverage.specs.Call.{begins_call, ends_in_call, ends_refused, last_call}
 use Rattle.mac_coverage.specs.Coverage.{MacCoversCall, call_length, contents_before, kept_before, kept_within}
 use Rattle.mac_coverage.proofs.Device.{Device, start_of}
 use Rattle.mac_coverage.proofs.KeptStored.{kept-early, kept-late}
-use Rattle.mac_coverage.proofs.Plays.{outcome_at, play_stands, rom_kind}
+use Rattle.mac_coverage.proofs.Plays.{outcome_at, play_stands, rom_kind, call_begun}
 use Rattle.mac_coverage.proofs.PlaySteps.{CallGoesOn, LastWroteHighWord, attested-is, entry-kind, entry-pc, entry_at, kept-is, log_at}
 use Rattle.mac_coverage.proofs.Steps.{IsOfCall, OnCall, rom_step-of_call}
 use Rattle.mac_coverage.proofs.WordPlan.{IsCounter, counter_left-is}
@@ -86,11 +86,6 @@ pub record CallMoments (device : Device) (play : Play) : Type 0 where
   pub is_left : IsCounter (left_by device play covers)
   pub grows : little_endian covers.kept ≤ little_endian (left_by device play covers)
 
-has_begun : (history : List BusRecord) → ends_in_call history ≡ true
-    → 1 ≤ length (last_call history)
-has_begun [] in_call = absurd (cc)
-has_begun (entry ∷ history) in_call = omega arith
-
 pub call-moments : (device : Device) (play : Play)
     → ends_in_call (trace (start_of device) play) ≡ true
     → ends_refused (trace (start_of device) play) ≡ false → CallMoments device play
@@ -107,7 +102,7 @@ call-moments device play in_call unrefused =
     let before : kept_before start play count ≡ covers.kept =
     at count (omega arith)
     ∙ ap (kept_within covers.kept left) (let none : count - count ≡ 0 = omega arith in none) in
-    let begun : 1 ≤ count = has_begun (trace start play) in_call in
+    let begun : 1 ≤ count = call_begun (trace start play) in_call in
     let stands : contents_before start play 0 ≡ covers.contents =
     covers.throughout 0 (record { begun = begun; unrefused = goes 0 }) in
     let is_kept : IsCounter covers.kept =
@@ -286,7 +281,6 @@ each_step device play events Holds cases =
             | inr other ↦
                 cases.leaves
                 (other_step-leaves (start_of device) logs (asks_reset events)
-                (with_events-sound (logs_after (start_of device) play) events
-                (logs_after-sound (start_of device) play)) other)
+                (logs_after-sound (start_of device) play) other)
           ]
     ]

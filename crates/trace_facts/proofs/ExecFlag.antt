@@ -4,7 +4,6 @@ use Rattle.std.specs.Prelude.{◌==◌, ◌&&◌, is_some, if◌then◌else◌}
 use Rattle.std.specs.List.{list_any}
 use Rattle.std.proofs.lemmas.Bool.{and_parts, or_cases, or_parts}
 use Rattle.bus_signals.specs.declared.bus_record.BusRecord.{BusRecord}
-use Rattle.bus_signals.specs.declared.event.Event.{Event}
 use Rattle.bus_signals.specs.Bounds.{are_valid}
 use Rattle.bus_signals.specs.Map.{metadata_region}
 use Rattle.bus_signals.specs.SeenRecord.{SeenRecord}
@@ -73,17 +72,11 @@ with_record-valid start logs entry before set =
     ] in
     ap are_valid stays ∙ valid
 
-pub with_events-valid : (start : Start) (logs : Logs) (events : List Event)
-    → LogsAreValid start logs → LogsAreValid start (with_events logs events)
-unfolding with_events
-with_events-valid start logs events valid = valid
-
 -- after every play
 pub logs_after-valid : (start : Start) (play : Play)
     → LogsAreValid start (logs_after start play)
-unfolding logs_after
+unfolding logs_after with_events
 logs_after-valid start [] set = absurd (exec-none set)
 logs_after-valid start (events ∷ play) set =
     with_record-valid start (with_events (logs_after start play) events)
-    (next_record start (logs_after start play) events)
-    (with_events-valid start (logs_after start play) events (logs_after-valid start play)) set
+    (next_record start (logs_after start play) events) (logs_after-valid start play) set

@@ -16,3 +16,4 @@ pub mod ProperPlay
 pub mod OpcodeFetch
 pub mod RomCode
 pub mod BlankRecords
+pub mod LastReport

@@ -1,6 +1,5 @@
 -- The progress is sound after every play.
-use Rattle.std.proofs.Common.{◌≡◌, Bool, List, [], ◌∷◌, None}
-use Rattle.bus_signals.specs.declared.event.Event.{Event}
+use Rattle.std.proofs.Common.{◌≡◌, Bool, [], ◌∷◌, None}
 use Rattle.part_definitions.specs.FirstRule.{first_rule}
 use Rattle.bus_signals.specs.ExecFlag.{last_pc}
 use Rattle.device_trace.specs.Play.{Play}
@@ -28,11 +27,6 @@ unfolding signals_at
 within_unrefused start logs reset sound none =
     progress_within-right logs.progress (vector_of logs) (last_pc logs.records) sound
     (first_rule-none (last_pc logs.records) (signals_of start logs reset) none).atomicity.a2
-
-pub with_events-sound : (logs : Logs) (events : List Event) → LogsAreSound logs
-    → LogsAreSound (with_events logs events)
-unfolding with_events
-with_events-sound logs events sound = sound
 
 pub logs_after-sound : (start : Start) (play : Play)
     → LogsAreSound (logs_after start play)
