@@ -22,7 +22,6 @@ use Rattle.key_isolation.proofs.Induction.{play_hides, releases_before}
 use Rattle.key_isolation.proofs.LogsBlank.{step_hides}
 use Rattle.key_isolation.proofs.Reading.{value_read-hide}
 use Rattle.key_isolation.proofs.SignalShape.{signals_of-hide}
-use Rattle.trace_line.specs.declared.trace_line.TraceLine.{TraceLine}
 use Rattle.clean_trace.specs.TraceText.{line_with, next_line, trace_lines, word_shown}
 
 -- the word that a line shows of a proposed access
@@ -114,8 +113,6 @@ trace_lines-hide start free (events ∷ play) more split =
     let opened : Start = open_start free start in
     let rest = releases_before start free more logs events split in
     let before = play_hides start free play rest.0 rest.1 in
-    ap (λ (lines : List TraceLine). next_line start logs events ∷ lines)
-    (trace_lines-hide start free play rest.0 rest.1)
-    ∙ ap (λ (line : TraceLine). line ∷ trace_lines opened play)
-    (sym (next_line-hide start free more logs events (logs_after-sound start play) split)
-    ∙ ap (λ (ls : Logs). next_line opened ls events) before.logs)
+    let line = sym (next_line-hide start free more logs events (logs_after-sound start play) split)
+    ∙ ap (λ (ls : Logs). next_line opened ls events) before.logs in
+    λ i. line i ∷ trace_lines-hide start free play rest.0 rest.1 i

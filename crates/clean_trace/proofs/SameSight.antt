@@ -46,16 +46,9 @@ first_rule-dma : (last : Option ℕ) (now : Signals) (dma : Option Access)
     → first_rule last (with_dma now (without_number dma)) ≡ first_rule last (with_dma now dma)
 unfolding first_rule
 first_rule-dma last now dma =
-    ap
-    (λ (rule : Option Rule). option_or (rule_where (breaks_x0 now) X0)
-    (option_or rule (option_or (key_rule (with_dma now (without_number dma)))
-    (rule_where (breaks_i1 now) I1))))
-    (atomicity_rule-dma last now (without_number dma) dma)
-    ∙ ap
-    (λ (rule : Option Rule). option_or (rule_where (breaks_x0 now) X0)
-    (option_or (atomicity_rule last (with_dma now dma))
-    (option_or rule (rule_where (breaks_i1 now) I1))))
-    (key_rule-dma now dma)
+    λ i. option_or (rule_where (breaks_x0 now) X0)
+    (option_or (atomicity_rule-dma last now (without_number dma) dma i)
+    (option_or (key_rule-dma now dma i) (rule_where (breaks_i1 now) I1)))
 
 pub first_rule-sight : (last : Option ℕ) (line real : Signals)
     → SameSight line real → first_rule last line ≡ first_rule last real

@@ -6,7 +6,7 @@ use Rattle.bus_signals.specs.Access.{IsFormed}
 use Rattle.bus_signals.specs.declared.access.Access.{Access}
 use Rattle.bus_signals.specs.declared.access.Access.TheVariants.{Fetch, Read, Write}
 use Rattle.bus_signals.specs.Map.{touches, some_touches, key_region, stack_region}
-use Rattle.part_definitions.specs.Memory.{MemoryWrite, ShownFlags, byte_at, with_access, memory_read}
+use Rattle.part_definitions.specs.Memory.{byte_at, with_access, memory_read}
 use Rattle.device_trace.specs.Blank.{touches_secrets, SameOutside, blank_access, blank_value}
 use Rattle.device_trace.specs.Logs.{Logs, flags_of}
 use Rattle.device_trace.specs.Start.{Start}
@@ -59,11 +59,7 @@ pub written-outside : (start : Start) (free : List ℕ) (logs : Logs) (real view
     (with_access view (map hide_write logs.memory)))
     (byte_at start.power (flags_of start logs) (with_access real logs.memory))
 written-outside start free logs real view is_formed same place off =
-    ap (λ (flags : ShownFlags). byte_at (keyless start.power) flags
-    (with_access view (map hide_write logs.memory)) place)
-    (flags_of-hide start free logs)
-    ∙ (ap (λ (writes : List MemoryWrite).
-    byte_at (keyless start.power) (flags_of start logs) writes place)
-    (ap (λ (access : Option Access). with_access access (map hide_write logs.memory)) (sym same)
-    ∙ with_access-hide real logs.memory is_formed)
-    ∙ byte_at-hide start.power (flags_of start logs) (with_access real logs.memory) place off)
+    let writes = (λ i. with_access (sym same i) (map hide_write logs.memory))
+    ∙ with_access-hide real logs.memory is_formed in
+    (λ i. byte_at (keyless start.power) (flags_of-hide start free logs i) (writes i) place)
+    ∙ byte_at-hide start.power (flags_of start logs) (with_access real logs.memory) place off

@@ -68,9 +68,7 @@ blanked-twice : (records : List SeenRecord)
     → map blank_seen (map blank_seen records) ≡ map blank_seen records
 blanked-twice [] = refl
 blanked-twice (now ∷ before) =
-    ap (λ (first : SeenRecord). first ∷ map blank_seen (map blank_seen before))
-    (blank_seen-twice now)
-    ∙ ap (λ (rest : List SeenRecord). blank_seen now ∷ rest) (blanked-twice before)
+    λ i. blank_seen-twice now i ∷ blanked-twice before i
 
 pub seen_by_flag-blank : (records : List SeenRecord)
     → map blank_seen (records_until_call (map blank_seen records))

@@ -2,7 +2,6 @@
 use Rattle.std.proofs.Common.{◌≡◌, ℕ, zero, suc, ◌+◌, ◌<◌, ◌≤◌, Bool, true, false, List, [], ◌∷◌, ◌++◌, length, refl, ap, ◌∙◌, arith}
 use Rattle.std.specs.Prelude.{◌||◌, ◌&&◌, nat_le, nat_lt, slice_index, if◌then◌else◌}
 use Rattle.std.proofs.lemmas.Bool.Decides.{nat_tests}
-use Rattle.bus_signals.specs.declared.bounds.Bounds.{Bounds}
 use Rattle.part_definitions.specs.Attestation.{KEY_WORDS, METADATA_WORDS, REQUEST_WORDS, bounds_read, region_words, decision_read, call_item}
 use Rattle.part_definitions.proofs.CallItems.{item_after}
 use Rattle.key_isolation.proofs.Bytes.{zero_either}
@@ -104,11 +103,5 @@ decision_read-hide words = word-hide_from 0 words 76 refl
 
 pub call_item-hide : (words : List ℕ) → call_item (hide_words words) ≡ call_item words
 call_item-hide words =
-    ap (λ (bounds : Bounds). item_after (region_words bounds) (decision_read (hide_words words))
-    (length (hide_words words)))
-    (bounds_read-hide words)
-    ∙ (ap (λ (decision : ℕ). item_after (region_words (bounds_read words)) decision
-    (length (hide_words words)))
-    (decision_read-hide words)
-    ∙ ap (λ (count : ℕ). item_after (region_words (bounds_read words)) (decision_read words) count)
-    (length-hide_words words))
+    λ i. item_after (region_words (bounds_read-hide words i)) (decision_read-hide words i)
+    (length-hide_words words i)

@@ -6,7 +6,6 @@ use Rattle.bus_signals.specs.declared.kind.Kind.{Kind}
 use Rattle.part_definitions.specs.Attestation.{item_pc}
 use Rattle.part_definitions.specs.CpuRegister.{allows_interrupts}
 use Rattle.part_definitions.specs.Interrupt.{first_vector}
-use Rattle.part_definitions.specs.Memory.{ShownFlags, byte_at}
 use Rattle.device_trace.specs.Blank.{is_secret, blank_record, blank_seen}
 use Rattle.device_trace.specs.Logs.{Logs, flags_of, logged_byte, logged_bounds, vector_of, step_progress, vector_taken, finishes_call, call_decision, decision_after}
 use Rattle.device_trace.specs.Peripherals.{requests}
@@ -14,7 +13,7 @@ use Rattle.device_trace.specs.Progress.{Progress, Held, Runs, InCall, last_regis
 use Rattle.device_trace.specs.Signals.{step_kind}
 use Rattle.device_trace.specs.Start.{Start, without_key}
 use Rattle.key_isolation.proofs.HiddenWords.{hide_words, hide_words-none, decision_read-hide, call_item-hide}
-use Rattle.key_isolation.proofs.Bytes.{hide_write, keyless, byte_at-hide}
+use Rattle.key_isolation.proofs.Bytes.{hide_write, byte_at-hide}
 use Rattle.key_isolation.proofs.Numbers.{bounds_in-outside}
 use Rattle.key_isolation.proofs.FlagBlank.{exec-blank, seen_by_flag-blank}
 
@@ -91,15 +90,12 @@ vector_of-hide logs =
 
 pub step_kind-hide : (logs : Logs) → step_kind (hide logs) ≡ step_kind logs
 step_kind-hide logs =
-    ap (λ (vector : Option ℕ). kind_of (hide_progress logs.progress) vector) (vector_of-hide logs)
-    ∙ kind_of-hide logs.progress (vector_of logs)
+    λ i. kind_of-hide logs.progress (vector_of-hide logs i) i
 
 pub step_progress-hide : (logs : Logs) (kind : Kind)
     → step_progress (hide logs) kind ≡ hide_progress (step_progress logs kind)
 step_progress-hide logs kind =
-    ap (λ (vector : Option ℕ). progress_within (hide_progress logs.progress) kind vector)
-    (vector_of-hide logs)
-    ∙ progress_within-hide logs.progress kind (vector_of logs)
+    λ i. progress_within-hide logs.progress kind (vector_of-hide logs i) i
 
 -- the flags
 pub flags_of-hide : (start : Start) (words : List ℕ) (logs : Logs)
@@ -115,10 +111,7 @@ pub logged_byte-hide : (start : Start) (words : List ℕ) (logs : Logs) (place :
     → is_secret place ≡ false
     → logged_byte (open_start words start) (hide logs) place ≡ logged_byte start logs place
 logged_byte-hide start words logs place off =
-    ap (λ (flags : ShownFlags).
-    byte_at (keyless start.power) flags (map hide_write logs.memory) place)
-    (flags_of-hide start words logs)
-    ∙ byte_at-hide start.power (flags_of start logs) logs.memory place off
+    λ i. byte_at-hide start.power (flags_of-hide start words logs i) logs.memory place off i
 
 pub logged_bounds-hide : (start : Start) (words : List ℕ) (logs : Logs)
     → logged_bounds (open_start words start) (hide logs) ≡ logged_bounds start logs

@@ -1,6 +1,5 @@
 -- The isolation of the key, by induction on the play.
 use Rattle.std.proofs.Common.{◌≡◌, ℕ, List, [], ◌∷◌, ◌++◌, refl, ap, sym, ◌∙◌, append_assoc}
-use Rattle.bus_signals.specs.declared.bus_record.BusRecord.{BusRecord}
 use Rattle.bus_signals.specs.declared.event.Event.{Event}
 use Rattle.device_trace.specs.Play.{Play}
 use Rattle.device_trace.specs.Blank.{blank}
@@ -46,13 +45,10 @@ play_hides start free (events ∷ play) more split =
     let rest = releases_before start free more logs events split in
     let before = play_hides start free play rest.0 rest.1 in
     let step = step_hides start free more logs events (logs_after-sound start play) split in
+    let opened : Start = open_start free start in
     record {
-      history =
-          ap (λ (entry : BusRecord). entry ∷ blank (trace start play)) (sym step.entry)
-          ∙ (ap (λ (ls : Logs). next_record (open_start free start) ls events ∷ blank
-          (trace start play)) before.logs
-          ∙ ap (λ (history : List BusRecord). next_record (open_start free start)
-          (logs_after (open_start free start) play) events ∷ history) before.history);
-      logs = sym step.after
-          ∙ ap (λ (ls : Logs). next_logs (open_start free start) ls events) before.logs;
+      history = λ i.
+          (sym step.entry ∙ ap (λ (ls : Logs). next_record opened ls events) before.logs) i
+          ∷ before.history i;
+      logs = sym step.after ∙ ap (λ (ls : Logs). next_logs opened ls events) before.logs;
     }

@@ -8,8 +8,7 @@ use Rattle.part_definitions.specs.FirstRule.{first_rule}
 use Rattle.bus_signals.specs.ExecFlag.{last_pc}
 use Rattle.device_trace.specs.Blank.{blank_access, blank_value, blank_record, blank_seen}
 use Rattle.device_trace.specs.AccessesAreFormed.{AccessesAreFormed}
-use Rattle.device_trace.specs.Logs.{Logs, vector_of, step_progress, vector_taken, peripherals_after, progress_after, released_words_after, with_events, with_record}
-use Rattle.device_trace.specs.Peripherals.{Peripherals, with_step}
+use Rattle.device_trace.specs.Logs.{Logs, step_progress, peripherals_after, progress_after, released_words_after, with_events, with_record}
 use Rattle.device_trace.specs.Progress.{Progress, last_registers, next_progress}
 use Rattle.device_trace.specs.Signals.{value_read, step_kind, proposed_access, signals_at, signals_of}
 use Rattle.device_trace.specs.Start.{Start}
@@ -37,16 +36,9 @@ peripherals-hide : (logs : Logs) (entry : BusRecord)
     → (entry.reset ≡ None → blank_value entry.dma entry.dma_value ≡ entry.dma_value)
     → peripherals_after (hide logs) (blank_record entry) ≡ peripherals_after logs entry
 peripherals-hide logs entry dma_kept =
-    let blanked : Option ℕ → Peripherals =
-    λ acceptance. with_step entry.reset acceptance (blank_access entry.cpu)
-    (blank_access entry.dma) (blank_value entry.dma entry.dma_value) logs.peripherals in
-    ap (λ (vector : Option ℕ). blanked
-    (vector_taken (hide_progress logs.progress) entry.kind vector))
-    (vector_of-hide logs)
-    ∙ (ap blanked (vector_taken-hide logs.progress entry.kind (vector_of logs))
-    ∙ with_step-blank entry.reset (vector_taken logs.progress entry.kind (vector_of logs))
-    entry.cpu entry.dma entry.dma_value (blank_value entry.dma entry.dma_value) logs.peripherals
-    dma_kept)
+    λ i. with_step-blank entry.reset
+    (vector_taken-hide logs.progress entry.kind (vector_of-hide logs i) i) entry.cpu entry.dma
+    entry.dma_value (blank_value entry.dma entry.dma_value) logs.peripherals dma_kept i
 
 with_record-blank : (start : Start) (free : List ℕ) (logs : Logs) (entry : BusRecord)
     → AccessesAreFormed entry → FollowsBlank logs entry

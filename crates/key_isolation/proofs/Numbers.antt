@@ -1,5 +1,5 @@
 -- Numbers in memories that are equal outside the secrets.
-use Rattle.std.proofs.Common.{◌≡◌, ℕ, ◌+◌, ◌*◌, ◌/◌, ◌<◌, true, false, refl, ap, ◌∙◌, arith}
+use Rattle.std.proofs.Common.{◌≡◌, ℕ, ◌+◌, ◌*◌, ◌/◌, ◌<◌, true, false, refl, arith}
 use Rattle.std.proofs.lemmas.Bool.Decides.{nat_tests}
 use Rattle.word_arith.specs.declared.size.Size.{Size}
 use Rattle.word_arith.specs.declared.size.Size.TheVariants.{Byte, Word}
@@ -26,17 +26,14 @@ pub number_at-outside : (left right : ℕ → ℕ) → SameOutside left right �
     → number_at left place size ≡ number_at right place size
 number_at-outside left right same place Byte off = same place (byte_off place off)
 number_at-outside left right same place Word off =
-    ap (λ (low : ℕ). low + 256 * left (place / 2 * 2 + 1))
-    (same (place / 2 * 2) (low_byte_off place off))
-    ∙ ap (λ (high : ℕ). right (place / 2 * 2) + 256 * high)
-    (same (place / 2 * 2 + 1) (high_byte_off place off))
+    λ i. same (place / 2 * 2) (low_byte_off place off) i
+    + 256 * same (place / 2 * 2 + 1) (high_byte_off place off) i
 
 number_from-outside : (left right : ℕ → ℕ) → SameOutside left right → (place : ℕ)
     → is_secret place ≡ false → is_secret (place + 1) ≡ false
     → number_from Word left place ≡ number_from Word right place
 number_from-outside left right same place low high =
-    ap (λ (byte : ℕ). byte + 256 * left (place + 1)) (same place low)
-    ∙ ap (λ (byte : ℕ). right place + 256 * byte) (same (place + 1) high)
+    λ i. same place low i + 256 * same (place + 1) high i
 
 -- the metadata is no secret
 pub bounds_in-outside : (left right : ℕ → ℕ) → SameOutside left right
@@ -60,9 +57,8 @@ pub key_word-zero : (bytes : ℕ → ℕ)
     → ((place : ℕ) → lies_in key_region place ≡ true → bytes place ≡ 0)
     → (i : ℕ) → i < 32 → number_at bytes ((0x6A00 + 2 * i) / 2 * 2) Word ≡ 0
 key_word-zero bytes zero_key i within =
-    ap (λ (low : ℕ). low + 256 * bytes ((0x6A00 + 2 * i) / 2 * 2 / 2 * 2 + 1))
-    (zero_key _ (key_place i within))
-    ∙ ap (λ (high : ℕ). 0 + 256 * high) (zero_key _ (key_place_next i within))
+    let low : ℕ = (0x6A00 + 2 * i) / 2 * 2 / 2 * 2 in
+    λ j. zero_key low (key_place i within) j + 256 * zero_key (low + 1) (key_place_next i within) j
 
 -- and so do those of the kept counter
 kept_place : (i : ℕ) → i < 2 → lies_in stack_region ((0x4060 + 2 * i) / 2 * 2 / 2 * 2) ≡ true
@@ -76,6 +72,6 @@ pub kept_word-zero : (bytes : ℕ → ℕ)
     → ((place : ℕ) → lies_in stack_region place ≡ true → bytes place ≡ 0)
     → (i : ℕ) → i < 2 → number_at bytes ((0x4060 + 2 * i) / 2 * 2) Word ≡ 0
 kept_word-zero bytes zero_stack i within =
-    ap (λ (low : ℕ). low + 256 * bytes ((0x4060 + 2 * i) / 2 * 2 / 2 * 2 + 1))
-    (zero_stack _ (kept_place i within))
-    ∙ ap (λ (high : ℕ). 0 + 256 * high) (zero_stack _ (kept_place_next i within))
+    let low : ℕ = (0x4060 + 2 * i) / 2 * 2 / 2 * 2 in
+    λ j. zero_stack low (kept_place i within) j
+    + 256 * zero_stack (low + 1) (kept_place_next i within) j

@@ -163,11 +163,8 @@ call_same start free more logs regs words keeps split =
     (mac_word free (length logs.released_words) (call_item words)) in
     let view : access_of (open_start free start) (length logs.released_words) Rom
     (hide_progress (InCall regs words)) ≡ Some open_access =
-    ap (λ (access : Access). Some access) (item_access-hide (sp_of regs) words _)
-    ∙ ap (λ (item : CallItem). Some
-    (item_access (sp_of regs) (bounds_read words) (call_item words)
-    (mac_word free (length logs.released_words) item)))
-    (call_item-hide words) in
+    λ i. Some (item_access-hide (sp_of regs) words
+    (mac_word free (length logs.released_words) (call_item-hide words i)) i) in
     let same =
     same_item start free more logs (sp_of regs) (length words)
     (start.call_word (length logs.released_words) (call_item words) words) (bounds_read words)

@@ -89,9 +89,8 @@ proposed-hide : (start : Start) (free : List ℕ) (logs : Logs)
     ≡ access_of (open_start free start) (length logs.released_words) (step_kind logs)
     (hide_progress (step_progress logs (step_kind logs)))
 proposed-hide start free logs =
-    ap (proposed_access (open_start free start) (hide logs)) (step_kind-hide logs)
-    ∙ ap (access_of (open_start free start) (length logs.released_words) (step_kind logs))
-    (step_progress-hide logs (step_kind logs))
+    λ i. access_of (open_start free start) (length logs.released_words) (step_kind-hide logs i)
+    (step_progress-hide logs (step_kind-hide logs i) i)
 
 -- all that a step which is not refused has in common with that without the key
 pub record SameWithoutRule (start : Start) (free : List ℕ) (logs : Logs)
@@ -154,9 +153,8 @@ unrefused_same start free more logs reset sound none split =
             dma_kept = dma.kept;
           };
       next =
-          ap (λ (access : Option Access). next_progress kind (hide_progress progress) access
-          (blank_value real (value_read start logs real))) step.access
-          ∙ (ap (next_progress kind (hide_progress progress) view) step.value ∙ step.next);
+          (λ i. next_progress kind (hide_progress progress) (step.access i) (step.value i))
+          ∙ step.next;
     }
 
 -- the values are those of the signals' accesses

@@ -25,10 +25,8 @@ module _ (change : SeenRecord → SeenRecord)
         → records_since clears (map change records) ≡ map change (records_since clears records)
     records_since-same [] = refl
     records_since-same (now ∷ before) =
-        ap (λ (test : Bool).
-        if test then [] else change now ∷ records_since clears (map change before))
-        (clears-same (last_pc (map change before)) now
-        ∙ ap (λ (last : Option ℕ). clears last now) (last_pc-same before))
+        (λ i. if clears-same (last_pc-same before i) now i then []
+        else change now ∷ records_since clears (map change before))
         ∙ goes_on change (clears (last_pc before) now) now (records_since clears before)
         (records_since clears (map change before)) (records_since-same before)
 
@@ -36,9 +34,7 @@ module _ (change : SeenRecord → SeenRecord)
         → list_any starts_run (map change records) ≡ list_any starts_run records
     any_start-same [] = refl
     any_start-same (now ∷ before) =
-        ap (λ (first : Bool). first || list_any starts_run (map change before))
-        (starts_run-same now)
-        ∙ ap (λ (rest : Bool). starts_run now || rest) (any_start-same before)
+        λ i. starts_run-same now i || any_start-same before i
 
     pub exec-same : (records : List SeenRecord) → exec (map change records) ≡ exec records
     unfolding exec

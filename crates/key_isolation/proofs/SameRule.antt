@@ -8,7 +8,7 @@ use Rattle.bus_signals.specs.declared.rule.Rule.TheVariants.{X0, I1}
 use Rattle.bus_signals.specs.declared.signals.Signals.{Signals}
 use Rattle.bus_signals.specs.Access.{without_number}
 use Rattle.std.specs.Option.{option_or}
-use Rattle.part_definitions.specs.FirstRule.{breaks_x0, breaks_i1, rule_where, first_rule}
+use Rattle.part_definitions.specs.FirstRule.{rule_where, first_rule}
 use Rattle.part_definitions.specs.NextAccess.{is_illegal}
 use Rattle.part_definitions.specs.MonitorRule.{key_rule, atomicity_rule}
 
@@ -89,19 +89,8 @@ pub first_rule-same : (last : Option ℕ) (view real : Signals)
     → SameSignals view real → first_rule last view ≡ first_rule last real
 unfolding first_rule
 first_rule-same last view real same =
-    ap
-    (λ (breaks : Bool). option_or (rule_where breaks X0)
-    (option_or (atomicity_rule last view)
-    (option_or (key_rule view) (rule_where (breaks_i1 view) I1))))
-    same.script_reset
-    ∙ (ap
-    (λ (rule : Option Rule). option_or (rule_where (breaks_x0 real) X0)
-    (option_or rule (option_or (key_rule view) (rule_where (breaks_i1 view) I1))))
-    (atomicity_rule-same last view real same)
-    ∙ ap (λ (rule : Option Rule). option_or (rule_where (breaks_x0 real) X0)
-    (option_or (atomicity_rule last real) rule))
-    (ap (λ (rule : Option Rule). option_or rule (rule_where (breaks_i1 view) I1))
-    (key_rule-same view real same)
-    ∙ (ap (λ (opcode : Bool). option_or (key_rule real)
-    (rule_where (opcode && is_illegal view.word) I1)) same.opcode
-    ∙ illegal-same (key_rule real) real.opcode real.word view.word same.word)))
+    let rest = (λ i. option_or (key_rule-same view real same i)
+    (rule_where (same.opcode i && is_illegal view.word) I1))
+    ∙ illegal-same (key_rule real) real.opcode real.word view.word same.word in
+    λ i. option_or (rule_where (same.script_reset i) X0)
+    (option_or (atomicity_rule-same last view real same i) (rest i))

@@ -1,5 +1,5 @@
 -- SHA-256 so that it can be computed: the words of a block are made once from those before them.
-use Rattle.std.proofs.Common.{◌≡◌, ◌∙◌, ℕ, zero, suc, ◌+◌, ◌*◌, ◌/◌, List, [], ◌∷◌, ◌++◌, length, take, drop, ap, refl}
+use Rattle.std.proofs.Common.{◌≡◌, ℕ, zero, suc, ◌+◌, ◌*◌, ◌/◌, List, [], ◌∷◌, ◌++◌, length, take, drop, ap, refl}
 use Rattle.sha2.specs.Sha256.{add_state, compress, digest_bytes, first_words, hash_after, initial_hash_256, next_word, padded_message, rounds, schedule, sha256}
 
 abbrev extended : List ℕ → ℕ → List ℕ
@@ -26,12 +26,8 @@ hash-state : (state bytes : List ℕ) (n : ℕ)
 unfolding hash_after compress state_after
 hash-state state bytes zero = refl
 hash-state state bytes (suc n) =
-    ap (λ (before : List ℕ). compress before (take 64 (drop (n * 64) bytes)))
-    (hash-state state bytes n)
-    ∙ ap
-    (λ (words : List ℕ). add_state (state_after state bytes n)
-    (rounds (state_after state bytes n) words 64))
-    (schedule-words (take 64 (drop (n * 64) bytes)) 48)
+    λ i. add_state (hash-state state bytes n i)
+    (rounds (hash-state state bytes n i) (schedule-words (take 64 (drop (n * 64) bytes)) 48 i) 64)
 
 unfoldable pub computed : List ℕ → List ℕ
 computed message =

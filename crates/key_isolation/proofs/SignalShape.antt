@@ -15,7 +15,7 @@ use Rattle.part_definitions.specs.MonitorRule.{in_rom, key_rule}
 use Rattle.part_definitions.specs.NextAccess.{next_access}
 use Rattle.device_trace.specs.Blank.{touches_secrets}
 use Rattle.device_trace.specs.Logs.{Logs, vector_of, step_progress}
-use Rattle.device_trace.specs.Progress.{Progress, Held, Runs, InCall, next_pc_of, progress_within, tells_irq, access_of, fetches_opcode}
+use Rattle.device_trace.specs.Progress.{Progress, Held, Runs, InCall, next_pc_of, progress_within, access_of, fetches_opcode}
 use Rattle.device_trace.specs.Signals.{word_fetched, step_kind, proposed_access, signals_at, signals_of}
 use Rattle.device_trace.specs.Start.{Start}
 use Rattle.trace_facts.proofs.BreaksNoRule.{BreaksNoKeyRule, key_rule-none}
@@ -35,10 +35,7 @@ pub item_access-hide : (sp : ℕ) (words : List ℕ) (number : ℕ)
     → item_access sp (bounds_read (hide_words words)) (call_item (hide_words words)) number
     ≡ item_access sp (bounds_read words) (call_item words) number
 item_access-hide sp words number =
-    ap (λ (bounds : Bounds). item_access sp bounds (call_item (hide_words words)) number)
-    (bounds_read-hide words)
-    ∙ ap (λ (item : CallItem). item_access sp (bounds_read words) item number)
-    (call_item-hide words)
+    λ i. item_access sp (bounds_read-hide words i) (call_item-hide words i) number
 
 access_of-shape : (start : Start) (free : List ℕ) (releases : ℕ) (kind : Kind)
     (progress : Progress)
@@ -120,11 +117,7 @@ signals_at-hide start free logs kind reset =
           ∙ access_of-shape start free (length logs.released_words) kind
           (step_progress logs kind);
       dma = refl;
-      irq =
-          ap (λ (tells : Bool). tells && is_some (vector_of (hide logs)))
-          (tells_irq-hide logs.progress)
-          ∙ ap (λ (vector : Option ℕ). tells_irq logs.progress && is_some vector)
-          (vector_of-hide logs);
+      irq = λ i. tells_irq-hide logs.progress i && is_some (vector_of-hide logs i);
       opcode = fetches_opcode-hide kind logs.progress;
       script_reset = refl;
       word = word-hide start free logs kind reset;

@@ -1,5 +1,5 @@
 -- The text of a play is the same without the key.
-use Rattle.std.proofs.Common.{◌≡◌, ℕ, zero, suc, ◌+◌, ◌-◌, ◌<◌, ◌≤◌, Bool, false, List, [], ◌∷◌, ◌++◌, length, Option, Some, None, inl, inr, refl, ap, sym, ◌∙◌, arith, lit≤}
+use Rattle.std.proofs.Common.{◌≡◌, ℕ, zero, suc, ◌+◌, ◌-◌, ◌<◌, ◌≤◌, false, List, [], ◌∷◌, ◌++◌, length, Option, Some, None, inl, inr, refl, ap, sym, ◌∙◌, arith, lit≤}
 use Rattle.std.specs.Prelude.{◌==◌, if◌then◌else◌}
 use Rattle.std.proofs.lemmas.Bool.Decides.{nat_tests}
 use Rattle.bus_signals.specs.declared.bounds.Bounds.{Bounds}
@@ -16,11 +16,10 @@ use Rattle.part_definitions.specs.Request.{ATTESTS}
 use Rattle.printed_lines.specs.Line.{end_line, sent_line, reset_line, report_line, denied_line}
 use Rattle.device_trace.specs.Play.{Play}
 use Rattle.device_trace.specs.Blank.{is_secret, SameOutside, blank_record}
-use Rattle.device_trace.specs.Logs.{Logs, exec_of, logged_byte, logged_bounds}
-use Rattle.device_trace.specs.Progress.{next_pc_of}
+use Rattle.device_trace.specs.Logs.{Logs, logged_byte, logged_bounds}
 use Rattle.device_trace.specs.Start.{Start}
 use Rattle.device_trace.specs.Step.{next_record}
-use Rattle.device_trace.specs.Text.{byte_sent_in, reported_output, report_of, report_where, report_in, denial_in, some_line, step_lines, lines_of, end_line_after, play_text}
+use Rattle.device_trace.specs.Text.{reported_output, report_of, report_where, denial_in, some_line, step_lines, lines_of, end_line_after, play_text}
 use Rattle.device_trace.specs.Trace.{next_logs, logs_after}
 use Rattle.trace_facts.proofs.SoundPlay.{logs_after-sound}
 use Rattle.key_isolation.proofs.Bytes.{same_if}
@@ -36,11 +35,9 @@ bytes_from-outside : (left right : ℕ → ℕ) → SameOutside left right → (
     → bytes_from left place count ≡ bytes_from right place count
 bytes_from-outside left right same place zero off = refl
 bytes_from-outside left right same place (suc count) off =
-    ap (λ (byte : ℕ). byte ∷ bytes_from left (place + 1) count)
-    (same place (off place (omega arith) (omega arith)))
-    ∙ ap (λ (bytes : List ℕ). right place ∷ bytes)
-    (bytes_from-outside left right same (place + 1) count
-    (λ p low high. off p (omega (arith, low)) (omega (arith, high))))
+    let rest = bytes_from-outside left right same (place + 1) count
+    (λ p low high. off p (omega (arith, low)) (omega (arith, high))) in
+    λ i. same place (off place (omega arith) (omega arith)) i ∷ rest i
 
 ram_open : (place : ℕ) → 0x200 ≤ place → place ≤ 0x21FF → is_secret place ≡ false
 ram_open place low high = grind (arith, nat_tests)
@@ -124,22 +121,15 @@ step_lines-hide : (start : Start) (free : List ℕ) (step : ℕ) (entry : BusRec
     → step_lines (open_start free start) step (blank_record entry) (hide logs)
     ≡ step_lines start step entry logs
 step_lines-hide start free step entry logs =
-    ap
-    (λ (byte : Option ℕ). some_line (sent_line step) byte ++ some_line (reset_line step) entry.reset
-    ++ some_line report_line (report_in (open_start free start) (hide logs) step)
-    ++ some_line (denied_line step) (denial_in logs))
-    (byte_sent_by-blank entry.reset entry.cpu)
-    ∙ ap
-    (λ (report : Option ReportFields). some_line (sent_line step) (byte_sent_in entry)
-    ++ some_line (reset_line step) entry.reset ++ some_line report_line report
-    ++ some_line (denied_line step) (denial_in logs))
-    (report_where-hide start free logs step logs.decision)
+    λ i. some_line (sent_line step) (byte_sent_by-blank entry.reset entry.cpu i)
+    ++ some_line (reset_line step) entry.reset
+    ++ some_line report_line (report_where-hide start free logs step logs.decision i)
+    ++ some_line (denied_line step) (denial_in logs)
 
 pub end_line_after-hide :
     (steps : ℕ) (logs : Logs) → end_line_after steps (hide logs) ≡ end_line_after steps logs
 end_line_after-hide steps logs =
-    ap (λ (pc : ℕ). end_line steps pc (exec_of (hide logs))) (next_pc_of-hide logs.progress)
-    ∙ ap (λ (exec : Bool). end_line steps (next_pc_of logs.progress) exec) (exec-blank logs.records)
+    λ i. end_line steps (next_pc_of-hide logs.progress i) (exec-blank logs.records i)
 
 pub lines_of-hide : (start : Start) (free : List ℕ) (play : Play) (more : List ℕ)
     → free ≡ (logs_after start play).released_words ++ more
@@ -148,40 +138,23 @@ unfolding lines_of logs_after
 lines_of-hide start free [] more split = refl
 lines_of-hide start free (events ∷ play) more split =
     let logs : Logs = logs_after start play in
-    let blank_start : Start = open_start free start in
+    let opened : Start = open_start free start in
+    let entry : BusRecord = next_record start logs events in
     let rest = releases_before start free more logs events split in
     let before = play_hides start free play rest.0 rest.1 in
+    let after = play_hides start free (events ∷ play) more split in
     let step = step_hides start free more logs events (logs_after-sound start play) split in
-    let lines : step_lines start (length play) (next_record start logs events)
-    (next_logs start logs events)
-    ≡ step_lines blank_start (length play) (next_record blank_start (hide logs) events)
-    (next_logs blank_start (hide logs) events) =
-    sym
-    (ap (λ (entry : BusRecord). step_lines blank_start (length play) entry
-    (next_logs blank_start (hide logs) events)) step.entry
-    ∙ (ap (step_lines blank_start (length play)
-    (blank_record (next_record start logs events))) step.after
-    ∙ step_lines-hide start free (length play) (next_record start logs events)
-    (next_logs start logs events))) in
-    ap (λ (text : List ℕ). text
-    ++ step_lines start (length play) (next_record start logs events)
-    (next_logs start logs events))
-    (lines_of-hide start free play rest.0 rest.1)
-    ∙ (ap (λ (text : List ℕ). lines_of blank_start play ++ text) lines
-    ∙ ap
-    (λ (ls : Logs). lines_of blank_start play
-    ++ step_lines blank_start (length play) (next_record blank_start ls events)
-    (next_logs blank_start ls events))
-    before.logs)
+    let same : blank_record entry ≡ next_record opened (logs_after opened play) events =
+    sym step.entry ∙ ap (λ (ls : Logs). next_record opened ls events) before.logs in
+    let lines = sym (step_lines-hide start free (length play) entry (next_logs start logs events))
+    ∙ (λ i. step_lines opened (length play) (same i) (after.logs i)) in
+    λ i. lines_of-hide start free play rest.0 rest.1 i ++ lines i
 
 pub play_text-hide : (start : Start) (free : List ℕ) (play : Play) (more : List ℕ)
     → free ≡ (logs_after start play).released_words ++ more
     → play_text start play ≡ play_text (open_start free start) play
 unfolding play_text
 play_text-hide start free play more split =
-    let hides = play_hides start free play more split in
-    ap (λ (text : List ℕ). text ++ end_line_after (length play) (logs_after start play))
-    (lines_of-hide start free play more split)
-    ∙ ap (λ (text : List ℕ). lines_of (open_start free start) play ++ text)
-    (sym (end_line_after-hide (length play) (logs_after start play))
-    ∙ ap (end_line_after (length play)) hides.logs)
+    let end = sym (end_line_after-hide (length play) (logs_after start play))
+    ∙ ap (end_line_after (length play)) (play_hides start free play more split).logs in
+    λ i. lines_of-hide start free play more split i ++ end i

@@ -2,7 +2,7 @@
 use Rattle.std.proofs.Common.{◌≡◌, ℕ, suc, List, [], ◌∷◌, ◌++◌, refl, ap, sym, ◌∙◌, arith, append-nil, subst}
 use Rattle.bus_signals.specs.declared.bus_record.BusRecord.{BusRecord}
 use Rattle.device_trace.specs.Play.{Play}
-use Rattle.device_trace.specs.Blank.{SameOutside, blank, blank_record}
+use Rattle.device_trace.specs.Blank.{SameOutside, blank}
 use Rattle.device_trace.specs.Logs.{Logs, logged_byte}
 use Rattle.device_trace.specs.Start.{Start, without_key}
 use Rattle.device_trace.specs.Trace.{byte_after, logs_after, released_words, trace}
@@ -48,9 +48,7 @@ agree_begin (word ∷ left) (word' ∷ right) agree =
       after_left = rest.after_left;
       after_right = rest.after_right;
       is_left = ap (λ (words : List ℕ). word ∷ words) rest.is_left;
-      is_right =
-          ap (λ (w : ℕ). w ∷ rest.whole) same
-          ∙ ap (λ (words : List ℕ). word' ∷ words) rest.is_right;
+      is_right = λ i. same i ∷ rest.is_right i;
     }
 
 -- two starts without their keys are one start, where the released words agree
@@ -78,8 +76,7 @@ keyless-same start other play more same words =
 blank-twice : (history : List BusRecord) → blank (blank history) ≡ blank history
 blank-twice [] = refl
 blank-twice (entry ∷ history) =
-    ap (λ (first : BusRecord). first ∷ blank (blank history)) (blank_record-twice entry)
-    ∙ ap (λ (rest : List BusRecord). blank_record entry ∷ rest) (blank-twice history)
+    λ i. blank_record-twice entry i ∷ blank-twice history i
 
 pub byte-hide : (start : Start) (free : List ℕ) (play : Play) (more : List ℕ)
     → free ≡ released_words start play ++ more

@@ -136,8 +136,7 @@ released-rom : (rule : Option Rule) (kind : Kind) (access : Option Access) (word
     → rule ≡ None → kind ≡ Rom
     → released_words_after rule kind access words ≡ with_released_word access words
 released-rom rule kind access words none rom =
-    let first = ap (λ (r : Option Rule). released_words_after r kind access words) none in
-    first ∙ ap (λ (k : Kind). released_words_after None k access words) rom
+    λ i. released_words_after (none i) (rom i) access words
 
 -- a step of a call that was not refused, from memory to memory
 pub record CallGoes
