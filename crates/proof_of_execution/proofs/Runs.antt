@@ -78,162 +78,143 @@ abbrev pub StateWith : Interrupts → SeenRecord → List BusRecord → Progress
 StateWith allowed now history after =
     RunState allowed now.bounds (now.entry ∷ history) after (Some now.entry.pc)
 
--- the run begins
-pub run_begins : (allowed : Interrupts) (last : Option ℕ) (now : SeenRecord)
-    (history : List BusRecord) (before after : Progress)
-    → Goes allowed last now before after → are_valid now.bounds ≡ true
-    → fetches_first now.bounds now.entry ≡ true → StateWith allowed now history after
-run_begins allowed last now history before after goes valid first =
-    let place = and_parts (is_opcode_fetch now.entry) (now.entry.pc == now.bounds.er_min) first in
-    let inside : runs_inside now ≡ true =
-    ap (lies_in (executable_region now.bounds)) (eqb-true now.entry.pc now.bounds.er_min place.1)
-    ∙ min-inside now.bounds valid in
-    record {
-      valid = valid;
-      run = inl (record {
-        newest = now.entry;
-        older = [];
-        before = history;
-        parts = refl;
-        begins = first;
-        runs = and_from (runs_with allowed now.bounds now.entry) true (goes.runs inside) refl;
-        code = and_from (keeps_code_with allowed now.bounds now.entry) true goes.code refl;
-        is_last = refl;
-        inside = inside;
-        leads = goes.leads inside;
-      });
-    }
-
--- it goes on
-run_goes_on : (allowed : Interrupts) (last : Option ℕ) (now : SeenRecord)
-    (history : List BusRecord) (before after : Progress)
-    → Goes allowed last now before after → runs_inside now ≡ true
-    → Inside allowed now.bounds history before last
-    → Inside allowed now.bounds (now.entry ∷ history) after (Some now.entry.pc)
-run_goes_on allowed last now history before after goes inside run =
-    record {
-      newest = now.entry;
-      older = run.newest ∷ run.older;
-      before = run.before;
-      parts = ap (λ (entries : List BusRecord). now.entry ∷ entries) run.parts;
-      begins = run.begins;
-      runs = and_from (runs_with allowed now.bounds now.entry) _ (goes.runs inside) run.runs;
-      code = and_from (keeps_code_with allowed now.bounds now.entry) _ goes.code run.code;
-      is_last = refl;
-      inside = inside;
-      leads = goes.leads inside;
-    }
-
--- it is left
-run_ends : (allowed : Interrupts) (last : Option ℕ) (now : SeenRecord)
-    (history : List BusRecord) (before after : Progress)
-    → Goes allowed last now before after → are_valid now.bounds ≡ true → runs_inside now ≡ false
-    → Inside allowed now.bounds history before last
-    → Outside allowed now.bounds (now.entry ∷ history) (Some now.entry.pc)
-run_ends allowed last now history before after goes valid outside run =
-    let was_inside : ran_inside last (executable_region now.bounds) ≡ true =
-    ap (λ (pc : Option ℕ). ran_inside pc (executable_region now.bounds)) run.is_last ∙ run.inside in
-    let at_end : (run.newest.pc == now.bounds.er_max) ≡ true =
-    ap (λ (pc : Option ℕ). ran_at pc now.bounds.er_max) (sym run.is_last)
-    ∙ leaves_at_end last now goes.both was_inside outside in
-    let whole : RegionRun allowed now.bounds (now.entry ∷ history) =
-    record {
-      valid = valid;
-      after = now.entry ∷ [];
-      run = run.newest ∷ run.older;
-      before = run.before;
-      parts = ap (λ (entries : List BusRecord). now.entry ∷ entries) run.parts;
-      begins = run.begins;
-      ends = goes.ends run.newest run.older run.leads outside at_end;
-      runs = run.runs;
-      left = and_from (not (is_inside now.bounds now.entry)) true (not_from_false _ outside) refl;
-      code = and_from (keeps_code_with allowed now.bounds now.entry) _ goes.code run.code;
-      output = and_from (keeps_output now.bounds now.entry) true
-          (output-kept last now goes.both outside) refl;
-    } in
-    record { whole = whole; outside = outside }
-
 all_left : (bounds : Bounds) (after : List BusRecord)
     → has_left bounds after ≡ true → list_all (λ one. not (is_inside bounds one)) after ≡ true
 all_left bounds [] rest = refl
 all_left bounds (entry ∷ after) rest = rest
 
--- more records outside
-stays_outside : (allowed : Interrupts) (last : Option ℕ) (now : SeenRecord)
-    (history : List BusRecord) (before after : Progress)
-    → Goes allowed last now before after → runs_inside now ≡ false
-    → Outside allowed now.bounds history last
-    → Outside allowed now.bounds (now.entry ∷ history) (Some now.entry.pc)
-stays_outside allowed last now history before after goes outside run =
-    let whole : RegionRun allowed now.bounds (now.entry ∷ history) =
-    record {
-      valid = run.whole.valid;
-      after = now.entry ∷ run.whole.after;
-      run = run.whole.run;
-      before = run.whole.before;
-      parts = ap (λ (entries : List BusRecord). now.entry ∷ entries) run.whole.parts;
-      begins = run.whole.begins;
-      ends = run.whole.ends;
-      runs = run.whole.runs;
-      left =
-          and_from (not (is_inside now.bounds now.entry)) _ (not_from_false _ outside)
-          (all_left now.bounds run.whole.after run.whole.left);
-      code = and_from (keeps_code_with allowed now.bounds now.entry) _ goes.code run.whole.code;
-      output = and_from (keeps_output now.bounds now.entry) _
-          (output-kept last now goes.both outside) run.whole.output;
-    } in
-    record { whole = whole; outside = outside }
+-- with a record more
+module _ (allowed : Interrupts) (last : Option ℕ) (now : SeenRecord) (history : List BusRecord)
+    (before after : Progress) (goes : Goes allowed last now before after) where
+  -- the run begins
+  pub run_begins : are_valid now.bounds ≡ true → fetches_first now.bounds now.entry ≡ true
+      → StateWith allowed now history after
+  run_begins valid first =
+      let place = and_parts (is_opcode_fetch now.entry) (now.entry.pc == now.bounds.er_min) first in
+      let inside : runs_inside now ≡ true =
+      ap (lies_in (executable_region now.bounds)) (eqb-true now.entry.pc now.bounds.er_min place.1)
+      ∙ min-inside now.bounds valid in
+      record {
+        valid = valid;
+        run = inl (record {
+          newest = now.entry;
+          older = [];
+          before = history;
+          parts = refl;
+          begins = first;
+          runs = and_from (runs_with allowed now.bounds now.entry) true (goes.runs inside) refl;
+          code = and_from (keeps_code_with allowed now.bounds now.entry) true goes.code refl;
+          is_last = refl;
+          inside = inside;
+          leads = goes.leads inside;
+        });
+      }
 
-from_inside : (allowed : Interrupts) (last : Option ℕ) (now : SeenRecord)
-    (history : List BusRecord) (before after : Progress)
-    → Goes allowed last now before after → are_valid now.bounds ≡ true
-    → Inside allowed now.bounds history before last → StateWith allowed now history after
-from_inside allowed last now history before after goes valid run =
-    record {
-      valid = valid;
-      run =
-          elim (cases_Bool (runs_inside now)) [
-            | inl inside ↦ inl (run_goes_on allowed last now history before after goes inside run)
-            | inr outside ↦
-                inr (inl (run_ends allowed last now history before after goes valid outside run))
-          ];
-    }
+  -- it goes on
+  run_goes_on : runs_inside now ≡ true → Inside allowed now.bounds history before last
+      → Inside allowed now.bounds (now.entry ∷ history) after (Some now.entry.pc)
+  run_goes_on inside run =
+      record {
+        newest = now.entry;
+        older = run.newest ∷ run.older;
+        before = run.before;
+        parts = ap (λ (entries : List BusRecord). now.entry ∷ entries) run.parts;
+        begins = run.begins;
+        runs = and_from (runs_with allowed now.bounds now.entry) _ (goes.runs inside) run.runs;
+        code = and_from (keeps_code_with allowed now.bounds now.entry) _ goes.code run.code;
+        is_last = refl;
+        inside = inside;
+        leads = goes.leads inside;
+      }
 
-from_outside : (allowed : Interrupts) (last : Option ℕ) (now : SeenRecord)
-    (history : List BusRecord) (before after : Progress)
-    → Goes allowed last now before after → are_valid now.bounds ≡ true
-    → Outside allowed now.bounds history last → StateWith allowed now history after
-from_outside allowed last now history before after goes valid run =
-    elim (cases_Bool (runs_inside now)) [
-      | inl inside ↦
-          elim (goes.enters inside run.outside) [
-            | inl first ↦ run_begins allowed last now history before after goes valid first
-            | inr rests ↦ record { valid = valid; run = inr (inr (rests, inside)) }
-          ]
-      | inr outside ↦
-          record {
-            valid = valid;
-            run = inr (inl (stays_outside allowed last now history before after goes outside run));
-          }
-    ]
+  -- it is left
+  run_ends : are_valid now.bounds ≡ true → runs_inside now ≡ false
+      → Inside allowed now.bounds history before last
+      → Outside allowed now.bounds (now.entry ∷ history) (Some now.entry.pc)
+  run_ends valid outside run =
+      let was_inside : ran_inside last (executable_region now.bounds) ≡ true =
+      ap (λ (pc : Option ℕ). ran_inside pc (executable_region now.bounds)) run.is_last ∙ run.inside in
+      let at_end : (run.newest.pc == now.bounds.er_max) ≡ true =
+      ap (λ (pc : Option ℕ). ran_at pc now.bounds.er_max) (sym run.is_last)
+      ∙ leaves_at_end last now goes.both was_inside outside in
+      let whole : RegionRun allowed now.bounds (now.entry ∷ history) =
+      record {
+        valid = valid;
+        after = now.entry ∷ [];
+        run = run.newest ∷ run.older;
+        before = run.before;
+        parts = ap (λ (entries : List BusRecord). now.entry ∷ entries) run.parts;
+        begins = run.begins;
+        ends = goes.ends run.newest run.older run.leads outside at_end;
+        runs = run.runs;
+        left = and_from (not (is_inside now.bounds now.entry)) true (not_from_false _ outside) refl;
+        code = and_from (keeps_code_with allowed now.bounds now.entry) _ goes.code run.code;
+        output = and_from (keeps_output now.bounds now.entry) true
+            (output-kept last now goes.both outside) refl;
+      } in
+      record { whole = whole; outside = outside }
 
--- one record more
-pub state_after : (allowed : Interrupts) (last : Option ℕ) (now : SeenRecord)
-    (history : List BusRecord) (before after : Progress)
-    → Goes allowed last now before after → RunState allowed now.bounds history before last
-    → StateWith allowed now history after
-state_after allowed last now history before after goes state =
-    elim state.run [
-      | inl inside ↦ from_inside allowed last now history before after goes state.valid inside
-      | inr rest ↦
-          elim rest [
-            | inl outside ↦
-                from_outside allowed last now history before after goes state.valid outside
-            | inr rests ↦
-                let on = goes.rests rests.0 in
-                record { valid = state.valid; run = inr (inr (on.1, on.0)) }
-          ]
-    ]
+  -- more records outside
+  stays_outside : runs_inside now ≡ false → Outside allowed now.bounds history last
+      → Outside allowed now.bounds (now.entry ∷ history) (Some now.entry.pc)
+  stays_outside outside run =
+      let whole : RegionRun allowed now.bounds (now.entry ∷ history) =
+      record {
+        valid = run.whole.valid;
+        after = now.entry ∷ run.whole.after;
+        run = run.whole.run;
+        before = run.whole.before;
+        parts = ap (λ (entries : List BusRecord). now.entry ∷ entries) run.whole.parts;
+        begins = run.whole.begins;
+        ends = run.whole.ends;
+        runs = run.whole.runs;
+        left =
+            and_from (not (is_inside now.bounds now.entry)) _ (not_from_false _ outside)
+            (all_left now.bounds run.whole.after run.whole.left);
+        code = and_from (keeps_code_with allowed now.bounds now.entry) _ goes.code run.whole.code;
+        output = and_from (keeps_output now.bounds now.entry) _
+            (output-kept last now goes.both outside) run.whole.output;
+      } in
+      record { whole = whole; outside = outside }
+
+  from_inside : are_valid now.bounds ≡ true → Inside allowed now.bounds history before last
+      → StateWith allowed now history after
+  from_inside valid run =
+      record {
+        valid = valid;
+        run =
+            elim (cases_Bool (runs_inside now)) [
+              | inl inside ↦ inl (run_goes_on inside run)
+              | inr outside ↦ inr (inl (run_ends valid outside run))
+            ];
+      }
+
+  from_outside : are_valid now.bounds ≡ true → Outside allowed now.bounds history last
+      → StateWith allowed now history after
+  from_outside valid run =
+      elim (cases_Bool (runs_inside now)) [
+        | inl inside ↦
+            elim (goes.enters inside run.outside) [
+              | inl first ↦ run_begins valid first
+              | inr rests ↦ record { valid = valid; run = inr (inr (rests, inside)) }
+            ]
+        | inr outside ↦
+            record { valid = valid; run = inr (inl (stays_outside outside run)) }
+      ]
+
+  pub state_after : RunState allowed now.bounds history before last
+      → StateWith allowed now history after
+  state_after state =
+      elim state.run [
+        | inl inside ↦ from_inside state.valid inside
+        | inr rest ↦
+            elim rest [
+              | inl outside ↦ from_outside state.valid outside
+              | inr rests ↦
+                  let on = goes.rests rests.0 in
+                  record { valid = state.valid; run = inr (inr (on.1, on.0)) }
+            ]
+      ]
 
 -- where the last record is outside, the region has run whole
 pub run_outside : (allowed : Interrupts) (bounds : Bounds) (history : List BusRecord)
