@@ -1,9 +1,8 @@
 -- In every play the MAC covers the last call.
-use Rattle.std.proofs.Common.{◌≡◌, ℕ, ◌<◌, Bool, true, false, List, [], ◌∷◌, inl, inr, Option, Some, None, length, refl, ap, sym, ◌∙◌, arith, subst}
+use Rattle.std.proofs.Common.{◌≡◌, ℕ, ◌<◌, Bool, true, false, List, [], ◌∷◌, inl, inr, Option, Some, None, length, refl, ap, sym, ◌∙◌, arith}
 use Rattle.std.specs.Prelude.{◌==◌, ◌&&◌, is_none, is_some, IsTrue}
 use Rattle.std.proofs.lemmas.Bool.{and_parts, cases_Bool}
 use Rattle.bus_signals.specs.declared.bus_record.BusRecord.{BusRecord}
-use Rattle.bus_signals.specs.declared.event.Event.{Event}
 use Rattle.bus_signals.specs.declared.kind.Kind.{Kind}
 use Rattle.bus_signals.specs.declared.kind.Kind.TheVariants.{Boot, Cpu, Idle, Irq, Rom}
 use Rattle.bus_signals.specs.declared.rule.Rule.{Rule}
@@ -18,9 +17,9 @@ use Rattle.bus_signals.specs.Address.{Bytes, Contents}
 use Rattle.part_definitions.specs.Hmac.{Digest}
 use Rattle.device_trace.specs.Play.{Play}
 use Rattle.device_trace.specs.Logs.{Logs, progress_after, step_progress, vector_of, with_events, with_record}
-use Rattle.device_trace.specs.Signals.{step_kind}
+use Rattle.device_trace.specs.Signals.{step_kind, signals_at}
 use Rattle.device_trace.specs.Start.{Start, with_key}
-use Rattle.device_trace.specs.Step.{next_record}
+use Rattle.device_trace.specs.Step.{next_record, record_of, asks_reset}
 use Rattle.device_trace.specs.Text.{last_decision, last_report}
 use Rattle.device_trace.specs.Trace.{byte_after, logs_after, trace}
 use Rattle.mac_coverage.specs.AttestedBytes.{tag_of}
@@ -33,21 +32,8 @@ use Rattle.mac_coverage.proofs.PlaySteps.{CallGoesOn, PlayStands, entry-kind, en
 use Rattle.mac_coverage.proofs.Steps.{OnCall, other_step-no_call}
 use Rattle.mac_coverage.proofs.Words.{are_bytes}
 use Rattle.trace_facts.proofs.LastReport.{last_report-made}
-
--- another step
-other_next : (device : Device) (play : Play) (events : List Event)
-    → is_rom (step_kind (log_at device play events)) ≡ false
-    → PlayStands device (events ∷ play)
-unfolding logs_after with_record
-other_next device play events other =
-    let logs : Logs = log_at device play events in
-    let entry : BusRecord = entry_at device play events in
-    subst
-    (λ (kind : Kind). OnCall (λ regs words. CallGoesOn device (events ∷ play) words)
-    (progress_after entry.reset kind (step_progress logs kind) entry.cpu entry.value))
-    (sym (entry-kind device play events))
-    (other_step-no_call (λ regs words. CallGoesOn device (events ∷ play) words) logs.progress
-    (vector_of logs) entry.reset entry.cpu entry.value other)
+use Rattle.bus_signals.specs.declared.access.Access.{Access}
+use Rattle.device_trace.specs.Progress.{Progress}
 
 pub rom_kind : (kind : Kind) → is_rom kind ≡ true → kind ≡ Rom
 rom_kind Rom rom = refl
@@ -56,16 +42,36 @@ rom_kind Cpu rom = absurd (cc)
 rom_kind Idle rom = absurd (cc)
 rom_kind Irq rom = absurd (cc)
 
+-- what holds in a call holds after each step, where it does after those of the ROM that are not
+-- refused
+unless_refused : (Holds : List ℕ → List ℕ → Type 0) (rule : Option Rule) (kind : Kind)
+    (progress : Progress) (access : Option Access) (value : ℕ)
+    → (rule ≡ None → OnCall Holds (progress_after rule kind progress access value))
+    → OnCall Holds (progress_after rule kind progress access value)
+unless_refused Holds None kind progress access value holds = holds refl
+unless_refused Holds (Some rule) kind progress access value holds = tt
+
+pub record_of-on_call : (Holds : List ℕ → List ℕ → Type 0) (start : Start) (logs : Logs)
+    (reset : Bool)
+    → ((record_of start logs reset).reset ≡ None → step_kind logs ≡ Rom
+    → OnCall Holds (with_record start logs (record_of start logs reset)).progress)
+    → OnCall Holds (with_record start logs (record_of start logs reset)).progress
+unfolding with_record record_of signals_at
+record_of-on_call Holds start logs reset holds =
+    elim (cases_Bool (is_rom (step_kind logs))) [
+      | inl rom ↦
+          unless_refused Holds _ (step_kind logs) _ _ _
+          (λ none. holds none (rom_kind (step_kind logs) rom))
+      | inr other ↦ other_step-no_call Holds logs.progress (vector_of logs) _ _ _ other
+    ]
+
 pub play_stands : (device : Device) (play : Play) → PlayStands device play
-unfolding logs_after
+unfolding logs_after next_record
 play_stands device [] = tt
 play_stands device (events ∷ play) =
-    elim (cases_Bool (is_rom (step_kind (log_at device play events)))) [
-      | inl rom ↦
-          (rom_outcome device play events (rom_kind (step_kind (log_at device play events)) rom)
-          (play_stands device play)).next
-      | inr other ↦ other_next device play events other
-    ]
+    record_of-on_call (λ regs words. CallGoesOn device (events ∷ play) words) (start_of device)
+    (log_at device play events) (asks_reset events)
+    (λ none rom. (rom_outcome device play events rom (play_stands device play)).next)
 
 pub outcome_at : (device : Device) (play : Play)
     → ends_in_call (trace (start_of device) play) ≡ true → Outcome device play

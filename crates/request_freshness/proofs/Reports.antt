@@ -1,11 +1,9 @@
 -- The counters in the reports of a play grow.
 use Rattle.std.proofs.Common.{◌≡◌, ℕ, suc, ◌≤◌, Bool, true, false, List, [], ◌∷◌, ◌++◌, append-nil, inl, inr, Option, Some, None, length, refl, ap, sym, ◌∙◌, arith, subst}
 use Rattle.std.specs.Prelude.{◌==◌, ◌&&◌, is_none, is_some, if◌then◌else◌}
-use Rattle.std.proofs.lemmas.Bool.{and_parts, cases_Bool, cond-true}
-use Rattle.bus_signals.specs.declared.access.Access.{Access}
+use Rattle.std.proofs.lemmas.Bool.{and_parts, cond-true}
 use Rattle.bus_signals.specs.declared.bus_record.BusRecord.{BusRecord}
 use Rattle.bus_signals.specs.declared.event.Event.{Event}
-use Rattle.bus_signals.specs.declared.kind.Kind.{Kind}
 use Rattle.bus_signals.specs.declared.kind.Kind.TheVariants.{Rom}
 use Rattle.bus_signals.specs.declared.rule.Rule.{Rule}
 use Rattle.bus_signals.specs.Kind.{is_rom}
@@ -16,8 +14,8 @@ use Rattle.part_definitions.specs.Attestation.{call_item, is_return, word_passed
 use Rattle.bus_signals.specs.Address.{Bytes, Contents}
 use Rattle.part_definitions.specs.Hmac.{Digest}
 use Rattle.device_trace.specs.Play.{Play}
-use Rattle.device_trace.specs.Logs.{Logs, finishes_call, progress_after, step_progress, vector_of, with_events, with_record}
-use Rattle.device_trace.specs.Progress.{Progress, InCall, after_return, call_after}
+use Rattle.device_trace.specs.Logs.{Logs, finishes_call, step_progress, vector_of, with_events}
+use Rattle.device_trace.specs.Progress.{InCall, after_return, call_after}
 use Rattle.device_trace.specs.Signals.{step_kind}
 use Rattle.device_trace.specs.Start.{with_key}
 use Rattle.device_trace.specs.Text.{last_report}
@@ -27,12 +25,13 @@ use Rattle.mac_coverage.specs.Call.{ends_finished, ends_in_call, last_call, mac_
 use Rattle.mac_coverage.specs.Coverage.{IsDeviceKey, IsOfBytes, call_length}
 use Rattle.mac_coverage.proofs.CallItems.{exit_returns}
 use Rattle.mac_coverage.proofs.Device.{Device, start_of}
-use Rattle.mac_coverage.proofs.Plays.{Reports, last_report-finishes, outcome_at, rom_kind}
+use Rattle.mac_coverage.proofs.Plays.{Reports, last_report-finishes, outcome_at, rom_kind, record_of-on_call}
 use Rattle.mac_coverage.proofs.PlaySteps.{IsTurnOfCall, entry-kind, entry-pc, entry-step, entry_at, log_at}
-use Rattle.mac_coverage.proofs.Steps.{IsOfCall, OnCall, other_step-no_call, progress-call_step, rom_step-of_call}
+use Rattle.mac_coverage.proofs.Steps.{IsOfCall, OnCall, progress-call_step, rom_step-of_call}
 use Rattle.request_freshness.specs.Freshness.{Attests, TellsNewCounter, first_word}
 use Rattle.request_freshness.proofs.Moments.{later_or_first}
 use Rattle.request_freshness.proofs.Grows.{counters-grow, device_of}
+use Rattle.device_trace.specs.Step.{asks_reset, next_record}
 
 -- the progress after a step of a call that is not refused
 record CallProgress (device : Device) (play : Play) (events : List Event)
@@ -121,12 +120,6 @@ call_after-holds Holds regs words word holds = by_test (is_return (call_item wor
     by_test true = tt
     by_test false = holds
 
-refused-no_call : (Holds : Type 0) (rule : Option Rule) (kind : Kind) (progress : Progress)
-    (access : Option Access) (value : ℕ) → is_some rule ≡ true
-    → OnCall (λ regs words. Holds) (progress_after rule kind progress access value)
-refused-no_call Holds None kind progress access value refuses = absurd (cc)
-refused-no_call Holds (Some rule) kind progress access value refuses = tt
-
 -- with one step more
 length-began : (device : Device) (later earlier : Play) (events : List Event)
     → BeganAfter device later earlier
@@ -147,36 +140,19 @@ length-began device later earlier events began rom =
 
 began_after : (device : Device) (later earlier : Play)
     → BeganAfter device [] earlier → BeganAfter device later earlier
-unfolding logs_after with_record
+unfolding logs_after next_record
 began_after device [] earlier none = none
 began_after device (events ∷ later) earlier none =
     let play : Play = later ++ earlier in
-    let logs : Logs = log_at device play events in
-    let entry : BusRecord = entry_at device play events in
-    let Holds : Type 0 =
-    call_length (start_of device) (events ∷ later ++ earlier) ≤ length (events ∷ later) in
-    elim (cases_Bool (is_some entry.reset)) [
-      | inl refuses ↦
-          refused-no_call Holds entry.reset entry.kind (step_progress logs entry.kind) entry.cpu
-          entry.value refuses
-      | inr no_reset ↦
-          elim (cases_Bool (is_rom (step_kind logs))) [
-            | inl rom ↦
-                let at_rom : step_kind logs ≡ Rom = rom_kind (step_kind logs) rom in
-                let after = call-progress device play events at_rom no_reset in
-                subst (OnCall (λ regs words. Holds)) (sym after.is)
-                (call_after-holds Holds after.regs after.words after.word
-                (length-began device later earlier events (began_after device later earlier none)
-                at_rom))
-            | inr other ↦
-                subst
-                (λ (kind : Kind). OnCall (λ regs words. Holds)
-                (progress_after entry.reset kind (step_progress logs kind) entry.cpu entry.value))
-                (sym (entry-kind device play events))
-                (other_step-no_call (λ regs words. Holds) logs.progress (vector_of logs)
-                entry.reset entry.cpu entry.value other)
-          ]
-    ]
+    let Holds : Type 0 = call_length (start_of device) (events ∷ play) ≤ length (events ∷ later) in
+    record_of-on_call (λ regs words. Holds) (start_of device) (log_at device play events)
+    (asks_reset events)
+    (λ unrefused rom.
+    let after = call-progress device play events rom
+    (ap (λ (rule : Option Rule). is_some rule) unrefused) in
+    subst (OnCall (λ regs words. Holds)) (sym after.is)
+    (call_after-holds Holds after.regs after.words after.word
+    (length-began device later earlier events (began_after device later earlier none) rom)))
 
 call-began : (device : Device) (later earlier : Play)
     → ends_finished (trace (start_of device) earlier) ≡ true

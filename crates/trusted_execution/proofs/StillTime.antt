@@ -1,12 +1,11 @@
 -- Through a call the second flag stays as it is.
 use Rattle.std.proofs.Common.{not, ◌≡◌, ◌&&◌, ℕ, Bool, true, false, List, [], ◌∷◌, inl, inr, Option, Some, None, map, refl, ap, sym, ◌∙◌, subst, is_some}
 use Rattle.std.specs.Prelude.{◌==◌, is_none}
-use Rattle.std.proofs.lemmas.Bool.{cond_both, cases_Bool, cond-true, and_left, and_right, and_parts, eq-eqb}
+use Rattle.std.proofs.lemmas.Bool.{cond_both, cond-true, and_left, and_right, and_parts, eq-eqb}
 use Rattle.bus_signals.specs.declared.access.Access.{Access}
 use Rattle.bus_signals.specs.declared.access.Access.TheVariants.{Fetch, Read, Write}
 use Rattle.bus_signals.specs.declared.bus_record.BusRecord.{BusRecord}
 use Rattle.bus_signals.specs.declared.kind.Kind.TheVariants.{Rom}
-use Rattle.bus_signals.specs.declared.rule.Rule.{Rule}
 use Rattle.bus_signals.specs.Access.{some_writes}
 use Rattle.bus_signals.specs.Bounds.{are_valid}
 use Rattle.bus_signals.specs.Kind.{is_rom}
@@ -19,7 +18,7 @@ use Rattle.part_definitions.specs.TrustedFlag.{aux}
 use Rattle.part_definitions.proofs.CallItems.{first_pc}
 use Rattle.device_trace.specs.Play.{Play}
 use Rattle.device_trace.specs.Blank.{blank_access, blank_record, blank_seen}
-use Rattle.device_trace.specs.Logs.{Logs, aux_of, goes_on_in_call, records_until_call, logged_bounds, vector_of, step_progress, progress_after, with_events, with_record}
+use Rattle.device_trace.specs.Logs.{Logs, aux_of, goes_on_in_call, records_until_call, logged_bounds, vector_of, step_progress, with_events, with_record}
 use Rattle.device_trace.specs.Progress.{Progress, Held, Runs, InCall, next_pc_of}
 use Rattle.device_trace.specs.Signals.{step_kind}
 use Rattle.device_trace.specs.Start.{Start}
@@ -28,8 +27,8 @@ use Rattle.device_trace.specs.Text.{last_report, last_decision, last_denial}
 use Rattle.device_trace.specs.Trace.{logs_after, trace}
 use Rattle.device_trace.specs.RegionRun.{TrustedInterrupts, TrustedRun}
 use Rattle.mac_coverage.proofs.ExecKept.{IsRomStep}
-use Rattle.mac_coverage.proofs.Plays.{rom_kind}
-use Rattle.mac_coverage.proofs.Steps.{rom_step-of_call, OnCall, other_step-no_call, record_of-call, record_of-kind, record_of-pc, IsInRom}
+use Rattle.mac_coverage.proofs.Plays.{rom_kind, record_of-on_call}
+use Rattle.mac_coverage.proofs.Steps.{rom_step-of_call, OnCall, record_of-call, record_of-kind, record_of-pc, IsInRom}
 use Rattle.proof_of_execution.proofs.Plays.{play_state, finished-run, report-run, denied_where}
 use Rattle.trusted_execution.specs.SeenFlag.{aux_seen}
 use Rattle.trusted_execution.specs.TrustedCall.{AuxAfterCallMeansTrustedRun}
@@ -121,11 +120,6 @@ record_flag start logs reset valid holds none rom =
           (λ begins. refl);
     }
 
-by_rule : (rule : Option Rule) (P : Option Rule → Type 0)
-    → (rule ≡ None → P None) → ((broken : Rule) → P (Some broken)) → P rule
-by_rule None P unbroken refused = unbroken refl
-by_rule (Some broken) P unbroken refused = refused broken
-
 record_holds : (start : Start) (logs : Logs) (reset : Bool)
     → (aux_seen logs ≡ true → are_valid (logged_bounds start logs) ≡ true)
     → HoldsInCall logs.progress logs.records
@@ -133,26 +127,10 @@ record_holds : (start : Start) (logs : Logs) (reset : Bool)
     (with_record start logs (record_of start logs reset)).records
 unfolding with_record
 record_holds start logs reset valid holds =
-    let entry : BusRecord = record_of start logs reset in
-    let records : List SeenRecord =
-    record { entry = entry; bounds = logged_bounds start logs } ∷ logs.records in
-    by_rule entry.reset
-    (λ rule. HoldsInCall
-    (progress_after rule entry.kind (step_progress logs entry.kind) entry.cpu entry.value) records)
-    (λ none.
-    elim (cases_Bool (is_rom (step_kind logs))) [
-      | inl rom ↦
-          in_any _ records
-          (record_flag start logs reset valid holds none (rom_kind (step_kind logs) rom))
-      | inr other ↦
-          subst
-          (λ kind. HoldsInCall
-          (progress_after None kind (step_progress logs kind) entry.cpu entry.value) records)
-          (sym (record_of-kind start logs reset))
-          (other_step-no_call (λ regs words. CallState records) logs.progress (vector_of logs) None
-          entry.cpu entry.value other)
-    ])
-    (λ broken. tt)
+    let after : Logs = with_record start logs (record_of start logs reset) in
+    record_of-on_call (λ regs words. CallState after.records) start logs reset
+    (λ none rom.
+    in_any after.progress after.records (record_flag start logs reset valid holds none rom))
 
 valid_after : (start : Start) (play : Play)
     → aux_seen (logs_after start play) ≡ true
