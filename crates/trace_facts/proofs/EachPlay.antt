@@ -1,8 +1,7 @@
 -- What holds after every play: of the progress, where each step that is not refused keeps it, and
 -- of the records, where the progress between two steps is sound.
-use Rattle.std.proofs.Common.{◌≡◌, ℕ, Bool, List, [], ◌∷◌, Option, Some, None, refl}
+use Rattle.std.proofs.Common.{◌≡◌, ℕ, Bool, [], ◌∷◌, Option, Some, None, refl}
 use Rattle.bus_signals.specs.declared.access.Access.{Access}
-use Rattle.bus_signals.specs.declared.event.Event.{Event}
 use Rattle.bus_signals.specs.declared.kind.Kind.{Kind}
 use Rattle.bus_signals.specs.declared.kind.Kind.TheVariants.{Boot, Cpu, Idle, Irq, Rom}
 use Rattle.bus_signals.specs.declared.rule.Rule.{Rule}
@@ -15,7 +14,7 @@ use Rattle.device_trace.specs.Progress.{Progress, Held, next_pc_of, cpu_state_af
 use Rattle.device_trace.specs.Signals.{step_kind, signals_at, signals_of}
 use Rattle.device_trace.specs.Start.{Start}
 use Rattle.device_trace.specs.Step.{record_of, next_record}
-use Rattle.device_trace.specs.Trace.{next_logs, logs_after}
+use Rattle.device_trace.specs.Trace.{logs_after}
 
 -- what is said of a progress and the `pc` of the last record
 abbrev pub Claim : Type 1
@@ -33,37 +32,28 @@ pub record IsKept (Holds : Claim) : Type 0 where
       → Holds (next_progress (step_kind logs) (step_progress logs (step_kind logs)) access value)
       (Some (next_pc_of (step_progress logs (step_kind logs))))
 
-by_rule : (Holds : Claim) → IsKept Holds
-    → (rule : Option Rule) (kind : Kind) (progress : Progress) (access : Option Access) (value : ℕ)
-    (last : Option ℕ)
-    → (rule ≡ None → Holds (next_progress kind progress access value) last)
-    → Holds (progress_after rule kind progress access value) last
-by_rule Holds kept None kind progress access value last goes_on = goes_on refl
-by_rule Holds kept (Some rule) kind progress access value last goes_on = kept.held last
+module _ (Holds : Claim) (kept : IsKept Holds) where
+  by_rule : (rule : Option Rule) (kind : Kind) (progress : Progress) (access : Option Access)
+      (value : ℕ) (last : Option ℕ)
+      → (rule ≡ None → Holds (next_progress kind progress access value) last)
+      → Holds (progress_after rule kind progress access value) last
+  by_rule None kind progress access value last goes_on = goes_on refl
+  by_rule (Some rule) kind progress access value last goes_on = kept.held last
 
-record_of-kept : (Holds : Claim) → IsKept Holds
-    → (start : Start) (logs : Logs) (reset : Bool) → HoldsAfter Holds logs
-    → HoldsAfter Holds (with_record start logs (record_of start logs reset))
-unfolding with_record record_of signals_at
-record_of-kept Holds kept start logs reset holds =
-    by_rule Holds kept (first_rule (last_pc logs.records) (signals_of start logs reset))
-    (step_kind logs) (step_progress logs (step_kind logs)) _ _ _
-    (λ none. kept.goes_on start logs reset holds none _ _)
+  record_of-kept : (start : Start) (logs : Logs) (reset : Bool) → HoldsAfter Holds logs
+      → HoldsAfter Holds (with_record start logs (record_of start logs reset))
+  unfolding with_record record_of signals_at
+  record_of-kept start logs reset holds =
+      by_rule (first_rule (last_pc logs.records) (signals_of start logs reset))
+      (step_kind logs) (step_progress logs (step_kind logs)) _ _ _
+      (λ none. kept.goes_on start logs reset holds none _ _)
 
-next_logs-kept : (Holds : Claim) → IsKept Holds
-    → (start : Start) (logs : Logs) (events : List Event) → HoldsAfter Holds logs
-    → HoldsAfter Holds (next_logs start logs events)
-unfolding next_record with_events
-next_logs-kept Holds kept start logs events holds =
-    record_of-kept Holds kept start (with_events logs events) _ holds
-
-pub logs_after-kept : (Holds : Claim) → IsKept Holds
-    → (start : Start) (play : Play) → HoldsAfter Holds (logs_after start play)
-unfolding logs_after
-logs_after-kept Holds kept start [] = kept.held None
-logs_after-kept Holds kept start (events ∷ play) =
-    next_logs-kept Holds kept start (logs_after start play) events
-    (logs_after-kept Holds kept start play)
+  pub logs_after-kept : (start : Start) (play : Play) → HoldsAfter Holds (logs_after start play)
+  unfolding logs_after next_record with_events
+  logs_after-kept start [] = kept.held None
+  logs_after-kept start (events ∷ play) =
+      record_of-kept start (with_events (logs_after start play) events) _
+      (logs_after-kept start play)
 
 -- a sleeping processor stays as it is
 pub cpu_state_after-kept : (Holds : CpuState → Type 0) (kind : Kind) (cpu : CpuState) (value : ℕ)
