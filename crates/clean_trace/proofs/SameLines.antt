@@ -1,5 +1,5 @@
 -- The lines of a play without its key.
-use Rattle.std.proofs.Common.{◌≡◌, ℕ, Bool, List, [], ◌∷◌, ◌++◌, Option, Some, None, refl, ap, sym, ◌∙◌}
+use Rattle.std.proofs.Common.{◌≡◌, ℕ, Bool, List, [], ◌∷◌, ◌++◌, Option, Some, None, refl, ap, sym, ◌∙◌, arith}
 use Rattle.bus_signals.specs.declared.access.Access.{Access}
 use Rattle.bus_signals.specs.declared.access.Access.TheVariants.{Fetch, Read, Write}
 use Rattle.bus_signals.specs.declared.bus_record.BusRecord.{BusRecord}
@@ -31,10 +31,7 @@ word_at start logs cpu = blank_value cpu (word_fetched start logs cpu)
 -- the number of a write does not matter
 word_at-number : (start : Start) (logs : Logs) (cpu : Option Access)
     → word_at start logs (without_number cpu) ≡ word_at start logs cpu
-word_at-number start logs None = refl
-word_at-number start logs (Some (Fetch place)) = refl
-word_at-number start logs (Some (Read place size)) = refl
-word_at-number start logs (Some (Write place size number)) = refl
+word_at-number start logs cpu = grind arith
 
 word_at-hide : (start : Start) (free : List ℕ) (logs : Logs) (cpu : Option Access)
     → word_at (open_start free start) (hide logs) cpu ≡ word_at start logs cpu

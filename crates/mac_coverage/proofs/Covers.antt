@@ -178,9 +178,7 @@ released-refused (Some rule) entry words refuses = refl
 
 no_finish : (rule : Option Rule) (ends : Bool) → is_some rule ≡ true
     → (ends && is_none rule) ≡ true → ⊥
-no_finish None ends refuses finishes = cc
-no_finish (Some rule) true refuses finishes = cc
-no_finish (Some rule) false refuses finishes = cc
+no_finish rule ends refuses finishes = grind arith
 
 -- what a step tells of a call that it finishes
 pub decision_after-finishes : (progress : Progress) (entry : BusRecord) (decision : ℕ)

@@ -1,5 +1,5 @@
 -- The record of a step of a call, and what the step leaves.
-use Rattle.std.proofs.Common.{◌≡◌, ℕ, Bool, true, false, not, List, [], ◌∷◌, ◌⊎◌, inl, inr, Option, Some, None, length, refl, ap, sym, ◌∙◌}
+use Rattle.std.proofs.Common.{◌≡◌, ℕ, Bool, true, false, not, List, [], ◌∷◌, ◌⊎◌, inl, inr, Option, Some, None, length, refl, ap, sym, ◌∙◌, arith}
 use Rattle.std.specs.Prelude.{◌==◌, ◌&&◌, is_none, is_some, map}
 use Rattle.std.proofs.lemmas.Bool.{and_from, cond-true}
 use Rattle.bus_signals.specs.declared.access.Access.{Access}
@@ -155,9 +155,7 @@ record_of-pc start logs reset = refl
 -- the memory after a step of the ROM
 memory-rom_step : (rule : Option Rule) (cpu dma : Option Access) (writes : List MemoryWrite)
     → rule ≡ None → dma ≡ None → memory_after rule cpu dma writes ≡ with_access cpu writes
-memory-rom_step None cpu None writes none no_dma = refl
-memory-rom_step None cpu (Some dma) writes none no_dma = absurd (cc)
-memory-rom_step (Some rule) cpu dma writes none no_dma = absurd (cc)
+memory-rom_step rule cpu dma writes none no_dma = grind arith
 
 record_memory-rom_step : (start : Start) (logs : Logs) (entry : BusRecord) → IsRomStep entry
     → (with_record start logs entry).memory ≡ with_access entry.cpu logs.memory

@@ -1,5 +1,5 @@
 -- The flag of a run of the executable region, and what a record is that leaves it set.
-use Rattle.std.proofs.Common.{◌≡◌, ◌&&◌, ℕ, Bool, true, false, not, List, [], ◌∷◌, ◌⊎◌, inl, inr, length, map, Option, Some, None, ap, sym, ◌∙◌, refl}
+use Rattle.std.proofs.Common.{◌≡◌, ◌&&◌, ℕ, Bool, true, false, not, List, [], ◌∷◌, ◌⊎◌, inl, inr, length, map, Option, Some, None, ap, sym, ◌∙◌, arith}
 use Rattle.std.specs.Prelude.{◌==◌}
 use Rattle.std.proofs.lemmas.Bool.{and_from, and_parts, not-true, not_from_false, false_from_ne_true}
 use Rattle.bus_signals.specs.declared.access.Access.{Access}
@@ -79,9 +79,7 @@ handler_inside bounds entry trusted reads =
     (and_parts (runs_alone bounds entry) _ trusted).1) reads
   where
     within : (x y : Bool) → (x && not y) ≡ false → x ≡ true → y ≡ true
-    within true true off is = refl
-    within true false off is = absurd (cc)
-    within false y off is = absurd (cc)
+    within x y off is = grind arith
 
 -- the record of a step
 abbrev record_at : Start → Logs → Bool → Option Rule → BusRecord

@@ -1,5 +1,5 @@
 -- What a record does that does not clear the flag.
-use Rattle.std.proofs.Common.{◌≡◌, ℕ, Bool, true, false, not, Option, refl, ap, ◌∙◌}
+use Rattle.std.proofs.Common.{◌≡◌, ℕ, Bool, true, false, not, Option, ap, ◌∙◌, arith}
 use Rattle.std.specs.Prelude.{◌==◌, ◌&&◌, is_some, is_none, option_to_list}
 use Rattle.std.specs.List.{list_any}
 use Rattle.std.proofs.lemmas.Bool.{or_parts, or_from, and_from, and_right, not_from_false}
@@ -131,21 +131,15 @@ leaves_at_end last now keeps was_inside outside =
   where
     ends : (was at inside : Bool) → (was && not at && not inside) ≡ false → was ≡ true
         → inside ≡ false → at ≡ true
-    ends true true inside off was outside = refl
-    ends true false true off was outside = absurd (cc)
-    ends true false false off was outside = absurd (cc)
-    ends false at inside off was outside = absurd (cc)
+    ends was at inside off is out = grind arith
+
+pub entered_only : (inside was at : Bool) → (inside && not was && not at) ≡ false → inside ≡ true
+    → was ≡ false → at ≡ true
+entered_only inside was at off is out = grind arith
 
 pub enters_at_start : (last : Option ℕ) (now : SeenRecord) → Keeps last now
     → runs_inside now ≡ true → ran_inside last (executable_region now.bounds) ≡ false
     → (now.entry.pc == now.bounds.er_min) ≡ true
-enters_at_start last now keeps inside was_outside =
-    begins (runs_inside now) (ran_inside last (executable_region now.bounds))
-    (now.entry.pc == now.bounds.er_min) keeps.e3 inside was_outside
-  where
-    begins : (inside was at : Bool) → (inside && not was && not at) ≡ false → inside ≡ true
-        → was ≡ false → at ≡ true
-    begins true true at off inside outside = absurd (cc)
-    begins true false true off inside outside = refl
-    begins true false false off inside outside = absurd (cc)
-    begins false was at off inside outside = absurd (cc)
+enters_at_start last now keeps =
+    entered_only (runs_inside now) (ran_inside last (executable_region now.bounds))
+    (now.entry.pc == now.bounds.er_min) keeps.e3

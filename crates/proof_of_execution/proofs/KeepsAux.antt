@@ -1,5 +1,5 @@
 -- What a record does that does not clear the second flag, which sees it blanked.
-use Rattle.std.proofs.Common.{◌≡◌, ◌<◌, ◌*◌, ◌/◌, ◌&&◌, ℕ, Bool, true, false, not, Option, Some, None, refl, ap, sym, ◌∙◌, arith}
+use Rattle.std.proofs.Common.{◌≡◌, ◌<◌, ◌*◌, ◌/◌, ◌&&◌, ℕ, Bool, true, false, not, Option, Some, None, ap, sym, ◌∙◌, arith}
 use Rattle.std.proofs.lemmas.Bool.{or_parts, and_from, not_from_false, false_from_ne_true, cond_both}
 use Rattle.bus_signals.specs.declared.access.Access.{Access}
 use Rattle.bus_signals.specs.declared.bounds.Bounds.{Bounds}
@@ -12,7 +12,7 @@ use Rattle.bus_signals.specs.ExecFlag.{runs_inside, ran_inside, fetches_first, s
 use Rattle.part_definitions.specs.TrustedFlag.{enters_elsewhere, clears_f3, clears_f4, clears_f10, clears_aux}
 use Rattle.device_trace.specs.Blank.{touches_secrets, blank_access, blank_value, blank_seen}
 use Rattle.device_trace.specs.RegionRun.{TrustedInterrupts, runs_alone, runs_with, keeps_code, keeps_code_with}
-use Rattle.proof_of_execution.proofs.Keeps.{KeepsBoth, clears_both-kept, alone-kept, code-kept}
+use Rattle.proof_of_execution.proofs.Keeps.{KeepsBoth, clears_both-kept, alone-kept, code-kept, entered_only}
 use Rattle.proof_of_execution.proofs.Regions.{inside-open}
 
 pub record KeepsAux (last : Option ℕ) (now : SeenRecord) : Type 0 where
@@ -45,9 +45,7 @@ zero_outside bounds valid =
 -- a read of a secret is blanked to 0, which is no handler in the region
 f4_off : (inside reads at other : Bool) → (inside && (reads && not at)) ≡ false → at ≡ false
     → (inside && (reads && not other)) ≡ false
-f4_off true true at other off outside = absurd (cc)
-f4_off true false at other off outside = refl
-f4_off false reads at other off outside = refl
+f4_off inside reads at other off outside = grind arith
 
 abbrev f4_of : SeenRecord → Option Access → ℕ → Bool
 f4_of now cpu value =
@@ -105,8 +103,7 @@ trusted-kept last now keeps inside =
     (not_from_false _ entered)
   where
     holds : (x y : Bool) → (x && y) ≡ false → x ≡ true → y ≡ false
-    holds true y off is = off
-    holds false y off is = absurd (cc)
+    holds x y off is = grind arith
 
 pub code_and_vectors-kept : (last : Option ℕ) (now : SeenRecord) → KeepsAux last now
     → keeps_code_with TrustedInterrupts now.bounds now.entry ≡ true
@@ -118,13 +115,6 @@ code_and_vectors-kept last now keeps =
 pub enters_first : (last : Option ℕ) (now : SeenRecord) → KeepsAux last now
     → runs_inside now ≡ true → ran_inside last (executable_region now.bounds) ≡ false
     → fetches_first now.bounds now.entry ≡ true
-enters_first last now keeps inside was_outside =
-    first (runs_inside now) (ran_inside last (executable_region now.bounds))
-    (fetches_first now.bounds now.entry) keeps.f3 inside was_outside
-  where
-    first : (inside was first : Bool) → ((inside && not was) && not first) ≡ false
-        → inside ≡ true → was ≡ false → first ≡ true
-    first true false true off is out = refl
-    first true false false off is out = absurd (cc)
-    first true true at off is out = absurd (cc)
-    first false was at off is out = absurd (cc)
+enters_first last now keeps =
+    entered_only (runs_inside now) (ran_inside last (executable_region now.bounds))
+    (fetches_first now.bounds now.entry) keeps.f3

@@ -36,9 +36,7 @@ abbrev pub choice : Bool → Bool → ℕ
 choice other old = if other then 3 else if old then 2 else 1
 
 last_choice : (other old : Bool) → choice other old ≡ ATTESTS → old ≡ false
-last_choice true old is = absurd (cc)
-last_choice false true is = absurd (cc)
-last_choice false false is = refl
+last_choice other old is = grind arith
 
 pub attests-newer : (digest : Digest) (key metadata kept : List ℕ)
     → request_decision digest key metadata kept ≡ ATTESTS

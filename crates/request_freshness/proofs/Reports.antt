@@ -1,5 +1,5 @@
 -- The counters in the reports of a play grow.
-use Rattle.std.proofs.Common.{◌≡◌, ℕ, suc, ◌≤◌, Bool, true, false, List, [], ◌∷◌, ◌++◌, append-nil, inl, inr, Option, Some, None, length, refl, ap, sym, ◌∙◌, arith, subst}
+use Rattle.std.proofs.Common.{◌≡◌, ℕ, suc, ◌≤◌, Bool, true, false, List, [], ◌∷◌, ◌++◌, append-nil, inl, inr, Option, Some, length, ap, sym, ◌∙◌, arith, subst}
 use Rattle.std.specs.Prelude.{◌==◌, ◌&&◌, is_none, is_some, if◌then◌else◌}
 use Rattle.std.proofs.lemmas.Bool.{and_parts, cond-true}
 use Rattle.bus_signals.specs.declared.bus_record.BusRecord.{BusRecord}
@@ -88,9 +88,7 @@ return-no_call Holds regs words word returns =
 
 not_refused : (rule : Option Rule) (ends : Bool) → (ends && is_none rule) ≡ true
     → is_some rule ≡ false
-not_refused None ends finishes = refl
-not_refused (Some rule) true finishes = absurd (cc)
-not_refused (Some rule) false finishes = absurd (cc)
+not_refused rule ends finishes = grind arith
 
 finished-no_call : (device : Device) (play : Play)
     → ends_finished (trace (start_of device) play) ≡ true

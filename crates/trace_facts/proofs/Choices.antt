@@ -1,16 +1,12 @@
 -- What tests and options say of each other.
-use Rattle.std.proofs.Common.{◌≡◌, Bool, true, false, not, Option, Some, None, refl}
+use Rattle.std.proofs.Common.{◌≡◌, Bool, true, false, not, Option, Some, None, refl, arith}
 use Rattle.std.specs.Prelude.{◌&&◌, is_some, if◌then◌else◌}
 
 pub other_false : (x y : Bool) → (x && y) ≡ false → y ≡ true → x ≡ false
-other_false true true off holds = absurd (cc)
-other_false true false off holds = absurd (cc)
-other_false false y off holds = refl
+other_false x y off holds = grind arith
 
 pub first_false : (x y : Bool) → (x && not y) ≡ false → y ≡ false → x ≡ false
-first_false true true off outside = absurd (cc)
-first_false true false off outside = absurd (cc)
-first_false false y off outside = refl
+first_false x y off outside = grind arith
 
 pub none_there : {A : Type 0} (option : Option A) → is_some option ≡ false → option ≡ None
 none_there None off = refl

@@ -1,9 +1,8 @@
 -- Through a call the second flag stays as it is.
-use Rattle.std.proofs.Common.{not, ◌≡◌, ◌&&◌, ℕ, Bool, true, false, List, [], ◌∷◌, inl, inr, Option, Some, None, map, refl, ap, sym, ◌∙◌, subst, is_some}
+use Rattle.std.proofs.Common.{not, ◌≡◌, ◌&&◌, ℕ, Bool, true, false, List, [], ◌∷◌, inl, inr, Option, Some, None, map, refl, ap, sym, ◌∙◌, subst, is_some, arith}
 use Rattle.std.specs.Prelude.{◌==◌, is_none}
 use Rattle.std.proofs.lemmas.Bool.{cond_both, cond-true, and_left, and_right, and_parts, eq-eqb}
 use Rattle.bus_signals.specs.declared.access.Access.{Access}
-use Rattle.bus_signals.specs.declared.access.Access.TheVariants.{Fetch, Read, Write}
 use Rattle.bus_signals.specs.declared.bus_record.BusRecord.{BusRecord}
 use Rattle.bus_signals.specs.declared.kind.Kind.TheVariants.{Rom}
 use Rattle.bus_signals.specs.Access.{some_writes}
@@ -39,10 +38,7 @@ use Rattle.trace_facts.proofs.BlankRecords.{last_pc-blank}
 writes-blank : (cpu : Option Access)
     → (some_writes (blank_access cpu) && leaves_stack_and_mac (blank_access cpu))
     ≡ (some_writes cpu && leaves_stack_and_mac cpu)
-writes-blank None = refl
-writes-blank (Some (Fetch place)) = refl
-writes-blank (Some (Read place size)) = refl
-writes-blank (Some (Write place size number)) = refl
+writes-blank cpu = grind arith
 
 blank-rom_step : (entry : BusRecord) → IsRomStep entry → IsRomStep (blank_record entry)
 blank-rom_step entry step =
