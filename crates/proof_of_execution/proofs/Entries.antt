@@ -165,7 +165,8 @@ sleeper : (bounds : Bounds) (regs : List ℕ) (vector : Option ℕ)
     ≡ false
     → SleepsOn bounds (Runs (Boundary regs)) vector
 sleeper bounds regs (Some vector) asleep at_start within outside quiet =
-    let inside = ap (lies_in (executable_region bounds)) (boundary-pc regs (Some vector)) ∙ within in
+    let inside =
+    ap (lies_in (executable_region bounds)) (boundary-pc regs (Some vector)) ∙ within in
     let clash : true ≡ false = sym inside ∙ quiet in
     absurd (cc)
 sleeper bounds regs None asleep at_start within outside quiet =

@@ -1,4 +1,4 @@
--- Where the flag of a run is set after a play, the executable region runs, has run whole, or sleeps.
+-- Where the flag of a run is set after a play, the executable region runs, has run, or sleeps.
 use Rattle.std.proofs.Common.{◌≡◌, ℕ, Bool, true, false, List, [], ◌∷◌, inl, inr, Option, Some, None, refl, ap, sym, ◌∙◌, subst}
 use Rattle.std.specs.Prelude.{◌==◌, ◌&&◌, is_some, IsTrue, if◌then◌else◌, is_none}
 use Rattle.std.specs.List.{list_any}

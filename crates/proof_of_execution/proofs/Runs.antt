@@ -133,7 +133,7 @@ module _ (allowed : Interrupts) (last : Option ℕ) (now : SeenRecord) (history 
       → Outside allowed now.bounds (now.entry ∷ history) (Some now.entry.pc)
   run_ends valid outside run =
       let was_inside : ran_inside last (executable_region now.bounds) ≡ true =
-      ap (λ (pc : Option ℕ). ran_inside pc (executable_region now.bounds)) run.is_last ∙ run.inside in
+      ap (λ pc. ran_inside pc (executable_region now.bounds)) run.is_last ∙ run.inside in
       let at_end : (run.newest.pc == now.bounds.er_max) ≡ true =
       ap (λ (pc : Option ℕ). ran_at pc now.bounds.er_max) (sym run.is_last)
       ∙ leaves_at_end last now goes.both was_inside outside in
