@@ -160,5 +160,5 @@ named_are_read are_read scope (Instruction mnemonic size first second) it is =
 named_are_read are_read scope (Org expr) it is = absurd is
 named_are_read are_read scope (Word exprs) it is = absurd is
 named_are_read are_read scope (Byte exprs) it is = absurd is
-named_are_read are_read scope (Ascii span) it is = absurd is
+named_are_read are_read scope (Ascii text) it is = absurd is
 named_are_read are_read scope (Equ name expr) it is = absurd is

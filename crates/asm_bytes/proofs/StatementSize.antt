@@ -74,7 +74,7 @@ length-values scope size exprs =
 
 -- a statement places as many bytes as its size says
 pub bytes_have_their_size : (scope : Scope) (body : Body)
-    → IfOk (bytes_of scope body) (λ bytes. length bytes ≡ size_of scope.text body)
+    → IfOk (bytes_of scope body) (λ bytes. length bytes ≡ size_of body)
 bytes_have_their_size scope Empty = refl
 bytes_have_their_size scope (Instruction mnemonic size first second) =
     let operands : Operands = record { first = first; second = second } in
@@ -90,5 +90,5 @@ bytes_have_their_size scope (Byte exprs) =
     let one : 1 * length exprs ≡ length exprs = omega arith in
     subst (λ n. IfOk (bytes_of scope (Byte exprs)) (λ bytes. length bytes ≡ n)) one
     (length-values scope sizes.Byte exprs)
-bytes_have_their_size scope (Ascii span) = refl
+bytes_have_their_size scope (Ascii text) = refl
 bytes_have_their_size scope (Equ name expr) = refl

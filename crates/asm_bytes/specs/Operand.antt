@@ -53,7 +53,7 @@ constant_of size (negsuc n) = if n == 0 then Some gen.MinusOne else None
 -- the constant of an immediate: of a lone number alone, never of a name or a sum
 abbrev pub lone_constant : Size → Bool × Term → Option Gen
 lone_constant size (is_subtracted, Number n) = constant_of size (with_sign is_subtracted (pos n))
-lone_constant size (is_subtracted, Name span) = None
+lone_constant size (is_subtracted, Name name) = None
 lone_constant size (is_subtracted, Here) = None
 
 abbrev pub generated_constant : Size → List SignedTerm → Option Gen

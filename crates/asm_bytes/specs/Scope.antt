@@ -4,5 +4,4 @@ use Rattle.asm_bytes.specs.Value.{Scope}
 use Rattle.asm_bytes.specs.Names.{value_in}
 
 abbrev pub scope_in : ScopeOf → Scope
-scope_in scope =
-    record { text = scope.text.now; names = value_in scope.names.now; here = scope.here }
+scope_in scope = record { names = value_in scope.names.now; here = scope.here }

@@ -13,20 +13,20 @@ use Rattle.asm_text.specs.declared.operand.Operand.{Operand}
 use Rattle.asm_text.specs.declared.body.Body.{Body}
 use Rattle.asm_text.specs.declared.body.Body.TheVariants.{Empty, Instr as Instruction, Org, Word, Byte, Ascii, Equ}
 use Rattle.asm_text.specs.Expr.{SignedTerm}
-use Rattle.asm_bytes.specs.Value.{Scope, characters, value, known_value, each, word_of, byte_of}
+use Rattle.asm_bytes.specs.Value.{Scope, value, known_value, each, word_of, byte_of}
 use Rattle.asm_text.specs.Form.{form_of}
 use Rattle.asm_bytes.specs.Instruction.{form_size, instruction_of}
 
 -- how many bytes a statement places
-abbrev pub size_of : List ℕ → Body → ℕ
-size_of text Empty = 0
-size_of text (Instruction mnemonic size first second) =
+abbrev pub size_of : Body → ℕ
+size_of Empty = 0
+size_of (Instruction mnemonic size first second) =
     form_size (form_of mnemonic) size (record { first = first; second = second })
-size_of text (Org expr) = 0
-size_of text (Word exprs) = 2 * length exprs
-size_of text (Byte exprs) = length exprs
-size_of text (Ascii span) = length (characters text span)
-size_of text (Equ name expr) = 0
+size_of (Org expr) = 0
+size_of (Word exprs) = 2 * length exprs
+size_of (Byte exprs) = length exprs
+size_of (Ascii text) = length text
+size_of (Equ name expr) = 0
 
 -- it has to stand at an even address
 abbrev pub is_of_words : Body → Bool
@@ -35,7 +35,7 @@ is_of_words (Instruction mnemonic size first second) = true
 is_of_words (Org expr) = false
 is_of_words (Word exprs) = true
 is_of_words (Byte exprs) = false
-is_of_words (Ascii span) = false
+is_of_words (Ascii text) = false
 is_of_words (Equ name expr) = false
 
 -- the instruction that it names, an emulated one as the processor's, or its fault
@@ -82,7 +82,7 @@ bytes_of scope (Word exprs) = do
 bytes_of scope (Byte exprs) = do
   values ← values_of scope exprs
   all_bytes sizes.Byte values
-bytes_of scope (Ascii span) = Ok (characters scope.text span)
+bytes_of scope (Ascii text) = Ok text
 bytes_of scope (Equ name expr) = Ok []
 
 -- a statement names an instruction
@@ -93,7 +93,7 @@ IsNamed scope (Instruction mnemonic size first second) instr =
 IsNamed scope (Org expr) instr = ⊥
 IsNamed scope (Word exprs) instr = ⊥
 IsNamed scope (Byte exprs) instr = ⊥
-IsNamed scope (Ascii span) instr = ⊥
+IsNamed scope (Ascii text) instr = ⊥
 IsNamed scope (Equ name expr) instr = ⊥
 
 -- bytes are those of the words that are read as an instruction

@@ -1,28 +1,21 @@
 -- The value of an expression.
-use Rattle.std.specs.Prelude.{◌+ℤ◌, ◌-◌, ℕ, ℤ, pos, negsuc, neg_ℤ, Bool, nat_le, nat_lt, List, [], ◌∷◌, take, drop, if◌then◌else◌, Option, Some, None, Result, Ok, Err}
+use Rattle.std.specs.Prelude.{◌+ℤ◌, ◌-◌, ℕ, ℤ, pos, negsuc, neg_ℤ, Bool, nat_le, nat_lt, List, [], ◌∷◌, if◌then◌else◌, Option, Some, None, Result, Ok, Err}
 use Rattle.text_scan.specs.declared.fault_kind.FaultKind.{FaultKind}
 use Rattle.text_scan.specs.declared.fault_kind.FaultKind.TheVariants.{Undefined, Range}
 use Rattle.text_scan.specs.Reader.{◌>>=◌}
-use Rattle.asm_text.specs.declared.span.Span.{Span}
 use Rattle.asm_text.specs.declared.term.Term.{Term}
 use Rattle.asm_text.specs.declared.term.Term.TheVariants.{Number, Name, Here}
 use Rattle.asm_text.specs.Expr.{SignedTerm}
 
--- what an expression is read in: the source, the values of names, and the address of the
--- statement's first byte
+-- what an expression is read in: the values of names, and the address of the statement's first byte
 pub record Scope : Type 0 where
-  pub text : List ℕ
   pub names : List ℕ → Option ℤ
   pub here : ℕ
-
--- the characters of a part of the source
-abbrev pub characters : List ℕ → Span → List ℕ
-characters text span = take (span.to - span.from) (drop span.from text)
 
 -- the value of a term; a name may have none
 abbrev pub term_value : Scope → Term → Option ℤ
 term_value scope (Number n) = Some (pos n)
-term_value scope (Name span) = scope.names (characters scope.text span)
+term_value scope (Name name) = scope.names name
 term_value scope Here = Some (pos scope.here)
 
 -- a value with its sign turned, where it is subtracted

@@ -20,12 +20,12 @@ use word_arith::{Op2, Size};
 
 /// The operands of a statement in the order written.
 #[derive(Clone, Copy)]
-pub struct Operands<'s> {
-    pub first: Option<&'s Operand>,
-    pub second: Option<&'s Operand>,
+pub struct Operands<'s, 'a> {
+    pub first: Option<&'s Operand<'a>>,
+    pub second: Option<&'s Operand<'a>>,
 }
 
-impl<'s> Operands<'s> {
+impl<'s, 'a> Operands<'s, 'a> {
     ghost use Rattle.std.specs.Prelude.{◌≡◌, ◌≤◌, option_map, IfOk, IsTrue};
     ghost use Rattle.msp_decode.specs.Completion.{source_form};
     ghost use Rattle.msp_decode.specs.Spelling.{has_form};
@@ -33,7 +33,7 @@ impl<'s> Operands<'s> {
     ghost use Rattle.asm_bytes.specs.Operands.{operands_in};
 
     // The written operand that is the source.
-    fn source(self, role: SourceRole) -> Option<&'s Operand>
+    fn source(self, role: SourceRole) -> Option<&'s Operand<'a>>
         ensures { option_map (λ o. o.now) result ≡ written_source role (operands_in self.entry) }
     {
         match role {
@@ -43,7 +43,7 @@ impl<'s> Operands<'s> {
     }
 
     // The written operand that is the destination.
-    fn dest(self, role: DestRole) -> Option<&'s Operand>
+    fn dest(self, role: DestRole) -> Option<&'s Operand<'a>>
         ensures { option_map (λ o. o.now) result ≡ written_dest role (operands_in self.entry) }
     {
         match role {
@@ -100,7 +100,7 @@ impl<'s> Operands<'s> {
 }
 
 /// How many bytes the instruction of a form has.
-pub fn form_size(form: Form, size: Size, operands: Operands<'_>) -> u16
+pub fn form_size(form: Form, size: Size, operands: Operands<'_, '_>) -> u16
     ensures value { result ≡ form_size form size (operands_in operands.entry) }
     ensures most { result ≤ 6 }
 {
@@ -148,7 +148,7 @@ fn jump_of(cond: Cond, here: u32, target: u16) -> Result<Instr, FaultKind>
 
 impl Scope<'_, '_> {
     // The value of an operand's expression, 0 where it has none.
-    fn operand_value(&self, operand: Option<&Operand>) -> Result<i128, FaultKind>
+    fn operand_value(&self, operand: Option<&Operand<'_>>) -> Result<i128, FaultKind>
         ensures { result
             ≡ known_value (value (scope_in self.now)
             (expr_in (option_map (λ o. o.now) operand.entry))) }
@@ -172,7 +172,7 @@ impl Scope<'_, '_> {
         source: SourceRole,
         dest: DestRole,
         size: Size,
-        operands: Operands<'_>,
+        operands: Operands<'_, '_>,
     ) -> Result<Instr, FaultKind>
         ensures value { result
             ≡ instruction_of (scope_in self.now) (TwoForm op source dest) size
@@ -187,7 +187,7 @@ impl Scope<'_, '_> {
         Ok(Instr::Two(op, size, from, to))
     }
 
-    fn one(&self, op: One, size: Size, operands: Operands<'_>) -> Result<Instr, FaultKind>
+    fn one(&self, op: One, size: Size, operands: Operands<'_, '_>) -> Result<Instr, FaultKind>
         ensures value { result
             ≡ instruction_of (scope_in self.now) (OneForm op) size (operands_in operands.entry) }
         ensures written { IfOk result (λ instr. first_fault (head_part instr) ≡ None) }
@@ -197,7 +197,7 @@ impl Scope<'_, '_> {
         one_of(op, size, source)
     }
 
-    fn jump(&self, cond: Cond, size: Size, operands: Operands<'_>) -> Result<Instr, FaultKind>
+    fn jump(&self, cond: Cond, size: Size, operands: Operands<'_, '_>) -> Result<Instr, FaultKind>
         ensures value { result
             ≡ instruction_of (scope_in self.now) (JumpForm cond) size (operands_in operands.entry) }
         ensures written { IfOk result (λ instr. first_fault (head_part instr) ≡ None) }
@@ -211,7 +211,7 @@ impl Scope<'_, '_> {
         &self,
         form: Form,
         size: Size,
-        operands: Operands<'_>,
+        operands: Operands<'_, '_>,
     ) -> Result<Instr, FaultKind>
         ensures value { result
             ≡ instruction_of (scope_in self.now) form size (operands_in operands.entry) }

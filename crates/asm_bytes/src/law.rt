@@ -12,7 +12,7 @@ use msp_decode::words_are_read;
 #[tactic(auto, using(crate::proofs::StatementSize::bytes_have_their_size))]
 pub fn bytes_have_their_size()
     ensures { (scope : Scope) (body : Body)
-        → IfOk (bytes_of scope body) (λ bytes. length bytes ≡ size_of scope.text body) }
+        → IfOk (bytes_of scope body) (λ bytes. length bytes ≡ size_of body) }
 {}
 
 /// The words of an instruction that a statement names are read as that instruction.

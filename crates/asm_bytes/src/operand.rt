@@ -12,7 +12,7 @@ use text_scan::FaultKind;
 use word_arith::Size;
 
 /// The expression of an operand.
-pub fn expr_in(operand: Option<&Operand>) -> Option<&Expr>
+pub fn expr_in<'s, 'a>(operand: Option<&'s Operand<'a>>) -> Option<&'s Expr<'a>>
     ensures { option_map_or (λ expr. expr.now) result []
         ≡ expr_in (option_map (λ o. o.now) operand.entry) }
 {
@@ -52,17 +52,20 @@ fn all_ones(size: Size) -> u16
 }
 
 // The constant of an immediate, which only a lone number has.
-fn generated_constant(size: Size, expr: &Expr) -> Option<Gen>
+fn generated_constant(size: Size, expr: &Expr<'_>) -> Option<Gen>
     ensures { result ≡ generated_constant size expr.now }
 {
-    match expr.as_slice() {
-        [(is_subtracted, Term::Number(number))] => constant_of(size, *is_subtracted, *number),
+    let [signed] = expr.as_slice() else {
+        return None;
+    };
+    match signed {
+        (is_subtracted, Term::Number(number)) => constant_of(size, *is_subtracted, *number),
         _ => None,
     }
 }
 
 /// How many extension words an operand has.
-pub fn operand_words(size: Size, operand: Option<&Operand>) -> u16
+pub fn operand_words(size: Size, operand: Option<&Operand<'_>>) -> u16
     ensures value { result ≡ operand_words size (option_map (λ o. o.now) operand.entry) }
     ensures most { result ≤ 1 }
 {
@@ -74,7 +77,7 @@ pub fn operand_words(size: Size, operand: Option<&Operand>) -> u16
 }
 
 // An immediate, or the constant in its place.
-fn immediate(size: Size, expr: &Expr, value: i128) -> Result<Source, FaultKind>
+fn immediate(size: Size, expr: &Expr<'_>, value: i128) -> Result<Source, FaultKind>
     ensures { result ≡ immediate size (generated_constant size expr.now) value }
 {
     if let Some(constant) = generated_constant(size, expr) {
@@ -92,7 +95,7 @@ fn immediate(size: Size, expr: &Expr, value: i128) -> Result<Source, FaultKind>
 pub fn source_of(
     size: Size,
     at: u16,
-    operand: Option<&Operand>,
+    operand: Option<&Operand<'_>>,
     value: i128,
 ) -> Result<Source, FaultKind>
     ensures value { result ≡ source_of size at (option_map (λ o. o.now) operand.entry) value }
@@ -117,7 +120,7 @@ pub fn source_of(
 }
 
 /// An operand as a destination, likewise.
-pub fn dest_of(at: u16, operand: Option<&Operand>, value: i128) -> Result<Dest, FaultKind>
+pub fn dest_of(at: u16, operand: Option<&Operand<'_>>, value: i128) -> Result<Dest, FaultKind>
     ensures { result ≡ dest_of at (option_map (λ o. o.now) operand.entry) value }
 {
     match operand {

@@ -1,24 +1,14 @@
 ghost use Rattle.std.specs.Prelude.{◌≡◌, ◌≤ℤ◌, ◌^◌, pos, neg_ℤ};
-ghost use Rattle.asm_bytes.specs.Value.{characters, with_sign};
+ghost use Rattle.asm_bytes.specs.Value.{with_sign};
 
 use crate::names::Names;
-use asm_text::{Expr, Span, Term};
+use asm_text::{Expr, Term};
 use text_scan::FaultKind;
 
-/// The characters of a part of a source.
-pub fn characters(text: &[u8], span: Span) -> &[u8]
-    ensures { result.now ≡ characters text.now span }
-{
-    let to = span.to.min(text.len());
-    let from = span.from.min(to);
-    &text[from..to]
-}
-
-/// What an expression is read in: the source, the values of names, and the address of the
-/// statement's first byte, which is 65,536 after the last place.
+/// What an expression is read in: the values of names, and the address of the statement's first
+/// byte, which is 65,536 after the last place.
 #[derive(Clone, Copy)]
 pub struct Scope<'s, 'a> {
-    pub text: &'a [u8],
     pub names: &'s Names<'a>,
     pub here: u32,
 }
@@ -38,29 +28,29 @@ impl Scope<'_, '_> {
     ghost use Rattle.asm_bytes.specs.Value.{term_value, value, known_value};
     ghost use Rattle.asm_bytes.specs.Scope.{scope_in};
 
-    fn term_value(&self, term: Term) -> Option<i64>
-        ensures { result ≡ term_value (scope_in self.now) term }
+    fn term_value(&self, term: &Term<'_>) -> Option<i64>
+        ensures { result ≡ term_value (scope_in self.now) term.now }
     {
         match term {
-            Term::Number(number) => Some(i64::from(number)),
-            Term::Name(span) => self.names.get(characters(self.text, span)).map(i64::from),
+            Term::Number(number) => Some(i64::from(*number)),
+            Term::Name(name) => self.names.get(name.as_slice()).map(i64::from),
             Term::Here => Some(i64::from(self.here)),
         }
     }
 
     // The sum of the terms, if each name has a value.
-    fn value(&self, expr: &Expr) -> Option<i128>
+    fn value(&self, expr: &Expr<'_>) -> Option<i128>
         ensures { result ≡ value (scope_in self.now) expr.now }
     {
         let mut total: i128 = 0;
         for (is_subtracted, term) in expr.as_slice() {
-            total += with_sign(*is_subtracted, self.term_value(*term)?);
+            total += with_sign(*is_subtracted, self.term_value(term)?);
         }
         Some(total)
     }
 
     /// The value of an expression; `Undefined` where a name has none.
-    pub fn defined_value(&self, expr: &Expr) -> Result<i128, FaultKind>
+    pub fn defined_value(&self, expr: &Expr<'_>) -> Result<i128, FaultKind>
         ensures { result ≡ known_value (value (scope_in self.now) expr.now) }
     {
         self.value(expr).ok_or(FaultKind::Undefined)

@@ -9,7 +9,7 @@ ghost use Rattle.asm_bytes.specs.StatementBytes.{AddsBytes};
 use crate::instruction::{Operands, form_size};
 use crate::law::named_instructions_are_read;
 use crate::number::{byte_of, word_of};
-use crate::scope::{Scope, characters};
+use crate::scope::Scope;
 use asm_text::{Body, Expr, Form};
 use msp_decode::{Instr, encode};
 use std::alloc::{AllocError, Global};
@@ -17,8 +17,8 @@ use text_scan::{Bytes, WordFault};
 use word_arith::Size;
 
 /// How many bytes a statement places.
-pub fn size_of(text: &[u8], body: &Body) -> usize
-    ensures { result ≡ size_of text.now body.now }
+pub fn size_of(body: &Body<'_>) -> usize
+    ensures { result ≡ size_of body.now }
 {
     match body {
         Body::Instr(mnemonic, size, first, second) => {
@@ -30,13 +30,13 @@ pub fn size_of(text: &[u8], body: &Body) -> usize
         }
         Body::Word(exprs) => 2 * exprs.as_slice().len(),
         Body::Byte(exprs) => exprs.as_slice().len(),
-        Body::Ascii(span) => characters(text, *span).len(),
+        Body::Ascii(text) => text.as_slice().len(),
         Body::Empty | Body::Org(_) | Body::Equ(..) => 0,
     }
 }
 
 /// Whether a statement has to stand at an even address.
-pub fn is_of_words(body: &Body) -> bool
+pub fn is_of_words(body: &Body<'_>) -> bool
     ensures { result ≡ is_of_words body.now }
 {
     matches!(body, Body::Instr(..) | Body::Word(_))
@@ -99,7 +99,7 @@ impl Scope<'_, '_> {
     ghost use Rattle.asm_bytes.specs.StatementBytes.{GivesValues, AddsBytes};
 
     // The values of expressions.
-    fn values(&self, alloc: Global, exprs: &[Expr]) -> Result<Vec<i128>, WordFault>
+    fn values(&self, alloc: Global, exprs: &[Expr<'_>]) -> Result<Vec<i128>, WordFault>
         ensures { GivesValues result (values_of (scope_in self.now) exprs.now) }
     {
         let mut values = Vec::new(alloc);
@@ -113,7 +113,12 @@ impl Scope<'_, '_> {
     }
 
     // Puts the bytes of a statement after the bytes.
-    fn push_bytes(&self, alloc: Global, bytes: &mut Vec<u8>, body: &Body) -> Result<(), WordFault>
+    fn push_bytes(
+        &self,
+        alloc: Global,
+        bytes: &mut Vec<u8>,
+        body: &Body<'_>,
+    ) -> Result<(), WordFault>
         ensures { AddsBytes result bytes.old.items bytes.new.items
             (bytes_of (scope_in self.now) body.now) }
     {
@@ -132,8 +137,8 @@ impl Scope<'_, '_> {
             Body::Byte(exprs) => {
                 push_values(bytes, Size::Byte, &self.values(alloc, exprs.as_slice())?)
             }
-            Body::Ascii(span) => bytes
-                .extend_from_slice(characters(self.text, *span))
+            Body::Ascii(text) => bytes
+                .extend_from_slice(text.as_slice())
                 .map_err(WordFault::Memory),
             Body::Empty | Body::Org(_) | Body::Equ(..) => Ok(()),
         }
@@ -141,7 +146,7 @@ impl Scope<'_, '_> {
 
     /// The bytes that a statement places, or its first fault. Those of an instruction are read as
     /// the instruction that the statement names.
-    pub fn bytes_of(&self, alloc: Global, body: &Body) -> Result<Bytes, WordFault>
+    pub fn bytes_of(&self, alloc: Global, body: &Body<'_>) -> Result<Bytes, WordFault>
         ensures value { ReadsWord result (bytes_of (scope_in self.now) body.now) }
         ensures decoded { (instr : Instr)
             → IsNamed (scope_in self.now) body.now instr

@@ -4,6 +4,4 @@ pub mod Cuts
 pub mod TokenSteps
 pub mod TermSteps
 pub mod NumberSteps
-pub mod LineStarts
-pub mod SourceSteps
 pub mod FirstFault

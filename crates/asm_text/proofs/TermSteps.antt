@@ -6,7 +6,6 @@ use Rattle.text_scan.specs.declared.fault_kind.FaultKind.TheVariants.{Syntax}
 use Rattle.text_scan.specs.Reader.{◌>>=◌}
 use Rattle.asm_text.specs.declared.term.Term.{Term}
 use Rattle.asm_text.specs.declared.token.Token.{Token}
-use Rattle.asm_text.specs.declared.token.Token.TheVariants.{Number}
 use Rattle.asm_text.specs.Expr.{SignedTerm}
 use Rattle.asm_text.specs.Operand.{term_of, sign_of, terms_of}
 use Rattle.asm_text.proofs.Behind.{behind, behind-values}
@@ -65,48 +64,48 @@ terms-last_fault prefix is_subtracted token kind so_far is =
 -- the same of a list of tokens by its places
 
 pub next_term : {whole : Result (List SignedTerm) FaultKind} (prefix more : List SignedTerm)
-    (is_subtracted next : Bool) (tail : List Token) (term : Term)
+    (is_subtracted next : Bool) (tail : List Token) (d e : Token) (term : Term)
     → whole ≡ behind prefix (terms_of is_subtracted tail) → 2 ≤ length tail
-    → term_of (get_or tail 0 (Number 0)) ≡ Ok term → sign_of (get_or tail 1 (Number 0)) ≡ Ok next
+    → term_of (get_or tail 0 d) ≡ Ok term → sign_of (get_or tail 1 e) ≡ Ok next
     → more ≡ prefix ++ (is_subtracted, term) ∷ []
     → whole ≡ behind more (terms_of next (take (length tail - 2) (drop 2 tail)))
-next_term prefix more is_subtracted next [] term so_far long is has_sign adds = absurd (omega arith)
-next_term prefix more is_subtracted next (a ∷ []) term so_far long is has_sign adds = absurd (omega
+next_term prefix more is_subtracted next [] d e term so_far long is has_sign adds = absurd (omega arith)
+next_term prefix more is_subtracted next (a ∷ []) d e term so_far long is has_sign adds = absurd (omega
     arith)
-next_term prefix more is_subtracted next (a ∷ b ∷ rest) term so_far long is has_sign adds =
+next_term prefix more is_subtracted next (a ∷ b ∷ rest) d e term so_far long is has_sign adds =
     terms-more prefix more is_subtracted next a b rest term so_far is has_sign adds
     ∙ ap (λ (tail : List Token). behind more (terms_of next tail)) (sym (take_rest (a ∷ b ∷ rest)
     2))
 
 pub no_term : {whole : Result (List SignedTerm) FaultKind} (prefix : List SignedTerm)
-    (is_subtracted : Bool) (tail : List Token) (kind : FaultKind)
+    (is_subtracted : Bool) (tail : List Token) (d : Token) (kind : FaultKind)
     → whole ≡ behind prefix (terms_of is_subtracted tail) → 1 ≤ length tail
-    → term_of (get_or tail 0 (Number 0)) ≡ Err kind → whole ≡ Err kind
-no_term prefix is_subtracted [] kind so_far long is = absurd (omega arith)
-no_term prefix is_subtracted (a ∷ []) kind so_far long is =
+    → term_of (get_or tail 0 d) ≡ Err kind → whole ≡ Err kind
+no_term prefix is_subtracted [] d kind so_far long is = absurd (omega arith)
+no_term prefix is_subtracted (a ∷ []) d kind so_far long is =
     terms-last_fault prefix is_subtracted a kind so_far is
-no_term prefix is_subtracted (a ∷ b ∷ rest) kind so_far long is =
+no_term prefix is_subtracted (a ∷ b ∷ rest) d kind so_far long is =
     terms-no_term prefix is_subtracted a b rest kind so_far is
 
 pub no_sign : {whole : Result (List SignedTerm) FaultKind} (prefix : List SignedTerm)
-    (is_subtracted : Bool) (tail : List Token) (term : Term) (kind : FaultKind)
+    (is_subtracted : Bool) (tail : List Token) (d e : Token) (term : Term) (kind : FaultKind)
     → whole ≡ behind prefix (terms_of is_subtracted tail) → 2 ≤ length tail
-    → term_of (get_or tail 0 (Number 0)) ≡ Ok term → sign_of (get_or tail 1 (Number 0)) ≡ Err kind
+    → term_of (get_or tail 0 d) ≡ Ok term → sign_of (get_or tail 1 e) ≡ Err kind
     → whole ≡ Err kind
-no_sign prefix is_subtracted [] term kind so_far long is has_sign = absurd (omega arith)
-no_sign prefix is_subtracted (a ∷ []) term kind so_far long is has_sign = absurd (omega arith)
-no_sign prefix is_subtracted (a ∷ b ∷ rest) term kind so_far long is has_sign =
+no_sign prefix is_subtracted [] d e term kind so_far long is has_sign = absurd (omega arith)
+no_sign prefix is_subtracted (a ∷ []) d e term kind so_far long is has_sign = absurd (omega arith)
+no_sign prefix is_subtracted (a ∷ b ∷ rest) d e term kind so_far long is has_sign =
     terms-no_sign prefix is_subtracted a b rest term kind so_far is has_sign
 
 pub last_term : {whole : Result (List SignedTerm) FaultKind} (prefix more : List SignedTerm)
-    (is_subtracted : Bool) (tail : List Token) (term : Term)
+    (is_subtracted : Bool) (tail : List Token) (d : Token) (term : Term)
     → whole ≡ behind prefix (terms_of is_subtracted tail) → 1 ≤ length tail → length tail < 2
-    → term_of (get_or tail 0 (Number 0)) ≡ Ok term → more ≡ prefix ++ (is_subtracted, term) ∷ []
+    → term_of (get_or tail 0 d) ≡ Ok term → more ≡ prefix ++ (is_subtracted, term) ∷ []
     → whole ≡ Ok more
-last_term prefix more is_subtracted [] term so_far some few is adds = absurd (omega arith)
-last_term prefix more is_subtracted (a ∷ []) term so_far some few is adds =
+last_term prefix more is_subtracted [] d term so_far some few is adds = absurd (omega arith)
+last_term prefix more is_subtracted (a ∷ []) d term so_far some few is adds =
     terms-last prefix more is_subtracted a term so_far is adds
-last_term prefix more is_subtracted (a ∷ b ∷ rest) term so_far some few is adds = absurd (omega
+last_term prefix more is_subtracted (a ∷ b ∷ rest) d term so_far some few is adds = absurd (omega
     arith)
 
 pub term_missing : {whole : Result (List SignedTerm) FaultKind} (prefix : List SignedTerm)

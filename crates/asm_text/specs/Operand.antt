@@ -14,7 +14,7 @@ use Rattle.asm_text.specs.Expr.{SignedTerm}
 
 abbrev pub term_of : Token → Result Term FaultKind
 term_of (Number number) = Ok (terms.Number number)
-term_of (Name span operation) = Ok (terms.Name span)
+term_of (Name name operation) = Ok (terms.Name name)
 term_of Here = Ok terms.Here
 term_of token = Err Syntax
 

@@ -1,5 +1,5 @@
 -- Statements: operations with operands of the forms that they take.
-use Rattle.std.specs.Prelude.{◌&&◌, Bool, true, false, not, List, [], ◌∷◌, Option, Some, None, map, if◌then◌else◌, Result, Ok, Err}
+use Rattle.std.specs.Prelude.{ℕ, ◌&&◌, Bool, true, false, not, List, [], ◌∷◌, Option, Some, None, map, if◌then◌else◌, Result, Ok, Err}
 use Rattle.text_scan.specs.declared.fault_kind.FaultKind.{FaultKind}
 use Rattle.text_scan.specs.declared.fault_kind.FaultKind.TheVariants as faults
 use Rattle.text_scan.specs.Reader.{◌>>=◌}
@@ -17,7 +17,6 @@ use Rattle.asm_text.specs.declared.operand_form.OperandForm.{OperandForm}
 use Rattle.asm_text.specs.declared.operand_form.OperandForm.TheVariants.{SourceAndDestination, Source, Destination, InPlace, DestinationTwice, Target, Nothing}
 use Rattle.asm_text.specs.declared.operation.Operation.{Operation}
 use Rattle.asm_text.specs.declared.operation.Operation.TheVariants.{Instr, Org, Word, Byte, Ascii, Equ}
-use Rattle.asm_text.specs.declared.span.Span.{Span}
 use Rattle.asm_text.specs.declared.term.Term.TheVariants as terms
 use Rattle.asm_text.specs.declared.token.Token.{Token}
 use Rattle.asm_text.specs.declared.token.Token.TheVariants as tokens
@@ -107,18 +106,18 @@ org_of operands = do
   org_with two.0 two.1
 
 -- the name that an expression is
-abbrev pub lone_name : List SignedTerm → Result Span FaultKind
-lone_name ((false, terms.Name span) ∷ []) = Ok span
+abbrev pub lone_name : List SignedTerm → Result (List ℕ) FaultKind
+lone_name ((false, terms.Name name) ∷ []) = Ok name
 lone_name expr = Err faults.Operand
 
 -- `.equ NAME, E`
 abbrev pub equ_of : List Operand → Result Body FaultKind
 equ_of operands = do
   two ← two_of operands
-  name ← lone_expr two.0
-  span ← lone_name name
+  first ← lone_expr two.0
+  name ← lone_name first
   expr ← lone_expr two.1
-  Ok (bodies.Equ span expr)
+  Ok (bodies.Equ name expr)
 
 abbrev pub operand_expr : Operand → Result (List SignedTerm) FaultKind
 operand_expr operand = lone_expr (Some operand)
@@ -153,21 +152,21 @@ body_of None operands = Err faults.Mnemonic
 
 -- what may stand in the place of the text: a text or an operand
 abbrev pub is_readable : List Token → Result Unit FaultKind
-is_readable (tokens.Text span ∷ []) = Ok tt
+is_readable (tokens.Text text ∷ []) = Ok tt
 is_readable part = do
   operand ← operand_of part
   Ok tt
 
 -- `.ascii "T"`
 abbrev pub ascii_of : List Token → Result Body FaultKind
-ascii_of (tokens.Text span ∷ []) = Ok (bodies.Ascii span)
+ascii_of (tokens.Text text ∷ []) = Ok (bodies.Ascii text)
 ascii_of rest = do
   readable ← all_of (map is_readable (parts_of rest))
   Err faults.Operand
 
 -- the operation of a statement's first word
 abbrev pub first_word : Token → Result (Option Operation) FaultKind
-first_word (tokens.Name span operation) = Ok operation
+first_word (tokens.Name name operation) = Ok operation
 first_word (tokens.Word operation) = Ok operation
 first_word (tokens.Register register) = Ok None
 first_word token = Err faults.Syntax
@@ -192,10 +191,10 @@ statement_body (word ∷ rest) = do
   operation_body operation rest
 
 -- `NAME:` before a statement
-abbrev pub labelled_body : List Token → Result (Option Span × Body) FaultKind
-labelled_body (tokens.Name span operation ∷ tokens.Colon ∷ rest) = do
+abbrev pub labelled_body : List Token → Result (Option (List ℕ) × Body) FaultKind
+labelled_body (tokens.Name name operation ∷ tokens.Colon ∷ rest) = do
   body ← statement_body rest
-  Ok (Some span, body)
+  Ok (Some name, body)
 labelled_body all = do
   body ← statement_body all
   Ok (None, body)

@@ -1,5 +1,5 @@
 -- The tokens of a line.
-use Rattle.std.specs.Prelude.{ℕ, ◌<◌, ◌≤◌, ◌+◌, ◌-◌, ◌==◌, Bool, not, ◌&&◌, List, [], ◌∷◌, Option, Some, None, zero, suc, length, slice_index, if◌then◌else◌, nat_le, Result, Ok, Err}
+use Rattle.std.specs.Prelude.{ℕ, ◌<◌, ◌≤◌, ◌+◌, ◌-◌, ◌==◌, Bool, not, ◌&&◌, List, [], ◌∷◌, Option, Some, None, zero, suc, length, take, slice_index, if◌then◌else◌, nat_le, Result, Ok, Err}
 use Rattle.std.specs.Char.{is_ascii_digit}
 use Rattle.std.specs.List.{position_or_len, before_first}
 use Rattle.msp_decode.specs.declared.reg.Reg.{Reg}
@@ -9,39 +9,33 @@ use Rattle.text_scan.specs.Word.{is_blank}
 use Rattle.asm_text.specs.declared.operation.Operation.{Operation}
 use Rattle.asm_text.specs.declared.piece.Piece.{Piece}
 use Rattle.asm_text.specs.declared.piece.Piece.TheVariants as pieces
-use Rattle.asm_text.specs.declared.span.Span.{Span}
 use Rattle.asm_text.specs.declared.token.Token.{Token}
 use Rattle.asm_text.specs.declared.token.Token.TheVariants as tokens
 use Rattle.asm_text.specs.Word.{is_word_character, ends_word, is_name, number_of, operation_of, lower_case}
 use Rattle.asm_text.specs.Name.{register_of}
 
--- so many characters from a place on
-abbrev pub span_at : ℕ → ℕ → Span
-span_at place count = record { from = place; to = place + count }
-
 abbrev pub number_piece : Option ℕ → ℕ → Piece
 number_piece None count = pieces.Stray
 number_piece (Some number) count = pieces.Token (tokens.Number number) count
 
-abbrev pub name_token : (word : List ℕ) → Option Operation → Span → Token
-name_token word operation span =
-    if is_name word then tokens.Name span operation else tokens.Word operation
+abbrev pub name_token : List ℕ → Option Operation → Token
+name_token word operation =
+    if is_name word then tokens.Name word operation else tokens.Word operation
 
 abbrev pub named_token : Option Reg → Token → Token
 named_token None name = name
 named_token (Some register) name = tokens.Register register
 
 -- registers and operations in any case
-abbrev pub word_token : ℕ → List ℕ → Token
-word_token place word =
-    named_token (register_of (lower_case word))
-    (name_token word (operation_of (lower_case word)) (span_at place (length word)))
+abbrev pub word_token : List ℕ → Token
+word_token word =
+    named_token (register_of (lower_case word)) (name_token word (operation_of (lower_case word)))
 
 -- a word that begins with a digit is a number
-unfoldable pub word_piece : ℕ → List ℕ → Piece
-word_piece place word =
+unfoldable pub word_piece : List ℕ → Piece
+word_piece word =
     if is_ascii_digit (slice_index word 0) then number_piece (number_of word) (length word)
-    else pieces.Token (word_token place word) (length word)
+    else pieces.Token (word_token word) (length word)
 
 -- 20 to 7E, and neither `"` (22) nor `\` (5C)
 abbrev pub is_text_character : ℕ → Bool
@@ -50,12 +44,12 @@ is_text_character c = nat_le 0x20 c && nat_le c 0x7E && not (c == 0x22) && not (
 abbrev pub ends_text : ℕ → Bool
 ends_text c = not (is_text_character c)
 
--- characters up to the next quote, from the place of the first on
-abbrev pub text_piece : ℕ → List ℕ → Piece
-text_piece place characters =
+-- characters up to the next quote
+abbrev pub text_piece : List ℕ → Piece
+text_piece characters =
     let count : ℕ = position_or_len ends_text characters in
     if slice_index characters count == 0x22
-    then pieces.Token (tokens.Text (span_at place count)) (count + 2)
+    then pieces.Token (tokens.Text (take count characters)) (count + 2)
     else pieces.Stray
 
 -- the marks `$ : , # & @ + - ( )`
@@ -73,14 +67,14 @@ mark_piece c =
     else if c == 0x29 then pieces.Token tokens.Close 1
     else pieces.Stray
 
--- what stands at a place: a blank, a comment from `;` (3B) on, or the longest token
-unfoldable pub piece_of : ℕ → List ℕ → Piece
-piece_of place [] = pieces.Stray
-piece_of place (c ∷ rest) =
+-- what stands first: a blank, a comment from `;` (3B) on, or the longest token
+unfoldable pub piece_of : List ℕ → Piece
+piece_of [] = pieces.Stray
+piece_of (c ∷ rest) =
     if is_blank c then pieces.Blank
     else if c == 0x3B then pieces.Comment
-    else if c == 0x22 then text_piece (place + 1) rest
-    else if is_word_character c then word_piece place (before_first ends_word (c ∷ rest))
+    else if c == 0x22 then text_piece rest
+    else if is_word_character c then word_piece (before_first ends_word (c ∷ rest))
     else mark_piece c
 
 -- a token has a character or more, and at most so many
@@ -100,13 +94,13 @@ with_later pieces.Comment later = Ok []
 with_later (pieces.Token token count) later = token_before token (later (count - 1))
 with_later pieces.Stray later = Err Syntax
 
--- the tokens of a line from a place on, where the next characters may be passed
-unfoldable pub tokens_behind : (skip place : ℕ) → List ℕ → Result (List Token) FaultKind
-tokens_behind skip place [] = Ok []
-tokens_behind (suc skip) place (c ∷ rest) = tokens_behind skip (place + 1) rest
-tokens_behind zero place (c ∷ rest) =
-    with_later (piece_of place (c ∷ rest)) (λ skip. tokens_behind skip (place + 1) rest)
+-- the tokens of characters, of which the first few may be passed
+unfoldable pub tokens_behind : (skip : ℕ) → List ℕ → Result (List Token) FaultKind
+tokens_behind skip [] = Ok []
+tokens_behind (suc skip) (c ∷ rest) = tokens_behind skip rest
+tokens_behind zero (c ∷ rest) =
+    with_later (piece_of (c ∷ rest)) (λ skip. tokens_behind skip rest)
 
--- the tokens of a line that begins at a place
-abbrev pub tokens_of : ℕ → List ℕ → Result (List Token) FaultKind
-tokens_of place line = tokens_behind 0 place line
+-- the tokens of a line
+abbrev pub tokens_of : List ℕ → Result (List Token) FaultKind
+tokens_of line = tokens_behind 0 line

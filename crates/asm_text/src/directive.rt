@@ -3,20 +3,20 @@ ghost use Rattle.text_scan.specs.Reader.{ReadsWord};
 ghost use Rattle.asm_text.specs.Statement.{org_of, equ_of, is_readable, ascii_of, lone_expr, lone_name};
 
 use crate::body::Body;
+use crate::characters::Characters;
 use crate::expr::Expr;
 use crate::operand::Operand;
 use crate::operand_reader::read_operand;
 use crate::operands::Operands;
 use crate::parts::Parts;
-use crate::span::Span;
 use crate::term::Term;
 use crate::token::Token;
 use std::alloc::Global;
 use text_scan::{FaultKind, WordFault};
 
 /// `.org E`
-pub fn org_of(operands: Operands) -> Result<Body, FaultKind>
-    ensures { result ≡ org_of operands }
+pub fn org_of<'a>(operands: Operands<'a>) -> Result<Body<'a>, FaultKind>
+    ensures { result ≡ org_of operands.entry }
 {
     let (first, second) = operands.into_two()?;
     if second.is_some() {
@@ -26,8 +26,8 @@ pub fn org_of(operands: Operands) -> Result<Body, FaultKind>
 }
 
 /// `.equ NAME, E`
-pub fn equ_of(operands: Operands) -> Result<Body, FaultKind>
-    ensures { result ≡ equ_of operands }
+pub fn equ_of<'a>(operands: Operands<'a>) -> Result<Body<'a>, FaultKind>
+    ensures { result ≡ equ_of operands.entry }
 {
     let (first, second) = operands.into_two()?;
     let name = lone_expr(first)?;
@@ -36,8 +36,8 @@ pub fn equ_of(operands: Operands) -> Result<Body, FaultKind>
 }
 
 // The expression that an operand is.
-fn lone_expr(operand: Option<Operand>) -> Result<Expr, FaultKind>
-    ensures { result ≡ lone_expr operand }
+fn lone_expr<'a>(operand: Option<Operand<'a>>) -> Result<Expr<'a>, FaultKind>
+    ensures { result ≡ lone_expr operand.entry }
 {
     match operand {
         Some(Operand::Symbolic(expr)) => Ok(expr),
@@ -46,22 +46,27 @@ fn lone_expr(operand: Option<Operand>) -> Result<Expr, FaultKind>
 }
 
 // The name that an expression is.
-fn lone_name(expr: &Expr) -> Result<Span, FaultKind>
+fn lone_name<'a>(expr: &Expr<'a>) -> Result<Characters<'a>, FaultKind>
     ensures { result ≡ lone_name expr.now }
 {
-    match expr.as_slice() {
-        [(false, Term::Name(span))] => Ok(*span),
+    let [signed] = expr.as_slice() else {
+        return Err(FaultKind::Operand);
+    };
+    match signed {
+        (false, Term::Name(name)) => Ok(name.again()),
         _ => Err(FaultKind::Operand),
     }
 }
 
 /// `.ascii "T"`, from behind its first word on. Where it is read but is none, the fault is
 /// `Operand`.
-pub fn read_ascii(alloc: Global, tokens: &[Token]) -> Result<Body, WordFault>
+pub fn read_ascii<'a>(alloc: Global, tokens: &[Token<'a>]) -> Result<Body<'a>, WordFault>
     ensures { ReadsWord result (ascii_of tokens.now) }
 {
-    if let [Token::Text(span)] = tokens {
-        return Ok(Body::Ascii(*span));
+    if let [token] = tokens {
+        if let Token::Text(text) = token {
+            return Ok(Body::Ascii(text.again()));
+        }
     }
     for part in Parts::new(tokens) {
         check_readable(alloc, part)?;
@@ -70,7 +75,7 @@ pub fn read_ascii(alloc: Global, tokens: &[Token]) -> Result<Body, WordFault>
 }
 
 // `Syntax` where a part is neither a text nor an operand.
-fn check_readable(alloc: Global, part: &[Token]) -> Result<(), WordFault>
+fn check_readable(alloc: Global, part: &[Token<'_>]) -> Result<(), WordFault>
     ensures { ReadsWord result (is_readable part.now) }
 {
     if let [Token::Text(_)] = part {

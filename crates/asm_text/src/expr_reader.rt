@@ -9,7 +9,7 @@ use std::alloc::Global;
 use text_scan::{FaultKind, WordFault};
 
 /// The expression of these tokens; `Syntax` where they are none.
-pub fn read_expr(alloc: Global, tokens: &[Token]) -> Result<Expr, WordFault>
+pub fn read_expr<'a>(alloc: Global, tokens: &[Token<'a>]) -> Result<Expr<'a>, WordFault>
     ensures { ReadsWord result (expr_of tokens.now) }
 {
     match tokens {
@@ -19,40 +19,44 @@ pub fn read_expr(alloc: Global, tokens: &[Token]) -> Result<Expr, WordFault>
 }
 
 // Terms, of which the first is subtracted or not, each with its sign before the next.
-fn read_terms(alloc: Global, is_subtracted: bool, tokens: &[Token]) -> Result<Expr, WordFault>
+fn read_terms<'a>(
+    alloc: Global,
+    is_subtracted: bool,
+    tokens: &[Token<'a>],
+) -> Result<Expr<'a>, WordFault>
     ensures { ReadsWord result (terms_of is_subtracted tokens.now) }
 {
     let mut expr = Expr::new(alloc);
     let mut sign = is_subtracted;
     let mut rest = tokens;
     while let [first, sign_token, others @ ..] = rest {
-        expr.add(sign, term_of(*first)?).map_err(WordFault::Memory)?;
-        sign = sign_of(*sign_token)?;
+        expr.add(sign, term_of(first)?).map_err(WordFault::Memory)?;
+        sign = sign_of(sign_token)?;
         rest = others;
     }
     match rest {
         [] => Err(WordFault::Kind(FaultKind::Syntax)),
         [last, ..] => {
-            expr.add(sign, term_of(*last)?).map_err(WordFault::Memory)?;
+            expr.add(sign, term_of(last)?).map_err(WordFault::Memory)?;
             Ok(expr)
         }
     }
 }
 
-fn term_of(token: Token) -> Result<Term, FaultKind>
-    ensures { result ≡ term_of token }
+fn term_of<'a>(token: &Token<'a>) -> Result<Term<'a>, FaultKind>
+    ensures { result ≡ term_of token.now }
 {
     match token {
-        Token::Number(number) => Ok(Term::Number(number)),
-        Token::Name(span, _) => Ok(Term::Name(span)),
+        Token::Number(number) => Ok(Term::Number(*number)),
+        Token::Name(name, _) => Ok(Term::Name(name.again())),
         Token::Here => Ok(Term::Here),
         _ => Err(FaultKind::Syntax),
     }
 }
 
 // Whether the term behind a sign is subtracted.
-fn sign_of(token: Token) -> Result<bool, FaultKind>
-    ensures { result ≡ sign_of token }
+fn sign_of(token: &Token<'_>) -> Result<bool, FaultKind>
+    ensures { result ≡ sign_of token.now }
 {
     match token {
         Token::Plus => Ok(false),

@@ -9,18 +9,18 @@ use std::marker::Model;
 
 /// Expressions in the order written.
 #[derive(Debug, Drop)]
-pub struct Exprs {
-    exprs: Vec<Expr>,
+pub struct Exprs<'a> {
+    exprs: Vec<Expr<'a>>,
 }
 
-impl Model for Exprs {
+impl<'a> Model for Exprs<'a> {
     ghost Value = { List (List SignedTerm) };
 
     ghost view = { λ exprs. exprs.exprs.items };
 }
 
-impl Exprs {
-    pub(crate) fn new(alloc: Global) -> Exprs
+impl<'a> Exprs<'a> {
+    pub(crate) fn new(alloc: Global) -> Exprs<'a>
         ensures { result ≡ [] }
     {
         Exprs {
@@ -29,8 +29,8 @@ impl Exprs {
     }
 
     // Puts an expression after the others.
-    pub(crate) fn add(&mut self, expr: Expr) -> Result<(), AllocError>
-        ensures { OnOk result (self.new ≡ self.old ++ expr ∷ []) }
+    pub(crate) fn add(&mut self, expr: Expr<'a>) -> Result<(), AllocError>
+        ensures { OnOk result (self.new ≡ self.old ++ expr.entry ∷ []) }
     {
         self.exprs.reserve(1)?;
         self.exprs.push_reserved(expr);
@@ -45,14 +45,14 @@ impl Exprs {
     }
 
     /// The expression at an index from 0; `None` past the last.
-    pub fn get(&self, i: usize) -> Option<&Expr>
+    pub fn get(&self, i: usize) -> Option<&Expr<'a>>
         ensures { option_copied result ≡ slice_get self.now i }
     {
         self.exprs.get(i)
     }
 
     /// All expressions in the order written.
-    pub fn as_slice(&self) -> &[Expr]
+    pub fn as_slice(&self) -> &[Expr<'a>]
         ensures { result.now ≡ self.now }
     {
         &self.exprs

@@ -13,8 +13,12 @@ use text_scan::FaultKind;
 use word_arith::Size;
 
 /// An instruction with its operands; `Operand` where it does not take these.
-pub fn instruction_of(mnemonic: Mnemonic, size: Size, operands: Operands) -> Result<Body, FaultKind>
-    ensures { result ≡ instruction_of mnemonic size operands }
+pub fn instruction_of<'a>(
+    mnemonic: Mnemonic,
+    size: Size,
+    operands: Operands<'a>,
+) -> Result<Body<'a>, FaultKind>
+    ensures { result ≡ instruction_of mnemonic size operands.entry }
 {
     let (first, second) = operands.into_two()?;
     let form = Form::of(mnemonic).operand_form();
@@ -24,7 +28,7 @@ pub fn instruction_of(mnemonic: Mnemonic, size: Size, operands: Operands) -> Res
     Ok(Body::Instr(mnemonic, size, first, second))
 }
 
-fn fits(form: OperandForm, first: Option<&Operand>, second: Option<&Operand>) -> bool
+fn fits(form: OperandForm, first: Option<&Operand<'_>>, second: Option<&Operand<'_>>) -> bool
     ensures { result ≡ fits form (option_copied first.entry) (option_copied second.entry) }
 {
     match (form, first, second) {
@@ -48,7 +52,7 @@ fn is_base(register: Reg) -> bool
     !matches!(register, Reg::R2 | Reg::R3)
 }
 
-fn is_source(operand: &Operand) -> bool
+fn is_source(operand: &Operand<'_>) -> bool
     ensures { result ≡ is_source operand.now }
 {
     match operand {
@@ -59,7 +63,7 @@ fn is_source(operand: &Operand) -> bool
     }
 }
 
-fn is_destination(operand: &Operand) -> bool
+fn is_destination(operand: &Operand<'_>) -> bool
     ensures { result ≡ is_destination operand.now }
 {
     match operand {
@@ -70,7 +74,7 @@ fn is_destination(operand: &Operand) -> bool
 }
 
 // A destination that is read as a source too.
-fn is_doubled(operand: &Operand) -> bool
+fn is_doubled(operand: &Operand<'_>) -> bool
     ensures { result ≡ is_doubled operand.now }
 {
     match operand {
@@ -79,7 +83,7 @@ fn is_doubled(operand: &Operand) -> bool
     }
 }
 
-fn is_modified(operand: &Operand) -> bool
+fn is_modified(operand: &Operand<'_>) -> bool
     ensures { result ≡ is_modified operand.now }
 {
     match operand {
@@ -89,7 +93,7 @@ fn is_modified(operand: &Operand) -> bool
     }
 }
 
-fn is_target(operand: &Operand) -> bool
+fn is_target(operand: &Operand<'_>) -> bool
     ensures { result ≡ is_target operand.now }
 {
     matches!(operand, Operand::Symbolic(_))

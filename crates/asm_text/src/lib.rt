@@ -5,11 +5,12 @@
 //! commas. The instructions are those of the MSP430x1xx Family User's Guide (SLAU049, the chapter
 //! on the 16-bit RISC CPU) with the operands that they take. The contract of [`parse`] is the
 //! statements of the text, one for each line, or its first fault; laws say the same of the lines as
-//! a whole. What a name or an expression is worth is no matter of this crate: names are places in
-//! the text.
+//! a whole. What a name or an expression is worth is no matter of this crate: names are parts of the
+//! text.
 #![tactic(auto)]
 
 mod body;
+mod characters;
 mod directive;
 mod emulated;
 mod expr;
@@ -34,7 +35,6 @@ mod piece;
 mod register_word;
 mod source;
 mod source_reader;
-mod span;
 mod statement;
 mod statement_reader;
 mod term;
@@ -43,6 +43,7 @@ mod tokens;
 mod word_piece;
 
 pub use body::Body;
+pub use characters::Characters;
 pub use emulated::Emulated;
 pub use expr::Expr;
 pub use exprs::Exprs;
@@ -54,6 +55,5 @@ pub use operand::Operand;
 pub use register_word::reg_name;
 pub use source::Source;
 pub use source_reader::parse;
-pub use span::Span;
 pub use statement::Statement;
 pub use term::Term;

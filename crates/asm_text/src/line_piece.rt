@@ -1,19 +1,18 @@
-ghost use Rattle.std.specs.Prelude.{◌≡◌, ◌+◌, ◌^◌, ◌≤◌, ◌<◌, length, IfOk};
+ghost use Rattle.std.specs.Prelude.{◌≡◌, ◌+◌, ◌≤◌, length, IfOk};
 ghost use Rattle.std.specs.List.{position_or_len};
 ghost use Rattle.asm_text.specs.Word.{is_word_character, ends_word};
 ghost use Rattle.asm_text.specs.Token.{is_text_character, ends_text, text_piece, mark_piece, piece_of, IsWithin};
 
+use crate::characters::Characters;
 use crate::piece::Piece;
-use crate::span::Span;
 use crate::token::Token;
 use crate::word_piece::{is_name_character, word_piece};
 use std::alloc::{AllocError, Global};
 
-/// What stands at the beginning of these characters, which begin at a place of the source.
+/// What stands at the beginning of these characters.
 #[tactic(auto, unfolding(crate::specs::Token::piece_of))]
-pub fn piece_of(alloc: Global, place: usize, rest: &[u8]) -> Result<Piece, AllocError>
-    requires { place + length rest.now < 2 ^ 64 }
-    ensures piece { IfOk result (λ piece. piece ≡ piece_of place rest.now) }
+pub fn piece_of<'a>(alloc: Global, rest: &'a [u8]) -> Result<Piece<'a>, AllocError>
+    ensures piece { IfOk result (λ piece. piece ≡ piece_of rest.now) }
     ensures within { IfOk result (λ piece. IsWithin piece (length rest.now)) }
 {
     let [first, others @ ..] = rest else {
@@ -22,8 +21,8 @@ pub fn piece_of(alloc: Global, place: usize, rest: &[u8]) -> Result<Piece, Alloc
     match *first {
         b' ' | b'\t' => Ok(Piece::Blank),
         b';' => Ok(Piece::Comment),
-        b'"' => Ok(text_piece(place + 1, others)),
-        byte if is_word_character(byte) => word_piece(alloc, place, &rest[..word_len(rest)]),
+        b'"' => Ok(text_piece(others)),
+        byte if is_word_character(byte) => word_piece(alloc, &rest[..word_len(rest)]),
         byte => Ok(mark_piece(byte)),
     }
 }
@@ -46,20 +45,16 @@ fn word_len(characters: &[u8]) -> usize
 }
 
 // A text from behind its first quote on.
-fn text_piece(place: usize, characters: &[u8]) -> Piece
-    requires { place + length characters.now < 2 ^ 64 }
-    ensures piece { result ≡ text_piece place characters.now }
+fn text_piece(characters: &[u8]) -> Piece<'_>
+    ensures piece { result ≡ text_piece characters.now }
     ensures within { IsWithin result (length characters.now + 1) }
 {
     let count = text_len(characters);
     if characters.get(count) != Some(&b'"') {
         return Piece::Stray;
     }
-    let span = Span {
-        from: place,
-        to: place + count,
-    };
-    Piece::Token(Token::Text(span), count + 2)
+    let text = Characters::new(&characters[..count]);
+    Piece::Token(Token::Text(text), count + 2)
 }
 
 // The number of characters of a text before another character.
@@ -79,7 +74,7 @@ fn is_text_character(byte: u8) -> bool
     matches!(byte, b' '..=b'~') && byte != b'"' && byte != b'\\'
 }
 
-fn mark_piece(byte: u8) -> Piece
+fn mark_piece<'a>(byte: u8) -> Piece<'a>
     ensures piece { result ≡ mark_piece byte }
     ensures within { IsWithin result 1 }
 {

@@ -3,17 +3,17 @@ use msp_decode::Reg;
 
 /// An operand as it is written.
 #[derive(Debug, Drop)]
-pub enum Operand {
+pub enum Operand<'a> {
     /// `Rn`
     Reg(Reg),
     /// `#E`
-    Imm(Expr),
+    Imm(Expr<'a>),
     /// `&E`
-    Abs(Expr),
+    Abs(Expr<'a>),
     /// `E(Rn)`
-    Indexed(Expr, Reg),
+    Indexed(Expr<'a>, Reg),
     /// `E`
-    Symbolic(Expr),
+    Symbolic(Expr<'a>),
     /// `@Rn`
     Indirect(Reg),
     /// `@Rn+`

@@ -9,38 +9,44 @@ use std::alloc::Global;
 use text_scan::{FaultKind, WordFault};
 
 /// The operand of these tokens; `Syntax` where they are none.
-pub fn read_operand(alloc: Global, tokens: &[Token]) -> Result<Operand, WordFault>
+pub fn read_operand<'a>(alloc: Global, tokens: &[Token<'a>]) -> Result<Operand<'a>, WordFault>
     ensures { ReadsWord result (operand_of tokens.now) }
 {
     match tokens {
         [Token::Hash, rest @ ..] => Ok(Operand::Imm(read_expr(alloc, rest)?)),
         [Token::Ampersand, rest @ ..] => Ok(Operand::Abs(read_expr(alloc, rest)?)),
         [Token::At, rest @ ..] => Ok(pointer_of(rest)?),
-        [Token::Register(register)] => Ok(Operand::Reg(*register)),
+        [token] => match token {
+            Token::Register(register) => Ok(Operand::Reg(*register)),
+            _ => read_place(alloc, tokens),
+        },
         _ => read_place(alloc, tokens),
     }
 }
 
 // `Rn` or `Rn+`, behind `@`.
-fn pointer_of(tokens: &[Token]) -> Result<Operand, FaultKind>
+fn pointer_of<'a>(tokens: &[Token<'a>]) -> Result<Operand<'a>, FaultKind>
     ensures { result ≡ pointer_of tokens.now }
 {
-    match tokens {
-        [Token::Register(register)] => Ok(Operand::Indirect(*register)),
-        [Token::Register(register), Token::Plus] => Ok(Operand::IndirectInc(*register)),
+    let [token, rest @ ..] = tokens else {
+        return Err(FaultKind::Syntax);
+    };
+    match (token, rest) {
+        (Token::Register(register), []) => Ok(Operand::Indirect(*register)),
+        (Token::Register(register), [Token::Plus]) => Ok(Operand::IndirectInc(*register)),
         _ => Err(FaultKind::Syntax),
     }
 }
 
 // `E(Rn)` or `E`.
-fn read_place(alloc: Global, tokens: &[Token]) -> Result<Operand, WordFault>
+fn read_place<'a>(alloc: Global, tokens: &[Token<'a>]) -> Result<Operand<'a>, WordFault>
     ensures { ReadsWord result (place_of tokens.now) }
 {
     let (prefix, last) = tokens.split_at(tokens.len().saturating_sub(3));
-    match last {
-        [Token::Open, Token::Register(register), Token::Close] => {
-            Ok(Operand::Indexed(read_expr(alloc, prefix)?, *register))
+    if let [Token::Open, token, Token::Close] = last {
+        if let Token::Register(register) = token {
+            return Ok(Operand::Indexed(read_expr(alloc, prefix)?, *register));
         }
-        _ => Ok(Operand::Symbolic(read_expr(alloc, tokens)?)),
     }
+    Ok(Operand::Symbolic(read_expr(alloc, tokens)?))
 }

@@ -15,18 +15,18 @@ use text_scan::{FaultKind, WordFault};
 
 /// The operands of a statement in the order written.
 #[derive(Debug, Drop)]
-pub struct Operands {
-    operands: Vec<Operand>,
+pub struct Operands<'a> {
+    operands: Vec<Operand<'a>>,
 }
 
-impl Model for Operands {
+impl<'a> Model for Operands<'a> {
     ghost Value = { List Operand };
 
     ghost view = { λ operands. operands.operands.items };
 }
 
-impl Operands {
-    fn new(alloc: Global) -> Operands
+impl<'a> Operands<'a> {
+    fn new(alloc: Global) -> Operands<'a>
         ensures { result ≡ [] }
     {
         Operands {
@@ -34,8 +34,8 @@ impl Operands {
         }
     }
 
-    fn add(&mut self, operand: Operand) -> Result<(), AllocError>
-        ensures { OnOk result (self.new ≡ self.old ++ operand ∷ []) }
+    fn add(&mut self, operand: Operand<'a>) -> Result<(), AllocError>
+        ensures { OnOk result (self.new ≡ self.old ++ operand.entry ∷ []) }
     {
         self.operands.reserve(1)?;
         self.operands.push_reserved(operand);
@@ -43,8 +43,8 @@ impl Operands {
     }
 
     /// At most two operands.
-    pub fn into_two(self) -> Result<(Option<Operand>, Option<Operand>), FaultKind>
-        ensures { result ≡ two_of self }
+    pub fn into_two(self) -> Result<(Option<Operand<'a>>, Option<Operand<'a>>), FaultKind>
+        ensures { result ≡ two_of self.entry }
     {
         let mut operands = self.operands.into_iter();
         let first = operands.next();
@@ -56,8 +56,8 @@ impl Operands {
     }
 
     /// One expression or more.
-    pub fn into_exprs(self, alloc: Global) -> Result<Exprs, WordFault>
-        ensures { ReadsWord result (exprs_of self) }
+    pub fn into_exprs(self, alloc: Global) -> Result<Exprs<'a>, WordFault>
+        ensures { ReadsWord result (exprs_of self.entry) }
     {
         if self.operands.is_empty() {
             return Err(WordFault::Kind(FaultKind::Operand));
@@ -67,8 +67,8 @@ impl Operands {
 }
 
 // The expressions that operands are, each of them alone.
-fn all_exprs(alloc: Global, operands: Vec<Operand>) -> Result<Exprs, WordFault>
-    ensures { ReadsWord result (all_exprs operands.items) }
+fn all_exprs<'a>(alloc: Global, operands: Vec<Operand<'a>>) -> Result<Exprs<'a>, WordFault>
+    ensures { ReadsWord result (all_exprs operands.entry.items) }
 {
     let mut exprs = Exprs::new(alloc);
     for operand in operands {
@@ -81,7 +81,7 @@ fn all_exprs(alloc: Global, operands: Vec<Operand>) -> Result<Exprs, WordFault>
 }
 
 /// The operands of these tokens; `Syntax` where a part between commas is none.
-pub fn read_operands(alloc: Global, tokens: &[Token]) -> Result<Operands, WordFault>
+pub fn read_operands<'a>(alloc: Global, tokens: &[Token<'a>]) -> Result<Operands<'a>, WordFault>
     ensures { ReadsWord result (operands_of tokens.now) }
 {
     let mut operands = Operands::new(alloc);

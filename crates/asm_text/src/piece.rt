@@ -1,13 +1,13 @@
 use crate::token::Token;
 
-/// What stands at a place of a line.
-#[derive(Clone, Copy, Debug, PartialEq, Eq)]
-pub enum Piece {
+/// What stands first of some characters.
+#[derive(Debug, Drop)]
+pub enum Piece<'a> {
     Blank,
     /// A comment, to the end of the line.
     Comment,
     /// A token and its number of characters.
-    Token(Token, usize),
+    Token(Token<'a>, usize),
     /// A character with which no token begins, or an unfinished token.
     Stray,
 }

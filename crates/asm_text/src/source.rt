@@ -9,18 +9,18 @@ use std::marker::Model;
 
 /// The statements of a source, one for each line.
 #[derive(Debug, Drop)]
-pub struct Source {
-    statements: Vec<Statement>,
+pub struct Source<'a> {
+    statements: Vec<Statement<'a>>,
 }
 
-impl Model for Source {
+impl<'a> Model for Source<'a> {
     ghost Value = { List Statement };
 
     ghost view = { λ source. source.statements.items };
 }
 
-impl Source {
-    pub(crate) fn new(alloc: Global) -> Source
+impl<'a> Source<'a> {
+    pub(crate) fn new(alloc: Global) -> Source<'a>
         ensures { result ≡ [] }
     {
         Source {
@@ -29,8 +29,8 @@ impl Source {
     }
 
     // Puts a statement after the others.
-    pub(crate) fn add(&mut self, statement: Statement) -> Result<(), AllocError>
-        ensures { OnOk result (self.new ≡ self.old ++ statement ∷ []) }
+    pub(crate) fn add(&mut self, statement: Statement<'a>) -> Result<(), AllocError>
+        ensures { OnOk result (self.new ≡ self.old ++ statement.entry ∷ []) }
     {
         self.statements.reserve(1)?;
         self.statements.push_reserved(statement);
@@ -45,14 +45,14 @@ impl Source {
     }
 
     /// The statement at an index from 0; `None` past the last.
-    pub fn get(&self, i: usize) -> Option<&Statement>
+    pub fn get(&self, i: usize) -> Option<&Statement<'a>>
         ensures { option_copied result ≡ slice_get self.now i }
     {
         self.statements.get(i)
     }
 
     /// All statements in the order of their lines.
-    pub fn as_slice(&self) -> &[Statement]
+    pub fn as_slice(&self) -> &[Statement<'a>]
         ensures { result.now ≡ self.now }
     {
         &self.statements

@@ -1,10 +1,10 @@
-use crate::span::Span;
+use crate::characters::Characters;
 
 /// What an expression adds or subtracts.
-#[derive(Clone, Copy, Debug, PartialEq, Eq)]
-pub enum Term {
+#[derive(Debug, Drop)]
+pub enum Term<'a> {
     Number(u16),
-    Name(Span),
+    Name(Characters<'a>),
     /// `$`, the address of the statement's first byte.
     Here,
 }

@@ -1,4 +1,4 @@
-ghost use Rattle.std.specs.Prelude.{◌≡◌, ◌+◌, ◌++◌, ◌∷◌, ◌^◌, ◌<◌, [], List, OnOk, length};
+ghost use Rattle.std.specs.Prelude.{◌≡◌, ◌++◌, ◌∷◌, [], List, OnOk};
 ghost use Rattle.text_scan.specs.Reader.{ReadsWord};
 ghost use Rattle.asm_text.specs.declared.token.Token.{Token};
 ghost use Rattle.asm_text.specs.Token.{tokens_of};
@@ -12,18 +12,18 @@ use text_scan::{FaultKind, WordFault};
 
 /// The tokens of a line.
 #[derive(Debug, Drop)]
-pub struct Tokens {
-    tokens: Vec<Token>,
+pub struct Tokens<'a> {
+    tokens: Vec<Token<'a>>,
 }
 
-impl Model for Tokens {
+impl<'a> Model for Tokens<'a> {
     ghost Value = { List Token };
 
     ghost view = { λ tokens. tokens.tokens.items };
 }
 
-impl Tokens {
-    fn new(alloc: Global) -> Tokens
+impl<'a> Tokens<'a> {
+    fn new(alloc: Global) -> Tokens<'a>
         ensures { result ≡ [] }
     {
         Tokens {
@@ -31,30 +31,29 @@ impl Tokens {
         }
     }
 
-    fn add(&mut self, token: Token) -> Result<(), AllocError>
-        ensures { OnOk result (self.new ≡ self.old ++ token ∷ []) }
+    fn add(&mut self, token: Token<'a>) -> Result<(), AllocError>
+        ensures { OnOk result (self.new ≡ self.old ++ token.entry ∷ []) }
     {
         self.tokens.reserve(1)?;
         self.tokens.push_reserved(token);
         Ok(())
     }
 
-    pub fn as_slice(&self) -> &[Token]
+    pub fn as_slice(&self) -> &[Token<'a>]
         ensures { result.now ≡ self.now }
     {
         &self.tokens
     }
 }
 
-/// The tokens of a line that begins at a place of the source; `Syntax` where a part of it is none.
-pub fn read_tokens(alloc: Global, place: usize, line: &[u8]) -> Result<Tokens, WordFault>
-    requires { place + length line.now < 2 ^ 64 }
-    ensures { ReadsWord result (tokens_of place line.now) }
+/// The tokens of a line; `Syntax` where a part of it is none.
+pub fn read_tokens<'a>(alloc: Global, line: &'a [u8]) -> Result<Tokens<'a>, WordFault>
+    ensures { ReadsWord result (tokens_of line.now) }
 {
     let mut tokens = Tokens::new(alloc);
     let mut at = 0;
     while at < line.len() {
-        match piece_of(alloc, place + at, &line[at..]).map_err(WordFault::Memory)? {
+        match piece_of(alloc, &line[at..]).map_err(WordFault::Memory)? {
             Piece::Blank => at += 1,
             Piece::Comment => return Ok(tokens),
             Piece::Token(token, count) => {

@@ -1,34 +1,33 @@
-ghost use Rattle.std.specs.Prelude.{◌≡◌, ◌+◌, ◌^◌, ◌<◌, length, IfOk};
+ghost use Rattle.std.specs.Prelude.{◌≡◌, ◌<◌, length, IfOk};
 ghost use Rattle.std.specs.List.{list_all};
 ghost use Rattle.asm_text.specs.Word.{is_name, is_name_character};
 ghost use Rattle.asm_text.specs.Token.{number_piece, word_token, word_piece, IsWithin};
 
+use crate::characters::Characters;
 use crate::number_word::number_of;
 use crate::operation_word::operation_of;
 use crate::piece::Piece;
 use crate::register_word::register_of;
-use crate::span::Span;
 use crate::token::Token;
 use std::alloc::{AllocError, Global};
 
 // The most characters of a name.
 const LONGEST_NAME: usize = 64;
 
-/// The token of a whole word at a place of the source: a number where it begins with a digit.
+/// The token of a whole word: a number where it begins with a digit.
 #[tactic(auto, unfolding(crate::specs::Token::word_piece))]
-pub fn word_piece(alloc: Global, place: usize, word: &[u8]) -> Result<Piece, AllocError>
-    requires some { 0 < length word.now }
-    requires fits { place + length word.now < 2 ^ 64 }
-    ensures piece { IfOk result (λ piece. piece ≡ word_piece place word.now) }
+pub fn word_piece<'a>(alloc: Global, word: &'a [u8]) -> Result<Piece<'a>, AllocError>
+    requires { 0 < length word.now }
+    ensures piece { IfOk result (λ piece. piece ≡ word_piece word.now) }
     ensures within { IfOk result (λ piece. IsWithin piece (length word.now)) }
 {
     if word[0].is_ascii_digit() {
         return Ok(number_piece(number_of(word), word.len()));
     }
-    Ok(Piece::Token(word_token(alloc, place, word)?, word.len()))
+    Ok(Piece::Token(word_token(alloc, word)?, word.len()))
 }
 
-fn number_piece(number: Option<u16>, count: usize) -> Piece
+fn number_piece<'a>(number: Option<u16>, count: usize) -> Piece<'a>
     requires { 0 < count }
     ensures piece { result ≡ number_piece number count }
     ensures within { IsWithin result count }
@@ -39,9 +38,8 @@ fn number_piece(number: Option<u16>, count: usize) -> Piece
     }
 }
 
-fn word_token(alloc: Global, place: usize, word: &[u8]) -> Result<Token, AllocError>
-    requires { place + length word.now < 2 ^ 64 }
-    ensures { IfOk result (λ token. token ≡ word_token place word.now) }
+fn word_token<'a>(alloc: Global, word: &'a [u8]) -> Result<Token<'a>, AllocError>
+    ensures { IfOk result (λ token. token ≡ word_token word.now) }
 {
     let mut lower = Vec::from_slice(alloc, word)?;
     lower.make_ascii_lowercase();
@@ -52,11 +50,7 @@ fn word_token(alloc: Global, place: usize, word: &[u8]) -> Result<Token, AllocEr
     if !is_name(word) {
         return Ok(Token::Word(operation));
     }
-    let span = Span {
-        from: place,
-        to: place + word.len(),
-    };
-    Ok(Token::Name(span, operation))
+    Ok(Token::Name(Characters::new(word), operation))
 }
 
 fn is_name(word: &[u8]) -> bool

@@ -8,32 +8,32 @@ use Rattle.msp_asm.specs.FirstPass.{scope_after, is_placed, next_scope, places_b
 use Rattle.msp_asm.specs.FirstPassState.{occupies}
 use Rattle.msp_asm.specs.FirstPassStands.{scope_of, FirstPassStandsFor}
 
-stands_next : (text : List ℕ) (earlier : List Statement) (statement : Statement)
+stands_next : (earlier : List Statement) (statement : Statement)
     (old new : FirstPass)
-    → FirstPassStandsFor old text earlier
+    → FirstPassStandsFor old earlier
     → scope_of new ≡ next_scope (scope_of old) statement
     → ((place : ℕ) → occupies new.occupancy place
     ≡ (places_byte (scope_of old) statement.body place || occupies old.occupancy place))
-    → FirstPassStandsFor new text (statement ∷ earlier)
+    → FirstPassStandsFor new (statement ∷ earlier)
 unfolding scope_after is_placed
-stands_next text earlier statement old new at next takes =
+stands_next earlier statement old new at next takes =
     record {
       scope = next ∙ ap (λ (scope : Scope). next_scope scope statement) at.scope;
       taken = λ i. λ place.
           (takes place
           ∙ ap (λ (scope : Scope). places_byte scope statement.body place || occupies old.occupancy
           place) at.scope
-          ∙ ap (λ (f : ℕ → Bool). places_byte (scope_after text earlier) statement.body place
+          ∙ ap (λ (f : ℕ → Bool). places_byte (scope_after earlier) statement.body place
           || f place) at.taken) i;
     }
 
-pub stands_more : (text : List ℕ) (earlier : List Statement) (statement : Statement)
+pub stands_more : (earlier : List Statement) (statement : Statement)
     (old new : FirstPass) (result : Result Unit WordFault)
-    → FirstPassStandsFor old text earlier
+    → FirstPassStandsFor old earlier
     → OnOk result (scope_of new ≡ next_scope (scope_of old) statement)
     → OnOk result ((place : ℕ) → occupies new.occupancy place
     ≡ (places_byte (scope_of old) statement.body place || occupies old.occupancy place))
-    → OnOk result (FirstPassStandsFor new text (statement ∷ earlier))
-stands_more text earlier statement old new (Ok u) at next takes =
-    stands_next text earlier statement old new at next takes
-stands_more text earlier statement old new (Err fault) at next takes = tt
+    → OnOk result (FirstPassStandsFor new (statement ∷ earlier))
+stands_more earlier statement old new (Ok u) at next takes =
+    stands_next earlier statement old new at next takes
+stands_more earlier statement old new (Err fault) at next takes = tt

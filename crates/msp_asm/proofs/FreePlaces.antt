@@ -36,27 +36,18 @@ not_twice : (again : Bool) (constant place : Option FaultKind)
 not_twice true constant place none = absurd cc
 not_twice false constant place none = (neither constant place none).1
 
-pub scope_text : (text : List ℕ) (earlier : List Statement) → (scope_after text earlier).text ≡ text
-unfolding scope_after
-scope_text text [] = refl
-scope_text text (s ∷ earlier) = scope_text text earlier
-
--- how many bytes a statement after these places
-abbrev pub count_after : List ℕ → List Statement → Statement → ℕ
-count_after text earlier s = size_of (scope_after text earlier).text s.body
-
-pub are_free : (text : List ℕ) (earlier : List Statement) (s : Statement)
-    → first_pass_fault text earlier s ≡ None
-    → AreFree (is_placed text earlier) (scope_after text earlier).here (count_after text earlier s)
-are_free text earlier s none =
-    let scope : Scope = scope_after text earlier in
-    let places : List ℕ = places_from scope.here (count_after text earlier s) in
+pub are_free : (earlier : List Statement) (s : Statement)
+    → first_pass_fault earlier s ≡ None
+    → AreFree (is_placed earlier) (scope_after earlier).here (size_of s.body)
+are_free earlier s none =
+    let scope : Scope = scope_after earlier in
+    let places : List ℕ = places_from scope.here (size_of s.body) in
     let both = free_places (list_all is_image_place places)
-    (list_any (is_placed text earlier) places)
+    (list_any (is_placed earlier) places)
     (not_odd (is_of_words s.body && not (scope.here % 2 == 0))
-    (space_fault (is_placed text earlier) places)
+    (space_fault (is_placed earlier) places)
     (not_twice (gives_again scope s) (constant_fault scope s.body)
-    (place_fault (is_placed text earlier) scope s.body) none)) in
+    (place_fault (is_placed earlier) scope s.body) none)) in
     record { placed = both.0; free = both.1 }
 
 pub all_among : (test : ℕ → Bool) (first count place : ℕ)

@@ -18,7 +18,8 @@ use Rattle.asm_text.specs.declared.body.Body.{Body}
 use Rattle.asm_text.specs.declared.body.Body.TheVariants.{Empty, Instr as Instruction, Org, Word, Byte, Ascii, Equ}
 use Rattle.asm_text.specs.declared.statement.Statement.{Statement}
 use Rattle.asm_bytes.specs.Value.{Scope}
-use Rattle.asm_bytes.specs.Statement.{bytes_of, word_bytes, named_instruction, IsNamed}
+use Rattle.asm_bytes.specs.Statement.{size_of, bytes_of, word_bytes, named_instruction, IsNamed}
+use Rattle.asm_bytes.proofs.StatementSize.{bytes_have_their_size}
 use Rattle.mem_map.specs.declared.image.Image.{Image}
 use Rattle.mem_map.specs.Image.{byte_in}
 use Rattle.msp_asm.specs.FirstPass.{first_fault, first_pass_fault, is_placed, scope_after}
@@ -27,8 +28,8 @@ use Rattle.msp_asm.specs.SecondPass.{byte_from, byte_placed, byte_of_image, faul
 use Rattle.msp_asm.specs.Source.{source_image}
 use Rattle.msp_asm.specs.HasBytes.{HasBytes, HasBytesOf, HasInstruction, HasInstructionOf, OfEachStatement}
 use Rattle.msp_asm.proofs.LinesSoFar.{neither, no_fault_at}
-use Rattle.msp_asm.proofs.FreePlaces.{count_after, are_free, all_among, among_between}
-use Rattle.msp_asm.proofs.BytesStay.{has_size, stays}
+use Rattle.msp_asm.proofs.FreePlaces.{are_free, all_among, among_between}
+use Rattle.msp_asm.proofs.BytesStay.{stays}
 
 byte_among-next : (first byte : ℕ) (bytes : List ℕ) (place : ℕ) → first + 1 ≤ place
     → byte_among first (byte ∷ bytes) place ≡ byte_among (first + 1) bytes place
@@ -61,31 +62,31 @@ has_bytes image other first (byte ∷ bytes) gives = (
 )
 
 -- the bytes of a statement among others
-stand_among : (text : List ℕ) (all later earlier : List Statement) (s : Statement)
+stand_among : (all later earlier : List Statement) (s : Statement)
     (image : ℕ → Option ℕ) (answer : Result (List ℕ) FaultKind)
-    → bytes_of (scope_among text all earlier) s.body ≡ answer
+    → bytes_of (scope_among all earlier) s.body ≡ answer
     → result_err answer ≡ None
-    → first_fault (first_pass_fault text) (later ++ s ∷ earlier) ≡ None
+    → first_fault first_pass_fault (later ++ s ∷ earlier) ≡ None
     → ((place : ℕ) → is_image_place place ≡ true
-    → image place ≡ byte_placed text all (later ++ s ∷ earlier) place)
-    → IsOkAnd answer (HasBytes image (scope_after text earlier).here)
+    → image place ≡ byte_placed all (later ++ s ∷ earlier) place)
+    → IsOkAnd answer (HasBytes image (scope_after earlier).here)
 unfolding is_placed byte_placed
-stand_among text all later earlier s image (Err kind) is sound none gives = absurd cc
-stand_among text all later earlier s image (Ok bytes) is sound none gives =
-    let here : ℕ = (scope_after text earlier).here in
-    let count : ℕ = count_after text earlier s in
+stand_among all later earlier s image (Err kind) is sound none gives = absurd cc
+stand_among all later earlier s image (Ok bytes) is sound none gives =
+    let here : ℕ = (scope_after earlier).here in
+    let count : ℕ = size_of s.body in
     let size : length bytes ≡ count =
     subst (λ (answer : Result (List ℕ) FaultKind). IfOk answer (λ value. length value ≡ count)) is
-    (has_size text all earlier s) in
-    let free = are_free text earlier s (no_fault_at (first_pass_fault text) later earlier s none) in
-    has_bytes image (byte_placed text all earlier) here bytes (λ place from below.
+    (bytes_have_their_size (scope_among all earlier) s.body) in
+    let free = are_free earlier s (no_fault_at first_pass_fault later earlier s none) in
+    has_bytes image (byte_placed all earlier) here bytes (λ place from below.
     let within : place < here + count = omega (arith, below, size) in
-    let is_taken : is_placed text (s ∷ earlier) place ≡ true =
-    ap (λ among. among || is_placed text earlier place) (among_between here count place from within)
+    let is_taken : is_placed (s ∷ earlier) place ≡ true =
+    ap (λ among. among || is_placed earlier place) (among_between here count place from within)
     in
     gives place (all_among is_image_place here count place free.placed from within)
-    ∙ (stays text all later (s ∷ earlier) place none is_taken).1
-    ∙ ap (λ value. option_or (byte_from here value place) (byte_placed text all earlier place)) is)
+    ∙ (stays all later (s ∷ earlier) place none is_taken).1
+    ∙ ap (λ value. option_or (byte_from here value place) (byte_placed all earlier place)) is)
 
 -- an image that was made, and nothing was at fault
 both : (fault : Option FaultAt) (bytes image : ℕ → Option ℕ) → value_or_fault fault bytes ≡ Ok image
@@ -108,18 +109,18 @@ statements_stand text image is before after s answer =
     let all : List Statement = reverse statements in
     let earlier : List Statement = reverse before in
     let later : List Statement = reverse after in
-    let whole = both (fault_of text statements) (byte_of_image text statements) image
-    (ap (λ value. value >>= image_of text) (sym answer) ∙ is) in
-    let sound = neither (first_fault (first_pass_fault text) all)
-    (first_fault (second_pass_fault text all) all) whole.0 in
-    stand_among text all later earlier s image (bytes_of (scope_among text all earlier) s.body) refl
-    (no_fault_at (second_pass_fault text all) later earlier s
-    (ap (first_fault (second_pass_fault text all)) (sym (cut before after s)) ∙ sound.1))
-    (ap (first_fault (first_pass_fault text)) (sym (cut before after s)) ∙ sound.0)
+    let whole = both (fault_of statements) (byte_of_image statements) image
+    (ap (λ value. value >>= image_of) (sym answer) ∙ is) in
+    let sound = neither (first_fault first_pass_fault all)
+    (first_fault (second_pass_fault all) all) whole.0 in
+    stand_among all later earlier s image (bytes_of (scope_among all earlier) s.body) refl
+    (no_fault_at (second_pass_fault all) later earlier s
+    (ap (first_fault (second_pass_fault all)) (sym (cut before after s)) ∙ sound.1))
+    (ap (first_fault first_pass_fault) (sym (cut before after s)) ∙ sound.0)
     (λ place is_placed.
     ap (λ (bytes : ℕ → Option ℕ). bytes place) (sym whole.1)
-    ∙ ap (λ test. if test then byte_placed text all all place else None) is_placed
-    ∙ ap (λ lines. byte_placed text all lines place) (cut before after s))
+    ∙ ap (λ test. if test then byte_placed all all place else None) is_placed
+    ∙ ap (λ lines. byte_placed all lines place) (cut before after s))
 
 -- an instruction whose bytes stand, and whose words are read as it
 named_stands : (image : ℕ → Option ℕ) (place : ℕ) (result : Result Instr FaultKind)
@@ -141,7 +142,7 @@ instruction_stands image scope Empty are_read stands = tt
 instruction_stands image scope (Org expr) are_read stands = tt
 instruction_stands image scope (Word exprs) are_read stands = tt
 instruction_stands image scope (Byte exprs) are_read stands = tt
-instruction_stands image scope (Ascii span) are_read stands = tt
+instruction_stands image scope (Ascii text) are_read stands = tt
 instruction_stands image scope (Equ name expr) are_read stands = tt
 
 pub instructions_stand : ((scope : Scope) (body : Body) (it : Instr) → IsNamed scope body it
@@ -150,7 +151,7 @@ pub instructions_stand : ((scope : Scope) (body : Body) (it : Instr) → IsNamed
     → source_image text ≡ Ok image
     → OfEachStatement (HasInstructionOf image) text
 instructions_stand are_read text image is before after s answer =
-    let scope : Scope = scope_among text (reverse (before ++ s ∷ after)) (reverse before) in
+    let scope : Scope = scope_among (reverse (before ++ s ∷ after)) (reverse before) in
     instruction_stands image scope s.body (are_read scope s.body)
     (statements_stand text image is before after s answer)
 

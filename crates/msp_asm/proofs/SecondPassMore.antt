@@ -17,45 +17,43 @@ use Rattle.msp_asm.specs.FirstPass.{first_fault, first_pass_fault, scope_after}
 use Rattle.msp_asm.specs.SecondPass.{byte_from, byte_placed, scope_among, second_pass_fault, byte_of_image, image_of}
 use Rattle.msp_asm.specs.Assembly.{AnswersAt, LayoutStandsFor}
 
-same_scope : (text : List ℕ) (names other : List ℕ → Option ℤ) (here there : ℕ)
+same_scope : (names other : List ℕ → Option ℤ) (here there : ℕ)
     → names ≡ other
     → here ≡ there
-    → ◌≡◌ {A = Scope} (record { text = text; names = names; here = here })
-    (record { text = text; names = other; here = there })
-same_scope text names other here there same_names places =
-    ap (λ (f : List ℕ → Option ℤ). record { text = text; names = f; here = here }) same_names
-    ∙ ap (λ (n : ℕ). record { text = text; names = other; here = n }) places
+    → ◌≡◌ {A = Scope} (record { names = names; here = here })
+    (record { names = other; here = there })
+same_scope names other here there same_names places =
+    ap (λ (f : List ℕ → Option ℤ). record { names = f; here = here }) same_names
+    ∙ ap (λ (n : ℕ). record { names = other; here = n }) places
 
 -- what a statement is read in, by the layout
-pub layout-scope : (layout : Layout) (text : List ℕ) (statements : List Statement) (i : ℕ)
-    (scope : Scope)
-    → LayoutStandsFor layout text statements
+pub layout-scope : (layout : Layout) (statements : List Statement) (i : ℕ) (scope : Scope)
+    → LayoutStandsFor layout statements
     → i < length statements
     → scope ≡ record {
-      text = text;
       names = value_in layout.names;
       here = slice_index layout.places.items i;
     }
-    → scope ≡ scope_among text (reverse statements) (reverse (take i statements))
-layout-scope layout text statements i scope stands below is =
+    → scope ≡ scope_among (reverse statements) (reverse (take i statements))
+layout-scope layout statements i scope stands below is =
     is
-    ∙ same_scope text (value_in layout.names) (scope_after text (reverse statements)).names
-    (slice_index layout.places.items i) (scope_after text (reverse (take i statements))).here
+    ∙ same_scope (value_in layout.names) (scope_after (reverse statements)).names
+    (slice_index layout.places.items i) (scope_after (reverse (take i statements))).here
     stands.names (stands.places i below)
 
 -- the byte at a place with one statement more
-pub placed_more : (text : List ℕ) (all earlier : List Statement) (s : Statement) (scope : Scope)
+pub placed_more : (all earlier : List Statement) (s : Statement) (scope : Scope)
     (old new : ℕ → Option ℕ) (place : ℕ)
-    → scope ≡ scope_among text all earlier
-    → old place ≡ byte_placed text all earlier place
+    → scope ≡ scope_among all earlier
+    → old place ≡ byte_placed all earlier place
     → new place ≡ option_or (byte_from scope.here (bytes_of scope s.body) place) (old place)
-    → new place ≡ byte_placed text all (s ∷ earlier) place
+    → new place ≡ byte_placed all (s ∷ earlier) place
 unfolding byte_placed
-placed_more text all earlier s scope old new place is before after =
+placed_more all earlier s scope old new place is before after =
     after
     ∙ ap (λ (it : Scope). option_or (byte_from it.here (bytes_of it s.body) place) (old place)) is
-    ∙ ap (option_or (byte_from (scope_among text all earlier).here
-    (bytes_of (scope_among text all earlier) s.body) place)) before
+    ∙ ap (option_or (byte_from (scope_among all earlier).here
+    (bytes_of (scope_among all earlier) s.body) place)) before
 
 -- an image has no byte where it may hold none
 none_elsewhere : (image : ℕ → Option ℕ) (place : ℕ) (answer : Option ℕ) → IsImage image
@@ -77,23 +75,23 @@ by_place image places place false are is same =
     is)
 
 -- the image after both passes, or the fault of the second
-pub reads_image : (text : List ℕ) (statements : List Statement) (result : Result Image TextFault)
-    → first_fault (first_pass_fault text) (reverse statements) ≡ None
+pub reads_image : (statements : List Statement) (result : Result Image TextFault)
+    → first_fault first_pass_fault (reverse statements) ≡ None
     → AnswersAt result
-    (first_fault (second_pass_fault text (reverse statements)) (reverse statements))
+    (first_fault (second_pass_fault (reverse statements)) (reverse statements))
     → IfOk result (λ image. (place : ℕ) → IsTrue (is_image_place place)
-    → byte_in image place ≡ byte_placed text (reverse statements) (reverse statements) place)
-    → Reads (value_as byte_in result) (image_of text statements)
-reads_image text statements (Ok image) first second bytes =
+    → byte_in image place ≡ byte_placed (reverse statements) (reverse statements) place)
+    → Reads (value_as byte_in result) (image_of statements)
+reads_image statements (Ok image) first second bytes =
     let all = reverse statements in
-    ap (λ fault. value_or_fault (option_or fault (first_fault (second_pass_fault text all) all))
-    (byte_of_image text statements)) first
-    ∙ ap (λ fault. value_or_fault fault (byte_of_image text statements)) second
-    ∙ ap Ok (λ i. λ place. by_place (byte_in image) (byte_placed text all all) place
+    ap (λ fault. value_or_fault (option_or fault (first_fault (second_pass_fault all) all))
+    (byte_of_image statements)) first
+    ∙ ap (λ fault. value_or_fault fault (byte_of_image statements)) second
+    ∙ ap Ok (λ i. λ place. by_place (byte_in image) (byte_placed all all) place
     (is_image_place place) image.placed refl (bytes place) i)
-reads_image text statements (Err (At fault)) first second bytes =
+reads_image statements (Err (At fault)) first second bytes =
     let all = reverse statements in
-    ap (λ answer. value_or_fault (option_or answer (first_fault (second_pass_fault text all) all))
-    (byte_of_image text statements)) first
-    ∙ ap (λ answer. value_or_fault answer (byte_of_image text statements)) second
-reads_image text statements (Err (Memory error)) first second bytes = tt
+    ap (λ answer. value_or_fault (option_or answer (first_fault (second_pass_fault all) all))
+    (byte_of_image statements)) first
+    ∙ ap (λ answer. value_or_fault answer (byte_of_image statements)) second
+reads_image statements (Err (Memory error)) first second bytes = tt

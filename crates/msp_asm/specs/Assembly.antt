@@ -9,12 +9,11 @@ use Rattle.msp_asm.specs.declared.assembly.Layout.{Layout}
 use Rattle.msp_asm.specs.FirstPass.{scope_after}
 
 -- the names of all statements, and the place before each
-pub record LayoutStandsFor (layout : Layout) (text : List ℕ)
-    (statements : List Statement) : Type 0 where
-  pub names : value_in layout.names ≡ (scope_after text (reverse statements)).names
+pub record LayoutStandsFor (layout : Layout) (statements : List Statement) : Type 0 where
+  pub names : value_in layout.names ≡ (scope_after (reverse statements)).names
   pub count : length layout.places.items ≡ length statements
   pub places : (i : ℕ) → i < length statements
-      → slice_index layout.places.items i ≡ (scope_after text (reverse (take i statements))).here
+      → slice_index layout.places.items i ≡ (scope_after (reverse (take i statements))).here
 
 -- the fault; out of memory says nothing
 abbrev pub IsFault : TextFault → Option FaultAt → Type 0

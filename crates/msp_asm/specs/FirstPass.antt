@@ -11,22 +11,21 @@ use Rattle.text_scan.specs.declared.fault_at.FaultAt.{FaultAt}
 use Rattle.text_scan.specs.declared.fault_kind.FaultKind.{FaultKind}
 use Rattle.text_scan.specs.declared.fault_kind.FaultKind.TheVariants.{Twice, Place, Overlap}
 use Rattle.text_scan.specs.Reader.{◌>>=◌}
-use Rattle.asm_text.specs.declared.span.Span.{Span}
 use Rattle.asm_text.specs.declared.body.Body.{Body}
 use Rattle.asm_text.specs.declared.body.Body.TheVariants.{Empty, Instr as Instruction, Org, Word, Byte, Ascii, Equ}
 use Rattle.asm_text.specs.declared.statement.Statement.{Statement}
-use Rattle.asm_bytes.specs.Value.{Scope, characters, value, known_value, address_of, word_of}
+use Rattle.asm_bytes.specs.Value.{Scope, value, known_value, address_of, word_of}
 use Rattle.asm_bytes.specs.Statement.{size_of, is_of_words}
 
 -- the name that a body gives
-abbrev pub constant_name : Body → Option Span
+abbrev pub constant_name : Body → Option (List ℕ)
 constant_name (Equ name expr) = Some name
 constant_name Empty = None
 constant_name (Instruction mnemonic size first second) = None
 constant_name (Org expr) = None
 constant_name (Word exprs) = None
 constant_name (Byte exprs) = None
-constant_name (Ascii span) = None
+constant_name (Ascii text) = None
 
 -- the value that `.org` or `.equ` names, by the names of earlier lines
 abbrev pub constant_value : Scope → Body → Option ℤ
@@ -36,18 +35,18 @@ constant_value scope Empty = None
 constant_value scope (Instruction mnemonic size first second) = None
 constant_value scope (Word exprs) = None
 constant_value scope (Byte exprs) = None
-constant_value scope (Ascii span) = None
+constant_value scope (Ascii text) = None
 
 -- names with another one
-abbrev pub with_name : List ℕ → Option Span → Option ℤ → (List ℕ → Option ℤ) → List ℕ → Option ℤ
-with_name text None value names = names
-with_name text (Some name) value names = update bytes_eq names (characters text name) value
+abbrev pub with_name : Option (List ℕ) → Option ℤ → (List ℕ → Option ℤ) → List ℕ → Option ℤ
+with_name None value names = names
+with_name (Some name) value names = update bytes_eq names name value
 
 -- the names with those that a statement gives: a label's value is the place before its statement
 abbrev pub names_after : Scope → Statement → List ℕ → Option ℤ
 names_after scope statement =
-    with_name scope.text (constant_name statement.body) (constant_value scope statement.body)
-    (with_name scope.text statement.label (Some (pos scope.here)) scope.names)
+    with_name (constant_name statement.body) (constant_value scope statement.body)
+    (with_name statement.label (Some (pos scope.here)) scope.names)
 
 -- a value as a place
 abbrev pub place_of : Option ℤ → ℕ
@@ -62,49 +61,42 @@ is_org Empty = false
 is_org (Instruction mnemonic size first second) = false
 is_org (Word exprs) = false
 is_org (Byte exprs) = false
-is_org (Ascii span) = false
+is_org (Ascii text) = false
 is_org (Equ name expr) = false
 
 -- the place after a statement
 abbrev pub place_after : Scope → Body → ℕ
 place_after scope body =
     if is_org body then place_of (constant_value scope body)
-    else scope.here + size_of scope.text body
+    else scope.here + size_of body
 
 -- a statement after those of a scope
 abbrev pub next_scope : Scope → Statement → Scope
 next_scope scope statement =
-    record {
-      text = scope.text;
-      names = names_after scope statement;
-      here = place_after scope statement.body;
-    }
+    record { names = names_after scope statement; here = place_after scope statement.body }
 
 -- what a statement after these is read in: the names that they give, and the place after them,
 -- which is the first of the program at first
-unfoldable pub scope_after : List ℕ → List Statement → Scope
-scope_after text [] = record { text = text; names = λ name. None; here = program_region.first }
-scope_after text (statement ∷ earlier) =
-    next_scope (scope_after text earlier) statement
+unfoldable pub scope_after : List Statement → Scope
+scope_after [] = record { names = λ name. None; here = program_region.first }
+scope_after (statement ∷ earlier) = next_scope (scope_after earlier) statement
 
 -- a name that has a value already
-abbrev pub has_value : List ℕ → (List ℕ → Option ℤ) → Option Span → Bool
-has_value text names None = false
-has_value text names (Some name) = is_some (names (characters text name))
+abbrev pub has_value : (List ℕ → Option ℤ) → Option (List ℕ) → Bool
+has_value names None = false
+has_value names (Some name) = is_some (names name)
 
 -- both names are the same
-abbrev pub are_same : List ℕ → Option Span → Option Span → Bool
-are_same text None other = false
-are_same text (Some name) None = false
-are_same text (Some name) (Some other) =
-    bytes_eq (characters text name) (characters text other)
+abbrev pub are_same : Option (List ℕ) → Option (List ℕ) → Bool
+are_same None other = false
+are_same (Some name) None = false
+are_same (Some name) (Some other) = bytes_eq name other
 
 -- a name that the statement gives has a value, or it gives one name twice
 abbrev pub gives_again : Scope → Statement → Bool
 gives_again scope statement =
-    has_value scope.text scope.names statement.label
-    || has_value scope.text scope.names (constant_name statement.body)
-    || are_same scope.text statement.label (constant_name statement.body)
+    has_value scope.names statement.label || has_value scope.names (constant_name statement.body)
+    || are_same statement.label (constant_name statement.body)
 
 -- the fault of the expression of `.org` or `.equ`
 abbrev pub constant_fault : Scope → Body → Option FaultKind
@@ -116,7 +108,7 @@ constant_fault scope Empty = None
 constant_fault scope (Instruction mnemonic size first second) = None
 constant_fault scope (Word exprs) = None
 constant_fault scope (Byte exprs) = None
-constant_fault scope (Ascii span) = None
+constant_fault scope (Ascii text) = None
 
 -- so many places from this one upwards
 abbrev pub places_from : ℕ → ℕ → List ℕ
@@ -129,13 +121,13 @@ is_among first count place = nat_le first place && nat_lt place (first + count)
 
 -- a statement places a byte there
 abbrev pub places_byte : Scope → Body → ℕ → Bool
-places_byte scope body place = is_among scope.here (size_of scope.text body) place
+places_byte scope body place = is_among scope.here (size_of body) place
 
 -- one of these statements places a byte there
-unfoldable pub is_placed : List ℕ → List Statement → ℕ → Bool
-is_placed text [] place = false
-is_placed text (statement ∷ earlier) place =
-    places_byte (scope_after text earlier) statement.body place || is_placed text earlier place
+unfoldable pub is_placed : List Statement → ℕ → Bool
+is_placed [] place = false
+is_placed (statement ∷ earlier) place =
+    places_byte (scope_after earlier) statement.body place || is_placed earlier place
 
 -- so many bytes from a place upwards cannot stand there: an image holds none there, or there is one
 abbrev pub space_fault : (ℕ → Bool) → List ℕ → Option FaultKind
@@ -148,7 +140,7 @@ space_fault is_taken places =
 abbrev pub place_fault : (ℕ → Bool) → Scope → Body → Option FaultKind
 place_fault is_taken scope body =
     if is_of_words body && not (scope.here % 2 == 0) then Some Place
-    else space_fault is_taken (places_from scope.here (size_of scope.text body))
+    else space_fault is_taken (places_from scope.here (size_of body))
 
 -- the fault of a statement in the first pass
 abbrev pub statement_fault : (ℕ → Bool) → Scope → Statement → Option FaultKind
@@ -158,9 +150,9 @@ statement_fault is_taken scope statement =
     (place_fault is_taken scope statement.body)
 
 -- the same after these statements
-abbrev pub first_pass_fault : List ℕ → List Statement → Statement → Option FaultKind
-first_pass_fault text earlier statement =
-    statement_fault (is_placed text earlier) (scope_after text earlier) statement
+abbrev pub first_pass_fault : List Statement → Statement → Option FaultKind
+first_pass_fault earlier statement =
+    statement_fault (is_placed earlier) (scope_after earlier) statement
 
 -- a fault with its line
 abbrev pub at_line : ℕ → Option FaultKind → Option FaultAt

@@ -1,5 +1,5 @@
 -- What a first pass in the midst of a source stands for.
-use Rattle.std.specs.Prelude.{◌≡◌, ℕ, List}
+use Rattle.std.specs.Prelude.{◌≡◌, List}
 use Rattle.asm_text.specs.declared.statement.Statement.{Statement}
 use Rattle.asm_bytes.specs.Value.{Scope}
 use Rattle.asm_bytes.specs.Names.{value_in}
@@ -9,11 +9,9 @@ use Rattle.msp_asm.specs.FirstPassState.{occupies}
 
 -- what the next statement is read in
 abbrev pub scope_of : FirstPass → Scope
-scope_of pass =
-    record { text = pass.text.now; names = value_in pass.names; here = pass.place }
+scope_of pass = record { names = value_in pass.names; here = pass.place }
 
 -- the first pass has taken these statements, newest first
-pub record FirstPassStandsFor (pass : FirstPass) (text : List ℕ)
-    (earlier : List Statement) : Type 0 where
-  pub scope : scope_of pass ≡ scope_after text earlier
-  pub taken : occupies pass.occupancy ≡ is_placed text earlier
+pub record FirstPassStandsFor (pass : FirstPass) (earlier : List Statement) : Type 0 where
+  pub scope : scope_of pass ≡ scope_after earlier
+  pub taken : occupies pass.occupancy ≡ is_placed earlier

@@ -35,7 +35,7 @@ HasInstructionOf image scope Empty = Unit {0}
 HasInstructionOf image scope (Org expr) = Unit {0}
 HasInstructionOf image scope (Word exprs) = Unit {0}
 HasInstructionOf image scope (Byte exprs) = Unit {0}
-HasInstructionOf image scope (Ascii span) = Unit {0}
+HasInstructionOf image scope (Ascii text) = Unit {0}
 HasInstructionOf image scope (Equ name expr) = Unit {0}
 
 -- something holds of each statement of a source, read behind those before it and under the names of
@@ -44,5 +44,4 @@ abbrev pub OfEachStatement : (Scope → Body → Type 0) → List ℕ → Type 0
 OfEachStatement Holds text =
     (before after : List Statement) (statement : Statement)
     → source_of text ≡ Ok (before ++ statement ∷ after)
-    → Holds (scope_among text (reverse (before ++ statement ∷ after)) (reverse before))
-    statement.body
+    → Holds (scope_among (reverse (before ++ statement ∷ after)) (reverse before)) statement.body

@@ -10,4 +10,4 @@ use Rattle.msp_asm.specs.SecondPass.{image_of}
 abbrev pub source_image : List ℕ → Result (ℕ → Option ℕ) FaultAt
 source_image text = do
   statements ← source_of text
-  image_of text statements
+  image_of statements

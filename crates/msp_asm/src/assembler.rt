@@ -23,7 +23,7 @@ pub fn assemble(alloc: Global, text: &[u8]) -> Result<Image, TextFault>
     statements_stand_in_the_image();
     instructions_stand_in_the_image();
     match parse(alloc, text) {
-        Ok(source) => assemble_statements(alloc, text, source.as_slice()),
+        Ok(source) => assemble_statements(alloc, source.as_slice()),
         Err(fault) => Err(fault),
     }
 }

@@ -32,17 +32,15 @@ impl<'a> Layout<'a> {
     ghost use Rattle.asm_bytes.specs.Scope.{scope_in};
 
     // What the statement at an index is read in.
-    fn scope(&self, text: &'a [u8], i: usize) -> Scope<'_, 'a>
+    fn scope(&self, i: usize) -> Scope<'_, 'a>
         requires { i < length self.now.places.items }
         ensures { scope_in result
             ≡ record {
-              text = text.now;
               names = value_in self.now.names;
               here = slice_index self.now.places.items i;
             } }
     {
         Scope {
-            text,
             names: &self.names,
             here: self.places[i],
         }
@@ -64,14 +62,12 @@ fn push_place(places: &mut Vec<u32>, place: u32) -> Result<(), TextFault>
 // The names of all statements and their places, or the first fault of the first pass.
 fn names_and_places<'a>(
     alloc: Global,
-    text: &'a [u8],
-    statements: &[Statement],
+    statements: &[Statement<'a>],
 ) -> Result<Layout<'a>, TextFault>
-    ensures ok { IfOk result (λ layout. LayoutStandsFor layout text.now statements.now) }
-    ensures fault { AnswersAt result
-        (first_fault (first_pass_fault text.now) (reverse statements.now)) }
+    ensures ok { IfOk result (λ layout. LayoutStandsFor layout statements.now) }
+    ensures fault { AnswersAt result (first_fault first_pass_fault (reverse statements.now)) }
 {
-    let mut pass = match FirstPass::new(alloc, text) {
+    let mut pass = match FirstPass::new(alloc) {
         Ok(pass) => pass,
         Err(error) => return Err(TextFault::Memory(error)),
     };
@@ -94,7 +90,7 @@ fn names_and_places<'a>(
 fn place_statement(
     alloc: Global,
     scope: &Scope<'_, '_>,
-    statement: &Statement,
+    statement: &Statement<'_>,
     image: &mut Image,
 ) -> Result<(), WordFault>
     ensures fault { AnswersFault result
@@ -116,19 +112,17 @@ fn place_statement(
 
 // The image of all statements, or the first fault of the second pass.
 #[tactic(auto, unfolding(crate::specs::SecondPass::byte_placed))]
-fn image_of<'a>(
+fn image_of(
     alloc: Global,
-    text: &'a [u8],
-    statements: &[Statement],
-    layout: &Layout<'a>,
+    statements: &[Statement<'_>],
+    layout: &Layout<'_>,
 ) -> Result<Image, TextFault>
-    requires { LayoutStandsFor layout.now text.now statements.now }
+    requires { LayoutStandsFor layout.now statements.now }
     ensures fault { AnswersAt result
-        (first_fault (second_pass_fault text.now (reverse statements.now))
-        (reverse statements.now)) }
+        (first_fault (second_pass_fault (reverse statements.now)) (reverse statements.now)) }
     ensures bytes { IfOk result (λ image. (place : ℕ) → IsTrue (is_image_place place)
         → byte_in image place
-        ≡ byte_placed text.now (reverse statements.now) (reverse statements.now) place) }
+        ≡ byte_placed (reverse statements.now) (reverse statements.now) place) }
 {
     let mut image = match Image::new(alloc) {
         Ok(image) => image,
@@ -136,7 +130,7 @@ fn image_of<'a>(
     };
     for i in 0..statements.len() {
         let statement = &statements[i];
-        let scope = layout.scope(text, i);
+        let scope = layout.scope(i);
         if let Err(fault) = place_statement(alloc, &scope, statement, &mut image) {
             return Err(fault.in_line(statement.line));
         }
@@ -145,16 +139,12 @@ fn image_of<'a>(
 }
 
 /// The image of statements, or the first fault of the two passes over them.
-pub fn assemble_statements(
-    alloc: Global,
-    text: &[u8],
-    statements: &[Statement],
-) -> Result<Image, TextFault>
-    ensures { Reads (value_as byte_in result) (image_of text.now statements.now) }
+pub fn assemble_statements(alloc: Global, statements: &[Statement<'_>]) -> Result<Image, TextFault>
+    ensures { Reads (value_as byte_in result) (image_of statements.now) }
 {
-    let layout = match names_and_places(alloc, text, statements) {
+    let layout = match names_and_places(alloc, statements) {
         Ok(layout) => layout,
         Err(fault) => return Err(fault),
     };
-    image_of(alloc, text, statements, &layout)
+    image_of(alloc, statements, &layout)
 }

@@ -1,56 +1,62 @@
 ghost use Rattle.std.specs.Prelude.{◌≡◌, ◌≤◌, ◌≤ℤ◌, ◌+◌, ℕ, pos, Some, None, IfOk, OnOk, IfSome, IsNone, if◌then◌else◌};
+ghost use Rattle.std.specs.Option.{option_copied};
 ghost use Rattle.std.specs.Result.{result_err};
 ghost use Rattle.asm_bytes.specs.Names.{value_in};
-ghost use Rattle.asm_bytes.specs.Statement.{size_of};
 ghost use Rattle.msp_asm.specs.FirstPass.{constant_name, are_same, with_name, is_org, place_of};
 ghost use Rattle.msp_asm.specs.FirstPassState.{AnswersFault};
 
 use crate::space::take_places;
-use asm_bytes::{Names, Scope, address_of, characters, is_of_words, size_of, word_of};
-use asm_text::{Body, Span, Statement};
+use asm_bytes::{Names, Scope, address_of, is_of_words, size_of, word_of};
+use asm_text::{Body, Statement};
 use bus_signals::PROGRAM;
 use mem_map::Image;
 use std::alloc::{AllocError, Global};
 use text_scan::{FaultKind, WordFault};
 
 // The name that a body gives.
-fn constant_name(body: &Body) -> Option<Span>
-    ensures { result ≡ constant_name body.now }
+fn constant_name<'a>(body: &Body<'a>) -> Option<&'a [u8]>
+    ensures { option_copied result ≡ constant_name body.now }
 {
     match body {
-        Body::Equ(name, _) => Some(*name),
+        Body::Equ(name, _) => Some(name.as_slice()),
         _ => None,
     }
 }
 
+// The name before a statement.
+fn label_name<'a>(statement: &Statement<'a>) -> Option<&'a [u8]>
+    ensures { option_copied result ≡ statement.now.label }
+{
+    match &statement.label {
+        Some(name) => Some(name.as_slice()),
+        None => None,
+    }
+}
+
 // Whether both names are the same.
-fn are_same(text: &[u8], name: Option<Span>, other: Option<Span>) -> bool
-    ensures { result ≡ are_same text.now name other }
+fn are_same(name: Option<&[u8]>, other: Option<&[u8]>) -> bool
+    ensures { result ≡ are_same (option_copied name.entry) (option_copied other.entry) }
 {
     match (name, other) {
-        (Some(name), Some(other)) => characters(text, name) == characters(text, other),
+        (Some(name), Some(other)) => name == other,
         _ => false,
     }
 }
 
 // Gives a name a value.
-fn insert<'a>(
-    text: &'a [u8],
-    names: &mut Names<'a>,
-    name: Option<Span>,
-    value: i32,
-) -> Result<(), AllocError>
+fn insert<'a>(names: &mut Names<'a>, name: Option<&'a [u8]>, value: i32) -> Result<(), AllocError>
     ensures { OnOk result
-        (value_in names.new ≡ with_name text.now name (Some value) (value_in names.old)) }
+        (value_in names.new
+        ≡ with_name (option_copied name.entry) (Some value) (value_in names.old)) }
 {
     match name {
-        Some(name) => names.insert(characters(text, name), value),
+        Some(name) => names.insert(name, value),
         None => Ok(()),
     }
 }
 
 // The place behind a statement that names this one, or whose bytes end before `after`.
-fn next_place(body: &Body, constant: Option<i32>, after: u32) -> u32
+fn next_place(body: &Body<'_>, constant: Option<i32>, after: u32) -> u32
     ensures value { result ≡ (if is_org body.now then place_of constant else after) }
     ensures most { IfSome constant (λ value. value ≤ℤ pos 65535) → after ≤ 65536 → result ≤ 65536 }
 {
@@ -64,7 +70,6 @@ fn next_place(body: &Body, constant: Option<i32>, after: u32) -> u32
 /// The first pass over the statements so far: the names that they give, and the place after them.
 #[derive(Drop)]
 pub struct FirstPass<'a> {
-    text: &'a [u8],
     names: Names<'a>,
     // 65,536 after the last place.
     place: u32,
@@ -75,6 +80,7 @@ pub struct FirstPass<'a> {
 
 impl<'a> FirstPass<'a> {
     ghost use Rattle.std.specs.Prelude.{◌≡◌, ◌≤◌, ◌≤ℤ◌, ◌∷◌, ◌||◌, [], ℕ, pos, List, IfOk, OnOk, IfSome, IsNone};
+    ghost use Rattle.std.specs.Option.{option_copied};
     ghost use Rattle.std.specs.Result.{result_err};
     ghost use Rattle.asm_text.specs.declared.statement.Statement.{Statement};
     ghost use Rattle.asm_bytes.specs.Names.{value_in};
@@ -86,11 +92,10 @@ impl<'a> FirstPass<'a> {
 
     /// Before the first statement: at C000, without names.
     #[tactic(auto, unfolding(crate::specs::FirstPass::scope_after, crate::specs::FirstPass::is_placed))]
-    pub fn new(alloc: Global, text: &'a [u8]) -> Result<FirstPass<'a>, AllocError>
-        ensures { IfOk result (λ pass. FirstPassStandsFor pass text.now []) }
+    pub fn new(alloc: Global) -> Result<FirstPass<'a>, AllocError>
+        ensures { IfOk result (λ pass. FirstPassStandsFor pass []) }
     {
         Ok(FirstPass {
-            text,
             names: Names::new(alloc),
             place: u32::from(PROGRAM.first),
             occupancy: Image::new(alloc)?,
@@ -116,33 +121,31 @@ impl<'a> FirstPass<'a> {
         ensures { scope_in result ≡ scope_of self.now }
     {
         Scope {
-            text: self.text,
             names: &self.names,
             here: self.place,
         }
     }
 
-    fn has_value(&self, name: Option<Span>) -> bool
-        ensures { result ≡ has_value (scope_of self.now).text (scope_of self.now).names name }
+    fn has_value(&self, name: Option<&[u8]>) -> bool
+        ensures { result ≡ has_value (scope_of self.now).names (option_copied name.entry) }
     {
         match name {
-            Some(name) => self.names.get(characters(self.text, name)).is_some(),
+            Some(name) => self.names.get(name).is_some(),
             None => false,
         }
     }
 
     // Whether a name that the statement gives has a value, or it gives one name twice.
-    fn gives_again(&self, statement: &Statement) -> bool
+    fn gives_again(&self, statement: &Statement<'a>) -> bool
         ensures { result ≡ gives_again (scope_of self.now) statement.now }
     {
+        let label = label_name(statement);
         let constant = constant_name(&statement.body);
-        self.has_value(statement.label)
-            || self.has_value(constant)
-            || are_same(self.text, statement.label, constant)
+        self.has_value(label) || self.has_value(constant) || are_same(label, constant)
     }
 
     // The value that `.org` or `.equ` names.
-    fn constant(&self, body: &Body) -> Result<Option<i32>, FaultKind>
+    fn constant(&self, body: &Body<'_>) -> Result<Option<i32>, FaultKind>
         ensures fault { result_err result ≡ constant_fault (scope_of self.now) body.now }
         ensures value { IfOk result (λ value. value ≡ constant_value (scope_of self.now) body.now) }
         ensures most { IfOk result (λ value. IfSome value (λ number. number ≤ℤ pos 65535)) }
@@ -163,11 +166,11 @@ impl<'a> FirstPass<'a> {
     }
 
     // Takes the places of a statement's bytes, and answers the place behind them.
-    fn take_places(&mut self, body: &Body) -> Result<u32, FaultKind>
+    fn take_places(&mut self, body: &Body<'_>) -> Result<u32, FaultKind>
         ensures fault { result_err result
             ≡ place_fault (occupies self.old.occupancy) (scope_of self.old) body.now }
         ensures next { IfOk result (λ next.
-            next ≡ (scope_of self.old).here + size_of (scope_of self.old).text body.now) }
+            next ≡ (scope_of self.old).here + size_of body.now) }
         ensures most { IfOk result (λ next. next ≤ 65536) }
         ensures scope { scope_of self.new ≡ scope_of self.old }
         ensures taken { OnOk result ((place : ℕ)
@@ -178,13 +181,13 @@ impl<'a> FirstPass<'a> {
         if is_of_words(body) && self.place % 2 != 0 {
             return Err(FaultKind::Place);
         }
-        take_places(&mut self.occupancy, self.place, size_of(self.text, body))
+        take_places(&mut self.occupancy, self.place, size_of(body))
     }
 
     // Gives the names of a statement their values, and goes to the place behind it.
     fn pass(
         &mut self,
-        statement: &Statement,
+        statement: &Statement<'a>,
         constant: Option<i32>,
         after: u32,
     ) -> Result<(), AllocError>
@@ -192,28 +195,22 @@ impl<'a> FirstPass<'a> {
         requires most { IfSome constant (λ value. value ≤ℤ pos 65535) }
         requires none { IsNone constant → IsNone (constant_name statement.now.body) }
         requires after_fits { after ≤ 65536 }
-        requires after { after ≡ (scope_of self.old).here
-            + size_of (scope_of self.old).text statement.now.body }
+        requires after { after ≡ (scope_of self.old).here + size_of statement.now.body }
         ensures scope { OnOk result
             (scope_of self.new ≡ next_scope (scope_of self.old) statement.now) }
         ensures taken { OnOk result (occupies self.new.occupancy ≡ occupies self.old.occupancy) }
     {
-        insert(
-            self.text,
-            &mut self.names,
-            statement.label,
-            self.place as i32,
-        )?;
+        insert(&mut self.names, label_name(statement), self.place as i32)?;
         if let Some(value) = constant {
             let name = constant_name(&statement.body);
-            insert(self.text, &mut self.names, name, value)?;
+            insert(&mut self.names, name, value)?;
         }
         self.place = next_place(&statement.body, constant, after);
         Ok(())
     }
 
     // Takes a further statement, or answers its first fault.
-    fn add(&mut self, statement: &Statement) -> Result<(), WordFault>
+    fn add(&mut self, statement: &Statement<'a>) -> Result<(), WordFault>
         ensures fault { AnswersFault result
             (statement_fault (occupies self.old.occupancy) (scope_of self.old) statement.now) }
         ensures scope { OnOk result
@@ -235,13 +232,13 @@ impl<'a> FirstPass<'a> {
     }
 
     /// Takes a further statement, or answers its first fault.
-    pub fn take(&mut self, statement: &Statement) -> Result<(), WordFault>
-        ensures fault { (text : List ℕ) (earlier : List Statement)
-            → FirstPassStandsFor self.old text earlier
-            → AnswersFault result (first_pass_fault text earlier statement.now) }
-        ensures taken { (text : List ℕ) (earlier : List Statement)
-            → FirstPassStandsFor self.old text earlier
-            → OnOk result (FirstPassStandsFor self.new text (statement.now ∷ earlier)) }
+    pub fn take(&mut self, statement: &Statement<'a>) -> Result<(), WordFault>
+        ensures fault { (earlier : List Statement)
+            → FirstPassStandsFor self.old earlier
+            → AnswersFault result (first_pass_fault earlier statement.now) }
+        ensures taken { (earlier : List Statement)
+            → FirstPassStandsFor self.old earlier
+            → OnOk result (FirstPassStandsFor self.new (statement.now ∷ earlier)) }
     {
         self.add(statement)
     }

@@ -19,16 +19,13 @@ ends [] = true
 ends (c ∷ rest) = ends_word c
 
 -- a text that falls into these tokens, whatever stands behind it
-pub record FallsAlways (text : List ℕ) (tokens : ℕ → List Token) : Type 0 where
-  pub cut : (place : ℕ) (rest : List ℕ)
-      → tokens_of place (text ++ rest)
-      ≡ behind (tokens place) (tokens_of (place + length text) rest)
+pub record FallsAlways (text : List ℕ) (tokens : List Token) : Type 0 where
+  pub cut : (rest : List ℕ) → tokens_of (text ++ rest) ≡ behind tokens (tokens_of rest)
 
 -- a text that does so where no word goes on behind it
-pub record FallsInto (text : List ℕ) (tokens : ℕ → List Token) : Type 0 where
-  pub cut : (place : ℕ) (rest : List ℕ) → ends rest ≡ true
-      → tokens_of place (text ++ rest)
-      ≡ behind (tokens place) (tokens_of (place + length text) rest)
+pub record FallsInto (text : List ℕ) (tokens : List Token) : Type 0 where
+  pub cut : (rest : List ℕ) → ends rest ≡ true
+      → tokens_of (text ++ rest) ≡ behind tokens (tokens_of rest)
 
 behind-behind : (a b : List Token) (outcome : Result (List Token) FaultKind)
     → behind a (behind b outcome) ≡ behind (a ++ b) outcome
@@ -45,145 +42,103 @@ pub ends-append : (a rest : List ℕ) → ends a ≡ true → ends rest ≡ true
 ends-append [] rest first next = next
 ends-append (c ∷ a) rest first next = first
 
--- the characters of two texts, one behind the other
-behind-places : (a b : List ℕ) (place : ℕ) (rest : List ℕ)
-    → tokens_of (place + length a + length b) rest ≡ tokens_of (place + length (a ++ b)) rest
-behind-places a b place rest =
-    let there : place + length a + length b ≡ place + length (a ++ b) =
-    omega (arith, length-append a b) in ap (λ (p : ℕ). tokens_of p rest) there
-
-both-behind : (one two : List Token) (a b : List ℕ) (place : ℕ) (rest : List ℕ)
-    → behind one (behind two (tokens_of (place + length a + length b) rest))
-    ≡ behind (one ++ two) (tokens_of (place + length (a ++ b)) rest)
-both-behind one two a b place rest =
-    ap (λ outcome. behind one (behind two outcome)) (behind-places a b place rest)
-    ∙ behind-behind one two (tokens_of (place + length (a ++ b)) rest)
-
-pub falls-then : {a b : List ℕ} {first next : ℕ → List Token} → FallsAlways a first
-    → FallsInto b next → FallsInto (a ++ b) (λ place. first place ++ next (place + length a))
+pub falls-then : {a b : List ℕ} {first next : List Token} → FallsAlways a first
+    → FallsInto b next → FallsInto (a ++ b) (first ++ next)
 falls-then {a = a} {b = b} {first = first} {next = next} before after = record {
-  cut = λ place rest apart.
-      ap (tokens_of place) (append_assoc a b rest)
-      ∙ before.cut place (b ++ rest)
-      ∙ ap (behind (first place)) (after.cut (place + length a) rest apart)
-      ∙ both-behind (first place) (next (place + length a)) a b place rest;
+  cut = λ rest apart.
+      ap tokens_of (append_assoc a b rest)
+      ∙ before.cut (b ++ rest)
+      ∙ ap (behind first) (after.cut rest apart)
+      ∙ behind-behind first next (tokens_of rest);
 }
 
-pub falls-apart : {a b : List ℕ} {first next : ℕ → List Token} → FallsInto a first
-    → ends b ≡ true → FallsInto b next
-    → FallsInto (a ++ b) (λ place. first place ++ next (place + length a))
+pub falls-apart : {a b : List ℕ} {first next : List Token} → FallsInto a first
+    → ends b ≡ true → FallsInto b next → FallsInto (a ++ b) (first ++ next)
 falls-apart {a = a} {b = b} {first = first} {next = next} before between after = record {
-  cut = λ place rest apart.
-      ap (tokens_of place) (append_assoc a b rest)
-      ∙ before.cut place (b ++ rest) (ends-append b rest between apart)
-      ∙ ap (behind (first place)) (after.cut (place + length a) rest apart)
-      ∙ both-behind (first place) (next (place + length a)) a b place rest;
-}
-
--- a text whose tokens are written in another way
-pub falls-as : {text : List ℕ} {tokens other : ℕ → List Token} → FallsInto text tokens
-    → ((place : ℕ) → tokens place ≡ other place) → FallsInto text other
-falls-as {text = text} falls same = record {
-  cut = λ place rest apart.
-      falls.cut place rest apart
-      ∙ ap (λ answer. behind answer (tokens_of (place + length text) rest)) (same place);
+  cut = λ rest apart.
+      ap tokens_of (append_assoc a b rest)
+      ∙ before.cut (b ++ rest) (ends-append b rest between apart)
+      ∙ ap (behind first) (after.cut rest apart)
+      ∙ behind-behind first next (tokens_of rest);
 }
 
 -- nothing falls into nothing
-pub falls-nothing : FallsInto [] (λ place. [])
-falls-nothing = record {
-  cut = λ place rest apart.
-      let there : place ≡ place + 0 = omega arith in
-      ap (λ (p : ℕ). tokens_of p rest) there ∙ behind-none (tokens_of (place + 0) rest);
-}
+pub falls-nothing : FallsInto [] []
+falls-nothing = record { cut = λ rest apart. behind-none (tokens_of rest) }
 
 -- a token that begins a text
-pub token-prefix : (place count : ℕ) (text rest : List ℕ) (token : Token) → 0 < count
-    → count ≡ length text → piece_of place (text ++ rest) ≡ pieces.Token token count
-    → tokens_of place (text ++ rest) ≡ behind (token ∷ []) (tokens_of (place + length text) rest)
-token-prefix place count text rest token some long is =
-    let here : place ≡ place + 0 = omega arith in
-    let there : place + (0 + count) ≡ place + length text = omega (arith, long) in
+pub token-prefix : (count : ℕ) (text rest : List ℕ) (token : Token) → 0 < count
+    → count ≡ length text → piece_of (text ++ rest) ≡ pieces.Token token count
+    → tokens_of (text ++ rest) ≡ behind (token ∷ []) (tokens_of rest)
+token-prefix count text rest token some long is =
     let passes : 0 + count ≡ length text = omega (arith, long) in
     let below : 0 < length (text ++ rest) = omega (arith, some, long, length-append text rest) in
-    ap (λ (p : ℕ). tokens_of p (text ++ rest)) here
-    ∙ left-token place 0 count (text ++ rest) token below some
-    (ap (λ (p : ℕ). piece_of p (text ++ rest)) (sym here) ∙ is)
+    left-token 0 count (text ++ rest) token below some is
     ∙ ap (token_before token)
-    (ap (λ (p : ℕ). tokens_of p (drop (0 + count) (text ++ rest))) there
-    ∙ ap (λ (n : ℕ). tokens_of (place + length text) (drop n (text ++ rest))) passes
-    ∙ ap (tokens_of (place + length text)) (drop-append_seam text rest))
-    ∙ before-behind token (tokens_of (place + length text) rest)
+    (ap (λ (n : ℕ). tokens_of (drop n (text ++ rest))) passes
+    ∙ ap tokens_of (drop-append_seam text rest))
+    ∙ before-behind token (tokens_of rest)
 
-blank-prefix : (place c : ℕ) (rest : List ℕ) → piece_of place (c ∷ rest) ≡ pieces.Blank
-    → tokens_of place (c ∷ rest) ≡ tokens_of (place + 1) rest
-blank-prefix place c rest is =
-    let here : place ≡ place + 0 = omega arith in
-    let there : place + (0 + 1) ≡ place + 1 = omega arith in
-    ap (λ (p : ℕ). tokens_of p (c ∷ rest)) here
-    ∙ left-blank place 0 (c ∷ rest) (omega arith)
-    (ap (λ (p : ℕ). piece_of p (c ∷ rest)) (sym here) ∙ is)
-    ∙ ap (λ (p : ℕ). tokens_of p rest) there
+blank-prefix : (c : ℕ) (rest : List ℕ) → piece_of (c ∷ rest) ≡ pieces.Blank
+    → tokens_of (c ∷ rest) ≡ tokens_of rest
+blank-prefix c rest is = left-blank 0 (c ∷ rest) (omega arith) is
 
-pub blank-falls : FallsAlways (codes " ") (λ place. [])
+pub blank-falls : FallsAlways (codes " ") []
 unfolding piece_of
-blank-falls = record {
-  cut = λ place rest. blank-prefix place 32 rest refl ∙ behind-none (tokens_of (place + 1) rest);
-}
+blank-falls = record { cut = λ rest. blank-prefix 32 rest refl ∙ behind-none (tokens_of rest) }
 
 -- a mark
 mark-falls : (mark : ℕ) (token : Token)
-    → ((place : ℕ) (rest : List ℕ) → piece_of place (mark ∷ rest) ≡ pieces.Token token 1)
-    → FallsAlways (mark ∷ []) (λ place. token ∷ [])
+    → ((rest : List ℕ) → piece_of (mark ∷ rest) ≡ pieces.Token token 1)
+    → FallsAlways (mark ∷ []) (token ∷ [])
 mark-falls mark token is = record {
-  cut = λ place rest.
-      token-prefix place 1 (mark ∷ []) rest token (omega arith) refl (is place rest);
+  cut = λ rest. token-prefix 1 (mark ∷ []) rest token (omega arith) refl (is rest);
 }
 
-pub colon-falls : FallsAlways (codes ":") (λ place. Colon ∷ [])
+pub colon-falls : FallsAlways (codes ":") (Colon ∷ [])
 unfolding piece_of
-colon-falls = mark-falls 58 Colon (λ place rest. refl)
+colon-falls = mark-falls 58 Colon (λ rest. refl)
 
-pub comma-falls : FallsAlways (codes ",") (λ place. Comma ∷ [])
+pub comma-falls : FallsAlways (codes ",") (Comma ∷ [])
 unfolding piece_of
-comma-falls = mark-falls 44 Comma (λ place rest. refl)
+comma-falls = mark-falls 44 Comma (λ rest. refl)
 
-pub hash-falls : FallsAlways (codes "#") (λ place. Hash ∷ [])
+pub hash-falls : FallsAlways (codes "#") (Hash ∷ [])
 unfolding piece_of
-hash-falls = mark-falls 35 Hash (λ place rest. refl)
+hash-falls = mark-falls 35 Hash (λ rest. refl)
 
-pub ampersand-falls : FallsAlways (codes "&") (λ place. Ampersand ∷ [])
+pub ampersand-falls : FallsAlways (codes "&") (Ampersand ∷ [])
 unfolding piece_of
-ampersand-falls = mark-falls 38 Ampersand (λ place rest. refl)
+ampersand-falls = mark-falls 38 Ampersand (λ rest. refl)
 
-pub at-falls : FallsAlways (codes "@") (λ place. At ∷ [])
+pub at-falls : FallsAlways (codes "@") (At ∷ [])
 unfolding piece_of
-at-falls = mark-falls 64 At (λ place rest. refl)
+at-falls = mark-falls 64 At (λ rest. refl)
 
-pub plus-falls : FallsAlways (codes "+") (λ place. Plus ∷ [])
+pub plus-falls : FallsAlways (codes "+") (Plus ∷ [])
 unfolding piece_of
-plus-falls = mark-falls 43 Plus (λ place rest. refl)
+plus-falls = mark-falls 43 Plus (λ rest. refl)
 
-pub minus-falls : FallsAlways (codes "-") (λ place. Minus ∷ [])
+pub minus-falls : FallsAlways (codes "-") (Minus ∷ [])
 unfolding piece_of
-minus-falls = mark-falls 45 Minus (λ place rest. refl)
+minus-falls = mark-falls 45 Minus (λ rest. refl)
 
-pub open-falls : FallsAlways (codes "(") (λ place. Open ∷ [])
+pub open-falls : FallsAlways (codes "(") (Open ∷ [])
 unfolding piece_of
-open-falls = mark-falls 40 Open (λ place rest. refl)
+open-falls = mark-falls 40 Open (λ rest. refl)
 
-pub close-falls : FallsAlways (codes ")") (λ place. Close ∷ [])
+pub close-falls : FallsAlways (codes ")") (Close ∷ [])
 unfolding piece_of
-close-falls = mark-falls 41 Close (λ place rest. refl)
+close-falls = mark-falls 41 Close (λ rest. refl)
 
-pub here-falls : FallsAlways (codes "$") (λ place. Here ∷ [])
+pub here-falls : FallsAlways (codes "$") (Here ∷ [])
 unfolding piece_of
-here-falls = mark-falls 36 Here (λ place rest. refl)
+here-falls = mark-falls 36 Here (λ rest. refl)
 
 -- what falls always does so before what ends a word
-pub falls-into : {text : List ℕ} {tokens : ℕ → List Token} → FallsAlways text tokens
+pub falls-into : {text : List ℕ} {tokens : List Token} → FallsAlways text tokens
     → FallsInto text tokens
-falls-into falls = record { cut = λ place rest apart. falls.cut place rest }
+falls-into falls = record { cut = λ rest apart. falls.cut rest }
 
 -- the characters of a word up to its end
 word-length : (word rest : List ℕ) → list_all is_word_character word ≡ true → ends rest ≡ true
@@ -208,10 +163,10 @@ other-character : (c d : ℕ) → is_word_character c ≡ true → is_word_chara
 other-character c d is other =
     ne_eqb c d (λ same. false≢true (sym other ∙ ap is_word_character (sym same) ∙ is))
 
-word-piece_of : (place c : ℕ) (rest : List ℕ) → is_word_character c ≡ true
-    → piece_of place (c ∷ rest) ≡ word_piece place (before_first ends_word (c ∷ rest))
+word-piece_of : (c : ℕ) (rest : List ℕ) → is_word_character c ≡ true
+    → piece_of (c ∷ rest) ≡ word_piece (before_first ends_word (c ∷ rest))
 unfolding piece_of
-word-piece_of place c rest is =
+word-piece_of c rest is =
     rw (
       other-character c 32 is refl,
       other-character c 9 is refl,
@@ -220,16 +175,15 @@ word-piece_of place c rest is =
       is,
     ) refl
 
-pub word-falls : (word : List ℕ) (token : ℕ → Token) → list_all is_word_character word ≡ true
-    → 0 < length word
-    → ((place : ℕ) → word_piece place word ≡ pieces.Token (token place) (length word))
-    → FallsInto word (λ place. token place ∷ [])
+pub word-falls : (word : List ℕ) (token : Token) → list_all is_word_character word ≡ true
+    → 0 < length word → word_piece word ≡ pieces.Token token (length word)
+    → FallsInto word (token ∷ [])
 word-falls [] token all some is = absurd (omega arith)
 word-falls (c ∷ word) token all some is =
     let parts = and_parts (is_word_character c) (list_all is_word_character word) all in
     record {
-      cut = λ place rest apart.
-          token-prefix place (length (c ∷ word)) (c ∷ word) rest (token place) some refl
-          (word-piece_of place c (word ++ rest) parts.0
-          ∙ ap (word_piece place) (word-cut (c ∷ word) rest all apart) ∙ is place);
+      cut = λ rest apart.
+          token-prefix (length (c ∷ word)) (c ∷ word) rest token some refl
+          (word-piece_of c (word ++ rest) parts.0
+          ∙ ap word_piece (word-cut (c ∷ word) rest all apart) ∙ is);
     }

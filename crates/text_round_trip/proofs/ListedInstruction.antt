@@ -94,19 +94,19 @@ pub two-again : (place : ℕ) (op : Op2) (size : Size) (source : Source) (dest :
 two-again place op size source dest fits fits_dest form = record {
   body = bodies.Instr (mnemonics.Two op) size (Some (source_operand source))
       (Some (dest_operand dest));
-  read = λ number start.
-      ap (line_statement number start)
+  read = λ number.
+      ap (line_statement number)
       (two-text (op2_name op ++ size_suffix size) (codes " ") (source_text source) (codes ",")
       (dest_text dest))
-      ∙ statement-read number start (source_operand source ∷ dest_operand dest ∷ [])
+      ∙ statement-read number (source_operand source ∷ dest_operand dest ∷ [])
       (mnemonic-operation (mnemonics.Two op) size (two-sized op size)) refl
       (falls-apart (source-falls source fits) refl
       (falls-then comma-falls (dest-falls dest fits_dest)))
       ((source-read source).begins (Comma ∷ dest_tokens dest))
       (two-read (source-read source) (dest-read dest))
       (rw (source-form source form, dest-form dest) refl);
-  bytes = λ text names.
-      let scope : Scope = record { text = text; names = names; here = place } in
+  bytes = λ names.
+      let scope : Scope = record { names = names; here = place } in
       ap bytes_read (two-bytes scope op size source dest fits fits_dest form);
 }
 
@@ -170,14 +170,14 @@ pub one-again : (place : ℕ) (op : OneOp) (size : Size) (source : Source) → F
     → IsReadAs place (items.Instruction (One op size source))
 one-again place op size source fits form has write = record {
   body = bodies.Instr (mnemonics.One op) size (Some (source_operand source)) None;
-  read = λ number start.
-      statement-read number start (source_operand source ∷ [])
+  read = λ number.
+      statement-read number (source_operand source ∷ [])
       (mnemonic-operation (mnemonics.One op) size (one-sized op size has)) refl
       (source-falls source fits) (no_colon-first (source-read source))
       (one-read (source-read source))
       (rw (one-fits op source form write) refl);
-  bytes = λ text names.
-      let scope : Scope = record { text = text; names = names; here = place } in
+  bytes = λ names.
+      let scope : Scope = record { names = names; here = place } in
       let from = source-again scope size (plus place 2) source fits form in
       ap bytes_read
       (one-steps scope op size (record { first = Some (source_operand source); second = None })

@@ -28,22 +28,22 @@ reti-again place =
     let operation = mnemonic-operation RetiMnemonic sizes.Word refl in
     record {
       body = body;
-      read = λ number start.
-          line-read number start (None, body) (operation-falls operation)
-          (no_label (word_token start (codes "reti")) [] refl
+      read = λ number.
+          line-read number (None, body) (operation-falls operation)
+          (no_label (word_token (codes "reti")) [] refl
           ∙ ap (λ (answer : Result Body FaultKind). answer >>= without_label)
-          (operation-read start [] [] operation refl refl refl));
-      bytes = λ text names. refl;
+          (operation-read [] [] operation refl refl refl));
+      bytes = λ names. refl;
     }
 
 pub word-again : (place word : ℕ) → word < 65536 → IsReadAs place (items.Word word)
 word-again place word below = record {
   body = bodies.Word (number_expr word ∷ []);
-  read = λ number start.
-      statement-read {word = codes ".word"} number start (Symbolic (number_expr word) ∷ [])
+  read = λ number.
+      statement-read {word = codes ".word"} number (Symbolic (number_expr word) ∷ [])
       (record { all = refl; some = omega arith; begins = refl; register = refl; names = refl }) refl
       (word-falls word below) refl (one-read (number-operand word)) refl;
-  bytes = λ text names.
+  bytes = λ names.
       ap (λ (number : ℤ). all_bytes sizes.Word (number ∷ [])) (+ℤ_idr (pos word))
       ∙ rw (le-leb word 65535 (omega arith)) refl;
 }
@@ -51,13 +51,13 @@ word-again place word below = record {
 pub byte-again : (place byte : ℕ) → byte < 256 → IsReadAs place (items.Byte byte)
 byte-again place byte below = record {
   body = bodies.Byte (number_expr byte ∷ []);
-  read = λ number start.
-      statement-read {word = codes ".byte"} {text = codes "0x" ++ byte_digits byte} number start
+  read = λ number.
+      statement-read {word = codes ".byte"} {text = codes "0x" ++ byte_digits byte} number
       (Symbolic (number_expr byte) ∷ [])
       (record { all = refl; some = omega arith; begins = refl; register = refl; names = refl }) refl
       (number-falls (codes "0x" ++ byte_digits byte) byte (byte_text-number byte below)) refl
       (one-read (number-operand byte)) refl;
-  bytes = λ text names.
+  bytes = λ names.
       ap (λ (number : ℤ). all_bytes sizes.Byte (number ∷ [])) (+ℤ_idr (pos byte))
       ∙ rw (le-leb byte 255 (omega arith)) refl;
 }

@@ -126,12 +126,12 @@ jump-again place condition offset range even below =
     record {
       body = bodies.Instr (mnemonics.Jump condition) sizes.Word
           (Some (Symbolic (number_expr target))) None;
-      read = λ number start.
-          statement-read number start (Symbolic (number_expr target) ∷ [])
+      read = λ number.
+          statement-read number (Symbolic (number_expr target) ∷ [])
           (jump-operation condition) refl (word-falls target fits) refl
           (one-read (number-operand target)) refl;
-      bytes = λ text names.
-          let scope : Scope = record { text = text; names = names; here = place } in
+      bytes = λ names.
+          let scope : Scope = record { names = names; here = place } in
           ap bytes_read (jump-steps scope condition target fits
           ∙ target-again condition place offset range even below);
     }

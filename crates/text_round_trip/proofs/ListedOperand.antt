@@ -45,11 +45,11 @@ abbrev indexed_operand : Reg → ℕ → Operand
 indexed_operand R2 index = Abs (number_expr index)
 indexed_operand register index = Indexed (number_expr index) register
 
-pub word-falls : (word : ℕ) → word < 65536 → FallsInto (word_text word) (λ place. Number word ∷ [])
+pub word-falls : (word : ℕ) → word < 65536 → FallsInto (word_text word) (Number word ∷ [])
 word-falls word below = number-falls (word_text word) word (word_text-number word below)
 
 indexed-falls : (register : Reg) (index : ℕ) → index < 65536
-    → FallsInto (indexed_text register index) (λ place. indexed_tokens register index)
+    → FallsInto (indexed_text register index) (indexed_tokens register index)
 unfolding encode_with
 indexed-falls R2 index below = falls-then ampersand-falls (word-falls index below)
 indexed-falls register index below =
@@ -74,7 +74,7 @@ constant_tokens gen.MinusOne = Hash ∷ Minus ∷ Number 1 ∷ []
 constant_tokens constant = Hash ∷ Number (constant_number constant) ∷ []
 
 constant-falls : (constant : Gen)
-    → FallsInto (constant_text constant) (λ place. constant_tokens constant)
+    → FallsInto (constant_text constant) (constant_tokens constant)
 constant-falls gen.Zero = falls-then hash-falls (number-falls (codes "0") 0 refl)
 constant-falls gen.One = falls-then hash-falls (number-falls (codes "1") 1 refl)
 constant-falls gen.Two = falls-then hash-falls (number-falls (codes "2") 2 refl)
@@ -119,7 +119,7 @@ FitsDest (dest.Reg register) = Unit {0}
 FitsDest (dest.Indexed register index) = index < 65536
 
 pub source-falls : (source : Source) → FitsSource source
-    → FallsInto (source_text source) (λ place. source_tokens source)
+    → FallsInto (source_text source) (source_tokens source)
 source-falls (source.Reg register) fits = register-falls register
 source-falls (source.Indexed register index) fits = indexed-falls register index fits
 source-falls (source.Indirect register) fits = falls-then at-falls (register-falls register)
@@ -129,7 +129,7 @@ source-falls (source.Immediate word) fits = falls-then hash-falls (word-falls wo
 source-falls (source.Constant constant) fits = constant-falls constant
 
 pub dest-falls : (dest : Dest) → FitsDest dest
-    → FallsInto (dest_text dest) (λ place. dest_tokens dest)
+    → FallsInto (dest_text dest) (dest_tokens dest)
 dest-falls (dest.Reg register) fits = register-falls register
 dest-falls (dest.Indexed register index) fits = indexed-falls register index fits
 

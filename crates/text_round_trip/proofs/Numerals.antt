@@ -115,12 +115,12 @@ pub number-is : (word : List ℕ) (n : ℕ) → number_of word ≡ Some n → Is
 number-is word n answer = by_prefix word n (bytes_eq (take 2 word) (codes "0x")) refl answer
 
 pub number-falls : (word : List ℕ) (n : ℕ) → number_of word ≡ Some n
-    → FallsInto word (λ place. Number n ∷ [])
+    → FallsInto word (Number n ∷ [])
 unfolding word_piece
 number-falls word n answer =
     let is = number-is word n answer in
-    word-falls word (λ place. Number n) is.all is.some
-    (λ place. rw is.digit (ap (λ (outcome : Option ℕ). number_piece outcome (length word)) answer))
+    word-falls word (Number n) is.all is.some
+    (rw is.digit (ap (λ (outcome : Option ℕ). number_piece outcome (length word)) answer))
 
 -- the numerals of a listing
 record IsHexDigit (c d : ℕ) : Type 0 where

@@ -13,15 +13,22 @@ use Rattle.text_round_trip.specs.ReadBack.{AreNumerals}
 use Rattle.msp_decode.specs.declared.reg.Reg.{Reg as Register}
 use Rattle.msp_decode.specs.declared.reg.Reg.TheVariants.{R0}
 use Rattle.asm_text.specs.Name.{mnemonic_name, reg_name}
-use Rattle.text_round_trip.specs.LineSyntax.{TermSyntax, Number, Name, Here, ExprSyntax, OperandSyntax, Reg, Imm, Abs, Indexed, Symbolic, Indirect, IndirectInc, BodySyntax, Empty, Instr, Org, Word, Byte, Ascii, Equ, LineSyntax}
-use Rattle.text_round_trip.specs.SyntaxText.{Numerals, term_text, sign_text, more_text, expr_text, operand_text, more_operands_text, operands_text, operand_list, body_text, label_text, syntax_text}
+use Rattle.asm_text.specs.declared.term.Term.{Term}
+use Rattle.asm_text.specs.declared.term.Term.TheVariants.{Number, Name, Here}
+use Rattle.asm_text.specs.declared.operand.Operand.{Operand}
+use Rattle.asm_text.specs.declared.operand.Operand.TheVariants.{Reg, Imm, Abs, Indexed, Symbolic, Indirect, IndirectInc}
+use Rattle.asm_text.specs.declared.body.Body.{Body}
+use Rattle.asm_text.specs.declared.body.Body.TheVariants.{Empty, Instr, Org, Word, Byte, Ascii, Equ}
+use Rattle.asm_text.specs.declared.statement.Statement.{Statement}
+use Rattle.asm_text.specs.Expr.{SignedTerm}
+use Rattle.text_round_trip.specs.StatementText.{Numerals, term_text, sign_text, more_text, expr_text, operand_text, more_operands_text, operands_text, operand_list, body_text, label_text, statement_text}
 use Rattle.text_round_trip.specs.Writable.{is_free_name, is_writable_term, is_writable_expr, is_writable_operand, is_none_or_writable, is_writable_body, is_free_label, is_writable}
 use Rattle.text_round_trip.proofs.Numerals.{number-is}
-use Rattle.text_round_trip.proofs.PlacedDirective.{symbolic-are}
-use Rattle.text_round_trip.proofs.PlacedInstruction.{instruction-parts}
+use Rattle.text_round_trip.proofs.WrittenDirective.{symbolic-are}
+use Rattle.text_round_trip.proofs.WrittenInstruction.{instruction-parts}
 use Rattle.text_round_trip.proofs.Words.{mnemonic-operation}
-use Rattle.text_round_trip.proofs.PlacedExpr.{are_terms, terms-are, name-characters}
-use Rattle.text_round_trip.proofs.PlacedStatement.{are_operands}
+use Rattle.text_round_trip.proofs.WrittenExpr.{are_terms, terms-are, name-characters}
+use Rattle.text_round_trip.proofs.WrittenStatement.{are_operands}
 
 -- from a space (32) to a tilde (126)
 abbrev pub is_printed : ℕ → Bool
@@ -89,7 +96,7 @@ both-printed a b first next =
 name-printed : (name : List ℕ) → is_free_name name ≡ true → are_printed name ≡ true
 name-printed name is = words-printed name (name-characters name is)
 
-term-printed : (numerals : Numerals) → AreNumerals numerals → (term : TermSyntax)
+term-printed : (numerals : Numerals) → AreNumerals numerals → (term : Term)
     → is_writable_term term ≡ true → are_printed (term_text numerals term) ≡ true
 term-printed numerals are (Number number) is =
     words-printed (numerals number)
@@ -101,7 +108,7 @@ sign-printed : (is_subtracted : Bool) → are_printed (sign_text is_subtracted) 
 sign-printed false = refl
 sign-printed true = refl
 
-more-printed : (numerals : Numerals) → AreNumerals numerals → (terms : ExprSyntax)
+more-printed : (numerals : Numerals) → AreNumerals numerals → (terms : List SignedTerm)
     → are_terms terms ≡ true → are_printed (more_text numerals terms) ≡ true
 more-printed numerals are [] all = refl
 more-printed numerals are ((is_subtracted, term) ∷ rest) all =
@@ -110,7 +117,7 @@ more-printed numerals are ((is_subtracted, term) ∷ rest) all =
     (both-printed (sign_text is_subtracted) (term_text numerals term) (sign-printed is_subtracted)
     (term-printed numerals are term parts.0)) (more-printed numerals are rest parts.1)
 
-expr-printed : (numerals : Numerals) → AreNumerals numerals → (expr : ExprSyntax)
+expr-printed : (numerals : Numerals) → AreNumerals numerals → (expr : List SignedTerm)
     → is_writable_expr expr ≡ true → are_printed (expr_text numerals expr) ≡ true
 expr-printed numerals are [] is = refl
 expr-printed numerals are ((false, term) ∷ rest) is =
@@ -128,7 +135,7 @@ register-printed : (register : Register) → are_printed (reg_name register) ≡
 register-printed R0 = refl
 register-printed register = refl
 
-operand-printed : (numerals : Numerals) → AreNumerals numerals → (operand : OperandSyntax)
+operand-printed : (numerals : Numerals) → AreNumerals numerals → (operand : Operand)
     → is_writable_operand operand ≡ true → are_printed (operand_text numerals operand) ≡ true
 operand-printed numerals are (Reg register) is = register-printed register
 operand-printed numerals are (Imm expr) is = expr-printed numerals are expr is
@@ -144,7 +151,7 @@ operand-printed numerals are (Indirect register) is = register-printed register
 operand-printed numerals are (IndirectInc register) is =
     both-printed (codes "@" ++ reg_name register) (codes "+") (register-printed register) refl
 
-more_operands-printed : (numerals : Numerals) → AreNumerals numerals → (rest : List OperandSyntax)
+more_operands-printed : (numerals : Numerals) → AreNumerals numerals → (rest : List Operand)
     → are_operands rest ≡ true → are_printed (more_operands_text numerals rest) ≡ true
 more_operands-printed numerals are [] all = refl
 more_operands-printed numerals are (next ∷ rest) all =
@@ -152,7 +159,7 @@ more_operands-printed numerals are (next ∷ rest) all =
     both-printed (codes "," ++ operand_text numerals next) (more_operands_text numerals rest)
     (operand-printed numerals are next parts.0) (more_operands-printed numerals are rest parts.1)
 
-operands-printed : (numerals : Numerals) → AreNumerals numerals → (all : List OperandSyntax)
+operands-printed : (numerals : Numerals) → AreNumerals numerals → (all : List Operand)
     → are_operands all ≡ true → are_printed (operands_text numerals all) ≡ true
 operands-printed numerals are [] all = refl
 operands-printed numerals are (first ∷ rest) all =
@@ -160,14 +167,14 @@ operands-printed numerals are (first ∷ rest) all =
     both-printed (codes " " ++ operand_text numerals first) (more_operands_text numerals rest)
     (operand-printed numerals are first parts.0) (more_operands-printed numerals are rest parts.1)
 
-none_or_writable-are : (first second : Option OperandSyntax)
+none_or_writable-are : (first second : Option Operand)
     → is_none_or_writable first ≡ true → is_none_or_writable second ≡ true
     → are_operands (operand_list first second) ≡ true
 none_or_writable-are None second one two = refl
 none_or_writable-are (Some first) None one two = rw one refl
 none_or_writable-are (Some first) (Some second) one two = rw (one, two) refl
 
-body-printed : (numerals : Numerals) → AreNumerals numerals → (body : BodySyntax)
+body-printed : (numerals : Numerals) → AreNumerals numerals → (body : Body)
     → is_writable_body body ≡ true → are_printed (body_text numerals body) ≡ true
 body-printed numerals are Empty is = refl
 body-printed numerals are (Instr mnemonic size first second) is =
@@ -199,8 +206,8 @@ label-printed : (label : Option (List ℕ)) → is_free_label label ≡ true
 label-printed None is = refl
 label-printed (Some name) is = both-printed name (codes ": ") (name-printed name is) refl
 
-pub line-printed : (numerals : Numerals) → AreNumerals numerals → (line : LineSyntax)
-    → is_writable line ≡ true → are_printed (syntax_text numerals line) ≡ true
+pub line-printed : (numerals : Numerals) → AreNumerals numerals → (line : Statement)
+    → is_writable line ≡ true → are_printed (statement_text numerals line) ≡ true
 line-printed numerals are line is =
     let parts = and_parts (is_free_label line.label) (is_writable_body line.body) is in
     both-printed (label_text line.label) (body_text numerals line.body)

@@ -20,13 +20,12 @@ use Rattle.asm_text.specs.declared.mnemonic.Mnemonic.TheVariants as mnemonics
 use Rattle.asm_text.specs.declared.operand.Operand.{Operand}
 use Rattle.asm_text.specs.declared.operation.Operation.{Operation}
 use Rattle.asm_text.specs.declared.operation.Operation.TheVariants as operations
-use Rattle.asm_text.specs.declared.span.Span.{Span}
 use Rattle.asm_text.specs.declared.token.Token.{Token}
 use Rattle.asm_text.specs.declared.token.Token.TheVariants.{Register, Name, Colon}
 use Rattle.asm_text.specs.Operand.{operands_of}
 use Rattle.asm_text.specs.Source.{line_statement, statement_in_line}
 use Rattle.asm_text.specs.Statement.{first_word, is_ascii_directive, statement_body, operation_body, body_of, labelled_body}
-use Rattle.asm_text.specs.Token.{name_token, span_at, word_token, word_piece, tokens_behind, tokens_of}
+use Rattle.asm_text.specs.Token.{name_token, word_token, word_piece, tokens_behind, tokens_of}
 use Rattle.asm_text.specs.Word.{is_word_character, is_name, lower_case, byte_form, word_form, operation_of}
 use Rattle.asm_text.specs.Name.{mnemonic_name, reg_name, register_of}
 use Rattle.msp_disasm.specs.ItemText.{size_suffix}
@@ -34,12 +33,12 @@ use Rattle.text_round_trip.specs.Writable.{has_size}
 use Rattle.text_round_trip.proofs.Falls.{FallsInto, word-falls, falls-then, falls-apart, blank-falls}
 
 pub register-falls : (register : Reg)
-    → FallsInto (reg_name register) (λ place. Register register ∷ [])
+    → FallsInto (reg_name register) (Register register ∷ [])
 unfolding word_piece
 register-falls R0 =
-    word-falls (reg_name R0) (λ place. Register R0) refl (omega arith) (λ place. refl)
+    word-falls (reg_name R0) (Register R0) refl (omega arith) refl
 register-falls register =
-    word-falls (reg_name register) (λ place. Register register) refl (omega arith) (λ place. refl)
+    word-falls (reg_name register) (Register register) refl (omega arith) refl
 
 -- a word that names an operation, and no register
 pub record IsOperation (word : List ℕ) (operation : Operation) : Type 0 where
@@ -90,79 +89,77 @@ mnemonic-operation mnemonic sizes.Byte has =
 mnemonic-operation mnemonic sizes.Word has = named-operation mnemonic sizes.Word refl
 
 pub operation-falls : {word : List ℕ} {operation : Operation} → IsOperation word operation
-    → FallsInto word (λ place. word_token place word ∷ [])
+    → FallsInto word (word_token word ∷ [])
 unfolding word_piece
 operation-falls {word = word} is =
-    word-falls word (λ place. word_token place word) is.all is.some (λ place. rw is.begins refl)
+    word-falls word (word_token word) is.all is.some (rw is.begins refl)
 
-first-name : (word : List ℕ) (operation : Option Operation) (span : Span) (is : Bool)
-    → is_name word ≡ is → first_word (name_token word operation span) ≡ Ok operation
-first-name word operation span true is = rw is refl
-first-name word operation span false is = rw is refl
+first-name : (word : List ℕ) (operation : Option Operation) (is : Bool)
+    → is_name word ≡ is → first_word (name_token word operation) ≡ Ok operation
+first-name word operation true is = rw is refl
+first-name word operation false is = rw is refl
 
-pub first-operation : (place : ℕ) {word : List ℕ} {operation : Operation}
-    → IsOperation word operation → first_word (word_token place word) ≡ Ok (Some operation)
-first-operation place {word = word} {operation = operation} is =
-    rw (is.register, is.names)
-    (first-name word (Some operation) (span_at place (length word)) (is_name word) refl)
+pub first-operation : {word : List ℕ} {operation : Operation}
+    → IsOperation word operation → first_word (word_token word) ≡ Ok (Some operation)
+first-operation {word = word} {operation = operation} is =
+    rw (is.register, is.names) (first-name word (Some operation) (is_name word) refl)
 
 abbrev pub begins_with_colon : List Token → Bool
 begins_with_colon (Colon ∷ rest) = true
 begins_with_colon tokens = false
 
 -- what a statement says that has no label
-abbrev pub without_label : Body → Result (Option Span × Body) FaultKind
+abbrev pub without_label : Body → Result (Option (List ℕ) × Body) FaultKind
 without_label body = Ok (None, body)
 
 pub no_label : (token : Token) (rest : List Token) → begins_with_colon rest ≡ false
     → labelled_body (token ∷ rest) ≡ (statement_body (token ∷ rest) >>= without_label)
-no_label (Name span operation) [] other = refl
-no_label (Name span operation) (Colon ∷ rest) other = absurd (false≢true (sym other))
-no_label (Name span operation) (token ∷ rest) other = refl
+no_label (Name name operation) [] other = refl
+no_label (Name name operation) (Colon ∷ rest) other = absurd (false≢true (sym other))
+no_label (Name name operation) (token ∷ rest) other = refl
 no_label token rest other = refl
 
 -- a statement with its operands
-pub operation-read : (place : ℕ) {word : List ℕ} {operation : Operation} (rest : List Token)
+pub operation-read : {word : List ℕ} {operation : Operation} (rest : List Token)
     (operands : List Operand) {body : Body} → IsOperation word operation
     → is_ascii_directive (Some operation) ≡ false → operands_of rest ≡ Ok operands
     → body_of (Some operation) operands ≡ Ok body
-    → statement_body (word_token place word ∷ rest) ≡ Ok body
+    → statement_body (word_token word ∷ rest) ≡ Ok body
 unfolding operation_body
-operation-read place {operation = operation} rest operands is other outcome gives =
-    rw (first-operation place is, other, outcome) gives
+operation-read {operation = operation} rest operands is other outcome gives =
+    rw (first-operation is, other, outcome) gives
 
-whole-read : {text : List ℕ} {tokens : ℕ → List Token} → FallsInto text tokens → (start : ℕ)
-    → tokens_of start text ≡ Ok (tokens start)
+whole-read : {text : List ℕ} {tokens : List Token} → FallsInto text tokens
+    → tokens_of text ≡ Ok tokens
 unfolding tokens_behind
-whole-read {text = text} {tokens = tokens} falls start =
-    ap (tokens_of start) (sym (append-nil text))
-    ∙ falls.cut start [] refl ∙ ap (λ all. Ok all) (append-nil (tokens start))
+whole-read {text = text} {tokens = tokens} falls =
+    ap tokens_of (sym (append-nil text))
+    ∙ falls.cut [] refl ∙ ap (λ all. Ok all) (append-nil tokens)
 
 -- a line is read by its tokens
-pub line-read : {text : List ℕ} {tokens : ℕ → List Token} (number start : ℕ)
-    (pair : Option Span × Body) → FallsInto text tokens
-    → labelled_body (tokens start) ≡ Ok pair
-    → line_statement number start text ≡ Ok (statement_in_line number pair)
+pub line-read : {text : List ℕ} {tokens : List Token} (number : ℕ)
+    (pair : Option (List ℕ) × Body) → FallsInto text tokens → labelled_body tokens ≡ Ok pair
+    → line_statement number text ≡ Ok (statement_in_line number pair)
 unfolding line_statement
-line-read {text = text} {tokens = tokens} number start pair falls is =
+line-read {text = text} {tokens = tokens} number pair falls is =
     ap (λ (answer : Result (List Token) FaultKind). answer >>= (λ all. labelled_body all
-    >>= (λ both. Ok (statement_in_line number both)))) (whole-read falls start)
-    ∙ ap (λ (answer : Result (Option Span × Body) FaultKind).
+    >>= (λ both. Ok (statement_in_line number both)))) (whole-read falls)
+    ∙ ap (λ (answer : Result (Option (List ℕ) × Body) FaultKind).
     answer >>= (λ both. Ok (statement_in_line number both))) is
 
 -- a line without a label
 pub statement-read : {word text : List ℕ} {operation : Operation} {tokens : List Token}
-    (number start : ℕ) (operands : List Operand) {body : Body} → IsOperation word operation
-    → is_ascii_directive (Some operation) ≡ false → FallsInto text (λ place. tokens)
+    (number : ℕ) (operands : List Operand) {body : Body} → IsOperation word operation
+    → is_ascii_directive (Some operation) ≡ false → FallsInto text tokens
     → begins_with_colon tokens ≡ false → operands_of tokens ≡ Ok operands
     → body_of (Some operation) operands ≡ Ok body
-    → line_statement number start (word ++ codes " " ++ text)
+    → line_statement number (word ++ codes " " ++ text)
     ≡ Ok (statement_in_line number (None, body))
-statement-read {word = word} {text = text} {tokens = tokens} number start operands {body = body}
+statement-read {word = word} {text = text} {tokens = tokens} number operands {body = body}
     is other falls prefix outcome gives =
-    ap (line_statement number start) (append_assoc word (codes " ") text)
-    ∙ line-read number start (None, body)
+    ap (line_statement number) (append_assoc word (codes " ") text)
+    ∙ line-read number (None, body)
     (falls-apart (operation-falls is) refl (falls-then blank-falls falls))
-    (no_label (word_token start word) tokens prefix
+    (no_label (word_token word) tokens prefix
     ∙ ap (λ (answer : Result Body FaultKind). answer >>= without_label)
-    (operation-read start tokens operands is other outcome gives))
+    (operation-read tokens operands is other outcome gives))

@@ -1,22 +1,21 @@
 -- A source is read back.
-use Rattle.std.proofs.Common.{◌≡◌, ◌∙◌, ap, sym, refl, subst, ℕ, zero, suc, ◌+◌, ◌<◌, ◌≤◌, arith, true, List, [], ◌∷◌, ◌++◌, append_assoc, length, length-append, get_or, Result, Ok}
+use Rattle.std.proofs.Common.{◌≡◌, ◌∙◌, ap, sym, subst, ℕ, zero, suc, ◌+◌, ◌<◌, ◌≤◌, arith, true, List, [], ◌∷◌, ◌++◌, append_assoc, length, get_or, refl, Result, Ok}
 use Rattle.std.specs.Prelude.{codes, map, nat_le}
-use Rattle.std.specs.List.{list_all, zip}
+use Rattle.std.specs.List.{list_all}
 use Rattle.std.specs.Str.{IsAscii}
 use Rattle.std.specs.Str.Lines.{lines}
-use Rattle.std.proofs.lemmas.Bool.{and_parts, leb-true, ne_eqb}
+use Rattle.std.proofs.lemmas.Bool.{and_parts, leb-true}
 use Rattle.std.proofs.lemmas.Str.{IsUtf8-from_ascii}
 use Rattle.text_scan.specs.declared.fault_at.FaultAt.{FaultAt}
-use Rattle.text_scan.specs.Line.{numbered_lines}
+use Rattle.text_scan.specs.Line.{numbered_lines, text_lines}
 use Rattle.text_scan.specs.Reader.{◌>>=◌, in_line}
 use Rattle.text_scan.proofs.FirstLine.{lines_cut, lines-line}
 use Rattle.text_scan.proofs.TextUtf8.{utf8_of-whole}
 use Rattle.asm_text.specs.declared.statement.Statement.{Statement}
 use Rattle.asm_text.specs.Operand.{all_of}
-use Rattle.asm_text.specs.Source.{places_behind_ends, line_starts, PlacedLine, placed_lines, statement_of, source_of}
-use Rattle.text_round_trip.specs.ReadBack.{AreNumerals, source_text, IsSourceReadBack}
-use Rattle.text_round_trip.specs.LineSyntax.{LineSyntax, line_syntax_of}
-use Rattle.text_round_trip.specs.SyntaxText.{Numerals, syntax_text}
+use Rattle.asm_text.specs.Source.{statement_of, source_of}
+use Rattle.text_round_trip.specs.ReadBack.{AreNumerals, at_line, source_text, from_line}
+use Rattle.text_round_trip.specs.StatementText.{Numerals, statement_text}
 use Rattle.text_round_trip.specs.Writable.{is_writable}
 use Rattle.text_round_trip.proofs.PrintedText.{is_printed, are_printed, line-printed}
 use Rattle.text_round_trip.proofs.WrittenLine.{read-back}
@@ -40,37 +39,19 @@ first-line (c ∷ line) rest all =
     lines-line (c ∷ line) rest (omega arith)
     (λ k below. let within = printed-at (c ∷ line) all k below in omega (arith, within.0))
 
-line-places : (place : ℕ) (line rest : List ℕ) → are_printed line ≡ true
-    → places_behind_ends place (line ++ 10 ∷ rest)
-    ≡ line_starts (place + length line + 1) rest
-line-places place [] rest all =
-    let there : place + 1 ≡ place + 0 + 1 = omega arith in
-    ap (λ (p : ℕ). line_starts p rest) there
-line-places place (c ∷ line) rest all =
-    let parts = and_parts (is_printed c) (are_printed line) all in
-    let within = printed-at (c ∷ line) all 0 (omega arith) in
-    let there : place + 1 + length line + 1 ≡ place + suc (length line) + 1 = omega arith in
-    rw (ne_eqb c 10 (λ same. omega (arith, within.0, same)))
-    (line-places (place + 1) line rest parts.1 ∙ ap (λ (p : ℕ). line_starts p rest) there)
+-- the lines of a text, numbered from one on
+abbrev lines_from : ℕ → List ℕ → List (ℕ × List ℕ)
+lines_from number text = numbered_lines number (lines text)
 
--- the lines of a text from a place on
-abbrev lines_from : ℕ → ℕ → List ℕ → List PlacedLine
-lines_from place number text = zip (line_starts place text) (numbered_lines number (lines text))
+-- a line before others
+abbrev line_before : Numerals → Statement → List Statement → List ℕ
+line_before numerals statement rest =
+    statement_text numerals statement ++ 10 ∷ source_text numerals rest
 
-next-lines : (place number : ℕ) (line rest : List ℕ) → are_printed line ≡ true
-    → lines_from place number (line ++ 10 ∷ rest)
-    ≡ (place, (number, line)) ∷ lines_from (place + length line + 1) (number + 1) rest
-next-lines place number line rest all =
-    ap (λ (answer : List (List ℕ)). zip (line_starts place (line ++ 10 ∷ rest))
-    (numbered_lines number answer)) (first-line line rest all)
-    ∙ ap (λ (places : List ℕ). zip (place ∷ places)
-    ((number, line) ∷ numbered_lines (number + 1) (lines rest))) (line-places place line rest all)
-
--- the lines of statements that were written, behind others
-record IsReadFrom (source : List ℕ) (lines : List PlacedLine) (all : List LineSyntax) : Type 0 where
-  statements : List Statement
-  read : all_of {Fault = FaultAt} (map statement_of lines) ≡ Ok statements
-  says : map (line_syntax_of source) statements ≡ all
+text-cut : (numerals : Numerals) (statement : Statement) (rest : List Statement)
+    → source_text numerals (statement ∷ rest) ≡ line_before numerals statement rest
+text-cut numerals statement rest =
+    append_assoc (statement_text numerals statement) (codes "\n") (source_text numerals rest)
 
 -- a statement and the later ones
 both-read : {read : Result Statement FaultAt} {later : Result (List Statement) FaultAt}
@@ -79,56 +60,21 @@ both-read : {read : Result Statement FaultAt} {later : Result (List Statement) F
     → (read >>= (λ first. later >>= (λ rest. Ok (first ∷ rest)))) ≡ Ok (statement ∷ statements)
 both-read statement statements first rest = rw (first, rest) refl
 
--- a line before others
-abbrev line_before : Numerals → LineSyntax → List LineSyntax → List ℕ
-line_before numerals line_syntax rest =
-    syntax_text numerals line_syntax ++ 10 ∷ source_text numerals rest
-
-text-cut : (numerals : Numerals) (line_syntax : LineSyntax) (rest : List LineSyntax)
-    → source_text numerals (line_syntax ∷ rest) ≡ line_before numerals line_syntax rest
-text-cut numerals line_syntax rest =
-    append_assoc (syntax_text numerals line_syntax) (codes "\n") (source_text numerals rest)
-
-read-from : (numerals : Numerals) → AreNumerals numerals → (all : List LineSyntax)
-    → list_all is_writable all ≡ true → (before : List ℕ) (number : ℕ)
-    → IsReadFrom (before ++ source_text numerals all)
-    (lines_from (length before) number (source_text numerals all)) all
-read-from numerals are [] writable before number =
-    record { statements = []; read = refl; says = refl }
-read-from numerals are (line_syntax ∷ rest) writable before number =
-    let parts = and_parts (is_writable line_syntax) (list_all is_writable rest) writable in
-    let line : List ℕ = syntax_text numerals line_syntax in
-    let tail : List ℕ = source_text numerals rest in
-    let source : List ℕ = before ++ source_text numerals (line_syntax ∷ rest) in
-    let prefix : List ℕ = before ++ line ++ codes "\n" in
-    let first = read-back numerals number before (codes "\n" ++ tail) line_syntax are parts.0 in
-    let whole : before ++ line ++ (codes "\n" ++ tail) ≡ source =
-    append_assoc before line (codes "\n" ++ tail)
-    ∙ ap (λ (text : List ℕ). before ++ text) (sym (text-cut numerals line_syntax rest)) in
-    let count : length prefix ≡ length before + length line + 1 =
-    omega (arith, length-append (before ++ line) (codes "\n"), length-append before line) in
-    let behind : prefix ++ tail ≡ source =
-    append_assoc (before ++ line) (codes "\n") tail ∙ whole in
-    let later : IsReadFrom source (lines_from (length before + length line + 1) (number + 1) tail)
-    rest =
-    subst (λ (text : List ℕ). IsReadFrom text
-    (lines_from (length before + length line + 1) (number + 1) tail) rest) behind
-    (subst (λ (place : ℕ). IsReadFrom (prefix ++ tail) (lines_from place (number + 1) tail) rest)
-    count (read-from numerals are rest parts.1 prefix (number + 1))) in
-    let cut : lines_from (length before) number (source_text numerals (line_syntax ∷ rest))
-    ≡ (length before, (number, line))
-    ∷ lines_from (length before + length line + 1) (number + 1) tail =
-    ap (λ (text : List ℕ). lines_from (length before) number text)
-    (text-cut numerals line_syntax rest)
-    ∙ next-lines (length before) number line tail (line-printed numerals are line_syntax parts.0) in
-    let says : line_syntax_of source first.statement ≡ line_syntax =
-    ap (λ (text : List ℕ). line_syntax_of text first.statement) (sym whole) ∙ first.says in
-    record {
-      statements = first.statement ∷ later.statements;
-      read = ap (λ (answer : List PlacedLine). all_of (map statement_of answer)) cut
-          ∙ both-read first.statement later.statements (ap (in_line number) first.read) later.read;
-      says = rw (says, later.says) refl;
-    }
+read-from : (numerals : Numerals) → AreNumerals numerals → (all : List Statement)
+    → list_all is_writable all ≡ true → (number : ℕ)
+    → all_of {Fault = FaultAt} (map statement_of (lines_from number (source_text numerals all)))
+    ≡ Ok (from_line number all)
+read-from numerals are [] writable number = refl
+read-from numerals are (statement ∷ rest) writable number =
+    let parts = and_parts (is_writable statement) (list_all is_writable rest) writable in
+    let line : List ℕ = statement_text numerals statement in
+    ap (λ (text : List ℕ). all_of (map statement_of (lines_from number text)))
+    (text-cut numerals statement rest)
+    ∙ ap (λ (all : List (List ℕ)). all_of (map statement_of (numbered_lines number all)))
+    (first-line line (source_text numerals rest) (line-printed numerals are statement parts.0))
+    ∙ both-read (at_line number statement) (from_line (number + 1) rest)
+    (ap (in_line number) (read-back numerals number statement are parts.0))
+    (read-from numerals are rest parts.1 (number + 1))
 
 -- the text is UTF-8
 
@@ -141,25 +87,23 @@ printed-ascii (c ∷ line) rest all ascii zero =
 printed-ascii (c ∷ line) rest all ascii (suc i) =
     printed-ascii line rest (and_parts (is_printed c) (are_printed line) all).1 ascii i
 
-source-ascii : (numerals : Numerals) → AreNumerals numerals → (all : List LineSyntax)
+source-ascii : (numerals : Numerals) → AreNumerals numerals → (all : List Statement)
     → list_all is_writable all ≡ true → IsAscii (source_text numerals all)
 source-ascii numerals are [] writable = λ i. omega arith
-source-ascii numerals are (line_syntax ∷ rest) writable =
-    let parts = and_parts (is_writable line_syntax) (list_all is_writable rest) writable in
-    subst (λ (text : List ℕ). IsAscii text) (sym (text-cut numerals line_syntax rest))
-    (printed-ascii (syntax_text numerals line_syntax) (source_text numerals rest)
-    (line-printed numerals are line_syntax parts.0) (source-ascii numerals are rest parts.1))
+source-ascii numerals are (statement ∷ rest) writable =
+    let parts = and_parts (is_writable statement) (list_all is_writable rest) writable in
+    subst (λ (text : List ℕ). IsAscii text) (sym (text-cut numerals statement rest))
+    (printed-ascii (statement_text numerals statement) (source_text numerals rest)
+    (line-printed numerals are statement parts.0) (source-ascii numerals are rest parts.1))
 
-pub source-read_back : (numerals : Numerals) (all : List LineSyntax) → AreNumerals numerals
-    → list_all is_writable all ≡ true → IsSourceReadBack numerals all
+pub source-read_back : (numerals : Numerals) (all : List Statement) → AreNumerals numerals
+    → list_all is_writable all ≡ true
+    → source_of (source_text numerals all) ≡ Ok (from_line 1 all)
 unfolding source_of
 source-read_back numerals all are writable =
     let text : List ℕ = source_text numerals all in
-    let answer = read-from numerals are all writable [] 1 in
     let utf8 = (utf8_of-whole text).1
-    (IsUtf8-from_ascii text (source-ascii numerals are all writable)) in record {
-      statements = answer.statements;
-      read = ap (λ (sound : Result Unit FaultAt).
-          sound >>= (λ _. all_of (map statement_of (placed_lines text)))) utf8 ∙ answer.read;
-      says = answer.says;
-    }
+    (IsUtf8-from_ascii text (source-ascii numerals are all writable)) in
+    ap (λ (sound : Result Unit FaultAt).
+    sound >>= (λ _. all_of (map statement_of (text_lines text)))) utf8
+    ∙ read-from numerals are all writable 1

@@ -1,5 +1,4 @@
-pub mod LineSyntax
-pub mod SyntaxText
+pub mod StatementText
 pub mod Writable
 pub mod ReadBack
 pub mod Listing

@@ -67,15 +67,14 @@ is_plain place (items.Byte byte) = true
 is_plain place (items.Word word) = true
 is_plain place (items.Instruction instr) = is_plain_instr place instr
 
--- the text of an item is a statement without a label, as each line and at each place of a source,
--- and at the item's place it has these bytes under all names
+-- the text of an item is a statement without a label, as each line of a source, and at the item's
+-- place it has these bytes under all names
 pub record IsReadAs (place : ℕ) (item : Item) : Type 0 where
   pub body : Body
-  pub read : (number start : ℕ) → line_statement number start (item_text place item)
+  pub read : (number : ℕ) → line_statement number (item_text place item)
       ≡ Ok (record { line = number; label = None; body = body })
-  pub bytes : (text : List ℕ) (names : List ℕ → Option ℤ)
-      → bytes_of (record { text = text; names = names; here = place }) body
-      ≡ bytes_again place item
+  pub bytes : (names : List ℕ → Option ℤ)
+      → bytes_of (record { names = names; here = place }) body ≡ bytes_again place item
 
 -- the image has these bytes from a place on
 abbrev pub AreAt : (ℕ → Option ℕ) → ℕ → List ℕ → Type 0

@@ -1,11 +1,11 @@
 ghost use Rattle.std.specs.Prelude.{◌≡◌, codes, true};
 ghost use Rattle.std.specs.Fmt.{decimal};
 ghost use Rattle.text_round_trip.specs.Example.{labelled_move};
-ghost use Rattle.text_round_trip.specs.SyntaxText.{syntax_text};
+ghost use Rattle.text_round_trip.specs.StatementText.{statement_text};
 ghost use Rattle.text_round_trip.specs.Writable.{is_writable};
 
 /// A label, a byte instruction, a sum with a name, and an index.
 pub fn move_is_written()
-    ensures text { syntax_text decimal labelled_move ≡ codes "loop: mov.b #-1+base,18(r4)" }
+    ensures text { statement_text decimal labelled_move ≡ codes "loop: mov.b #-1+base,18(r4)" }
     ensures writable { is_writable labelled_move ≡ true }
 {}

@@ -1,4 +1,4 @@
-use asm_text::{Body, Mnemonic, Operand, Span, Term, parse};
+use asm_text::{Body, Mnemonic, Operand, Term, parse};
 use msp_decode::Reg;
 use std::alloc::Global;
 use std::test::Fail;
@@ -229,16 +229,16 @@ fn lines_that_are_read(rt: HostRuntime) {
 }
 
 #[test]
-fn spans_are_places_in_the_whole_text(rt: HostRuntime) -> Result<(), Fail> {
+fn names_and_texts_are_parts_of_the_source(rt: HostRuntime) -> Result<(), Fail> {
     let text = b"ab: mov #cd,r4\r\n\n.ascii \"e;\" ;\nx:.equ fg,1-h";
     let Ok(source) = parse(rt.alloc(), text) else {
         panic!(rt; "the source has no fault");
     };
     assert_eq!(rt; source.len(), 4);
-    let mut spans = Vec::new(rt.alloc());
+    let mut parts = Vec::new(rt.alloc());
     for statement in source.as_slice() {
-        if let Some(label) = statement.label {
-            spans.push(label)?;
+        if let Some(label) = &statement.label {
+            parts.push(label.as_slice())?;
         }
         match &statement.body {
             Body::Instr(
@@ -248,26 +248,24 @@ fn spans_are_places_in_the_whole_text(rt: HostRuntime) -> Result<(), Fail> {
                 Some(Operand::Reg(Reg::R4)),
             ) => {
                 if let Some((false, Term::Name(name))) = expr.get(0) {
-                    spans.push(name)?;
+                    parts.push(name.as_slice())?;
                 }
             }
-            Body::Ascii(text) => spans.push(*text)?,
+            Body::Ascii(text) => parts.push(text.as_slice())?,
             Body::Equ(name, expr) => {
-                spans.push(*name)?;
+                parts.push(name.as_slice())?;
                 if let Some((true, Term::Name(name))) = expr.get(1) {
-                    spans.push(name)?;
+                    parts.push(name.as_slice())?;
                 }
             }
             _ => {}
         }
     }
-    for (span, (from, to)) in spans
-        .iter()
-        .zip([(0, 2), (9, 11), (25, 27), (31, 32), (38, 40), (43, 44)])
-    {
-        assert_eq!(rt; *span, Span { from, to });
+    let wanted: [&[u8]; 6] = [b"ab", b"cd", b"e;", b"x", b"fg", b"h"];
+    for (part, wanted) in parts.iter().zip(wanted) {
+        assert_eq!(rt; *part, wanted);
     }
-    assert_eq!(rt; spans.len(), 6);
+    assert_eq!(rt; parts.len(), 6);
     Ok(())
 }
 

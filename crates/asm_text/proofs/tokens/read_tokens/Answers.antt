@@ -6,15 +6,15 @@ use Rattle.asm_text.proofs.tokens.read_tokens.Goals as goal
 pub loop-at-preserved-in-Blank : goal.loop-at-preserved-in-Blank
 loop-at-preserved-in-Blank c =
     read_to-blank c.loop-at.invariant c.loop-at-test.true
-    (piece_gives _ _ _ _ _ _ c.map_err.ensures.cases c.map_err.ensures.variant c.in_ok-map_err.was
-    c.piece_of.ensures.piece
+    (piece_gives _ _ _ c.loop-at.at c.args.line.now c.map_err.ensures.cases
+    c.map_err.ensures.variant c.in_ok-map_err.was c.piece_of.ensures.piece
     ∙ c.in-Blank.is)
 
 pub returns-in-Comment : goal.returns-in-Comment
 returns-in-Comment c =
     read_to-comment c.loop-at.invariant c.loop-at-test.true
-    (piece_gives _ _ _ _ _ _ c.map_err.ensures.cases c.map_err.ensures.variant c.in_ok-map_err.was
-    c.piece_of.ensures.piece
+    (piece_gives _ _ _ c.loop-at.at c.args.line.now c.map_err.ensures.cases
+    c.map_err.ensures.variant c.in_ok-map_err.was c.piece_of.ensures.piece
     ∙ c.in-Comment.is)
 
 pub loop-at-preserved : goal.loop-at-preserved
@@ -28,15 +28,15 @@ loop-at-preserved c =
     c.in_ok-map_err-in-Token.was) at c.add.ensures in
     read_to-token c.add.new.self c.in-Token.token c.in-Token.count c.loop-at.invariant
     c.loop-at-test.true fits.0 fits.1
-    (piece_gives _ _ _ _ _ _ c.map_err.ensures.cases c.map_err.ensures.variant c.in_ok-map_err.was
-    c.piece_of.ensures.piece
+    (piece_gives _ _ _ c.loop-at.at c.args.line.now c.map_err.ensures.cases
+    c.map_err.ensures.variant c.in_ok-map_err.was c.piece_of.ensures.piece
     ∙ c.in-Token.is) adds
 
 pub returns-in-Stray : goal.returns-in-Stray
 returns-in-Stray c =
     read_to-stray c.loop-at.invariant c.loop-at-test.true
-    (piece_gives _ _ _ _ _ _ c.map_err.ensures.cases c.map_err.ensures.variant c.in_ok-map_err.was
-    c.piece_of.ensures.piece
+    (piece_gives _ _ _ c.loop-at.at c.args.line.now c.map_err.ensures.cases
+    c.map_err.ensures.variant c.in_ok-map_err.was c.piece_of.ensures.piece
     ∙ c.in-Stray.is)
 
 pub returns : goal.returns

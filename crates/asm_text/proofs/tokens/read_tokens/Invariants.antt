@@ -4,7 +4,7 @@ use Rattle.asm_text.proofs.TokenSteps.{ReadTo}
 use Rattle.asm_text.proofs.tokens.read_tokens.Given as goal
 
 abbrev pub invariant-loop-at : goal.invariant-loop-at
-invariant-loop-at l = ReadTo (tokens_of l.place l.line) l.place l.at l.line l.tokens
+invariant-loop-at l = ReadTo (tokens_of l.line) l.at l.line l.tokens
 
 abbrev pub decreases-loop-at : goal.decreases-loop-at
 decreases-loop-at l = length l.line - l.at

@@ -7,9 +7,9 @@ use Rattle.msp_asm.proofs.assembly.image_of.Given as goal
 
 abbrev pub invariant-loop-i : goal.invariant-loop-i
 invariant-loop-i l = record {
-  sound : first_fault (second_pass_fault l.text (reverse l.statements))
+  sound : first_fault (second_pass_fault (reverse l.statements))
       (reverse (take l.i l.statements)) ≡ None;
   bytes : (place : ℕ) → IsTrue (is_image_place place)
       → byte_in l.image place
-      ≡ byte_placed l.text (reverse l.statements) (reverse (take l.i l.statements)) place;
+      ≡ byte_placed (reverse l.statements) (reverse (take l.i l.statements)) place;
 }

@@ -5,10 +5,10 @@ use Rattle.msp_asm.proofs.assembly.names_and_places.Given as goal
 
 abbrev pub invariant-loop-statement : goal.invariant-loop-statement
 invariant-loop-statement l = record {
-  stands : FirstPassStandsFor l.pass l.text (reverse (take l.statement-index l.statements));
-  sound : first_fault (first_pass_fault l.text) (reverse (take l.statement-index l.statements))
+  stands : FirstPassStandsFor l.pass (reverse (take l.statement-index l.statements));
+  sound : first_fault first_pass_fault (reverse (take l.statement-index l.statements))
       ≡ None;
   count : length l.places.items ≡ l.statement-index;
   places : (i : ℕ) → i < l.statement-index
-      → slice_index l.places.items i ≡ (scope_after l.text (reverse (take i l.statements))).here;
+      → slice_index l.places.items i ≡ (scope_after (reverse (take i l.statements))).here;
 }

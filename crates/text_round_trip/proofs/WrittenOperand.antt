@@ -1,5 +1,5 @@
 -- The tokens of operands, and what they are read as.
-use Rattle.std.proofs.Common.{◌≡◌, ◌∙◌, ap, sym, refl, subst, ℕ, ◌+◌, ◌-◌, ◌<◌, arith, true, false, not, List, [], ◌∷◌, ◌++◌, append_assoc, append-nil, length, length-append, take, drop, Result, Ok}
+use Rattle.std.proofs.Common.{◌≡◌, ◌∙◌, ap, sym, refl, subst, ℕ, ◌-◌, ◌<◌, arith, true, false, not, List, [], ◌∷◌, ◌++◌, append_assoc, append-nil, length, length-append, take, drop, Result, Ok}
 use Rattle.std.specs.Prelude.{codes}
 use Rattle.std.proofs.Math.Seq.{drop-append_seam, take-append_seam}
 use Rattle.std.proofs.lemmas.Bool.{and_parts, and_from, false≢true}
@@ -10,52 +10,32 @@ use Rattle.asm_text.specs.Name.{reg_name}
 use Rattle.text_scan.specs.declared.fault_kind.FaultKind.{FaultKind}
 use Rattle.text_scan.specs.Reader.{◌>>=◌}
 use Rattle.asm_text.specs.declared.operand.Operand.{Operand}
-use Rattle.asm_text.specs.declared.operand.Operand.TheVariants as operands
+use Rattle.asm_text.specs.declared.operand.Operand.TheVariants.{Reg, Imm, Abs, Indexed, Symbolic, Indirect, IndirectInc}
 use Rattle.asm_text.specs.declared.token.Token.{Token}
 use Rattle.asm_text.specs.declared.token.Token.TheVariants as tokens
 use Rattle.asm_text.specs.Expr.{SignedTerm}
 use Rattle.asm_text.specs.Operand.{is_comma, expr_of, with_expr, place_operand, place_of, operand_of}
 use Rattle.text_round_trip.specs.ReadBack.{AreNumerals}
-use Rattle.text_round_trip.specs.LineSyntax.{OperandSyntax, Reg, Imm, Abs, Indexed, Symbolic, Indirect, IndirectInc}
-use Rattle.text_round_trip.specs.SyntaxText.{Numerals, expr_text, operand_text}
+use Rattle.text_round_trip.specs.StatementText.{Numerals, expr_text, operand_text}
 use Rattle.text_round_trip.specs.Writable.{is_writable_operand}
 use Rattle.text_round_trip.proofs.Falls.{FallsInto, falls-then, falls-apart, falls-into, hash-falls, ampersand-falls, at-falls, plus-falls, open-falls, close-falls}
 use Rattle.text_round_trip.proofs.Operands.{IsOperandOf, has_no_comma}
 use Rattle.text_round_trip.proofs.Words.{register-falls, begins_with_colon}
-use Rattle.text_round_trip.proofs.PlacedExpr.{terms-are, placed_expr, expr_tokens, expr-falls, expr-read, is_expr_token, are_expr_tokens, expr-are, expr-some}
+use Rattle.text_round_trip.proofs.WrittenExpr.{terms-are, expr_tokens, expr-falls, expr-read, is_expr_token, are_expr_tokens, expr-are, expr-some}
 
-abbrev pub placed_operand : Numerals → ℕ → OperandSyntax → Operand
-placed_operand numerals place (Reg register) = operands.Reg register
-placed_operand numerals place (Imm expr) = operands.Imm (placed_expr numerals (place + 1) expr)
-placed_operand numerals place (Abs expr) = operands.Abs (placed_expr numerals (place + 1) expr)
-placed_operand numerals place (Indexed expr register) =
-    operands.Indexed (placed_expr numerals place expr) register
-placed_operand numerals place (Symbolic expr) = operands.Symbolic (placed_expr numerals place expr)
-placed_operand numerals place (Indirect register) = operands.Indirect register
-placed_operand numerals place (IndirectInc register) = operands.IndirectInc register
+abbrev pub operand_tokens : Operand → List Token
+operand_tokens (Reg register) = tokens.Register register ∷ []
+operand_tokens (Imm expr) = tokens.Hash ∷ expr_tokens expr
+operand_tokens (Abs expr) = tokens.Ampersand ∷ expr_tokens expr
+operand_tokens (Indexed expr register) =
+    expr_tokens expr ++ tokens.Open ∷ tokens.Register register ∷ tokens.Close ∷ []
+operand_tokens (Symbolic expr) = expr_tokens expr
+operand_tokens (Indirect register) = tokens.At ∷ tokens.Register register ∷ []
+operand_tokens (IndirectInc register) = tokens.At ∷ tokens.Register register ∷ tokens.Plus ∷ []
 
-abbrev pub operand_tokens : Numerals → ℕ → OperandSyntax → List Token
-operand_tokens numerals place (Reg register) = tokens.Register register ∷ []
-operand_tokens numerals place (Imm expr) = tokens.Hash ∷ expr_tokens numerals (place + 1) expr
-operand_tokens numerals place (Abs expr) = tokens.Ampersand ∷ expr_tokens numerals (place + 1) expr
-operand_tokens numerals place (Indexed expr register) =
-    expr_tokens numerals place expr
-    ++ tokens.Open ∷ tokens.Register register ∷ tokens.Close ∷ []
-operand_tokens numerals place (Symbolic expr) = expr_tokens numerals place expr
-operand_tokens numerals place (Indirect register) = tokens.At ∷ tokens.Register register ∷ []
-operand_tokens numerals place (IndirectInc register) =
-    tokens.At ∷ tokens.Register register ∷ tokens.Plus ∷ []
-
--- operands one behind the other
-abbrev pub placed_operands : Numerals → ℕ → List OperandSyntax → List Operand
-placed_operands numerals place [] = []
-placed_operands numerals place (first ∷ rest) =
-    placed_operand numerals place first
-    ∷ placed_operands numerals (place + length (operand_text numerals first) + 1) rest
-
-pub operand-falls : (numerals : Numerals) → AreNumerals numerals → (operand : OperandSyntax)
+pub operand-falls : (numerals : Numerals) → AreNumerals numerals → (operand : Operand)
     → is_writable_operand operand ≡ true
-    → FallsInto (operand_text numerals operand) (λ place. operand_tokens numerals place operand)
+    → FallsInto (operand_text numerals operand) (operand_tokens operand)
 operand-falls numerals are (Reg register) is = register-falls register
 operand-falls numerals are (Imm expr) is =
     falls-then hash-falls (expr-falls numerals are expr (terms-are expr is))
@@ -66,8 +46,7 @@ operand-falls numerals are (Indexed expr register) is =
     ≡ expr_text numerals expr ++ codes "(" ++ reg_name register ++ codes ")" =
     sym (append_assoc (expr_text numerals expr ++ codes "(") (reg_name register) (codes ")")
     ∙ append_assoc (expr_text numerals expr) (codes "(") (reg_name register ++ codes ")")) in
-    subst (λ (word : List ℕ). FallsInto word
-    (λ place. operand_tokens numerals place (Indexed expr register))) text
+    subst (λ (word : List ℕ). FallsInto word (operand_tokens (Indexed expr register))) text
     (falls-apart (expr-falls numerals are expr (terms-are expr is)) refl
     (falls-then open-falls
     (falls-apart (register-falls register) refl (falls-into close-falls))))
@@ -105,7 +84,7 @@ place-form (tokens.Register register ∷ all) rest are some = absurd (false≢tr
 place-form (token ∷ all) rest are some = refl
 
 symbolic-form : (all prefix last : List Token) → are_expr_tokens last ≡ true
-    → place_operand all prefix last ≡ with_expr (λ expr. operands.Symbolic expr) all
+    → place_operand all prefix last ≡ with_expr (λ expr. Symbolic expr) all
 symbolic-form all prefix [] are = refl
 symbolic-form all prefix (tokens.Open ∷ last) are = absurd (false≢true are)
 symbolic-form all prefix (token ∷ last) are = refl
@@ -118,19 +97,19 @@ drop-are count all are =
     ∙ ap are_expr_tokens (take-append-drop count all) ∙ are)).1
 
 symbolic-read : (all : List Token) (expr : List SignedTerm) → are_expr_tokens all ≡ true
-    → 0 < length all → expr_of all ≡ Ok expr → operand_of all ≡ Ok (operands.Symbolic expr)
+    → 0 < length all → expr_of all ≡ Ok expr → operand_of all ≡ Ok (Symbolic expr)
 symbolic-read all expr are some outcome =
     ap operand_of (sym (append-nil all)) ∙ place-form all [] are some
     ∙ ap place_of (append-nil all)
     ∙ symbolic-form all (take (length all - 3) all) (drop (length all - 3) all)
     (drop-are (length all - 3) all are)
     ∙ ap (λ (answer : Result (List SignedTerm) FaultKind).
-    answer >>= (λ outcome. Ok (operands.Symbolic outcome))) outcome
+    answer >>= (λ outcome. Ok (Symbolic outcome))) outcome
 
 indexed-read : (all : List Token) (expr : List SignedTerm) (register : Register)
     → are_expr_tokens all ≡ true → 0 < length all → expr_of all ≡ Ok expr
     → operand_of (all ++ tokens.Open ∷ tokens.Register register ∷ tokens.Close ∷ [])
-    ≡ Ok (operands.Indexed expr register)
+    ≡ Ok (Indexed expr register)
 indexed-read all expr register are some outcome =
     let last : List Token = tokens.Open ∷ tokens.Register register ∷ tokens.Close ∷ [] in
     let whole : List Token = all ++ last in
@@ -139,53 +118,50 @@ indexed-read all expr register are some outcome =
     ∙ ap (λ (n : ℕ). place_operand whole (take n whole) (drop n whole)) count
     ∙ ap (λ (back : List Token). place_operand whole (take (length all) whole) back)
     (drop-append_seam all last)
-    ∙ ap (λ (prefix : List Token). with_expr (λ answer. operands.Indexed answer register) prefix)
+    ∙ ap (λ (prefix : List Token). with_expr (λ answer. Indexed answer register) prefix)
     (take-append_seam all last)
     ∙ ap (λ (answer : Result (List SignedTerm) FaultKind).
-    answer >>= (λ outcome. Ok (operands.Indexed outcome register))) outcome
+    answer >>= (λ outcome. Ok (Indexed outcome register))) outcome
 
 -- operands are read back
-pub operand-read : (numerals : Numerals) (place : ℕ) (operand : OperandSyntax)
-    → is_writable_operand operand ≡ true
-    → IsOperandOf (operand_tokens numerals place operand) (placed_operand numerals place operand)
-operand-read numerals place (Reg register) is =
+pub operand-read : (operand : Operand) → is_writable_operand operand ≡ true
+    → IsOperandOf (operand_tokens operand) operand
+operand-read (Reg register) is =
     record { some = omega arith; alone = refl; read = refl; begins = λ rest. refl }
-operand-read numerals place (Imm expr) is = record {
+operand-read (Imm expr) is = record {
   some = omega arith;
-  alone = none-comma (expr_tokens numerals (place + 1) expr) (expr-are numerals (place + 1) expr);
-  read = rw (expr-read numerals (place + 1) expr is) refl;
+  alone = none-comma (expr_tokens expr) (expr-are expr);
+  read = rw (expr-read expr is) refl;
   begins = λ rest. refl;
 }
-operand-read numerals place (Abs expr) is = record {
+operand-read (Abs expr) is = record {
   some = omega arith;
-  alone = none-comma (expr_tokens numerals (place + 1) expr) (expr-are numerals (place + 1) expr);
-  read = rw (expr-read numerals (place + 1) expr is) refl;
+  alone = none-comma (expr_tokens expr) (expr-are expr);
+  read = rw (expr-read expr is) refl;
   begins = λ rest. refl;
 }
-operand-read numerals place (Indexed expr register) is =
+operand-read (Indexed expr register) is =
     let last : List Token = tokens.Open ∷ tokens.Register register ∷ tokens.Close ∷ [] in
-    let all : List Token = expr_tokens numerals place expr in
-    let are = expr-are numerals place expr in
-    let some = expr-some numerals place expr is in record {
+    let all : List Token = expr_tokens expr in
+    let are = expr-are expr in
+    let some = expr-some expr is in record {
       some = omega (arith, some, length-append all last);
       alone = list_all-append (λ token. not (is_comma token)) all last
           ∙ rw (none-comma all are) refl;
-      read = indexed-read all (placed_expr numerals place expr) register are some
-          (expr-read numerals place expr is);
+      read = indexed-read all expr register are some (expr-read expr is);
       begins = λ rest. ap begins_with_colon (append_assoc all last rest)
           ∙ no-colon all (last ++ rest) are some;
     }
-operand-read numerals place (Symbolic expr) is =
-    let all : List Token = expr_tokens numerals place expr in
-    let are = expr-are numerals place expr in
-    let some = expr-some numerals place expr is in record {
+operand-read (Symbolic expr) is =
+    let all : List Token = expr_tokens expr in
+    let are = expr-are expr in
+    let some = expr-some expr is in record {
       some = some;
       alone = none-comma all are;
-      read = symbolic-read all (placed_expr numerals place expr) are some
-          (expr-read numerals place expr is);
+      read = symbolic-read all expr are some (expr-read expr is);
       begins = λ rest. no-colon all rest are some;
     }
-operand-read numerals place (Indirect register) is =
+operand-read (Indirect register) is =
     record { some = omega arith; alone = refl; read = refl; begins = λ rest. refl }
-operand-read numerals place (IndirectInc register) is =
+operand-read (IndirectInc register) is =
     record { some = omega arith; alone = refl; read = refl; begins = λ rest. refl }
