@@ -1,10 +1,10 @@
 -- What the entries say after one more.
-use Rattle.std.proofs.Common.{◌≡◌, ◌∙◌, ℕ, List, [], ◌∷◌, Bool, true, false, Option, Some, None, if◌then◌else◌, refl, sym, ap, inl, inr, ◌&&◌, not}
+use Rattle.std.proofs.Common.{◌≡◌, ◌∙◌, ℕ, List, [], ◌∷◌, Bool, true, false, Option, Some, None, refl, sym, ap, inl, inr, ◌&&◌, not}
 use Rattle.std.specs.Option.{is_some}
 use Rattle.std.proofs.lemmas.Bool.{cases_Bool}
 use Rattle.std.proofs.lemmas.Slice.Eq.{bytes_eq-Decides}
 use Rattle.std.specs.Str.{bytes_eq}
-use Rattle.desk_memory.specs.Entry.{Entry, is_replaced, last_in, with_entry}
+use Rattle.desk_memory.specs.Entry.{Entry, is_replaced, last_in}
 use Rattle.desk_memory.specs.Law.{IsLastNoted, IsOwnerKept, IsOwnerNoted}
 
 same_bytes : (s t : List ℕ) → bytes_eq s t ≡ true → s ≡ t

@@ -4,13 +4,30 @@ use Rattle.std.specs.Prelude.{ℕ, ◌&&◌, Bool, List, [], ◌∷◌, if◌the
 use Rattle.std.specs.Option.{is_some}
 use Rattle.std.specs.Str.{bytes_eq}
 use Rattle.desk_memory.specs.declared.device_state.DeviceState.{DeviceState}
+use Rattle.desk_memory.specs.declared.home.Home as code
 use Rattle.desk_memory.specs.DeviceState.{new_device, renewed}
 
--- a device's name, the mark of its key, and its state
+-- how often a device has moved from desk to desk, and the desk that it is gone to; without one it
+-- is here
+pub record Home : Type 0 where
+  pub moves : ℕ
+  pub gone : Option (List ℕ)
+
+abbrev pub home_fields : code.Home → Home
+home_fields home = record { moves = home.moves; gone = option_map (λ desk. desk.now) home.gone }
+
+-- what a desk notes of a device: its name, the mark of its key, and its state
+pub record Note : Type 0 where
+  pub name : List ℕ
+  pub mark : List ℕ
+  pub state : DeviceState
+
+-- the same, and where the device is at home
 pub record Entry : Type 0 where
   pub name : List ℕ
   pub mark : List ℕ
   pub state : DeviceState
+  pub home : Home
 
 -- the last entry of the device of a name
 abbrev pub last_in : List Entry → List ℕ → Option Entry
@@ -25,7 +42,7 @@ abbrev pub entry_state : List ℕ → Entry → DeviceState
 entry_state mark entry =
     if bytes_eq entry.mark mark then entry.state else renewed entry.state
 
--- the state of a device under a key of this mark, by its last entry: without one it has sent no line
+-- the state of a device under a key of this mark, by its last entry: without one it sent no line
 abbrev pub state_under : List ℕ → Option Entry → DeviceState
 state_under mark entry = unwrap_or (option_map (entry_state mark) entry) new_device
 
@@ -47,3 +64,25 @@ abbrev pub with_entry : List Entry → Entry → List Entry
 with_entry [] new = new ∷ []
 with_entry (entry ∷ later) new =
     if is_replaced entry later new then new ∷ later else entry ∷ with_entry later new
+
+-- the entries after further ones, in their order
+abbrev pub with_entries : List Entry → List Entry → List Entry
+with_entries entries [] = entries
+with_entries entries (new ∷ more) = with_entries (with_entry entries new) more
+
+-- a device that no desk knows has not moved
+abbrev pub first_home : Home
+first_home = record { moves = 0; gone = None }
+
+abbrev pub home_of : Option Entry → Home
+home_of None = first_home
+home_of (Some entry) = entry.home
+
+-- a note of a device that is at home there
+abbrev pub entry_at : Home → Note → Entry
+entry_at home note =
+    record { name = note.name; mark = note.mark; state = note.state; home = home }
+
+-- the entries after a note: its device stays at home where it was
+abbrev pub with_note : List Entry → Note → List Entry
+with_note entries note = with_entry entries (entry_at (home_of (last_in entries note.name)) note)

@@ -2,7 +2,7 @@
 use Rattle.std.specs.Prelude.{ℕ, List, [], ◌∷◌, take}
 use Rattle.part_definitions.specs.Hmac.{hmac}
 
--- its message: the byte 3 sets it apart from those of tokens and challenges, which begin with 1 and 2
+-- its message: 3 sets it apart from those of tokens and challenges, which begin with 1 and 2
 abbrev pub mark_message : List ℕ
 mark_message = 3 ∷ []
 

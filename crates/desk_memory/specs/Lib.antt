@@ -8,4 +8,5 @@ pub mod KeyMark
 pub mod Law
 pub mod NoMemory
 pub mod MemMemory
+pub mod Moving
 pub mod SizedEntry

@@ -1,4 +1,4 @@
--- Entries as the code can have them: marks of 16 bytes, and numbers of 32 bits.
+-- Entries as the code can have them: marks of 16 bytes, numbers of 32 bits.
 use Rattle.std.specs.Prelude.{ℕ, ◌^◌, ◌==◌, ◌&&◌, Bool, true, List, length, nat_lt, Option, Some, None}
 use Rattle.std.specs.List.{list_all}
 use Rattle.desk_memory.specs.declared.answer.Answer.{Answer}
@@ -26,6 +26,7 @@ is_sized entry =
     && is_short entry.state.count
     && is_short_number entry.state.outstanding
     && is_short_line entry.state.last
+    && is_short entry.home.moves
 
 abbrev pub are_sized : List Entry → Bool
 are_sized entries = list_all is_sized entries

@@ -9,7 +9,7 @@ pub fn copy_of(alloc: Global, entries: &[Entry]) -> Result<Vec<Entry>, AllocErro
 {
     let mut copy = Vec::new(alloc);
     for entry in entries {
-        let entry = Entry::new(alloc, entry.name(), entry.mark(), entry.state())?;
+        let entry = entry.copy(alloc)?;
         copy.push(entry)?;
     }
     Ok(copy)

@@ -2,11 +2,18 @@ use crate::entry::Entry;
 use crate::memory::Memory;
 use crate::memory_fault::MemoryFault;
 
-/// A memory that tells its entries, and takes them as they are.
+/// A memory of a desk, that tells its entries, and takes them as they are.
 pub trait EntryMemory: Memory {
-    ghost use Rattle.std.specs.Prelude.{List, OnOk};
+    ghost use Rattle.std.specs.Prelude.{◌≡◌, ℕ, List, OnOk};
     ghost use Rattle.desk_memory.specs.Entry.{Entry as EntryFields, with_entry};
     ghost use Rattle.desk_memory.specs.Kept.{CountsOrLacks};
+
+    /// The desk that it belongs to.
+    ghost desk_of: { Self → List ℕ };
+
+    /// The name of the desk that it belongs to.
+    fn desk(&self) -> &[u8]
+        ensures { result.now ≡ desk_of self.now };
 
     /// The entries, the oldest first.
     fn entries(&self) -> &[Entry]

@@ -1,6 +1,6 @@
 ghost use Rattle.std.specs.Prelude.{ℕ, List, OnOk};
 ghost use Rattle.sha2.specs.Sha256.{sha256};
-ghost use Rattle.desk_memory.specs.Entry.{Entry, with_entry};
+ghost use Rattle.desk_memory.specs.Entry.{Entry, with_note};
 ghost use Rattle.desk_memory.specs.Kept.{CountsOrLacks, IsKept, LeavesOr};
 ghost use Rattle.desk_memory.specs.KeyMark.{key_mark};
 
@@ -24,11 +24,12 @@ pub trait Memory {
     /// It takes memory.
     ghost lacks: { Type 0 };
 
-    /// Notes the state of the device of a name, served under this key, for the next `settle`.
+    /// Notes the state of the device of a name, served under this key, for the next `settle`. It
+    /// stays at home where it was.
     fn note(&mut self, name: &[u8], key: &[u8; 64], state: DeviceState) -> Result<(), MemoryFault>
         ensures honest { is_honest self.new → is_honest self.old }
         ensures noted { OnOk result ((entries : List Entry) → stands self.old entries
-            → stands self.new (with_entry entries
+            → stands self.new (with_note entries
             (record { name = name.now; mark = key_mark sha256 key.now; state = state }))) }
         ensures crash { (found : List Entry) → may_leave self.new found
             → may_leave self.old found }

@@ -19,7 +19,7 @@ use Rattle.desk_memory.specs.declared.answer.Answer.TheVariants.{Judged}
 use Rattle.desk_memory.specs.declared.device_state.DeviceState.{DeviceState}
 use Rattle.verifier_desk.specs.DeviceLine.{DeviceLine}
 use Rattle.desk_memory.specs.DeviceState.{by_number, count_after, is_new, outstanding_after, with_answer}
-use Rattle.desk_memory.specs.Entry.{Entry, state_under}
+use Rattle.desk_memory.specs.Entry.{Entry, entry_at, home_of, state_under}
 use Rattle.verifier_desk.specs.DeviceReply.{LAST_COUNT, answer_to_ask, answer_to_give, new_answer}
 use Rattle.verifier_desk.specs.Judged.{JudgedLine, answer_to, entry_after, entry_through, is_new_to, mark_of, state_before}
 use Rattle.verifier_desk.specs.Law.{Descends, IsAcceptedOnce, KeyCounter, StartsSound, accepted, accepted_counter, count_in, counter_in_state, counter_of, counters_in, outstanding_in, requested, under_mark}
@@ -269,11 +269,11 @@ line_counted old base name entry now requests accepts so =
           let is : answer_to entry now ≡ answer =
           new_by_number now.line.number state.last answer new in
           rw (new, is) (entry_counted old base
-          (record {
+          (entry_at (home_of entry) (record {
             name = name;
             mark = mark_of now;
             state = with_answer state now.line.number answer;
-          })
+          }))
           (under_mark (mark_of now) (counter_of answer) ++ requests)
           (under_mark (mark_of now) (accepted_counter answer (report2_of now.line.words))
           ++ accepts)

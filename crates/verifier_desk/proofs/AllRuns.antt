@@ -3,10 +3,10 @@ use Rattle.std.proofs.Common.{◌≡◌, ◌∙◌, ℕ, List, [], ◌∷◌, �
 use Rattle.desk_memory.specs.Entry.{Entry, last_in}
 use Rattle.verifier_desk.specs.Judged.{JudgedLine, entry_after, entry_through}
 use Rattle.verifier_desk.specs.Law.{judged_lines}
-use Rattle.verifier_desk.specs.Run.{IsOfAllRuns, Run, lines_through}
+use Rattle.verifier_desk.specs.Run.{IsOfAllRuns, lines_through}
 use Rattle.verifier_desk.proofs.Remembered.{memory_has_states}
 
-entry_through-append : (name : List ℕ) (start : Option Entry) (later earlier : List JudgedLine)
+pub entry_through-append : (name : List ℕ) (start : Option Entry) (later earlier : List JudgedLine)
     → entry_through name start (later ++ earlier)
     ≡ entry_through name (entry_through name start earlier) later
 entry_through-append name start [] earlier = refl

@@ -5,7 +5,7 @@ use Rattle.std.proofs.lemmas.List.{append-nil}
 use Rattle.report_verifier.specs.Judge.{Judge}
 use Rattle.desk_memory.specs.declared.device_state.DeviceState.{DeviceState}
 use Rattle.desk_memory.specs.DeviceState.{is_new}
-use Rattle.desk_memory.specs.Entry.{Entry}
+use Rattle.desk_memory.specs.Entry.{Note}
 use Rattle.verifier_desk.specs.DeskLine.{DeskLine, TooLong, Silent, Foreign, Own, desk_line_of}
 use Rattle.verifier_desk.specs.DeviceKey.{DeviceKey, key_named}
 use Rattle.verifier_desk.specs.DeviceLine.{DeviceLine}
@@ -95,7 +95,7 @@ entries_go_on desk earlier (line ∷ later) =
     ap (with_noted (noted_of desk (lines_said desk (later ++ earlier))
     (desk_line_of desk.devices line)))
     (entries_go_on desk earlier later)
-    ∙ ap (λ (entry : Option Entry). with_noted entry
+    ∙ ap (λ (note : Option Note). with_noted note
     (entries_after (started_after desk earlier) later))
     (noted_goes_on desk earlier later (desk_line_of desk.devices line)
     (line_known desk.devices line))

@@ -1,5 +1,5 @@
 -- The messages of tokens, challenges and marks.
-use Rattle.std.proofs.Common.{◌≡◌, ◌++◌, ◌∷◌, ℕ, List, refl}
+use Rattle.std.proofs.Common.{◌≡◌, ◌∷◌, ℕ, List, refl}
 use Rattle.verifier_desk.specs.KeyMessage.{MessagesStandApart}
 
 -- two lists of unequal first bytes

@@ -9,7 +9,7 @@ use Rattle.std.proofs.lemmas.Slice.Eq.{bytes_eq-Decides}
 use Rattle.desk_memory.specs.declared.answer.Answer.TheVariants.{Stale}
 use Rattle.desk_memory.specs.declared.device_state.DeviceState.{DeviceState}
 use Rattle.desk_memory.specs.DeviceState.{is_new}
-use Rattle.desk_memory.specs.Entry.{Entry, is_replaced, last_in, owner_in, with_entry}
+use Rattle.desk_memory.specs.Entry.{Entry, Note, entry_at, home_of, is_replaced, last_in, owner_in, with_entry, with_note}
 use Rattle.desk_memory.specs.KeyMark.{key_mark}
 use Rattle.desk_memory.proofs.Noted.{owner_is_kept, owner_is_noted}
 use Rattle.verifier_desk.specs.DeskLine.{DeskLine, TooLong, Silent, Foreign, Own, desk_line_of}
@@ -19,7 +19,7 @@ use Rattle.verifier_desk.specs.DeviceReply.{answer_after}
 use Rattle.verifier_desk.specs.Judged.{JudgedLine, answer_to, entry_after}
 use Rattle.verifier_desk.specs.KeyOwner.{IsFreeFor, IsKeyBound, IsKeyKept, IsServedIn, IsServedThrough, IsUnderOneName, KeysAreKept, KeysStandApart, KeysStandApartIn}
 use Rattle.verifier_desk.specs.Law.{started_after}
-use Rattle.verifier_desk.specs.Noted.{entries_after, entry_at, noted_of, with_noted}
+use Rattle.verifier_desk.specs.Noted.{entries_after, note_at, noted_of, with_noted}
 use Rattle.verifier_desk.specs.Replies.{DeskFields, judge_at, lines_said, mark_at, own_answer, own_line, state_at}
 use Rattle.verifier_desk.specs.Run.{AreStarted, Run, entries_through}
 use Rattle.verifier_desk.proofs.GoneOn.{desk_goes_on}
@@ -79,9 +79,29 @@ stands_at : (devices : List DeviceKey) (device : DeviceKey)
 stands_at devices device known =
     found_at devices device (place_named device.name devices) (placed device.name devices) known
 
-abbrev entry_of : (List ℕ → List ℕ) → DeviceKey → DeviceState → Entry
-entry_of digest device state =
+abbrev note_of : (List ℕ → List ℕ) → DeviceKey → DeviceState → Note
+note_of digest device state =
     record { name = device.name; mark = key_mark digest device.key; state = state }
+
+abbrev entry_of : (List ℕ → List ℕ) → List Entry → DeviceKey → DeviceState → Entry
+entry_of digest entries device state =
+    entry_at (home_of (last_in entries device.name)) (note_of digest device state)
+
+-- the key of a device of the desk stands under no other name
+free_known : (digest : List ℕ → List ℕ) (devices : List DeviceKey) (entries : List Entry)
+    (device : DeviceKey) → StandsAt devices device
+    → KeysStandApart digest devices entries
+    → IsFreeFor device.name (owner_in entries (key_mark digest device.key))
+free_known digest devices entries device at so =
+    subst (λ (one : DeviceKey). IsFreeFor one.name (owner_in entries (key_mark digest one.key)))
+    (at.is device) ((so at.place at.within).free device)
+
+pub key_is_free : (desk : DeskFields) (entries : List Entry) (device : DeviceKey)
+    → key_named device.name desk.devices ≡ Some device.key
+    → KeysStandApart desk.digest desk.devices entries
+    → IsFreeFor device.name (owner_in entries (mark_at desk device))
+key_is_free desk entries device known so =
+    free_known desk.digest desk.devices entries device (stands_at desk.devices device known) so
 
 free_owner : (name : List ℕ) (owner : Option (List ℕ)) → IsFreeFor name owner
     → (owner ≡ None) ⊎ (owner ≡ Some name)
@@ -92,13 +112,12 @@ free_owner name (Some owner) free = inr (ap (λ (one : List ℕ). Some one) free
 owns_noted : (digest : List ℕ → List ℕ) (devices : List DeviceKey) (entries : List Entry)
     (device : DeviceKey) (state : DeviceState) → StandsAt devices device
     → KeysStandApart digest devices entries
-    → owner_in (with_entry entries (entry_of digest device state)) (key_mark digest device.key)
+    → owner_in (with_note entries (note_of digest device state)) (key_mark digest device.key)
     ≡ Some device.name
 owns_noted digest devices entries device state at so =
-    owner_is_noted entries (entry_of digest device state)
+    owner_is_noted entries (entry_of digest entries device state)
     (free_owner device.name (owner_in entries (key_mark digest device.key))
-    (subst (λ (one : DeviceKey). IsFreeFor one.name (owner_in entries (key_mark digest one.key)))
-    (at.is device) ((so at.place at.within).free device)))
+    (free_known digest devices entries device at so))
 
 before : (i j : ℕ) → nat_lt i j ≡ true → i < j
 before i j below = grind (arith, nat_tests, below)
@@ -125,7 +144,7 @@ same_place digest devices entries i j d so within_i within_j same =
 apart_noted : (digest : List ℕ → List ℕ) (devices : List DeviceKey) (entries : List Entry)
     (device : DeviceKey) (state : DeviceState) → StandsAt devices device
     → KeysStandApart digest devices entries
-    → KeysStandApart digest devices (with_entry entries (entry_of digest device state))
+    → KeysStandApart digest devices (with_note entries (note_of digest device state))
 apart_noted digest devices entries device state at so = λ i below.
     record {
       free = λ d.
@@ -139,12 +158,12 @@ apart_noted digest devices entries device state at so = λ i below.
           let is : device ≡ one =
           sym (at.is d) ∙ ap (λ (place : ℕ). slice_index_or devices place d) here in
           subst (λ (owner : DeviceKey). IsFreeFor owner.name
-          (owner_in (with_entry entries (entry_of digest device state))
+          (owner_in (with_note entries (note_of digest device state))
           (key_mark digest owner.key))) is
           (subst (IsFreeFor device.name)
           (sym (owns_noted digest devices entries device state at so)) refl))
           (λ differ. subst (IsFreeFor one.name)
-          (sym (owner_elsewhere entries (entry_of digest device state) (key_mark digest one.key)
+          (sym (owner_elsewhere entries (entry_of digest entries device state) (key_mark digest one.key)
           differ)) ((so i below).free d))
           (cases_Bool (bytes_eq (key_mark digest device.key) (key_mark digest one.key)));
       new = (so i below).new;
@@ -152,20 +171,20 @@ apart_noted digest devices entries device state at so = λ i below.
 
 entry_kept : (desk : DeskFields) (entries : List Entry) (device : DeviceKey) (state : DeviceState)
     → key_named device.name desk.devices ≡ Some device.key → KeysAreKept desk entries
-    → KeysAreKept desk (with_entry entries (entry_of desk.digest device state))
+    → KeysAreKept desk (with_note entries (note_of desk.digest device state))
 entry_kept desk entries device state has so =
     record {
       apart = apart_noted desk.digest desk.devices entries device state
           (stands_at desk.devices device has) so.apart;
-      kept = λ mark name owns. owner_is_kept entries (entry_of desk.digest device state) mark name
+      kept = λ mark name owns. owner_is_kept entries (entry_of desk.digest entries device state) mark name
           (so.kept mark name owns);
     }
 
-kept_if : (desk : DeskFields) (new : Bool) (entries : List Entry) (entry : Entry)
-    → KeysAreKept desk (with_entry entries entry) → KeysAreKept desk entries
-    → KeysAreKept desk (with_noted (if new then Some entry else None) entries)
-kept_if desk true entries entry noted still = noted
-kept_if desk false entries entry noted still = still
+kept_if : (desk : DeskFields) (new : Bool) (entries : List Entry) (note : Note)
+    → KeysAreKept desk (with_note entries note) → KeysAreKept desk entries
+    → KeysAreKept desk (with_noted (if new then Some note else None) entries)
+kept_if desk true entries note noted still = noted
+kept_if desk false entries note noted still = still
 
 said_kept : (desk : DeskFields) (lines : List ℕ → List DeviceLine) (said : DeskLine)
     (entries : List Entry) → IsKnown desk.devices said → KeysAreKept desk entries
@@ -175,7 +194,7 @@ said_kept desk lines Silent entries known so = so
 said_kept desk lines Foreign entries known so = so
 said_kept desk lines (Own device line) entries known so =
     kept_if desk (is_new line.number (state_at desk device (lines device.name)).last) entries
-    (entry_at desk device (line ∷ lines device.name))
+    (note_at desk device (line ∷ lines device.name))
     (entry_kept desk entries device (state_at desk device (line ∷ lines device.name)) known so) so
 
 pub keys_are_kept : IsKeyKept
@@ -247,18 +266,14 @@ told_key_is_bound desk earlier line device apart told =
     let entries : List Entry = entries_after desk (line ∷ earlier) in
     let known : key_named device.name desk.devices ≡ Some device.key =
     subst (IsKnown desk.devices) told.said (line_known desk.devices line) in
-    let at : StandsAt desk.devices device = stands_at desk.devices device known in
     let has = told_last desk earlier line device told.own told.said known told.told in
     free_and_owned device.name (owner_in entries (mark_at desk device))
-    (subst (λ (one : DeviceKey). IsFreeFor one.name
-    (owner_in entries (key_mark desk.digest one.key)))
-    (at.is device)
-    (((keys_are_kept desk (line ∷ earlier) apart).apart at.place at.within).free device))
+    (key_is_free desk entries device known (keys_are_kept desk (line ∷ earlier) apart).apart)
     (λ none. last_owned entries device.name has.entry has.is
     (ap (owner_in entries) has.marked ∙ none))
 
 -- and goes on to
-served_owns : (run : Run) (name mark : List ℕ)
+pub served_owns : (run : Run) (name mark : List ℕ)
     → KeysStandApart run.desk.digest run.desk.devices run.desk.entries
     → IsServedIn run name mark
     → owner_in (entries_after run.desk run.lines) mark ≡ Some name

@@ -4,34 +4,34 @@ use Rattle.std.specs.Prelude.{if◌then◌else◌}
 use Rattle.desk_memory.specs.declared.memory.Memory.{Ghosts}
 use Rattle.desk_memory.specs.declared.device_state.DeviceState.{DeviceState}
 use Rattle.desk_memory.specs.DeviceState.{is_new}
-use Rattle.desk_memory.specs.Entry.{Entry}
+use Rattle.desk_memory.specs.Entry.{Entry, Note}
 use Rattle.desk_memory.specs.KeyMark.{key_mark}
 use Rattle.verifier_desk.specs.Answering.{NotesIf}
 use Rattle.verifier_desk.specs.DeskLine.{Own}
 use Rattle.verifier_desk.specs.DeviceKey.{DeviceKey}
 use Rattle.verifier_desk.specs.DeviceLine.{DeviceLine}
-use Rattle.verifier_desk.specs.Noted.{entry_at, noted_of, with_noted}
+use Rattle.verifier_desk.specs.Noted.{note_at, noted_of, with_noted}
 use Rattle.verifier_desk.specs.Replies.{DeskFields, state_at}
 
--- an entry was noted, or none
-pub record Notes {M : Type 0} (m : Ghosts M) (old new : M) (is : Bool) (noted : Option Entry)
+-- a note was made, or none
+pub record Notes {M : Type 0} (m : Ghosts M) (old new : M) (is : Bool) (noted : Option Note)
     : Type 0 where
   pub stands : (entries : List Entry) → m.stands old entries
       → m.stands new (with_noted noted entries)
   pub still : is ≡ false → (new ≡ old) × (noted ≡ None)
 
-notes_if : {M : Type 0} (m : Ghosts M) (old new : M) (is : Bool) (entry : Entry)
-    → NotesIf m old new is entry (Ok tt)
-    → Notes m old new is (if is then Some entry else None)
-notes_if m old new true entry so =
+notes_if : {M : Type 0} (m : Ghosts M) (old new : M) (is : Bool) (note : Note)
+    → NotesIf m old new is note (Ok tt)
+    → Notes m old new is (if is then Some note else None)
+notes_if m old new true note so =
     record { stands = so; still = λ not. absurd (cc not) }
-notes_if m old new false entry so =
+notes_if m old new false note so =
     record {
       stands = λ entries stood. subst (λ now. m.stands now entries) (sym so.0) stood;
       still = λ is. (so.0, refl);
     }
 
--- of a line of a device, where its entry is made of the device's parts
+-- of a line of a device, where its note is made of the device's parts
 pub line_noted : {M : Type 0} (m : Ghosts M) (old new : M) (fields : DeskFields)
     (lines : List ℕ → List DeviceLine) (device : DeviceKey) (line : DeviceLine) (is : Bool)
     (digest : List ℕ → List ℕ) (owner : DeviceKey) (state : DeviceState)
@@ -50,7 +50,7 @@ line_noted m old new fields lines device line is digest owner state new_is same_
       mark = key_mark digest owner.key;
       state = state;
     }) else None) =
-    ap (λ (new : Bool). if new then Some (entry_at fields device (line ∷ lines device.name))
+    ap (λ (new : Bool). if new then Some (note_at fields device (line ∷ lines device.name))
     else None) (sym new_is)
     ∙ ap (λ (after : DeviceState). if is then Some (record {
       name = device.name;

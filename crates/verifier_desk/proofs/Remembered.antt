@@ -9,17 +9,17 @@ use Rattle.text_scan.specs.declared.fault_kind.FaultKind.{FaultKind}
 use Rattle.text_scan.specs.Decimal.{decimal_of}
 use Rattle.text_scan.specs.Word.{words_of}
 use Rattle.desk_memory.specs.declared.device_state.DeviceState.{DeviceState}
-use Rattle.desk_memory.specs.DeviceState.{is_new}
-use Rattle.desk_memory.specs.Entry.{Entry, last_in, state_under, with_entry}
+use Rattle.desk_memory.specs.DeviceState.{is_new, with_answer}
+use Rattle.desk_memory.specs.Entry.{Entry, Home, Note, entry_at, home_of, last_in, state_under, with_entry, with_note}
 use Rattle.desk_memory.specs.KeyMark.{key_mark}
 use Rattle.desk_memory.proofs.Noted.{entry_is_last}
 use Rattle.verifier_desk.specs.DeskLine.{DeskLine, TooLong, Silent, Foreign, Own, LONGEST_LINE, is_verb, own_or_foreign, desk_line_of_words, desk_line_of}
 use Rattle.verifier_desk.specs.DeviceKey.{DeviceKey, key_named}
 use Rattle.verifier_desk.specs.DeviceLine.{DeviceLine}
-use Rattle.verifier_desk.specs.DeviceReply.{state_after, state_from}
+use Rattle.verifier_desk.specs.DeviceReply.{new_answer, state_after, state_from}
 use Rattle.verifier_desk.specs.Judged.{entry_after, entry_through, judged_by}
 use Rattle.verifier_desk.specs.Law.{IsRemembered, judged_at}
-use Rattle.verifier_desk.specs.Noted.{entries_after, entry_at, noted_of, with_noted}
+use Rattle.verifier_desk.specs.Noted.{entries_after, noted_of, with_noted}
 use Rattle.verifier_desk.specs.Replies.{DeskFields, judge_at, lines_said, mark_at, state_at}
 use Rattle.verifier_desk.specs.Standing.{with_said}
 use Rattle.verifier_desk.proofs.KeyPlaces.{same_name}
@@ -54,12 +54,13 @@ line_known devices line =
     (cases_Bool (nat_lt LONGEST_LINE (length line)))
 
 -- the state under the key of an entry that was noted, or not
-state_noted : (new : Bool) (mark name : List ℕ) (entry : Option Entry) (state : DeviceState)
-    → state_under mark
-    (if new then Some (record { name = name; mark = mark; state = state }) else entry)
+state_noted : (new : Bool) (mark name : List ℕ) (home : Home) (entry : Option Entry)
+    (state : DeviceState)
+    → state_under mark (if new
+    then Some (entry_at home (record { name = name; mark = mark; state = state })) else entry)
     ≡ (if new then state else state_under mark entry)
-state_noted true mark name entry state = rw ((bytes_eq-Decides mark mark).1 refl) refl
-state_noted false mark name entry state = refl
+state_noted true mark name home entry state = rw ((bytes_eq-Decides mark mark).1 refl) refl
+state_noted false mark name home entry state = refl
 
 kept_if_old : (judge : Judge) (state : DeviceState) (line : DeviceLine)
     → (if is_new line.number state.last then state_after judge state line else state)
@@ -78,7 +79,8 @@ state_judged_one : (judge : Judge) (name : List ℕ) (entry : Option Entry) (lin
 state_judged_one judge name entry line =
     let mark : List ℕ = key_mark judge.digest judge.key in
     let state : DeviceState = state_under mark entry in
-    state_noted (is_new line.number state.last) mark name entry (state_after judge state line)
+    state_noted (is_new line.number state.last) mark name (home_of entry) entry
+    (state_after judge state line)
     ∙ kept_if_old judge state line
 
 pub state_judged : (judge : Judge) (name : List ℕ) (entry : Option Entry) (lines : List DeviceLine)
@@ -121,11 +123,12 @@ nothing_known : (desk : DeskFields) (name : List ℕ) (key : Option (List ℕ))
 nothing_known desk name None = refl
 nothing_known desk name (Some key) = refl
 
-entry_noted : (entries : List Entry) (entry : Entry)
-    → last_in (with_entry entries entry) entry.name ≡ Some entry
-entry_noted entries entry =
-    entry_is_last entries entry entry.name
-    ∙ rw ((bytes_eq-Decides entry.name entry.name).1 refl) refl
+note_stands : (entries : List Entry) (note : Note)
+    → last_in (with_note entries note) note.name
+    ≡ Some (entry_at (home_of (last_in entries note.name)) note)
+note_stands entries note =
+    entry_is_last entries (entry_at (home_of (last_in entries note.name)) note) note.name
+    ∙ rw ((bytes_eq-Decides note.name note.name).1 refl) refl
 
 pub entry_elsewhere : (entries : List Entry) (entry : Entry) (name : List ℕ)
     → bytes_eq entry.name name ≡ false
@@ -152,7 +155,15 @@ noted_line judge name entries entry state line so same =
     else None) entries) name
     ≡ entry_after name entry (record { judge = judge; line = line })) (sym same)
     (⊎_elim
-    (λ new. rw new (entry_noted entries _))
+    (λ new.
+    let note : Note = record {
+      name = name;
+      mark = mark;
+      state = with_answer (state_under mark entry) line.number
+          (new_answer judge (state_under mark entry) line);
+    } in
+    rw new (note_stands entries note
+    ∙ ap (λ (last : Option Entry). Some (entry_at (home_of last) note)) so))
     (λ old. rw old so)
     (cases_Bool (is_new line.number (state_under mark entry).last)))
 
@@ -172,11 +183,12 @@ noted_here desk lines device line entries known so =
     (own_known_entry desk device (lines device.name) known)
     ∙ sym (own_known_entry desk device (line ∷ lines device.name) known)
 
-elsewhere_if : (entries : List Entry) (noted : Option Entry) (name : List ℕ)
-    → IfSome noted (λ (entry : Entry). bytes_eq entry.name name ≡ false)
+elsewhere_if : (entries : List Entry) (noted : Option Note) (name : List ℕ)
+    → IfSome noted (λ (note : Note). bytes_eq note.name name ≡ false)
     → last_in (with_noted noted entries) name ≡ last_in entries name
 elsewhere_if entries None name other = refl
-elsewhere_if entries (Some entry) name other = entry_elsewhere entries entry name other
+elsewhere_if entries (Some note) name other =
+    entry_elsewhere entries (entry_at (home_of (last_in entries note.name)) note) name other
 
 noted_elsewhere : (desk : DeskFields) (lines : List ℕ → List DeviceLine) (device : DeviceKey)
     (line : DeviceLine) (entries : List Entry) (name : List ℕ)

@@ -8,7 +8,7 @@ use Rattle.desk_memory.specs.declared.answer.Answer.{Answer}
 use Rattle.desk_memory.specs.declared.answer.Answer.TheVariants.{Stale}
 use Rattle.desk_memory.specs.declared.device_state.DeviceState.{DeviceState}
 use Rattle.desk_memory.specs.DeviceState.{by_number, is_new, renewed, with_answer}
-use Rattle.desk_memory.specs.Entry.{Entry, entry_state}
+use Rattle.desk_memory.specs.Entry.{Entry, entry_at, entry_state, home_of}
 use Rattle.verifier_desk.specs.DeviceReply.{new_answer}
 use Rattle.verifier_desk.specs.Judged.{JudgedLine, answer_to, entry_after, is_new_to, mark_of, state_before}
 use Rattle.verifier_desk.specs.Law.{IsRepeated}
@@ -60,11 +60,11 @@ answered_anew name entry now new =
     let state : DeviceState = state_before entry now in
     let answer : Answer = new_answer now.judge state now.line in
     record {
-      entry = record {
+      entry = entry_at (home_of entry) (record {
         name = name;
         mark = mark_of now;
         state = with_answer state now.line.number answer;
-      };
+      });
       is = rw new refl;
       marked = refl;
       last = ap (λ (one : Answer). Some (now.line.number, one))

@@ -2,7 +2,7 @@
 use Rattle.std.specs.Prelude.{◌≡◌, ◌≤◌, ℕ, Bool, true, false, List, Result, Ok, Err, None, IsTrue}
 use Rattle.desk_memory.specs.declared.memory.Memory.{Ghosts}
 use Rattle.desk_memory.specs.declared.memory_fault.MemoryFault.{MemoryFault}
-use Rattle.desk_memory.specs.Entry.{Entry, with_entry}
+use Rattle.desk_memory.specs.Entry.{Entry, Note, with_note}
 use Rattle.verifier_desk.specs.declared.answer_fault.AnswerFault.{AnswerFault}
 use Rattle.verifier_desk.specs.declared.answer_fault.AnswerFault.TheVariants.{Memory, Unkept}
 use Rattle.verifier_desk.specs.declared.desk.Desk.{Desk}
@@ -21,13 +21,13 @@ pub record OnlyNotes {M : Type 0} (m : Ghosts M) (old new : M) : Type 0 where
   pub crash : (found : List Entry) → m.may_leave new found → m.may_leave old found
   pub counted : m.faults old ≤ m.faults new
 
--- an entry was noted, if it is new
-abbrev pub NotesIf : {M : Type 0} → Ghosts M → M → M → Bool → Entry
+-- the state of a device was noted, if it is new
+abbrev pub NotesIf : {M : Type 0} → Ghosts M → M → M → Bool → Note
     → Result Unit MemoryFault → Type 0
-NotesIf m old new false entry result = (new ≡ old) × (result ≡ Ok tt)
-NotesIf m old new true entry (Ok done) =
-    (entries : List Entry) → m.stands old entries → m.stands new (with_entry entries entry)
-NotesIf m old new true entry (Err fault) = HasFailed m old new fault
+NotesIf m old new false note result = (new ≡ old) × (result ≡ Ok tt)
+NotesIf m old new true note (Ok done) =
+    (entries : List Entry) → m.stands old entries → m.stands new (with_note entries note)
+NotesIf m old new true note (Err fault) = HasFailed m old new fault
 
 -- the reply to what a line says, and what was noted of it; or why it was not answered
 abbrev pub Answers : {M : Type 0} → Ghosts M → M → M → Desk → DeskFields

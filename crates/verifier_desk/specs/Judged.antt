@@ -4,7 +4,7 @@ use Rattle.report_verifier.specs.Judge.{Judge}
 use Rattle.desk_memory.specs.declared.answer.Answer.{Answer}
 use Rattle.desk_memory.specs.declared.device_state.DeviceState.{DeviceState}
 use Rattle.desk_memory.specs.DeviceState.{is_new}
-use Rattle.desk_memory.specs.Entry.{Entry, state_under}
+use Rattle.desk_memory.specs.Entry.{Entry, entry_at, home_of, state_under}
 use Rattle.desk_memory.specs.KeyMark.{key_mark}
 use Rattle.verifier_desk.specs.DeviceLine.{DeviceLine}
 use Rattle.verifier_desk.specs.DeviceReply.{answer_after, state_after}
@@ -32,15 +32,16 @@ is_new_to entry now = is_new now.line.number (state_before entry now).last
 abbrev pub answer_to : Option Entry → JudgedLine → Answer
 answer_to entry now = answer_after now.judge (state_before entry now) now.line
 
--- the last entry of the device of a name after one more of its lines: one with a new number is noted
+-- the last entry of a name's device after one more of its lines: one with a new number is noted,
+-- and the device stays at home where it was
 abbrev pub entry_after : List ℕ → Option Entry → JudgedLine → Option Entry
 entry_after name entry now =
     if is_new_to entry now
-    then Some (record {
+    then Some (entry_at (home_of entry) (record {
       name = name;
       mark = mark_of now;
       state = state_after now.judge (state_before entry now) now.line;
-    })
+    }))
     else entry
 
 -- and after lines, the newest first

@@ -1,4 +1,4 @@
--- The messages whose HMACs under one key are told or kept: of tokens, of challenges, and of the mark.
+-- The messages whose HMACs under one key are told or kept: of tokens, challenges and the mark.
 use Rattle.std.specs.Prelude.{◌≡◌, ◌++◌, ℕ, List, ◌∷◌, take}
 use Rattle.part_definitions.specs.Hmac.{hmac}
 use Rattle.part_definitions.specs.Request.{request_token}

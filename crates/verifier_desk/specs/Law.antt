@@ -81,7 +81,8 @@ abbrev pub requested : List ℕ → Option Entry → List JudgedLine → List Ke
 requested name start [] = []
 requested name start (now ∷ earlier) =
     let entry = entry_through name start earlier in
-    (if is_new_to entry now then under_mark (mark_of now) (counter_of (answer_to entry now)) else [])
+    (if is_new_to entry now then under_mark (mark_of now) (counter_of (answer_to entry now))
+    else [])
     ++ requested name start earlier
 
 abbrev pub accepted : List ℕ → Option Entry → List JudgedLine → List KeyCounter

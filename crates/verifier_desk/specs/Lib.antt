@@ -4,6 +4,7 @@ pub mod DeskLine
 pub mod DeviceKey
 pub mod DeviceLine
 pub mod DeviceReply
+pub mod Gone
 pub mod HeldLine
 pub mod Judged
 pub mod KeyMessage

@@ -1,15 +1,15 @@
 -- What a desk notes in its memory: the state of a device after each of its lines with a new number.
 use Rattle.std.specs.Prelude.{ℕ, List, [], ◌∷◌, if◌then◌else◌, Option, Some, None}
 use Rattle.desk_memory.specs.DeviceState.{is_new}
-use Rattle.desk_memory.specs.Entry.{Entry, with_entry}
+use Rattle.desk_memory.specs.Entry.{Entry, Note, with_note}
 use Rattle.verifier_desk.specs.DeskLine.{DeskLine, Own, desk_line_of}
 use Rattle.verifier_desk.specs.DeviceKey.{DeviceKey}
 use Rattle.verifier_desk.specs.DeviceLine.{DeviceLine}
 use Rattle.verifier_desk.specs.Replies.{DeskFields, lines_said, mark_at, state_at}
 
--- the entry of a device after these lines of it
-abbrev pub entry_at : DeskFields → DeviceKey → List DeviceLine → Entry
-entry_at desk device lines =
+-- the note of a device after these lines of it
+abbrev pub note_at : DeskFields → DeviceKey → List DeviceLine → Note
+note_at desk device lines =
     record {
       name = device.name;
       mark = mark_at desk device;
@@ -17,16 +17,16 @@ entry_at desk device lines =
     }
 
 -- what is noted of what a line says, where these were the earlier lines of each device
-abbrev pub noted_of : DeskFields → (List ℕ → List DeviceLine) → DeskLine → Option Entry
+abbrev pub noted_of : DeskFields → (List ℕ → List DeviceLine) → DeskLine → Option Note
 noted_of desk earlier (Own device line) =
     if is_new line.number (state_at desk device (earlier device.name)).last
-    then Some (entry_at desk device (line ∷ earlier device.name))
+    then Some (note_at desk device (line ∷ earlier device.name))
     else None
 noted_of desk earlier said = None
 
-abbrev pub with_noted : Option Entry → List Entry → List Entry
+abbrev pub with_noted : Option Note → List Entry → List Entry
 with_noted None entries = entries
-with_noted (Some entry) entries = with_entry entries entry
+with_noted (Some note) entries = with_note entries note
 
 -- what the memory has after lines, the newest first
 abbrev pub entries_after : DeskFields → List (List ℕ) → List Entry

@@ -1,4 +1,4 @@
-ghost use Rattle.std.specs.Prelude.{◌≡◌, ◌<◌, ◌↔◌, ◌∷◌, ℕ, List, Ok, All, None, IsTrue, IfOk, OnOk, OnErr, length, slice_index_or, vec_len, []};
+ghost use Rattle.std.specs.Prelude.{◌≡◌, ◌<◌, ◌↔◌, ℕ, List, Ok, None, IfOk, OnErr, length, slice_index_or, vec_len, []};
 ghost use Rattle.sha2.specs.Sha256.{sha256};
 ghost use Rattle.mem_map.specs.Image.{byte_in};
 ghost use Rattle.text_scan.specs.Word.{words_of};

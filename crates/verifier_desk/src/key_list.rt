@@ -131,6 +131,13 @@ impl KeyList {
         }
     }
 
+    /// Its devices, in the order of the lines.
+    pub fn devices(&self) -> &[DeviceKey]
+        ensures { result.now ≡ self.now }
+    {
+        &self.devices
+    }
+
     /// The device at a place.
     pub fn device_at(&self, place: usize) -> &DeviceKey
         requires { place < length self.now }

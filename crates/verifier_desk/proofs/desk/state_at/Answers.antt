@@ -1,4 +1,4 @@
-use Rattle.std.proofs.Common.{◌≡◌, ◌∙◌, ℕ, List, ap, ap₂, sym}
+use Rattle.std.proofs.Common.{◌∙◌, ℕ, List, ap, ap₂}
 use Rattle.sha2.specs.Sha256.{sha256}
 use Rattle.desk_memory.specs.Entry.{last_in, state_under}
 use Rattle.desk_memory.specs.KeyMark.{key_mark}
