@@ -1,16 +1,15 @@
 -- From the files as they were to the files once their list of objects was read.
-use Rattle.std.proofs.Common.{◌≡◌, ◌≢◌, true, IsTrue, List, [], sym, ap, ap₂, subst, subst₂, ◌∙◌, inl, inr, arith}
+use Rattle.std.proofs.Common.{◌≡◌, ◌≢◌, ◌⊎◌, true, IsTrue, List, [], sym, ap, ap₂, subst, subst₂, ◌∙◌, inl, inr}
 use Rattle.std.proofs.Math.Logic.{∥∥₁_map}
 use Rattle.std.proofs.Math.Path.{subst₃}
 use Rattle.std.proofs.lemmas.Bool.{cond-true}
 use Rattle.std.proofs.lemmas.Grind.{not_there}
 use Rattle.sqlite_disk.specs.declared.Disk.{Ghosts}
 use Rattle.sqlite_wal.specs.Recovery.{Image}
-use Rattle.sqlite_wal.specs.State.{State}
 use Rattle.sqlite_pages.specs.PageMap.{PageMap}
 use Rattle.sqlite_pool.specs.File.{in_use, IsSoundFile}
 use Rattle.sqlite_pool.specs.Opening.{IsBlankFile}
-use Rattle.sqlite_pool.specs.Stored.{Recovers}
+use Rattle.sqlite_pool.specs.Stored.{Recovers, RecoversAs}
 use Rattle.sqlite_pool.specs.StoredLaws.{carried, readable, recovers_once, RecoversAs-from}
 use Rattle.sqlite_value.specs.Order.{Row}
 use Rattle.sqlite_trees.specs.declared.store.Shape.TheVariants.{Table}
@@ -25,10 +24,9 @@ use Rattle.sqlite_store.specs.Listing.{file_trees, IsOurs}
 use Rattle.sqlite_store.specs.Opening.{IsEmptyFile}
 use Rattle.sqlite_store.specs.Unopened.{state_of, wanted_by, image, HasFileAs, HasSomeFile, Opens, IsCatalogOf}
 use Rattle.memory_file.specs.Table.{page_size, memory_schema}
-use Rattle.memory_file.specs.Held.{HoldsMemory, HoldsBegun, HoldsNothing, MayBeOpened, IsKept}
-use Rattle.memory_file.specs.Begun.{Spares}
+use Rattle.memory_file.specs.Held.{HoldsMemory, HoldsBegun, HoldsNothing, LacksObjects, MayBeMemory, IsKept, IsSpared}
 use Rattle.memory_file.specs.Opening.{Finds}
-use Rattle.memory_file.proofs.HeldLemmas.{memory_lists, lists_nothing, sound_is_not_blank, as_before, begun_before}
+use Rattle.memory_file.proofs.HeldLemmas.{memory_lists, lists_nothing, sound_is_not_blank, as_before, begun_before, opens_spare}
 
 begun_as : (a b : Image) (pages : PageMap) → Recovers page_size a pages → Recovers page_size b pages
     → HoldsBegun a → HoldsBegun b
@@ -103,7 +101,7 @@ module _ {D : Type 0} {g : Ghosts D} (old mid : Unopened D g) (rows : List Row)
     ]);
   }
 
-  kept_through : (left : Image) → IsKept ((state_of mid).may_leave left) (image mid) left
+  pub kept_through : (left : Image) → IsKept ((state_of mid).may_leave left) (image mid) left
       → IsKept ((state_of old).may_leave left) (image old) left
   kept_through left kept = record {
     same = λ some. elim (kept.same (λ nothing. some (nothing_back nothing))) [
@@ -123,35 +121,53 @@ module _ {D : Type 0} {g : Ghosts D} (old mid : Unopened D g) (rows : List Row)
         λ some unreadable. absurd (readable page_size (image old) listed.pages found unreadable);
   }
 
-  pub spares_through : (new : State) → Spares mid new → Spares old new
-  spares_through new spares = record {
-    counts = omega (arith, first.counts, spares.counts);
-    crash = λ left may. kept_through left (spares.crash left may);
-  }
+  pub spared_through : (left : Image)
+      → (state_of mid).may_leave left ⊎ RecoversAs page_size (image mid) left
+      → IsSpared ((state_of old).may_leave left) (image old) left
+  spared_through left (inl was) = opens_spare old size left (first.crash left was)
+  spared_through left (inr alike) =
+      record {
+        same = inr
+            (RecoversAs-from page_size (image old) left listed.pages found
+            (carried page_size (image mid) left alike listed.pages again));
+        unread =
+            λ unreadable. absurd (readable page_size (image old) listed.pages found unreadable);
+      }
 
-  pub can_be_opened : wanted_by mid ≡ memory_schema → rows ≢ [] → MayBeOpened (image old)
+  file_of : wanted_by mid ≡ memory_schema → (db : Trees) → HoldsMemory (image old) db
       → HasFileAs mid true
-  can_be_opened schema some (inl nothing) = absurd (some (nothing_lists nothing))
-  can_be_opened schema some (inr held) =
-      let here = memory_on held.0 held.1 in (
+  file_of schema db held =
+      let here = memory_on db held in (
         here.pages,
         subst (λ n. Recovers n (image mid) here.pages) (sym mid_size) here.found,
         subst₂ (λ n s. IsOurs n true s here.pages) (sym mid_size) (sym schema) here.sound,
       )
 
-  pub can_be_made : rows ≡ [] → MayBeOpened (image old) → HoldsNothing (image mid)
-  can_be_made none (inl nothing) = nothing_on nothing
-  can_be_made none (inr held) = absurd (memory_has_rows held.0 held.1 none)
+  pub can_be_opened : wanted_by mid ≡ memory_schema → rows ≢ [] → MayBeMemory (image old)
+      → HasFileAs mid true
+  can_be_opened schema some (inl entries) = file_of schema entries.0 entries.1
+  can_be_opened schema some (inr (replay, inl nothing)) = absurd (some (nothing_lists nothing))
+  can_be_opened schema some (inr (replay, inr empty)) = file_of schema empty.0 empty.1
+
+  pub can_be_made : rows ≡ [] → MayBeMemory (image old) → HoldsNothing (image mid)
+  can_be_made none (inl entries) = absurd (memory_has_rows entries.0 entries.1 none)
+  can_be_made none (inr (replay, inl nothing)) = nothing_on nothing
+  can_be_made none (inr (replay, inr empty)) = absurd (memory_has_rows empty.0 empty.1 none)
+
+  pub lacks_objects : rows ≡ [] → LacksObjects (image old)
+  lacks_objects none = (listed.pages, found, sym lists ∙ none)
 
 -- files to open hold a sound database of some schema
 pub has_some_file : {D : Type 0} {g : Ghosts D} (old : Unopened D g)
     → (state_of old).page_size ≡ page_size → ¬ IsBlankFile page_size (image old)
-    → MayBeOpened (image old) → HasSomeFile old
-has_some_file old size something (inl (inl blank)) = absurd (something blank)
-has_some_file old size something (inl (inr begun)) =
+    → MayBeMemory (image old) → HasSomeFile old
+has_some_file old size something (inl entries) =
+    rw size (entries.1.pages, entries.1.found, (memory_schema, entries.1.sound.file))
+has_some_file old size something (inr (replay, inl (inl blank))) = absurd (something blank)
+has_some_file old size something (inr (replay, inl (inr begun))) =
     rw size (begun.pages, begun.found, ([], begun.empty.0))
-has_some_file old size something (inr held) =
-    rw size (held.1.pages, held.1.found, (memory_schema, held.1.sound.file))
+has_some_file old size something (inr (replay, inr empty)) =
+    rw size (empty.1.pages, empty.1.found, (memory_schema, empty.1.sound.file))
 
 -- the store that was opened has the memory that the files held
 pub opened_memory : {D : Type 0} {g : Ghosts D} (files : Unopened D g) (store : FileStore D g)

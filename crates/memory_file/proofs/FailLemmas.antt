@@ -1,10 +1,21 @@
--- Why an open fails, from one step to the next.
-use Rattle.std.proofs.Common.{ℕ, ◌≤◌, arith}
+-- Why an open or a making fails, from one step to the next.
+use Rattle.std.proofs.Common.{◌≡◌, ℕ, ◌≤◌, Result, Ok, Err, subst, inl, inr, arith}
+use Rattle.std.specs.Prelude.{IfErr, IfOk}
 use Rattle.sqlite_store.specs.declared.error.OpenError.{OpenError}
 use Rattle.sqlite_store.specs.declared.error.OpenError.TheVariants.{OutOfMemory, Io, Full, Refused}
 use Rattle.sqlite_store.specs.Opening.{FailsToOpen}
-use Rattle.memory_file.specs.Fault.{fault_of_store}
+use Rattle.sqlite_wal.specs.Files.{IsHuge}
+use Rattle.sqlite_wal.specs.Opening.{RefusesLog}
+use Rattle.sqlite_wal.specs.Outcome.{HasCause, OnlyIf}
+use Rattle.sqlite_wal.specs.Recovery.{Image}
+use Rattle.sqlite_wal.specs.declared.error.Error.{Error}
+use Rattle.sqlite_wal.specs.declared.error.Error.TheVariants as wal
+use Rattle.memory_file.specs.Fault.{fault_of_probe, fault_of_store}
+use Rattle.memory_file.specs.Log.{CanReplay, stored_page}
 use Rattle.memory_file.specs.Opening as opening
+use Rattle.memory_file.specs.Opening.{WhyUnread}
+use Rattle.memory_file.specs.declared.memory_file_fault.MemoryFileFault.{MemoryFileFault}
+use Rattle.memory_file.specs.declared.memory_file_fault.MemoryFileFault.TheVariants as fault
 
 pub wanted_more : (a b : ℕ) (Limit P Q : Type 0) (e : OpenError) → (Q → P)
     → FailsToOpen a b Limit P e → FailsToOpen a b Limit Q e
@@ -21,9 +32,64 @@ fails_behind a b c L M P Q Io less limit so h = omega (arith, h)
 fails_behind a b c L M P Q Full less limit so h = limit h
 fails_behind a b c L M P Q Refused less limit so h = λ w. h (so w)
 
-pub from_store : (a b c : ℕ) (Limit P Q : Type 0) (e : OpenError) → a ≤ b → (Q → P)
-    → FailsToOpen b c Limit P e → opening.FailsToOpen a c Limit Q (fault_of_store e)
-from_store a b c Limit P Q OutOfMemory less so h = tt
-from_store a b c Limit P Q Io less so h = omega (arith, h)
-from_store a b c Limit P Q Full less so h = h
-from_store a b c Limit P Q Refused less so h = λ w. h (so w)
+pub from_store : (a b c : ℕ) (Limit P : Type 0) (why : MemoryFileFault → Type 0) (e : OpenError)
+    → a ≤ b → (¬ P → why fault.Foreign) → FailsToOpen b c Limit P e
+    → opening.FailsToOpen a c Limit why (fault_of_store e)
+from_store a b c Limit P why OutOfMemory less so h = tt
+from_store a b c Limit P why Io less so h = omega (arith, h)
+from_store a b c Limit P why Full less so h = h
+from_store a b c Limit P why Refused less so h = so h
+
+-- why the log was refused
+pub from_log : (a b : ℕ) (image now : Image) (e : Error) → image ≡ now
+    → HasCause a b (RefusesLog stored_page image.log) e
+    → opening.FailsToOpen a b (IsHuge stored_page now) (WhyUnread image) (fault_of_probe e)
+from_log a b image now (wal.Io e) same h = h
+from_log a b image now wal.OutOfMemory same h = tt
+from_log a b image now wal.Full same h =
+    elim h [ inl x ↦ absurd (cc) | inr x ↦ subst (IsHuge stored_page) same (inl x.1) ]
+from_log a b image now wal.Corrupt same h =
+    elim h [ inl x ↦ λ can. x.1 can.0 can.1 | inr x ↦ absurd (cc) ]
+from_log a b image now wal.Closed same h = elim h [ inl x ↦ absurd (cc) | inr x ↦ absurd (cc) ]
+from_log a b image now wal.NoSuchPage same h = elim h [ inl x ↦ absurd (cc) | inr x ↦ absurd (cc) ]
+from_log a b image now wal.Exists same h = elim h [ inl x ↦ absurd (cc) | inr x ↦ absurd (cc) ]
+
+-- what refuses them unread refuses them
+pub why_more : (a b : ℕ) (Limit : Type 0) (image : Image) (why : MemoryFileFault → Type 0)
+    (e : MemoryFileFault) → (¬ CanReplay image.log → why fault.Foreign)
+    → opening.FailsToOpen a b Limit (WhyUnread image) e → opening.FailsToOpen a b Limit why e
+why_more a b Limit image why fault.Foreign so h = so h
+why_more a b Limit image why fault.Disk so h = h
+why_more a b Limit image why fault.Full so h = h
+why_more a b Limit image why fault.OutOfMemory so h = h
+why_more a b Limit image why fault.Unfounded so h = absurd h
+why_more a b Limit image why fault.Founded so h = absurd h
+why_more a b Limit image why fault.OtherLog so h = absurd h
+why_more a b Limit image why fault.Place so h = absurd h
+why_more a b Limit image why fault.Missing so h = absurd h
+why_more a b Limit image why fault.InUse so h = absurd h
+why_more a b Limit image why fault.HotJournal so h = absurd h
+
+-- why the database could not be looked at
+pub from_blank : (a b c : ℕ) (X : Type 0) (read image : Image) (why : MemoryFileFault → Type 0)
+    (e : Error) → a ≤ b → read ≡ image
+    → HasCause b c (OnlyIf wal.Full (X × IsHuge stored_page read)) e
+    → opening.FailsToOpen a c (IsHuge stored_page image) why (fault_of_probe e)
+from_blank a b c X read image why (wal.Io e) less same h = omega (arith, h)
+from_blank a b c X read image why wal.OutOfMemory less same h = tt
+from_blank a b c X read image why wal.Full less same h = subst (IsHuge stored_page) same h.1.1
+from_blank a b c X read image why wal.Corrupt less same h = let is = h.0 in absurd (cc)
+from_blank a b c X read image why wal.Closed less same h = let is = h.0 in absurd (cc)
+from_blank a b c X read image why wal.NoSuchPage less same h = let is = h.0 in absurd (cc)
+from_blank a b c X read image why wal.Exists less same h = let is = h.0 in absurd (cc)
+
+-- an answer, or a refusal, that is more
+pub ok_more : {X Y : Type 0} (result : Result X Y) (P Q : X → Type 0)
+    → ((x : X) → P x → Q x) → IfOk result P → IfOk result Q
+ok_more (Ok x) P Q so h = so x h
+ok_more (Err y) P Q so h = h
+
+pub err_more : {X Y : Type 0} (result : Result X Y) (P Q : Y → Type 0)
+    → ((y : Y) → P y → Q y) → IfErr result P → IfErr result Q
+err_more (Ok x) P Q so h = h
+err_more (Err y) P Q so h = so y h

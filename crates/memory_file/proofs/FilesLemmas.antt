@@ -10,8 +10,8 @@ use Rattle.sqlite_pool.specs.declared.pool.Pool.{Pool}
 use Rattle.sqlite_pool.specs.Pool.{state, files}
 use Rattle.sqlite_store.specs.declared.store.open.Unopened.{Unopened}
 use Rattle.sqlite_store.specs.Unopened.{state_of, files_of, image}
-use Rattle.memory_file.specs.Held.{IsKept}
-use Rattle.memory_file.specs.Opening.{image_of, faults_of}
+use Rattle.memory_file.specs.Held.{IsKept, IsSpared}
+use Rattle.memory_file.specs.Opening.{OnlyLooks, image_of, faults_of}
 
 pool_files : {D : Type 0} {g : Ghosts D} (it : Pool D g)
     → ((state it).faults ≡ g.faults (files it).0 + g.faults (files it).1)
@@ -19,6 +19,22 @@ pool_files : {D : Type 0} {g : Ghosts D} (it : Pool D g)
     × ((left : Image) → (state it).may_leave left → outcomes g (files it).0 (files it).1 left)
 unfolding state files
 pool_files it = (refl, refl, λ left may. may.1)
+
+pub reads_on : {D : Type 0} {g : Ghosts D} (a b c : D) → OnlyReads g a b → OnlyReads g b c
+    → OnlyReads g a c
+reads_on a b c first then = record {
+  seen = then.seen ∙ first.seen;
+  clean = λ clean. first.clean (then.clean clean);
+  usable = then.usable;
+  key = then.key ∙ first.key;
+  rot = then.rot ∙ first.rot;
+  crash = λ left may. first.crash left (then.crash left may);
+}
+
+pub read_image : {D : Type 0} {g : Ghosts D} (old now : Files D) → OnlyReads g old.log now.log
+    → OnlyReads g old.db now.db → image_of g old ≡ image_of g now
+read_image old now log db =
+    ap₂ (λ a b. let i : Image = record { log = a; db = b } in i) (sym log.seen) (sym db.seen)
 
 pub kept_as : (P Q : Type 0) (a b left : Image) → (P → Q) → a ≡ b → IsKept P a left
     → IsKept Q b left
@@ -31,6 +47,34 @@ kept_as P Q a b left was same kept =
       ];
       unread = λ some unreadable. was (kept.unread some unreadable);
     })
+
+pub spared_as : (P Q : Type 0) (a b left : Image) → (P → Q) → a ≡ b → IsSpared P a left
+    → IsSpared Q b left
+spared_as P Q a b left was same spared =
+    subst (λ i. IsSpared Q i left) same (record {
+      same = elim spared.same [ inl old ↦ inl (was old) | inr alike ↦ inr alike ];
+      unread = λ unreadable. was (spared.unread unreadable);
+    })
+
+-- files that were only read are left as they were
+pub left_as : {D : Type 0} {g : Ghosts D} (old now : Files D) → OnlyReads g old.log now.log
+    → OnlyReads g old.db now.db → (after : Image) → outcomes g now.log now.db after
+    → outcomes g old.log old.db after
+left_as old now log db after may = (log.crash _ may.0, db.crash _ may.1)
+
+pub looked_spared : {D : Type 0} {g : Ghosts D} (old now : Files D) → OnlyLooks g old now
+    → (after : Image) → outcomes g now.log now.db after
+    → IsSpared (outcomes g old.log old.db after) (image_of g old) after
+looked_spared old now same after may =
+    let was = left_as old now same.log same.db after may in
+    record { same = inl was; unread = λ unreadable. was }
+
+pub looked_kept : {D : Type 0} {g : Ghosts D} (old now : Files D) → OnlyLooks g old now
+    → (after : Image) → outcomes g now.log now.db after
+    → IsKept (outcomes g old.log old.db after) (image_of g old) after
+looked_kept old now same after may =
+    let was = left_as old now same.log same.db after may in
+    record { same = λ some. inl was; nothing = λ none. inl was; unread = λ some unreadable. was }
 
 module _ {D : Type 0} {g : Ghosts D} (old now : Files D) (log : OnlyReads g old.log now.log)
     (db : OnlyReads g old.db now.db)
@@ -56,10 +100,20 @@ module _ {D : Type 0} {g : Ghosts D} (old now : Files D) (log : OnlyReads g old.
         ap (λ (f : D × D). g.faults f.0 + g.faults f.1) made,
       )
 
+  was_outcome : (left : Image) → (state_of fresh).may_leave left
+      → outcomes g old.log old.db left
+  was_outcome left was =
+      let may = subst (λ (f : D × D). outcomes g f.0 f.1 left) made
+      ((pool_files fresh.pool).2 left was) in
+      (log.crash _ may.0, db.crash _ may.1)
+
   pub kept_by_files : (left : Image) → IsKept ((state_of fresh).may_leave left) (image fresh) left
       → IsKept (outcomes g old.log old.db left) (image_of g old) left
   kept_by_files left =
-      kept_as _ _ (image fresh) (image_of g old) left
-      (λ was. let may = subst (λ (f : D × D). outcomes g f.0 f.1 left) made
-      ((pool_files fresh.pool).2 left was) in (log.crash _ may.0, db.crash _ may.1))
-      same_image
+      kept_as _ _ (image fresh) (image_of g old) left (was_outcome left) same_image
+
+  pub spared_by_files : (left : Image)
+      → IsSpared ((state_of fresh).may_leave left) (image fresh) left
+      → IsSpared (outcomes g old.log old.db left) (image_of g old) left
+  spared_by_files left =
+      spared_as _ _ (image fresh) (image_of g old) left (was_outcome left) same_image

@@ -4,20 +4,29 @@ use Rattle.sqlite_disk.specs.declared.Disk.{Ghosts}
 use Rattle.sqlite_disk.specs.Events.{Event, replay, settled}
 use Rattle.sqlite_disk.specs.History.{MayLeave}
 use Rattle.sqlite_wal.specs.Recovery.{Image}
-use Rattle.memory_file.specs.Opening.{Finds, Leaves}
+use Rattle.memory_file.specs.Held.{IsKept, IsSpared}
+use Rattle.memory_file.specs.Opening.{FindsRows, Leaves}
 use Rattle.memory_file.specs.declared.left.Left.{Left}
 use Rattle.memory_file.specs.declared.left.Left.TheVariants as left
-use Rattle.memory_file.proofs.FilesLemmas.{kept_as}
+use Rattle.memory_file.proofs.FilesLemmas.{kept_as, spared_as}
 
-pub leaves_as : {D : Type 0} {g : Ghosts D} (P Q : Image → Type 0) (a b : Image) (rest : Left D g)
-    → ((after : Image) → P after → Q after) → a ≡ b
-    → Leaves P a rest → Leaves Q b rest
-leaves_as P Q a b (left.Files files) was same leaves =
-    λ after may. kept_as (P after) (Q after) a b after (was after) same (leaves after may)
-leaves_as P Q a b (left.Unopened files) was same leaves =
-    λ after may. kept_as (P after) (Q after) a b after (was after) same (leaves after may)
-leaves_as P Q a b (left.Store store) was same leaves =
-    λ db may. subst (λ i. Finds i db) same (leaves db may)
+module _ {D : Type 0} {g : Ghosts D} (P Q : Image → Type 0) (a b : Image)
+    (was : (after : Image) → P after → Q after) (same : a ≡ b) where
+  pub kept_leaves : (rest : Left D g) → Leaves IsKept P a rest → Leaves IsKept Q b rest
+  kept_leaves (left.Files files) leaves =
+      λ after may. kept_as (P after) (Q after) a b after (was after) same (leaves after may)
+  kept_leaves (left.Unopened files) leaves =
+      λ after may. kept_as (P after) (Q after) a b after (was after) same (leaves after may)
+  kept_leaves (left.Store store) leaves =
+      λ db may. subst (λ i. FindsRows i db) same (leaves db may)
+
+  pub spared_leaves : (rest : Left D g) → Leaves IsSpared P a rest → Leaves IsSpared Q b rest
+  spared_leaves (left.Files files) leaves =
+      λ after may. spared_as (P after) (Q after) a b after (was after) same (leaves after may)
+  spared_leaves (left.Unopened files) leaves =
+      λ after may. spared_as (P after) (Q after) a b after (was after) same (leaves after may)
+  spared_leaves (left.Store store) leaves =
+      λ db may. subst (λ i. FindsRows i db) same (leaves db may)
 
 pub fresh_leaves : (mixes : Bool) (log db : List ℕ) (is_log for_log : Bool) (events : List Event)
     (key : ℕ) (c : List ℕ) → is_log ≡ for_log → events ≡ settled key ∷ []

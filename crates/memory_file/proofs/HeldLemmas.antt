@@ -1,5 +1,5 @@
 -- What the two files hold, before a step of an open and after it.
-use Rattle.std.proofs.Common.{◌≡◌, ◌≢◌, ◌⊎◌, [], refl, sym, subst, ◌∙◌, inl, inr, arith}
+use Rattle.std.proofs.Common.{◌≡◌, ◌≢◌, ◌<◌, ℕ, ◌⊎◌, [], refl, sym, subst, ◌∙◌, inl, inr, arith}
 use Rattle.std.proofs.Math.Logic.{∥∥₁_map}
 use Rattle.sqlite_disk.specs.declared.Disk.{Ghosts}
 use Rattle.sqlite_wal.specs.Recovery.{Image, AreWhole}
@@ -14,14 +14,15 @@ use Rattle.sqlite_pool.proofs.ResealLemmas.{adopts_of}
 use Rattle.sqlite_trees.specs.declared.store.Shape.TheVariants.{Table}
 use Rattle.sqlite_trees.specs.Tree.{Trees}
 use Rattle.sqlite_store.specs.declared.store.open.Unopened.{Unopened}
-use Rattle.sqlite_store.specs.Db.{rows_at, roots_of}
+use Rattle.sqlite_store.specs.Db.{rows_at, roots_of, trees_in}
 use Rattle.sqlite_store.specs.Listing.{all_trees, file_trees}
 use Rattle.sqlite_store.specs.Opening.{IsEmptyFile}
-use Rattle.sqlite_store.specs.Unopened.{state_of, wanted_by, image, IsUnstarted, IsAsBefore, IsOnTheWay, Opens, Creates}
+use Rattle.sqlite_store.specs.Unopened.{state_of, wanted_by, image, IsUnstarted, IsAsBefore, IsOnTheWay, Creates}
 use Rattle.sqlite_store.proofs.BuildLemmas.{new_is_empty}
 use Rattle.sqlite_store.proofs.ListingLemmas.{past_version, named_tree}
 use Rattle.memory_file.specs.Table.{page_size, memory_schema}
-use Rattle.memory_file.specs.Held.{HoldsMemory, HoldsBegun, HoldsNothing, HoldsEmptyMemory, IsKept}
+use Rattle.memory_file.specs.Held.{HoldsMemory, HoldsBegun, HoldsNothing, HoldsEmptyTables, IsKept, IsSpared, MayBeMemory}
+use Rattle.memory_file.specs.Log.{CanReplay}
 
 -- a memory lists its table
 pub memory_lists : (image : Image) (db : Trees) (held : HoldsMemory image db)
@@ -69,6 +70,15 @@ memory_carried before after db same held =
       reads = held.reads;
     }
 
+-- a tree that has no row in the pages has none in the file
+no_row : (tree : ℕ) → tree < 4294967296 → (pages : PageMap)
+    → ((t : ℕ) → trees_in page_size memory_schema (in_use page_size pages) t ≡ [])
+    → file_trees page_size memory_schema pages tree ≡ []
+no_row tree low pages empty =
+    past_version tree low (all_trees page_size memory_schema (in_use page_size pages))
+    (version_in pages)
+    ∙ named_tree tree low page_size memory_schema (in_use page_size pages) ∙ empty tree
+
 module _ {D : Type 0} {g : Ghosts D} (old : Unopened D g)
     (size : (state_of old).page_size ≡ page_size) where
   pub nothing_of : IsUnstarted old → HoldsNothing (image old)
@@ -98,28 +108,19 @@ module _ {D : Type 0} {g : Ghosts D} (old : Unopened D g)
       it.unread (subst (λ n. IsUnreadable n (image old)) (sym size) unreadable)
 
   pub begun_before : (left : Image) → IsAsBefore old left → HoldsBegun (image old)
-      → (state_of old).may_leave left ⊎ ∥ HoldsNothing left ⊎ HoldsEmptyMemory left ∥₁
+      → (state_of old).may_leave left ⊎ ∥ HoldsNothing left ⊎ HoldsEmptyTables left ∥₁
   begun_before left it begun = elim (as_before left it) [
     | inl was ↦ inl was
     | inr same ↦ inr ∣ inl (inr (begun_carried (image old) left same begun)) ∣₁
   ]
 
-  pub opens_keeps : (new : State) → ¬ IsBlankFile page_size (image old) → Opens old new
-      → (left : Image) → new.may_leave left
-      → IsKept ((state_of old).may_leave left) (image old) left
-  opens_keeps new something opens left may =
-      let it = opens.crash left may in
-      record {
-        same = λ _. as_before left it;
-        nothing = λ nothing. elim nothing [
-          | inl blank ↦ absurd (something blank)
-          | inr begun ↦ begun_before left it begun
-        ];
-        unread = λ _. unread_before left it;
-      }
+  pub opens_spare : (left : Image) → IsAsBefore old left
+      → IsSpared ((state_of old).may_leave left) (image old) left
+  opens_spare left it =
+      record { same = as_before left it; unread = λ unreadable. unread_before left it unreadable }
 
   on_the_way : wanted_by old ≡ memory_schema → (left : Image) → IsOnTheWay old left
-      → ∥ HoldsNothing left ⊎ HoldsEmptyMemory left ∥₁
+      → ∥ HoldsNothing left ⊎ HoldsEmptyTables left ∥₁
   on_the_way schema left way = elim (rw (size, schema) at way) [
     | inl blank ↦ ∣ inl (inl blank) ∣₁
     | inr made ↦ elim made.2 [
@@ -136,9 +137,7 @@ module _ {D : Type 0} {g : Ghosts D} (old : Unopened D g)
       | inr fresh ↦ ∥∥₁_map fresh (λ it. inr (
         file_trees page_size memory_schema made.0,
         record { pages = made.0; found = made.1; sound = it.0; reads = refl },
-        past_version 0 (omega arith) (all_trees page_size memory_schema (in_use page_size made.0))
-            (version_in made.0)
-            ∙ named_tree 0 (omega arith) page_size memory_schema (in_use page_size made.0) ∙ it.1 0,
+        (no_row 0 (omega arith) made.0 it.1, no_row 1 (omega arith) made.0 it.1),
       ))
     ]
   ]
@@ -165,3 +164,24 @@ module _ {D : Type 0} {g : Ghosts D} (old : Unopened D g)
         ];
         unread = λ something. unread_before left (guarded something);
       }
+
+-- a making keeps what an open spares
+pub spared_is_kept : (Was : Type 0) (before after : Image) → ¬ IsBlankFile page_size before
+    → IsSpared Was before after → IsKept Was before after
+spared_is_kept Was before after something spared = record {
+  same = λ _. spared.same;
+  nothing = λ nothing. elim nothing [
+    | inl blank ↦ absurd (something blank)
+    | inr begun ↦ elim spared.same [
+      | inl was ↦ inl was
+      | inr same ↦ inr ∣ inl (inr (begun_carried before after same begun)) ∣₁
+    ]
+  ];
+  unread = λ _. spared.unread;
+}
+
+-- a log that is not read is none of a memory's
+pub can_replay : (image : Image) → MayBeMemory image → CanReplay image.log
+can_replay image (inl entries) =
+    let found = entries.1.found.found in (found.frames, found.replays)
+can_replay image (inr founded) = founded.0

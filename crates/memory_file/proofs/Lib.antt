@@ -5,3 +5,6 @@ pub mod FilesLemmas
 pub mod FreshLemmas
 pub mod TableLemmas
 pub mod TableRead
+pub mod FoundOnce
+pub mod StepLemmas
+pub mod LogLemmas

@@ -12,7 +12,7 @@ use Rattle.sqlite_store.specs.declared.error.OpenError.TheVariants as store
 use Rattle.state_table.specs.declared.open_fault.OpenFault.{OpenFault}
 use Rattle.state_table.specs.declared.open_fault.OpenFault.TheVariants as table
 use Rattle.memory_file.specs.declared.memory_file_fault.MemoryFileFault.{MemoryFileFault}
-use Rattle.memory_file.specs.declared.memory_file_fault.MemoryFileFault.TheVariants.{Place, InUse, HotJournal, Foreign, Disk, Full, OutOfMemory}
+use Rattle.memory_file.specs.declared.memory_file_fault.MemoryFileFault.TheVariants.{Place, Missing, InUse, HotJournal, Foreign, Disk, Full, OutOfMemory, Unfounded, Founded, OtherLog}
 
 abbrev pub fault_of_probe : log.Error → MemoryFileFault
 fault_of_probe (wal.Io e) = Disk
@@ -40,13 +40,19 @@ abbrev pub fault_of_table : OpenFault → MemoryFileFault
 fault_of_table table.Memory = OutOfMemory
 fault_of_table table.Failed = Disk
 fault_of_table table.Foreign = Foreign
+fault_of_table table.Unfounded = Unfounded
+fault_of_table table.Founded = Founded
 
 -- a fault with which no file was opened
 abbrev pub IsOfPath : MemoryFileFault → Type 0
 IsOfPath Disk = ⊥
 IsOfPath Full = ⊥
 IsOfPath Foreign = ⊥
+IsOfPath Unfounded = ⊥
+IsOfPath Founded = ⊥
+IsOfPath OtherLog = ⊥
 IsOfPath Place = ⊤
+IsOfPath Missing = ⊤
 IsOfPath InUse = ⊤
 IsOfPath HotJournal = ⊤
 IsOfPath OutOfMemory = ⊤

@@ -1,4 +1,4 @@
--- The file of a memory: pages with sums, and the table of devices as its one object.
+-- The file of a memory: pages with sums, and two tables as its objects.
 use Rattle.std.specs.Prelude.{ℕ, true, List, [], ◌∷◌, ◌++◌, codes}
 use Rattle.sqlite_value.specs.declared.value.Value.TheVariants.{Text}
 use Rattle.sqlite_trees.specs.declared.store.Shape.TheVariants.{Table}
@@ -13,8 +13,8 @@ page_size = used_size 4096 true
 abbrev pub table_text : List ℕ
 table_text =
     codes "CREATE TABLE device (place INTEGER PRIMARY KEY, name TEXT NOT NULL, "
-    ++ codes "key BLOB NOT NULL, count INTEGER NOT NULL, outstanding INTEGER, number INTEGER, "
-    ++ codes "answer TEXT) STRICT"
+    ++ codes "key BLOB NOT NULL, moves INTEGER NOT NULL, gone TEXT, count INTEGER NOT NULL, "
+    ++ codes "outstanding INTEGER, number INTEGER, answer TEXT) STRICT"
 
 -- tree 0, as `sqlite_schema` describes it: type, name, table and text
 abbrev pub device_table : Wanted
@@ -24,5 +24,19 @@ device_table = record {
   row = Text (codes "table") ∷ Text (codes "device") ∷ Text (codes "device") ∷ Text table_text ∷ [];
 }
 
+-- the text that makes the table of the desk
+abbrev pub desk_text : List ℕ
+desk_text =
+    codes "CREATE TABLE desk (place INTEGER PRIMARY KEY, name TEXT NOT NULL, "
+    ++ codes "version INTEGER NOT NULL) STRICT"
+
+-- tree 1
+abbrev pub desk_table : Wanted
+desk_table = record {
+  shape = Table;
+  reals = 0;
+  row = Text (codes "table") ∷ Text (codes "desk") ∷ Text (codes "desk") ∷ Text desk_text ∷ [];
+}
+
 abbrev pub memory_schema : List Wanted
-memory_schema = device_table ∷ []
+memory_schema = device_table ∷ desk_table ∷ []

@@ -60,5 +60,7 @@ pub fn table_fault(fault: OpenFault) -> MemoryFileFault
         OpenFault::Memory => MemoryFileFault::OutOfMemory,
         OpenFault::Failed => MemoryFileFault::Disk,
         OpenFault::Foreign => MemoryFileFault::Foreign,
+        OpenFault::Unfounded => MemoryFileFault::Unfounded,
+        OpenFault::Founded => MemoryFileFault::Founded,
     }
 }

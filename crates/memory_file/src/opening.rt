@@ -1,23 +1,26 @@
-ghost use Rattle.std.specs.Prelude.{◌≡◌, None, IsTrue, IfErr, IfOk, IfSome};
-ghost use Rattle.sqlite_wal.specs.Files.{image_at, outcomes};
+ghost use Rattle.std.specs.Prelude.{◌≡◌, [], None, IsTrue, IfErr, IfOk, IfSome};
+ghost use Rattle.sqlite_trees.specs.Tree.{Trees};
 ghost use Rattle.sqlite_trees.specs.View.{IsClean};
-ghost use Rattle.sqlite_store.specs.FileStore.{view};
-ghost use Rattle.state_table.specs.Rows.{rows_from};
+ghost use Rattle.sqlite_store.specs.FileStore.{log_frames, recovers, view};
 ghost use Rattle.memory_file.specs.Fault.{IsOfPath};
-ghost use Rattle.memory_file.specs.Opening.{FailsAs, IsCleanLeft, IsOpenOver, Leaves, faults_of, image_of};
+ghost use Rattle.memory_file.specs.Held.{IsKept, IsSpared};
+ghost use Rattle.memory_file.specs.Opening.{FailsAs, IsCleanLeft, IsMadeOver, IsOpenOver, IsRefused, Leaves, WhyUnmade, WhyUnopened, image_of};
 
-use crate::layer_fault::{path_fault, table_fault};
+use crate::layer_fault::table_fault;
 use crate::left::Left;
 use crate::memory_file_fault::MemoryFileFault;
-use crate::memory_store::open_store;
-use sqlite_disk::{Disk, Files, Start};
-use sqlite_std_file::FileFrom;
+use crate::memory_places::MemoryPlaces;
+use crate::memory_store::{make_store, open_store};
+use sqlite_disk::{Disk, Files};
 use sqlite_store::FileStore;
+use sqlite_trees::store::Store;
 use state_table::StoreMemory;
 use std::alloc::Global;
-use std::hash::{BuildHasher, RandomState};
 
-/// Opens the memory in these files, or makes an empty one where there was none. `seed` is random.
+/// How many user versions there are but 0, which a file has before any commit of a memory.
+const VERSIONS: u64 = 0xffff_ffff;
+
+/// Opens the memory in these files. `seed` is random.
 pub fn open_files<D: Disk + Drop>(
     alloc: Global,
     files: Files<D>,
@@ -25,12 +28,9 @@ pub fn open_files<D: Disk + Drop>(
 ) -> Result<StoreMemory<FileStore<D>>, (MemoryFileFault, Left<D>)>
     requires log { IsTrue (D.Disk.is_usable files.log) }
     requires db { IsTrue (D.Disk.is_usable files.db) }
-    ensures opened { IfOk result (λ memory. IsClean (view memory.store)
-        → IsOpenOver (image_of D.Disk files) memory.store (rows_from 0 memory.entries.items)) }
-    ensures cause { IfErr result (λ e. IsCleanLeft e.1
-        → FailsAs (faults_of D.Disk files) (image_of D.Disk files) e.1 e.0) }
-    ensures spared { IfErr result (λ e. IsCleanLeft e.1
-        → Leaves (outcomes D.Disk files.log files.db) (image_of D.Disk files) e.1) }
+    ensures opened { IfOk result (λ memory. IsClean (view memory.store) → IsOpenOver
+        (image_of D.Disk files) memory.store memory.desk.items memory.entries.items) }
+    ensures refused { IfErr result (λ e. IsRefused WhyUnopened IsSpared files e.0 e.1) }
 {
     let store = match open_store(alloc, files, seed) {
         Ok(store) => store,
@@ -42,15 +42,41 @@ pub fn open_files<D: Disk + Drop>(
     }
 }
 
-/// Opens the memory in the file at a path, or makes an empty one where there was none. `S` stands
-/// for what the files hold. An error comes with what is left of the files, once they were opened.
-pub fn open_memory_from<S: Start>(
-    rt: &HostRuntime,
-    path: &str,
-    start: S,
-) -> Result<StoreMemory<FileStore<FileFrom<S>>>, (MemoryFileFault, Option<Left<FileFrom<S>>>)>
-    ensures opened { IfOk result (λ memory. IsClean (view memory.store)
-        → IsOpenOver (image_at S.Start) memory.store (rows_from 0 memory.entries.items)) }
+/// Makes a memory of the desk of this name in these files, without an entry: nothing of it is
+/// committed before it is settled. `seed` is random.
+pub fn make_files<D: Disk + Drop>(
+    alloc: Global,
+    files: Files<D>,
+    desk: &[u8],
+    seed: u64,
+) -> Result<StoreMemory<FileStore<D>>, (MemoryFileFault, Left<D>)>
+    requires log { IsTrue (D.Disk.is_usable files.log) }
+    requires db { IsTrue (D.Disk.is_usable files.db) }
+    ensures desk { IfOk result (λ memory. memory.desk.items ≡ desk.now) }
+    ensures entries { IfOk result (λ memory. memory.entries.items ≡ []) }
+    ensures made { IfOk result (λ memory. IsClean (view memory.store)
+        → IsMadeOver (image_of D.Disk files) memory.store) }
+    ensures refused { IfErr result (λ e. IsRefused WhyUnmade IsKept files e.0 e.1) }
+{
+    let store = match make_store(alloc, files, seed) {
+        Ok(store) => store,
+        Err((fault, left)) => return Err((fault, left)),
+    };
+    match StoreMemory::make(alloc, store, desk, (seed % VERSIONS + 1) as u32) {
+        Ok(memory) => Ok(memory),
+        Err((fault, store)) => Err((table_fault(fault), Left::Store(store))),
+    }
+}
+
+/// Opens the memory of a name. An error comes with what is left of the files, once they were
+/// opened.
+pub fn open_memory<D: Disk + Drop, P: MemoryPlaces<D>>(
+    alloc: Global,
+    name: &str,
+    places: &mut P,
+) -> Result<StoreMemory<FileStore<D>>, (MemoryFileFault, Option<Left<D>>)>
+    ensures opened { IfOk result (λ memory. IsClean (view memory.store) → IsOpenOver
+        (P.image name.now) memory.store memory.desk.items memory.entries.items) }
 
     // With no file opened it is a fault of the path.
     ensures unopened { IfErr result (λ e. e.1 ≡ None → IsOfPath e.0) }
@@ -58,34 +84,80 @@ pub fn open_memory_from<S: Start>(
     // Files that were opened are refused for a cause, and hold what they held, whenever the call
     // is cut off.
     ensures cause { IfErr result (λ e. IfSome e.1 (λ left. IsCleanLeft left
-        → FailsAs 0 (image_at S.Start) left e.0)) }
-    ensures spared { IfErr result (λ e. IfSome e.1 (λ left. IsCleanLeft left
-        → Leaves (λ after. after ≡ image_at S.Start) (image_at S.Start) left)) }
+        → FailsAs WhyUnopened 0 (P.image name.now) left e.0)) }
+    ensures spared { IfErr result (λ e. IfSome e.1 (λ left. IsCleanLeft left → Leaves IsSpared
+        (λ after. after ≡ P.image name.now) (P.image name.now) left)) }
 {
-    let files = match sqlite_std_file::open(rt, path, start) {
+    let files = match places.open(name) {
         Ok(files) => files,
-        Err(error) => return Err((path_fault(error), None)),
+        Err(fault) => return Err((fault, None)),
     };
-    let Ok(state) = RandomState::new(rt) else {
-        return Err((MemoryFileFault::Place, None));
+    let seed = match places.seed() {
+        Ok(seed) => seed,
+        Err(fault) => return Err((fault, None)),
     };
-    match open_files(rt.alloc(), files, state.hash_one(&0u8)) {
+    match open_files(alloc, files, seed) {
         Ok(memory) => Ok(memory),
         Err((fault, left)) => Err((fault, Some(left))),
     }
 }
 
-/// The same, for one that has no use for the files after an error.
-pub fn open_memory<S: Start>(
-    rt: &HostRuntime,
-    path: &str,
-    start: S,
-) -> Result<StoreMemory<FileStore<FileFrom<S>>>, MemoryFileFault>
-    ensures { IfOk result (λ memory. IsClean (view memory.store)
-        → IsOpenOver (image_at S.Start) memory.store (rows_from 0 memory.entries.items)) }
+/// Makes the memory of a name, of the desk of this name, without an entry. Nothing of it is
+/// committed before it is settled: until then a crash leaves no desk's memory there. An error comes
+/// with what is left of the files, once they were opened.
+pub fn make_memory<D: Disk + Drop, P: MemoryPlaces<D>>(
+    alloc: Global,
+    name: &str,
+    desk: &[u8],
+    places: &mut P,
+) -> Result<StoreMemory<FileStore<D>>, (MemoryFileFault, Option<Left<D>>)>
+    ensures desk { IfOk result (λ memory. memory.desk.items ≡ desk.now) }
+    ensures entries { IfOk result (λ memory. memory.entries.items ≡ []) }
+    ensures made { IfOk result (λ memory. IsClean (view memory.store)
+        → IsMadeOver (P.image name.now) memory.store) }
+    ensures unmade { IfErr result (λ e. e.1 ≡ None → IsOfPath e.0) }
+    ensures cause { IfErr result (λ e. IfSome e.1 (λ left. IsCleanLeft left
+        → FailsAs WhyUnmade 0 (P.image name.now) left e.0)) }
+    ensures spared { IfErr result (λ e. IfSome e.1 (λ left. IsCleanLeft left → Leaves IsKept
+        (λ after. after ≡ P.image name.now) (P.image name.now) left)) }
 {
-    match open_memory_from(rt, path, start) {
+    let files = match places.make(name) {
+        Ok(files) => files,
+        Err(fault) => return Err((fault, None)),
+    };
+    let seed = match places.seed() {
+        Ok(seed) => seed,
+        Err(fault) => return Err((fault, None)),
+    };
+    match make_files(alloc, files, desk, seed) {
         Ok(memory) => Ok(memory),
-        Err((fault, _)) => Err(fault),
+        Err((fault, left)) => Err((fault, Some(left))),
+    }
+}
+
+// A store whose log could be copied into its file. What was not committed is undone.
+fn copied_store<D: Disk + Drop>(mut store: FileStore<D>) -> Option<FileStore<D>>
+    ensures copied { IfSome result (λ copied. IsClean (view copied) → log_frames copied ≡ 0) }
+    ensures kept { IfSome result (λ copied. (db : Trees) → recovers copied db
+        → recovers store db) }
+{
+    store.rollback();
+    match store.checkpoint() {
+        Ok(()) => Some(store),
+        Err(_) => None,
+    }
+}
+
+/// Ends the use of a memory of this name. Where no call of it failed, and its log could be copied,
+/// one file is left of it. What was not settled is not kept.
+pub fn close_memory<D: Disk + Drop, P: MemoryPlaces<D>>(
+    memory: StoreMemory<FileStore<D>>,
+    name: &str,
+    places: &mut P,
+) {
+    if let Some(store) = memory.close() {
+        if let Some(copied) = copied_store(store) {
+            places.close(name, copied.close());
+        }
     }
 }

@@ -17,14 +17,14 @@ moved : (old new : View) (rows : List Row)
     → new ≡ with_cursor old 0 rows → new ≡ record old { cursors = new.cursors }
 moved old new rows is = is ∙ sym (ap (λ (v : View). record old { cursors = v.cursors }) is)
 
-pub begun : (old new : View) (key : Row) (o : Order) → key ≡ [] → old.is_broken ≡ false
-    → new ≡ with_cursor old 0 (sought o Forward key (old.trees 0))
-    → Reads old new (old.trees 0)
-begun old new key o none sound is = record {
+pub begun : (old new : View) (key : Row) (o : Order) (rows : List Row) → key ≡ []
+    → old.is_broken ≡ false → new ≡ with_cursor old 0 (sought o Forward key rows)
+    → Reads old new rows
+begun old new key o rows none sound is = record {
   same = (moved old new _ is, sound);
   left = ap (λ (v : View). v.cursors 0) is
       ∙ ap (λ rows. Some rows)
-      ((λ i. from_key o (none i) (old.trees 0)) ∙ from_no_key o (old.trees 0));
+      ((λ i. from_key o (none i) rows) ∙ from_no_key o rows);
 }
 
 rows_push : (p : ℕ) (entries : List Entry) (entry : Entry) (left : List Row)

@@ -12,9 +12,9 @@ use Rattle.desk_memory.specs.declared.answer.Answer.{Answer}
 use Rattle.desk_memory.specs.Entry.{Entry, is_replaced, with_entry}
 use Rattle.desk_memory.specs.EntryPlace.{place_for}
 use Rattle.desk_memory.specs.SizedEntry.{are_sized, is_short, is_short_answer, is_short_line, is_short_number, is_sized}
-use Rattle.state_table.specs.Opening.{IsForeign}
-use Rattle.state_table.specs.Rows.{line_values, number_value, row_of, rows_from}
-use Rattle.state_table.specs.Table.{FindsEntries}
+use Rattle.state_table.specs.Opening.{HasNoEntries}
+use Rattle.state_table.specs.Rows.{line_values, number_value, row_of, rows_from, text_value}
+use Rattle.state_table.specs.Table.{FindsEntries, IsMemoryOf}
 use Rattle.state_table.proofs.AnswerNames.{answer_text-injective}
 
 -- a row that is put at its entry's place
@@ -53,6 +53,12 @@ number_value-injective None (Some n) e = absurd cc
 number_value-injective (Some m) None e = absurd cc
 number_value-injective (Some m) (Some n) e = cc
 
+text_value-injective : (m n : Option (List ℕ)) → text_value m ≡ text_value n → m ≡ n
+text_value-injective None None e = refl
+text_value-injective None (Some n) e = absurd cc
+text_value-injective (Some m) None e = absurd cc
+text_value-injective (Some m) (Some n) e = cc
+
 line_values-injective : (x y : Option (ℕ × Answer)) → is_short_line x ≡ true
     → is_short_line y ≡ true → line_values x ≡ line_values y → x ≡ y
 line_values-injective None None few_x few_y e = refl
@@ -67,9 +73,10 @@ line_values-injective (Some x) (Some y) few_x few_y e =
 
 last_is_short : (entry : Entry) → is_sized entry ≡ true → is_short_line entry.state.last ≡ true
 last_is_short entry sized =
-    let before = length entry.mark == 16 && is_short entry.state.count
+    let first = length entry.mark == 16 && is_short entry.state.count
     && is_short_number entry.state.outstanding in
-    (and_parts before (is_short_line entry.state.last) sized).1
+    let line = is_short_line entry.state.last in
+    (and_parts first line (and_parts (first && line) (is_short entry.home.moves) sized).0).1
 
 row_of-injective : (p : ℕ) (x y : Entry) → is_sized x ≡ true → is_sized y ≡ true
     → row_of p x ≡ row_of p y → x ≡ y
@@ -77,6 +84,8 @@ row_of-injective p x y sized_x sized_y e =
     let name : x.name ≡ y.name = cc in
     let mark : x.mark ≡ y.mark = cc in
     let count : x.state.count ≡ y.state.count = cc in
+    let moves : x.home.moves ≡ y.home.moves = cc in
+    let gone = text_value-injective x.home.gone y.home.gone cc in
     let outstanding = number_value-injective x.state.outstanding y.state.outstanding cc in
     let last = line_values-injective x.state.last y.state.last (last_is_short x sized_x)
     (last_is_short y sized_y) cc in
@@ -84,6 +93,7 @@ row_of-injective p x y sized_x sized_y e =
       name = name i;
       mark = mark i;
       state = record { count = count i; outstanding = outstanding i; last = last i };
+      home = record { moves = moves i; gone = gone i };
     }
 
 pub rows_from-injective : (p : ℕ) (xs ys : List Entry) → are_sized xs ≡ true → are_sized ys ≡ true
@@ -123,7 +133,7 @@ row_at p (entry ∷ entries) (first ∷ front) rest row sized is =
 pub foreign_row : (rows rest : List Row) (row : Row) (entries : List Entry)
     → rows ≡ rows_from 0 entries ++ row ∷ rest
     → ((entry : Entry) → is_sized entry ≡ true → row ≡ row_of (length entries) entry → ⊥)
-    → IsForeign rows
+    → HasNoEntries rows
 foreign_row rows rest row entries is none others sized reads =
     let found = row_at 0 others (rows_from 0 entries) rest row sized (sym reads ∙ is) in
     let count = length-rows_from 0 entries in
@@ -163,11 +173,11 @@ found_same rows entries found sized now then sized_found =
     rows_from-injective 0 found entries sized_found sized (sym then ∙ now)
 
 -- a crash leaves what it left before, or the entries now
-pub finds_or_same : (recovers : Trees → Type 0) (db : Trees) (entries now found : List Entry)
-    → entries ≡ now → are_sized now ≡ true → recovers db ⊎ (db 0 ≡ rows_from 0 now)
-    → db 0 ≡ rows_from 0 found → are_sized found ≡ true
-    → FindsEntries recovers found ⊎ (found ≡ entries)
-finds_or_same recovers db entries now found stands sized (inl before) then sized_found =
+pub finds_or_same : (recovers : Trees → Type 0) (db : Trees) (desk : List ℕ)
+    (entries now found : List Entry) → entries ≡ now → are_sized now ≡ true
+    → recovers db ⊎ IsMemoryOf db desk now → IsMemoryOf db desk found → are_sized found ≡ true
+    → FindsEntries recovers desk found ⊎ (found ≡ entries)
+finds_or_same recovers db desk entries now found stands sized (inl before) then sized_found =
     inl (db, before, then, sized_found)
-finds_or_same recovers db entries now found stands sized (inr is) then sized_found =
-    inr (found_same (db 0) now found sized is then sized_found ∙ sym stands)
+finds_or_same recovers db desk entries now found stands sized (inr is) then sized_found =
+    inr (found_same (db 0) now found sized is.0 then.0 sized_found ∙ sym stands)

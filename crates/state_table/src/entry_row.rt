@@ -1,6 +1,7 @@
 ghost use Rattle.std.specs.Prelude.{◌≡◌, ◌++◌, IfOk, OnOk};
+ghost use Rattle.std.specs.Option.{option_map};
 ghost use Rattle.sqlite_value.specs.Value.{owned};
-ghost use Rattle.state_table.specs.Rows.{line_values, number_value, row_of};
+ghost use Rattle.state_table.specs.Rows.{desk_row, line_values, number_value, row_of, text_value};
 
 use crate::printed_answer::answer_text;
 use desk_memory::{Answer, Entry};
@@ -15,12 +16,14 @@ pub fn row_of(alloc: Global, place: usize, entry: &Entry) -> Result<Row, AllocEr
     let Ok(place) = i64::try_from(place) else {
         return Err(AllocError);
     };
-    let state = entry.state();
+    let (state, home) = (entry.state(), entry.home());
     let mut row = Row::new(alloc);
     row.push(ValueRef::Int(place))?;
     row.push(ValueRef::Null)?;
     row.push(ValueRef::Text(entry.name()))?;
     row.push(ValueRef::Blob(entry.mark()))?;
+    row.push(ValueRef::Int(i64::from(home.moves)))?;
+    row.push(text_value(home.gone))?;
     row.push(ValueRef::Int(i64::from(state.count)))?;
     row.push(number_value(state.outstanding))?;
     push_line(&mut row, state.last)?;
@@ -33,6 +36,15 @@ fn number_value(number: Option<u32>) -> ValueRef<'static>
     match number {
         None => ValueRef::Null,
         Some(number) => ValueRef::Int(i64::from(number)),
+    }
+}
+
+fn text_value<'a>(text: Option<&'a [u8]>) -> ValueRef<'a>
+    ensures { owned result ≡ text_value (option_map (λ bytes. bytes.now) text.entry) }
+{
+    match text {
+        None => ValueRef::Null,
+        Some(text) => ValueRef::Text(text),
     }
 }
 
@@ -50,4 +62,19 @@ fn push_line(row: &mut Row, last: Option<(u32, Answer)>) -> Result<(), AllocErro
         }
     }
     Ok(())
+}
+
+/// The number of the format of a memory.
+pub const FORMAT: u32 = 2;
+
+/// The row of a desk of this name.
+pub fn desk_row(alloc: Global, desk: &[u8]) -> Result<Row, AllocError>
+    ensures { IfOk result (λ row. row ≡ desk_row desk.now) }
+{
+    let mut row = Row::new(alloc);
+    row.push(ValueRef::Int(0))?;
+    row.push(ValueRef::Null)?;
+    row.push(ValueRef::Text(desk))?;
+    row.push(ValueRef::Int(i64::from(FORMAT)))?;
+    Ok(row)
 }

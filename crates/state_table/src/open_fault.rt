@@ -5,18 +5,24 @@ use sqlite_trees::error::StoreError;
 use std::alloc::AllocError;
 use thiserror::Error;
 
-/// Why a store could not be opened as a memory.
+/// Why a store could not be opened as a memory, or a memory made in it.
 #[derive(Clone, Copy, Debug, PartialEq, Eq, Error)]
 pub enum OpenFault {
     /// There was no memory for it.
     #[error("no memory")]
     Memory,
-    /// It could not be read.
-    #[error("the memory could not be read")]
+    /// It could not be read or written.
+    #[error("the memory could not be read or written")]
     Failed,
-    /// It has no table of devices.
+    /// Its tables are not those of a memory.
     #[error("no memory of a desk")]
     Foreign,
+    /// Its tables have no row: its making was cut off.
+    #[error("no desk's memory yet")]
+    Unfounded,
+    /// It is the memory of a desk already.
+    #[error("a desk's memory already")]
+    Founded,
 }
 
 impl From<AllocError> for OpenFault {
@@ -34,7 +40,7 @@ impl From<StoreError> for OpenFault {
 
     fn from(error: StoreError) -> OpenFault {
         match error {
-            StoreError::OutOfMemory => OpenFault::Memory,
+            StoreError::OutOfMemory | StoreError::Unstorable => OpenFault::Memory,
             _ => OpenFault::Failed,
         }
     }

@@ -1,69 +1,118 @@
-use Rattle.std.proofs.Common.{◌≡◌, true, sym, ap, subst, subst₂, arith, rules}
-use Rattle.sqlite_wal.specs.PageSize.{bytes_of}
-use Rattle.sqlite_pool.specs.Stored.{used_size}
-use Rattle.sqlite_pool.specs.Opening.{IsBlankFile}
-use Rattle.memory_file.specs.Table.{page_size}
-use Rattle.memory_file.specs.Held.{MayBeOpened}
-use Rattle.memory_file.proofs.FailLemmas.{from_store}
-use Rattle.memory_file.proofs.FilesLemmas.{now_clean, old_clean, same_image, counts_on, kept_by_files}
+use denote.Enum.Bare.{sameb}
+use Rattle.std.proofs.Common.{◌≡◌, ◌∙◌, false, true, inl, inr, not, sym, true≢false}
+use Rattle.sqlite_wal.specs.Recovery.{Image}
+use Rattle.memory_file.specs.contracts.log_fit.LogFit.{the_type}
+use Rattle.memory_file.specs.declared.log_fit.LogFit.{LogFit}
+use Rattle.memory_file.specs.declared.log_fit.LogFit.TheVariants.{Begun, Fits, Other}
+use Rattle.memory_file.specs.Log.{FitsLog, IsLogFit}
+use Rattle.memory_file.specs.Begun.{IsBegun}
+use Rattle.memory_file.specs.Held.{IsSpared}
+use Rattle.memory_file.specs.Opening.{WhyUnopened, image_of}
+use Rattle.memory_file.proofs.FailLemmas.{why_more}
+use Rattle.memory_file.proofs.FilesLemmas.{looked_spared, now_clean, spared_by_files}
+use Rattle.memory_file.proofs.HeldLemmas.{can_replay}
+use Rattle.memory_file.proofs.LogLemmas.{is_of_making}
+use Rattle.memory_file.proofs.StepLemmas.{begun_is_spared, cause_on, lacks_on, over_files, something_on}
 use Rattle.memory_file.proofs.memory_store.open_store.Goals as goal
 
-pub open_unopened-requires-clause-blank : goal.open_unopened-requires-clause-blank
-open_unopened-requires-clause-blank g c clean =
+is_fit : (image : Image) (fit : LogFit) → not (sameb the_type fit Fits) ≡ false
+    → IsLogFit image fit → FitsLog image
+is_fit image Fits same found = found
+is_fit image Begun same found = absurd (true≢false same)
+is_fit image Other same found = absurd (true≢false same)
+
+is_not_fit : (image : Image) (fit : LogFit) → not (sameb the_type fit Fits) ≡ true
+    → IsLogFit image fit → ¬ FitsLog image
+is_not_fit image Fits same found = absurd (true≢false (sym same))
+is_not_fit image Begun same found = found.1
+is_not_fit image Other same found = λ fits. found (is_of_making image fits)
+
+-- the log is another's
+pub returns-then-ne-clause-refused : goal.returns-then-ne-clause-refused
+returns-then-ne-clause-refused g c = record {
+  cause = λ clean.
+      is_not_fit (image_of g.D.Disk c.args.files) c.in-Ok.found.log
+      (sym c.ne.ensures ∙ c.if-ne.true) (c.in-Ok.ensures.fit clean);
+  spared = λ clean. looked_spared c.args.files c.probe.new.files c.probe.ensures.same;
+}
+
+-- the files could not be read
+pub returns-in-Err-clause-refused : goal.returns-in-Err-clause-refused
+returns-in-Err-clause-refused g c =
+    let image = image_of g.D.Disk c.args.files in
+    record {
+      cause = λ clean. why_more _ _ _ image (WhyUnopened image) c.in-Err.fault
+          (λ none may. none (can_replay image may)) (c.in-Err.ensures.cause clean);
+      spared = λ clean. looked_spared c.args.files c.probe.new.files c.probe.ensures.same;
+    }
+
+-- a store
+pub returns-in-Ok-open_tables-clause-given : goal.returns-in-Ok-open_tables-clause-given
+returns-in-Ok-open_tables-clause-given g c =
+    let read = c.probe.ensures.same in
+    over_files c.args.files c.probe.new.files read.log read.db c.in-Ok-unopened.fresh
+    c.in-Ok-unopened.ensures.files c.in-Ok-open_tables.store read.counts c.in-Ok.ensures.replays
+    c.in-Ok-open_tables.ensures.given
+
+pub returns-in-Ok-open_tables-clause-fits : goal.returns-in-Ok-open_tables-clause-fits
+returns-in-Ok-open_tables-clause-fits g c clean =
+    let read = c.probe.ensures.same in
+    is_fit (image_of g.D.Disk c.args.files) c.in-Ok.found.log (sym c.ne.ensures ∙ c.if-ne.false)
+    (c.in-Ok.ensures.fit (now_clean c.args.files c.probe.new.files read.log read.db
+    c.in-Ok-unopened.fresh c.in-Ok-unopened.ensures.files
+    (c.in-Ok-open_tables.ensures.given.honest clean)))
+
+-- no tables
+pub returns-then-found-clause-refused : goal.returns-then-found-clause-refused
+returns-then-found-clause-refused g c = record {
+  cause = λ clean.
+      ∣ (c.in-Ok.ensures.replays clean, inl ((c.in-Ok.ensures.blank clean).0 c.if-found.true)) ∣₁;
+  spared = λ clean. looked_spared c.args.files c.probe.new.files c.probe.ensures.same;
+}
+
+pub open_tables-requires-clause-something : goal.open_tables-requires-clause-something
+open_tables-requires-clause-something g c clean =
+    let read = c.probe.ensures.same in
+    something_on c.args.files c.probe.new.files read.log read.db c.in-Ok-unopened.fresh
+    c.in-Ok-unopened.ensures.files c.in-Ok.found.is_blank c.in-Ok.ensures.blank c.if-found.false
+    clean
+
+pub returns-in-Err-None-default-clause-refused : goal.returns-in-Err-None-default-clause-refused
+returns-in-Err-None-default-clause-refused g c =
+    let read = c.probe.ensures.same in
     let old = c.args.files in
-    let read = c.probe_blank.ensures in
+    let now = c.probe.new.files in
     let fresh = c.in-Ok-unopened.fresh in
     let made = c.in-Ok-unopened.ensures.files in
-    let bytes : bytes_of c.unwrap-size.result ≡ 4096 = search rules in
-    let probed =
-    c.in-Ok.ensures.ok (now_clean old c.probe_blank.new.files read.log read.db fresh made clean)
-    in
-    let same = sym (same_image old c.probe_blank.new.files read.log read.db fresh made) in
-    let size : used_size (bytes_of c.unwrap-size.result) true ≡ page_size =
-    ap (λ n. used_size n true) bytes in (
-      λ blank. subst₂ IsBlankFile size same (probed.0 blank),
-      λ blank. probed.1 (subst₂ IsBlankFile (sym size) (sym same) blank),
-    )
+    let size = c.in-Ok-unopened.ensures.size in
+    let left = c.in-Err-None-default.left in
+    let begun : IsBegun fresh left =
+    rw c.in-Err-None-default.field-0-0-is at c.in-Err-None-default.ensures.lacks in
+    let something =
+    something_on old now read.log read.db fresh made c.in-Ok.found.is_blank c.in-Ok.ensures.blank
+    c.if-found.false in
+    record {
+      cause = λ clean. ∣ (
+        c.in-Ok.ensures.replays
+            (now_clean old now read.log read.db fresh made (begun.honest clean)),
+        inr (inl (lacks_on old now read.log read.db fresh made left size something begun clean)),
+      ) ∣₁;
+      spared = λ clean. begun_is_spared old now read.log read.db fresh made left size begun clean;
+    }
 
-pub returns-in-Ok-open_unopened-clause-honest : goal.returns-in-Ok-open_unopened-clause-honest
-returns-in-Ok-open_unopened-clause-honest g c clean =
-    let read = c.probe_blank.ensures in
-    old_clean c.args.files c.probe_blank.new.files read.log read.db c.in-Ok-unopened.fresh
-    c.in-Ok-unopened.ensures.files (c.in-Ok-open_unopened.ensures.honest clean)
-
-pub returns-in-Ok-open_unopened-clause-made : goal.returns-in-Ok-open_unopened-clause-made
-returns-in-Ok-open_unopened-clause-made g c clean left may =
-    let read = c.probe_blank.ensures in
-    kept_by_files c.args.files c.probe_blank.new.files read.log read.db c.in-Ok-unopened.fresh
-    c.in-Ok-unopened.ensures.files left
-    ((c.in-Ok-open_unopened.ensures.made clean).crash left may)
-
-pub returns-in-Ok-open_unopened-clause-counts : goal.returns-in-Ok-open_unopened-clause-counts
-returns-in-Ok-open_unopened-clause-counts g c clean =
-    let read = c.probe_blank.ensures in
-    omega (
-      arith,
-      counts_on c.args.files c.probe_blank.new.files read.log read.db c.in-Ok-unopened.fresh
-          c.in-Ok-unopened.ensures.files read.counts,
-      (c.in-Ok-open_unopened.ensures.made clean).counts,
-    )
-
-pub returns-in-Err-open_unopened-clause-cause : goal.returns-in-Err-open_unopened-clause-cause
-returns-in-Err-open_unopened-clause-cause g c clean =
+-- an error
+pub returns-in-Err-Some-default-clause-refused : goal.returns-in-Err-Some-default-clause-refused
+returns-in-Err-Some-default-clause-refused g c =
+    let read = c.probe.ensures.same in
     let old = c.args.files in
-    let now = c.probe_blank.new.files in
-    let read = c.probe_blank.ensures in
+    let now = c.probe.new.files in
     let fresh = c.in-Ok-unopened.fresh in
     let made = c.in-Ok-unopened.ensures.files in
-    rw c.store_fault.ensures
-    (from_store _ _ _ _ _ _ c.in-Err-open_unopened.error
-    (counts_on old now read.log read.db fresh made read.counts)
-    (subst MayBeOpened (sym (same_image old now read.log read.db fresh made)))
-    (c.in-Err-open_unopened.ensures.cause clean))
-
-pub returns-in-Err-open_unopened-clause-spared : goal.returns-in-Err-open_unopened-clause-spared
-returns-in-Err-open_unopened-clause-spared g c clean left may =
-    let read = c.probe_blank.ensures in
-    kept_by_files c.args.files c.probe_blank.new.files read.log read.db c.in-Ok-unopened.fresh
-    c.in-Ok-unopened.ensures.files left
-    ((c.in-Err-open_unopened.ensures.spared clean).crash left may)
+    let refused = rw c.in-Err-Some-default.field-0-0-is at c.in-Err-Some-default.ensures.lacks in
+    record {
+      cause = λ clean. rw c.store_fault.ensures (cause_on old now read.log read.db fresh made
+          IsSpared (WhyUnopened (image_of g.D.Disk old)) c.in-Err-Some-default.error
+          c.in-Err-Some-default.left read.counts (λ none. none) refused clean);
+      spared = λ clean after may. spared_by_files old now read.log read.db fresh made after
+          ((refused.spared clean).crash after may);
+    }

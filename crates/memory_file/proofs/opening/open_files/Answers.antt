@@ -5,49 +5,69 @@ use Rattle.sqlite_trees.specs.View.{IsClean}
 use Rattle.sqlite_trees.proofs.Doubt.{clean_of, no_doubt}
 use Rattle.sqlite_store.specs.FileStore.{view, faults}
 use Rattle.sqlite_store.specs.Laws.{settled_at}
-use Rattle.memory_file.specs.Opening.{Finds, faults_of, image_of}
-use Rattle.memory_file.proofs.TableRead.{from_table, is_table}
+use Rattle.state_table.specs.Table.{IsMemoryOf}
+use Rattle.state_table.specs.Version.{counted}
+use Rattle.memory_file.specs.Opening.{WhyUnopened, faults_of, image_of}
+use Rattle.memory_file.proofs.TableRead.{can_be_founded, finds_rows, from_table, has_entries, has_tables, is_foreign, is_unfounded}
 use Rattle.memory_file.proofs.opening.open_files.Goals as goal
 
 pub returns-in-Ok-open-clause-opened : goal.returns-in-Ok-open-clause-opened
 returns-in-Ok-open-clause-opened g c clean =
     let store = c.in-Ok.store in
-    let early : IsClean (view store) = omega (arith, c.in-Ok-open.ensures.clean) in
-    let finds = c.in-Ok.ensures.found (clean_of _ early) in
-    let read = c.in-Ok-open.ensures.found clean in
+    let memory = c.in-Ok-open.memory in
+    let image = image_of g.D.Disk c.args.files in
+    let opened = c.in-Ok-open.ensures in
+    let early : IsClean (view store) = omega (arith, opened.clean) in
+    let finds = c.in-Ok.ensures.given.found (clean_of _ early) in
+    let read = opened.found clean in
     record {
-      holds = λ held h. sym (ap (λ (t : Trees). t 0) (finds.holds held h)) ∙ read;
-      nothing = λ nothing. sym read ∙ finds.nothing nothing;
-      opened =
-          ∥∥₁_map finds.opened
-          (λ it. elim it [ inl nothing ↦ inl nothing | inr held ↦ inr ((view store).trees, held) ]);
+      holds = λ held h.
+          subst (λ t. IsMemoryOf t memory.desk.items memory.entries.items) (finds.holds held h)
+          read;
+      opened = has_entries image (view store).trees finds
+          (memory.desk.items, memory.entries.items, opened.sized, read);
+      fits = c.in-Ok.ensures.fits (clean_of _ early);
       settled = λ db may.
-          let only =
-          settled_at store g.met.D.Disk.seen_may_stay db (c.in-Ok-open.ensures.open clean)
-          (c.in-Ok-open.ensures.outcomes db may) in
-          ap (λ (t : Trees). t 0) (only ∙ sym c.in-Ok.ensures.ready.clean) ∙ read;
-      shielded = c.in-Ok-open.ensures.shield (c.in-Ok.ensures.guarded (clean_of _ early));
+          subst (λ t. IsMemoryOf t memory.desk.items memory.entries.items)
+          (sym (opened.committed clean db may)) read;
+      counts = λ held h db may.
+          opened.committed clean db may
+          ∙ ap (λ (t : Trees). counted (counted t)) (finds.holds held h);
+      shielded = opened.shield (c.in-Ok.ensures.given.guarded (clean_of _ early));
+      copied = opened.copied;
     }
 
-pub returns-in-Err-open-clause-spared : goal.returns-in-Err-open-clause-spared
-returns-in-Err-open-clause-spared g c clean db may =
+pub returns-in-Err-open-clause-refused : goal.returns-in-Err-open-clause-refused
+returns-in-Err-open-clause-refused g c =
     let store = c.in-Ok.store in
-    let quiet = c.in-Err-open.ensures.quiet in
-    let now : IsClean (view c.in-Err-open.store) = no_doubt _ clean in
-    let early : IsClean (view store) = omega (arith, quiet.clean, now) in
-    let only =
-    settled_at store g.met.D.Disk.seen_may_stay db (c.in-Ok.ensures.ready.is_open early)
-    (quiet.outcomes db may) in
-    subst (Finds (image_of g.D.Disk c.args.files)) (c.in-Ok.ensures.ready.clean ∙ sym only)
-    (c.in-Ok.ensures.found (clean_of _ early))
-
-pub returns-in-Err-open-clause-cause : goal.returns-in-Err-open-clause-cause
-returns-in-Err-open-clause-cause g c clean =
-    let store = c.in-Ok.store in
-    let now : IsClean (view c.in-Err-open.store) = no_doubt _ clean in
-    let early : IsClean (view store) = omega (arith, c.in-Err-open.ensures.quiet.clean, now) in
-    let counts : faults_of g.D.Disk c.args.files ≤ faults store =
-    omega (arith, c.in-Ok.ensures.counts (clean_of _ early)) in
-    rw c.table_fault.ensures (from_table _ _ _ _ (view store) c.in-Err-open.fault counts
-    (c.in-Ok.ensures.ready.is_open early) (c.in-Ok.ensures.found (clean_of _ early))
-    (is_table store c.in-Ok.ensures.schema) (c.in-Err-open.ensures.reason now))
+    let image = image_of g.D.Disk c.args.files in
+    let given = c.in-Ok.ensures.given in
+    let kept = c.in-Err-open.ensures.kept in
+    record {
+      cause = λ clean.
+          let now : IsClean (view c.in-Err-open.store) = no_doubt _ clean in
+          let early : IsClean (view store) = omega (arith, kept.clean, now) in
+          let finds = given.found (clean_of _ early) in
+          let counts : faults_of g.D.Disk c.args.files ≤ faults store =
+          omega (arith, given.counts (clean_of _ early)) in
+          rw c.table_fault.ensures (from_table _ _ _ (view store) _ _ _ (WhyUnopened image)
+          c.in-Err-open.fault counts (given.ready.is_open early)
+          (λ foreign. is_foreign image (view store).trees finds
+          (foreign (has_tables store given.schema)))
+          (λ unfounded. ∥∥₁_map
+          (can_be_founded image (view store).trees finds
+          (given.replays (clean_of _ early)) unfounded) (is_unfounded image))
+          (λ founded. founded) (c.in-Err-open.ensures.reason now));
+      spared = λ clean db may.
+          let now : IsClean (view c.in-Err-open.store) = no_doubt _ clean in
+          let early : IsClean (view store) = omega (arith, kept.clean, now) in
+          finds_rows image (view store).trees (given.found (clean_of _ early)) db
+          (elim (kept.outcomes now db may) [
+            | inl was ↦
+                let is =
+                settled_at store g.met.D.Disk.seen_may_stay db (given.ready.is_open early) was
+                ∙ sym given.ready.clean in
+                (ap (λ (t : Trees). t 0) is, ap (λ (t : Trees). t 1) is)
+            | inr same ↦ same
+          ]);
+    }

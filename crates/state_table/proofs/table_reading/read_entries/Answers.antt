@@ -8,7 +8,7 @@ use Rattle.state_table.proofs.TableRows.{are_sized-push, foreign_row}
 use Rattle.state_table.proofs.table_reading.read_entries.Goals as goal
 
 pub returns-in_default-clause-reason : goal.returns-in_default-clause-reason
-returns-in_default-clause-reason g c clean table others sized reads =
+returns-in_default-clause-reason g c clean others sized reads =
     let old = g.S.Store.view c.loop-place.store in
     let new = g.S.Store.view c.next.new.self in
     let entries : List Entry = c.loop-place.entries.items in

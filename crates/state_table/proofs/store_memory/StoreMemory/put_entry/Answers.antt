@@ -17,17 +17,24 @@ invariant_of-self-2 g c =
       whole = λ working clean.
           let early : IsClean (g.S.Store.view c.args.self.now.store) =
           omega (arith, c.put.ensures.quiet.clean) in
-          let whole = c.args.self.now.whole working early in
+          let has = c.args.self.now.whole working early in
           let put = c.in_default-put.ensures.ok clean in
           let here = c.place_for-place.ensures.place
-          ∙ ap (λ (es : List Entry). place_for es c.args.new) c.deref.ensures.value in (
-            ap (λ (v : View). v.shape 0) put.is ∙ whole.0,
-            ap (λ (v : View). v.is_broken) put.is ∙ whole.1,
-            ap (λ (v : View). v.trees 0) put.is
-                ∙ put_row-noted entries c.args.new c.place_for-place.result c.in_ok-row.row _ here
-                c.in_ok-row.ensures whole.2
-                ∙ sym (ap (rows_from 0) after),
-          );
+          ∙ ap (λ (es : List Entry). place_for es c.args.new) c.deref.ensures.value in
+          record {
+            tables = (
+              ap (λ (v : View). v.shape 0) put.is ∙ has.tables.0,
+              ap (λ (v : View). v.shape 1) put.is ∙ has.tables.1,
+            );
+            sound = ap (λ (v : View). v.is_broken) put.is ∙ has.sound;
+            rows = (
+              ap (λ (v : View). v.trees 0) put.is
+                  ∙ put_row-noted entries c.args.new c.place_for-place.result c.in_ok-row.row _ here
+                  c.in_ok-row.ensures has.rows.0
+                  ∙ sym (ap (rows_from 0) after),
+              ap (λ (v : View). v.trees 1) put.is ∙ has.rows.1,
+            );
+          };
       sized = ap are_sized after
           ∙ are_sized-with_entry entries c.args.new c.args.self.now.sized c.requires;
       faulty = λ failed clean.
