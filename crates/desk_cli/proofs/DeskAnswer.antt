@@ -17,12 +17,12 @@ use Rattle.input_files.specs.Reading.{Files, IsRefusal, Reaches, Reads, Refuses,
 use Rattle.input_files.specs.Row.{RowOf, Ends}
 use Rattle.input_files.specs.Status.{status_of_refusal}
 use Rattle.input_files.proofs.Refused.{failed-counted, refused-words}
-use Rattle.desk_cli.specs.Desk.{DeskNames, DeskValues, HasServed, IsDeskAnswer, IsOfMemory, Meets, ServesFrom, desk_row}
+use Rattle.desk_cli.specs.Desk.{DeskNames, DeskValues, HasServed, IsDeskAnswer, Meets, ServesFrom, desk_row}
 use Rattle.desk_cli.specs.Edge.{Ports}
 use Rattle.desk_cli.specs.MemoryFiles.{ToldMemories}
 use Rattle.desk_cli.proofs.DeskComplete.{serves-complete}
 use Rattle.desk_cli.proofs.DeskInput.{refused-limit, serves-limit}
-use Rattle.desk_cli.proofs.NoWords.{served-words, unopened-words}
+use Rattle.desk_cli.proofs.NoWords.{served-words, uses-words}
 
 -- the end of its row, once its files have values
 abbrev pub desk_end : List DeviceKey × ((ℕ → Option ℕ) × PolicyFields) → RowOf DeskValues
@@ -34,14 +34,15 @@ refused-memory : {Outcome : Type 0} (files : Files) (missed failed : Type 0)
     (row : RowOf Outcome) (answer : Option Status) (status : Status)
     → Refuses answer status → IsRefusal files missed failed row status → answer ≡ None → ¬ failed
     → status ≡ Memory
-refused-memory files missed failed row (Some answer) status refuses cause none no_read = absurd (cc none)
+refused-memory files missed failed row (Some answer) status refuses cause none no_read =
+    absurd (cc none)
 refused-memory files missed failed row None status (inl fails) cause none no_read =
     absurd (no_read (failed-counted files missed failed row (rw fails at cause)))
 refused-memory files missed failed row None status (inr memory) cause none no_read = memory
 
 refused-complete : {Outcome : Type 0} (files : Files) (left : Option (List ℕ))
-    (missed failed : Type 0) (row : RowOf Outcome) (memory : Option (List ℕ)) (status : Status)
-    (few : List ℕ → Type 0) (source_rose sink_rose : Type 0)
+    (missed failed : Type 0) (row : RowOf Outcome) (status : Status)
+    (few : List ℕ → Type 0) (source_rose sink_rose may : Type 0)
     → IfSome files (λ contents. Refuses (first_refusal row contents) status)
     → IsRefusal files missed failed row status
     → IfSome files (λ contents. IfSome left (λ lines.
@@ -50,25 +51,26 @@ refused-complete : {Outcome : Type 0} (files : Files) (left : Option (List ℕ))
     → ¬ failed
     → ¬ source_rose
     → ¬ sink_rose
-    → (status ≡ Done) ⊎ (status ≡ Memory) ⊎ IsOfMemory memory status))
-refused-complete None left missed failed row memory status few source_rose sink_rose order cause = tt
-refused-complete (Some contents) None missed failed row memory status few source_rose sink_rose order
+    → may
+    → (status ≡ Done) ⊎ (status ≡ Memory)))
+refused-complete None left missed failed row status few source_rose sink_rose may order cause = tt
+refused-complete (Some contents) None missed failed row status few source_rose sink_rose may order
     cause = tt
-refused-complete (Some contents) (Some lines) missed failed row memory status few source_rose sink_rose
-    order cause = λ none is_few no_read no_source no_sink.
-    inr (inl (refused-memory (Some contents) missed failed row (first_refusal row contents) status order
-    cause none no_read))
+refused-complete (Some contents) (Some lines) missed failed row status few source_rose sink_rose may
+    order cause = λ none is_few no_read no_source no_sink serves.
+    inr (refused-memory (Some contents) missed failed row (first_refusal row contents) status order
+    cause none no_read)
 
 pub refused-answer : {S F R M W V : Type 0} (s : shelves.Ghosts S) (told : ToldMemories F M)
-    (r : source.Ghosts R) (m : memory.Ghosts M) (w : sink.Ghosts W) (shelf shelf_after : S)
-    (memories : F) (ports : Ports R W) (names : DeskNames) (named : Option DeskNames)
-    (rest : V → RowOf DeskValues) (refusal : Refusal)
+    (r : source.Ghosts R) (m : memory.Ghosts M) (desk_of : M → List ℕ) (w : sink.Ghosts W)
+    (shelf shelf_after : S) (memories : F) (ports : Ports R W) (names : DeskNames)
+    (named : Option DeskNames) (rest : V → RowOf DeskValues) (refusal : Refusal)
     → Some names ≡ named
     → Reads s.files s.faults s.misses shelf shelf_after (desk_row names) rest (Err refusal)
-    → IsDeskAnswer s told r m w shelf shelf_after memories memories ports ports named
+    → IsDeskAnswer s told r m desk_of w shelf shelf_after memories memories ports ports named
     (status_of_refusal refusal)
-refused-answer s told r m w shelf shelf_after memories ports names named rest refusal spells
-    reads =
+refused-answer s told r m desk_of w shelf shelf_after memories ports names named rest refusal
+    spells reads =
     let no_words = λ (is : status_of_refusal refusal ≡ Words).
     refused-words (s.files shelf) _ _ (desk_row names) (rw is at reads.refusal) in
     rw (← spells) (record {
@@ -81,7 +83,7 @@ refused-answer s told r m w shelf shelf_after memories ports names named rest re
         silent = refl;
       });
       complete = refused-complete (s.files shelf) (r.left ports.source) _ _ (desk_row names)
-          names.memory _ _ _ _ reads.order reads.refusal;
+          _ _ _ _ _ reads.order reads.refusal;
       limit = refused-limit r ports.source refusal;
       kept = reads.kept;
       source_counted = omega arith;
@@ -96,52 +98,59 @@ has-served-words r m w desk opened left old new status served is =
     served-words served.ended (rw served.answer at is)
 
 meets-words : {R M W : Type 0} (r : source.Ghosts R) (m : memory.Ghosts M) (w : sink.Ghosts W)
-    (values : DeskValues) (entries : List Entry) (opened left : M) (old new : Ports R W)
-    (status : Status)
-    → Meets r m w values entries opened left old new status → status ≡ Words → ⊥
-meets-words r m w values entries opened left old new status (inl (taken, same, silent)) is =
+    (values : DeskValues) (old new : Ports R W) (status : Status) (desk : List ℕ)
+    (entries : List Entry) (opened left : M)
+    → Meets r m w values old new status desk entries opened left → status ≡ Words → ⊥
+meets-words r m w values old new status desk entries opened left
+    (inl ((inl taken), same, silent)) is =
     cc (taken.answer, is)
-meets-words r m w values entries opened left old new status (inr (inl (memory, same, silent))) is =
+meets-words r m w values old new status desk entries opened left
+    (inl ((inr (inl gone)), same, silent)) is =
+    cc (gone.answer, is)
+meets-words r m w values old new status desk entries opened left
+    (inl ((inr (inr memory)), same, silent)) is =
     cc (memory, is)
-meets-words r m w values entries opened left old new status (inr (inr (apart, served))) is =
+meets-words r m w values old new status desk entries opened left (inr (apart, here, served)) is =
     has-served-words r m w _ opened left old new status served is
 
 serves-words : {F R M W : Type 0} (told : ToldMemories F M) (r : source.Ghosts R)
-    (m : memory.Ghosts M) (w : sink.Ghosts W) (values : DeskValues) (memory : Option (List ℕ))
-    (memories memories_after : F) (old new : Ports R W) (status : Status)
-    → ServesFrom told r m w values memory memories memories_after old new status
+    (m : memory.Ghosts M) (desk_of : M → List ℕ) (w : sink.Ghosts W) (values : DeskValues)
+    (memory : Option (List ℕ)) (memories memories_after : F) (old new : Ports R W)
+    (status : Status)
+    → ServesFrom told r m desk_of w values memory memories memories_after old new status
     → status ≡ Words → ⊥
-serves-words told r m w values None memories memories_after old new status
+serves-words told r m desk_of w values None memories memories_after old new status
     (same, (opened, left, served)) is =
     has-served-words r forgets w _ opened left old new status served is
-serves-words told r m w values (Some name) memories memories_after old new status
-    (inl (lacks, same)) is = unopened-words lacks.fault (rw lacks.answer at is)
-serves-words told r m w values (Some name) memories memories_after old new status (inr opens) is =
-    meets-words r m w values opens.entries opens.opened opens.left old new status opens.meets is
+serves-words told r m desk_of w values (Some name) memories memories_after old new status uses is =
+    uses-words told m desk_of memories memories_after name status _ _ uses
+    (λ desk entries opened left meets.
+    meets-words r m w values old new status desk entries opened left meets) is
 
 pub served-answer : {S F R M W : Type 0} (s : shelves.Ghosts S) (told : ToldMemories F M)
-    (r : source.Ghosts R) (m : memory.Ghosts M) (w : sink.Ghosts W) (shelf shelf_after : S)
-    (memories memories_after : F) (old new : Ports R W) (names : DeskNames)
+    (r : source.Ghosts R) (m : memory.Ghosts M) (desk_of : M → List ℕ) (w : sink.Ghosts W)
+    (shelf shelf_after : S) (memories memories_after : F) (old new : Ports R W) (names : DeskNames)
     (named : Option DeskNames) (values : DeskValues) (status : Status)
     → Some names ≡ named
     → Reaches (s.files shelf) (desk_row names) (Ok values)
     → KeepsFiles s.files s.faults s.misses shelf shelf_after
-    → ServesFrom told r m w values names.memory memories memories_after old new status
+    → ServesFrom told r m desk_of w values names.memory memories memories_after old new status
     → r.faults old.source ≤ r.faults new.source
     → w.faults old.sink ≤ w.faults new.sink
-    → IsDeskAnswer s told r m w shelf shelf_after memories memories_after old new named status
-served-answer s told r m w shelf shelf_after memories memories_after old new names named values
-    status spells reaches keeps serves source_counts sink_counts =
-    let no_words = serves-words told r m w values names.memory memories memories_after old new
-    status serves in
+    → IsDeskAnswer s told r m desk_of w shelf shelf_after memories memories_after old new named
+    status
+served-answer s told r m desk_of w shelf shelf_after memories memories_after old new names named
+    values status spells reaches keeps serves source_counts sink_counts =
+    let no_words = serves-words told r m desk_of w values names.memory memories memories_after
+    old new status serves in
     rw (← spells) (record {
       words = (λ is. absurd (no_words is), λ none. absurd (cc none));
       unread = λ is. absurd (no_words is);
       answers = inr (values, reaches, serves);
-      complete = serves-complete told r m w (s.files shelf) (desk_row names) _ values names.memory
-          memories memories_after old new status serves;
-      limit = serves-limit r told m w values names.memory memories memories_after old new status
-          serves;
+      complete = serves-complete told r m desk_of w (s.files shelf) (desk_row names) _ values
+          names.memory memories memories_after old new status reaches serves;
+      limit = serves-limit r told m desk_of w values names.memory memories memories_after old new
+          status serves;
       kept = keeps;
       source_counted = source_counts;
       sink_counted = sink_counts;

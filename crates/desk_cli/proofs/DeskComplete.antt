@@ -1,32 +1,36 @@
--- Where nothing else failed, a desk answers all lines, memory runs out, or its memory answers.
-use Rattle.std.proofs.Common.{◌≡◌, ◌<◌, ◌≤◌, ◌⊎◌, ℕ, List, length, Option, Some, None, IfSome, refl, inl, inr, arith, length-append}
+-- Where nothing failed or hindered its memory, a desk answers all lines, or memory runs out.
+use Rattle.std.proofs.Common.{◌≡◌, ◌<◌, ◌≤◌, ◌+◌, ◌⊎◌, ℕ, List, [], ◌∷◌, length, Option, Some, None, Ok, IfSome, refl, inl, inr, subst, arith, length-append}
+use Rattle.std.proofs.lemmas.Bool.{cases_Bool}
+use Rattle.sha2.specs.Sha256.{sha256}
 use Rattle.outside_edge.specs.Count.{Rose}
 use Rattle.outside_edge.specs.declared.sink.Sink as sink
 use Rattle.outside_edge.specs.declared.source.Source as source
 use Rattle.desk_memory.specs.declared.memory.Memory as memory
 use Rattle.desk_memory.specs.declared.memory_fault.MemoryFault.{MemoryFault}
-use Rattle.desk_memory.specs.declared.memory_fault.MemoryFault.TheVariants as kept
 use Rattle.desk_memory.specs.declared.no_memory.NoMemory.{NoMemory}
-use Rattle.desk_memory.specs.Entry.{Entry}
+use Rattle.desk_memory.specs.Entry.{Entry, last_in}
 use Rattle.desk_memory.specs.NoMemory.{forgets}
 use Rattle.memory_file.specs.declared.memory_file_fault.MemoryFileFault.{MemoryFileFault}
 use Rattle.memory_file.specs.declared.memory_file_fault.MemoryFileFault.TheVariants as opened
 use Rattle.verifier_desk.specs.declared.served.Served.{Served}
 use Rattle.verifier_desk.specs.declared.served.Served.TheVariants as served
+use Rattle.verifier_desk.specs.DeviceKey.{DeviceKey}
+use Rattle.verifier_desk.specs.Gone.{first_gone, is_gone}
+use Rattle.verifier_desk.specs.KeyOwner.{KeysStandApart}
 use Rattle.verifier_desk.specs.Replies.{DeskFields}
 use Rattle.verifier_desk.specs.Serving.{AreFirst, HasCause, HasFailed, Outside, most_input}
 use Rattle.input_files.specs.declared.status.Status.{Status}
 use Rattle.input_files.specs.declared.status.Status.TheVariants.{Done, Memory}
-use Rattle.input_files.specs.Reading.{Files, first_refusal}
+use Rattle.input_files.specs.Reading.{Files, Reaches, first_refusal}
 use Rattle.input_files.specs.Row.{RowOf}
-use Rattle.desk_cli.specs.Desk.{DeskValues, HasServed, IsOfMemory, Meets, ServesFrom}
+use Rattle.desk_cli.specs.Desk.{DeskValues, HasServed, IsTaken, MayServe, Meets, ServesFrom}
 use Rattle.desk_cli.specs.Edge.{Ports}
-use Rattle.desk_cli.specs.MemoryFiles.{ToldMemories}
+use Rattle.desk_cli.specs.MemoryFiles.{FailsToOpen, IsUnhindered, ToldMemories}
 use Rattle.desk_cli.specs.Status.{status_of_served, status_of_unkept, status_of_unopened}
 
--- all lines were answered, memory ran out, or it is an answer of the memory
-abbrev pub IsWhole : Option (List ℕ) → Status → Type 0
-IsWhole memory status = (status ≡ Done) ⊎ (status ≡ Memory) ⊎ IsOfMemory memory status
+-- all lines were answered, or memory ran out
+abbrev pub IsWhole : Status → Type 0
+IsWhole status = (status ≡ Done) ⊎ (status ≡ Memory)
 
 -- the memory failed after it was opened
 abbrev FailsLater : {M : Type 0} → memory.Ghosts M → M → M → Status → Type 0
@@ -87,110 +91,184 @@ never-fails opened left status (fault, is, (inr rose)) = never-rises rose
 
 whole-alone : (opened left : NoMemory) (status : Status)
     → (status ≡ Done) ⊎ (status ≡ Memory) ⊎ FailsLater forgets opened left status
-    → IsWhole None status
+    → IsWhole status
 whole-alone opened left status (inl done) = inl done
-whole-alone opened left status (inr (inl memory)) = inr (inl memory)
+whole-alone opened left status (inr (inl memory)) = inr memory
 whole-alone opened left status (inr (inr fails)) =
     absurd (never-fails opened left status fails)
 
-whole-unkept : (name : List ℕ) (fault : MemoryFault)
-    → IsWhole (Some name) (status_of_unkept fault)
-whole-unkept name kept.Memory = inr (inl refl)
-whole-unkept name kept.Failed = inr (inr (inr (inr (inl refl))))
+-- a count that rose did so from 0 on
+from-none : (before after : ℕ) → Rose before after → Rose 0 after
+from-none before after (inl more) = inl (omega (arith, more))
+from-none before after (inr end) = inr end
 
-whole-over : {M : Type 0} (m : memory.Ghosts M) (opened left : M) (name : List ℕ)
-    (status : Status)
+whole-over : {M : Type 0} (m : memory.Ghosts M) (opened left : M) (status : Status)
+    → ¬ Rose 0 (m.faults left)
     → (status ≡ Done) ⊎ (status ≡ Memory) ⊎ FailsLater m opened left status
-    → IsWhole (Some name) status
-whole-over m opened left name status (inl done) = inl done
-whole-over m opened left name status (inr (inl memory)) = inr (inl memory)
-whole-over m opened left name status (inr (inr (fault, is, failed))) =
-    rw is (whole-unkept name fault)
+    → IsWhole status
+whole-over m opened left status none (inl done) = inl done
+whole-over m opened left status none (inr (inl memory)) = inr memory
+whole-over m opened left status none (inr (inr (fault, is, (inl lacks)))) =
+    inr (rw (is, lacks.0) refl)
+whole-over m opened left status none (inr (inr (fault, is, (inr rose)))) =
+    absurd (none (from-none (m.faults opened) (m.faults left) rose))
 
-whole-unopened : (name : List ℕ) (fault : MemoryFileFault)
-    → IsWhole (Some name) (status_of_unopened fault)
-whole-unopened name opened.Place = inr (inr (inr (inr (inl refl))))
-whole-unopened name opened.InUse = inr (inr (inr (inl refl)))
-whole-unopened name opened.HotJournal = inr (inr (inl refl))
-whole-unopened name opened.Foreign = inr (inr (inl refl))
-whole-unopened name opened.Disk = inr (inr (inr (inr (inl refl))))
-whole-unopened name opened.Full = inr (inr (inr (inr (inl refl))))
-whole-unopened name opened.OutOfMemory = inr (inl refl)
+whole-unopened : {F M : Type 0} (told : ToldMemories F M) (m : memory.Ghosts M) (old new : F)
+    (name : List ℕ) (fault : MemoryFileFault)
+    → IsUnhindered told m old new name
+    → FailsToOpen told told.unopened_for old new name fault
+    → IsWhole (status_of_unopened fault)
+whole-unopened told m old new name opened.Missing free cause =
+    absurd (free.refused opened.Missing cause)
+whole-unopened told m old new name opened.Unfounded free cause =
+    absurd (free.fit opened.Unfounded (cause free.honest))
+whole-unopened told m old new name opened.Founded free cause =
+    absurd (free.fit opened.Founded (cause free.honest))
+whole-unopened told m old new name opened.OtherLog free cause =
+    absurd (free.fit opened.OtherLog (cause free.honest))
+whole-unopened told m old new name opened.Place free cause =
+    absurd (free.refused opened.Place cause)
+whole-unopened told m old new name opened.InUse free cause =
+    absurd (free.refused opened.InUse cause)
+whole-unopened told m old new name opened.HotJournal free cause =
+    absurd (free.refused opened.HotJournal cause)
+whole-unopened told m old new name opened.Foreign free cause =
+    absurd (free.fit opened.Foreign (cause free.honest))
+whole-unopened told m old new name opened.Disk free cause = absurd (free.sound (cause free.honest))
+whole-unopened told m old new name opened.Full free cause = absurd (free.room (cause free.honest))
+whole-unopened told m old new name opened.OutOfMemory free cause = inr refl
+
+-- no key is taken where all stand apart
+none-taken : (devices : List DeviceKey) (entries : List Entry) (status : Status)
+    → KeysStandApart sha256 devices entries → IsTaken devices entries status → ⊥
+none-taken devices entries status apart taken =
+    taken.first.2 (apart taken.place taken.first.0)
+
+some-same : (one two : ℕ) → Some one ≡ Some two → one ≡ two
+some-same one two is = cc is
+
+-- a device that is gone is one of them
+gone-within : (entries : List Entry) (place : ℕ) (devices : List DeviceKey) (found : ℕ)
+    → first_gone entries place devices ≡ Some found → found < place + length devices
+gone-within entries place [] found is = absurd (cc is)
+gone-within entries place (device ∷ devices) found is =
+    elim (cases_Bool (is_gone (last_in entries device.name))) [
+      | inl gone ↦ let same : place ≡ found = some-same place found (rw gone at is) in
+          omega (arith, same)
+      | inr here ↦
+          let deeper = gone-within entries (place + 1) devices found (rw here at is) in
+          omega (arith, deeper)
+    ]
+
+-- a place that was found
+pub found-as : (told first found : Option ℕ) → told ≡ first → told ≡ found → first ≡ found
+found-as told first found one two = cc (one, two)
+
+pub gone-below : (entries : List Entry) (devices : List DeviceKey) (place : ℕ)
+    → first_gone entries 0 devices ≡ Some place → place < length devices
+gone-below entries devices place is =
+    let within = gone-within entries 0 devices place is in omega (arith, within)
+
+none-gone : (place : ℕ) (first : Option ℕ) → first ≡ None → first ≡ Some place → ⊥
+none-gone place first none is = cc (none, is)
 
 meets-whole : {R M W : Type 0} (r : source.Ghosts R) (m : memory.Ghosts M) (w : sink.Ghosts W)
-    (values : DeskValues) (entries : List Entry) (opened left : M) (old new : Ports R W)
-    (name : List ℕ) (status : Status) (lines : List ℕ)
-    → Meets r m w values entries opened left old new status
+    (values : DeskValues) (old new : Ports R W) (status : Status) (desk : List ℕ)
+    (entries : List Entry) (opened left : M) (lines : List ℕ)
+    → Meets r m w values old new status desk entries opened left
+    → m.is_honest left
+    → (m.is_honest opened → KeysStandApart sha256 values.devices entries
+    × (first_gone entries 0 values.devices ≡ None))
+    → ¬ Rose 0 (m.faults left)
     → r.left old.source ≡ Some lines
     → length lines < most_input
     → ¬ Rose (r.faults old.source) (r.faults new.source)
     → ¬ Rose (w.faults old.sink) (w.faults new.sink)
-    → IsWhole (Some name) status
-meets-whole r m w values entries opened left old new name status lines
-    (inl (taken, same, silent)) is few no_source no_sink =
-    inr (inr (inr (inr (inr (_, taken.answer)))))
-meets-whole r m w values entries opened left old new name status lines
-    (inr (inl (memory, same, silent))) is few no_source no_sink = inr (inl memory)
-meets-whole r m w values entries opened left old new name status lines
-    (inr (inr (apart, served))) is few no_source no_sink =
-    whole-over m opened left name status (served-whole r m w _ opened left old new status lines
+    → IsWhole status
+meets-whole r m w values old new status desk entries opened left lines
+    (inl ((inl taken), same, silent)) honest apart sound is few no_source no_sink =
+    absurd (none-taken values.devices entries status (apart (subst m.is_honest same honest)).0
+    taken)
+meets-whole r m w values old new status desk entries opened left lines
+    (inl ((inr (inl gone)), same, silent)) honest apart sound is few no_source no_sink =
+    absurd (none-gone gone.place (first_gone entries 0 values.devices)
+    (apart (subst m.is_honest same honest)).1 gone.first)
+meets-whole r m w values old new status desk entries opened left lines
+    (inl ((inr (inr memory)), same, silent)) honest apart sound is few no_source no_sink =
+    inr memory
+meets-whole r m w values old new status desk entries opened left lines
+    (inr (stand, here, served)) honest apart sound is few no_source no_sink =
+    whole-over m opened left status sound (served-whole r m w _ opened left old new status lines
     served is few no_source no_sink)
 
 serves-whole : {F R M W : Type 0} (told : ToldMemories F M) (r : source.Ghosts R)
-    (m : memory.Ghosts M) (w : sink.Ghosts W) (values : DeskValues) (memory : Option (List ℕ))
+    (m : memory.Ghosts M) (desk_of : M → List ℕ) (w : sink.Ghosts W) (values : DeskValues)
+    (memory : Option (List ℕ))
     (memories memories_after : F) (old new : Ports R W) (status : Status) (lines : List ℕ)
-    → ServesFrom told r m w values memory memories memories_after old new status
+    → ServesFrom told r m desk_of w values memory memories memories_after old new status
+    → MayServe told m values.devices memory memories memories_after
     → r.left old.source ≡ Some lines
     → length lines < most_input
     → ¬ Rose (r.faults old.source) (r.faults new.source)
     → ¬ Rose (w.faults old.sink) (w.faults new.sink)
-    → IsWhole memory status
-serves-whole told r m w values None memories memories_after old new status lines
-    (same, (opened, left, served)) is few no_source no_sink =
+    → IsWhole status
+serves-whole told r m desk_of w values None memories memories_after old new status lines
+    (same, (opened, left, served)) may is few no_source no_sink =
     whole-alone opened left status (served-whole r forgets w _ opened left old new status lines
     served is few no_source no_sink)
-serves-whole told r m w values (Some name) memories memories_after old new status lines
-    (inl (lacks, same)) is few no_source no_sink =
-    rw lacks.answer (whole-unopened name lacks.fault)
-serves-whole told r m w values (Some name) memories memories_after old new status lines
-    (inr opens) is few no_source no_sink =
-    meets-whole r m w values opens.entries opens.opened opens.left old new name status lines
-    opens.meets is few no_source no_sink
+serves-whole told r m desk_of w values (Some name) memories memories_after old new status lines
+    (inl (lacks, same)) may is few no_source no_sink =
+    rw lacks.answer (whole-unopened told m memories memories_after name lacks.fault may.0
+    lacks.unopened.cause)
+serves-whole told r m desk_of w values (Some name) memories memories_after old new status lines
+    (inr opens) may is few no_source no_sink =
+    let kept = subst (λ left. IfSome left (λ left. m.is_honest left × ¬ Rose 0 (m.faults left)))
+    opens.closed may.0.kept in
+    meets-whole r m w values old new status (desk_of opens.opened) opens.entries opens.opened
+    opens.left lines opens.does kept.0
+    (λ honest. may.1 (desk_of opens.opened) opens.entries (opens.found.found honest)) kept.1 is few
+    no_source no_sink
 
 complete-where : {Outcome : Type 0} (contents : Files) (left : Option (List ℕ))
-    (row : RowOf Outcome) (memory : Option (List ℕ)) (status : Status)
-    (shelf_rose source_rose sink_rose : Type 0)
+    (row : RowOf Outcome) (status : Status) (shelf_rose source_rose sink_rose may : Type 0)
     → ((lines : List ℕ) → left ≡ Some lines → length lines < most_input
-    → ¬ source_rose → ¬ sink_rose → IsWhole memory status)
+    → ¬ source_rose → ¬ sink_rose → may → IsWhole status)
     → IfSome contents (λ contents. IfSome left (λ lines.
     first_refusal row contents ≡ None
     → length lines < most_input
     → ¬ shelf_rose
     → ¬ source_rose
     → ¬ sink_rose
-    → (status ≡ Done) ⊎ (status ≡ Memory) ⊎ IsOfMemory memory status))
-complete-where None left row memory status shelf_rose source_rose sink_rose whole = tt
-complete-where (Some contents) None row memory status shelf_rose source_rose sink_rose whole = tt
-complete-where (Some contents) (Some lines) row memory status shelf_rose source_rose sink_rose
-    whole = λ none few no_read no_source no_sink. whole lines refl few no_source no_sink
+    → may
+    → (status ≡ Done) ⊎ (status ≡ Memory)))
+complete-where None left row status shelf_rose source_rose sink_rose may whole = tt
+complete-where (Some contents) None row status shelf_rose source_rose sink_rose may whole = tt
+complete-where (Some contents) (Some lines) row status shelf_rose source_rose sink_rose may
+    whole = λ none few no_read no_source no_sink serves.
+    whole lines refl few no_source no_sink serves
 
 -- a desk that served, or met a memory
-pub serves-complete : {F R M W Outcome : Type 0} (told : ToldMemories F M) (r : source.Ghosts R)
-    (m : memory.Ghosts M) (w : sink.Ghosts W) (contents : Files) (row : RowOf Outcome)
-    (shelf_rose : Type 0) (values : DeskValues) (memory : Option (List ℕ))
+pub serves-complete : {F R M W : Type 0} (told : ToldMemories F M) (r : source.Ghosts R)
+    (m : memory.Ghosts M) (desk_of : M → List ℕ) (w : sink.Ghosts W) (contents : Files)
+    (row : RowOf DeskValues) (shelf_rose : Type 0) (values : DeskValues) (memory : Option (List ℕ))
     (memories memories_after : F) (old new : Ports R W) (status : Status)
-    → ServesFrom told r m w values memory memories memories_after old new status
-    → IfSome contents (λ contents. IfSome (r.left old.source) (λ lines.
-    first_refusal row contents ≡ None
+    → Reaches contents row (Ok values)
+    → ServesFrom told r m desk_of w values memory memories memories_after old new status
+    → IfSome contents (λ found. IfSome (r.left old.source) (λ lines.
+    first_refusal row found ≡ None
     → length lines < most_input
     → ¬ shelf_rose
     → ¬ Rose (r.faults old.source) (r.faults new.source)
     → ¬ Rose (w.faults old.sink) (w.faults new.sink)
-    → (status ≡ Done) ⊎ (status ≡ Memory) ⊎ IsOfMemory memory status))
-serves-complete told r m w contents row shelf_rose values memory memories memories_after old new
-    status serves =
-    complete-where contents (r.left old.source) row memory status shelf_rose
+    → ((values : DeskValues) → Reaches contents row (Ok values)
+    → MayServe told m values.devices memory memories memories_after)
+    → (status ≡ Done) ⊎ (status ≡ Memory)))
+serves-complete told r m desk_of w contents row shelf_rose values memory memories memories_after
+    old new status reaches serves =
+    complete-where contents (r.left old.source) row status shelf_rose
     (Rose (r.faults old.source) (r.faults new.source))
     (Rose (w.faults old.sink) (w.faults new.sink))
-    (λ lines is few no_source no_sink. serves-whole told r m w values memory memories
-    memories_after old new status lines serves is few no_source no_sink)
+    ((values : DeskValues) → Reaches contents row (Ok values)
+    → MayServe told m values.devices memory memories memories_after)
+    (λ lines is few no_source no_sink may. serves-whole told r m desk_of w values memory memories
+    memories_after old new status lines serves (may values reaches) is few no_source no_sink)

@@ -1,5 +1,5 @@
 -- How much a desk takes of its source, whatever the source tells.
-use Rattle.std.proofs.Common.{◌≡◌, ◌≤◌, ◌+◌, ℕ, List, length, Option, Some, None, inl, inr, rules, arith}
+use Rattle.std.proofs.Common.{◌≡◌, ◌≤◌, ℕ, List, length, Option, Some, None, inl, inr, rules, arith}
 use Rattle.outside_edge.specs.declared.sink.Sink as sink
 use Rattle.outside_edge.specs.declared.source.Source as source
 use Rattle.desk_memory.specs.declared.memory.Memory as memory
@@ -74,27 +74,35 @@ module _ {R : Type 0} (r : source.Ghosts R) where
       (length has.serves.taken) has.ended has.serves.cause (rw has.answer at is))
 
   meets-limit : {M W : Type 0} (m : memory.Ghosts M) (w : sink.Ghosts W) (values : DeskValues)
-      (entries : List Entry) (opened left : M) (old new : Ports R W) (status : Status)
-      → Meets r m w values entries opened left old new status
+      (old new : Ports R W) (status : Status) (desk : List ℕ) (entries : List Entry)
+      (opened left : M)
+      → Meets r m w values old new status desk entries opened left
       → KeepsLimit r old.source new.source status
-  meets-limit m w values entries opened left old new status (inl (taken, same, silent)) =
+  meets-limit m w values old new status desk entries opened left
+      (inl ((inl taken), same, silent)) =
       rw silent (untouched old.source status (λ is. cc (taken.answer, is)))
-  meets-limit m w values entries opened left old new status (inr (inl (memory, same, silent))) =
+  meets-limit m w values old new status desk entries opened left
+      (inl ((inr (inl gone)), same, silent)) =
+      rw silent (untouched old.source status (λ is. cc (gone.answer, is)))
+  meets-limit m w values old new status desk entries opened left
+      (inl ((inr (inr memory)), same, silent)) =
       rw silent (untouched old.source status (λ is. cc (memory, is)))
-  meets-limit m w values entries opened left old new status (inr (inr (apart, has))) =
+  meets-limit m w values old new status desk entries opened left (inr (apart, here, has)) =
       served-limit m w _ opened left old new status has
 
   pub serves-limit : {F M W : Type 0} (told : ToldMemories F M) (m : memory.Ghosts M)
-      (w : sink.Ghosts W) (values : DeskValues) (memory : Option (List ℕ))
+      (desk_of : M → List ℕ) (w : sink.Ghosts W) (values : DeskValues) (memory : Option (List ℕ))
       (memories memories_after : F) (old new : Ports R W) (status : Status)
-      → ServesFrom told r m w values memory memories memories_after old new status
+      → ServesFrom told r m desk_of w values memory memories memories_after old new status
       → KeepsLimit r old.source new.source status
-  serves-limit told m w values None memories memories_after old new status
+  serves-limit told m desk_of w values None memories memories_after old new status
       (same, (opened, left, has)) =
       served-limit forgets w _ opened left old new status has
-  serves-limit told m w values (Some name) memories memories_after old new status
+  serves-limit told m desk_of w values (Some name) memories memories_after old new status
       (inl (lacks, silent)) =
       rw silent (untouched old.source status
       (λ is. unopened-spent lacks.fault (rw lacks.answer at is)))
-  serves-limit told m w values (Some name) memories memories_after old new status (inr opens) =
-      meets-limit m w values opens.entries opens.opened opens.left old new status opens.meets
+  serves-limit told m desk_of w values (Some name) memories memories_after old new status
+      (inr opens) =
+      meets-limit m w values old new status (desk_of opens.opened) opens.entries opens.opened
+      opens.left opens.does

@@ -1,6 +1,6 @@
 -- The lines of entries are read as these entries.
-use Rattle.std.proofs.Common.{◌≡◌, ◌∙◌, ℕ, ◌+◌, ◌^◌, ◌<◌, ◌≤◌, Bool, true, false, List, [], ◌∷◌, ◌++◌, Option, Some, None, Ok, Err, length, drop, append_assoc, append-nil, refl, ap, sym, arith, rules}
-use Rattle.std.specs.Prelude.{◌==◌, ◌||◌, nat_le, nat_lt, IsUtf8, codes}
+use Rattle.std.proofs.Common.{◌≡◌, ◌∙◌, ℕ, ◌+◌, ◌^◌, ◌<◌, ◌≤◌, ◌&&◌, Bool, true, false, List, [], ◌∷◌, ◌++◌, Option, Some, None, IfSome, Ok, Err, length, drop, append_assoc, append-nil, refl, ap, subst, sym, arith, rules}
+use Rattle.std.specs.Prelude.{◌==◌, ◌||◌, nat_le, nat_lt, IsUtf8}
 use Rattle.std.specs.Int.{is_in_range}
 use Rattle.std.specs.Fmt.{decimal}
 use Rattle.std.specs.List.{list_all}
@@ -11,7 +11,7 @@ use Rattle.text_scan.specs.LineFold.{state_after, text_fold}
 use Rattle.text_scan.specs.Line.{numbered_lines}
 use Rattle.text_scan.specs.Word.{is_passed_over, says_nothing}
 use Rattle.named_value.specs.PlainWord.{IsPlainWord, is_plain}
-use Rattle.printed_lines.specs.Line.{with_pieces}
+use Rattle.printed_lines.specs.Line.{line_of, with_pieces}
 use Rattle.line_buffer.specs.LineLaw.{ArePieces, IsFirstLine}
 use Rattle.line_buffer.proofs.PieceLines.{first_line, utf8_line}
 use Rattle.text_scan.proofs.PlainWords.{plain-decimal, plain-encoded}
@@ -22,16 +22,19 @@ use Rattle.report_verifier.specs.VerdictName.{verdict_name}
 use Rattle.report_verifier.specs.declared.decision.Decision.{Decision}
 use Rattle.desk_memory.specs.declared.answer.Answer.{Answer}
 use Rattle.desk_memory.specs.declared.answer.Answer.TheVariants.{Stale, Bad, Spent, Requested, Judged}
-use Rattle.desk_memory.specs.Entry.{Entry}
+use Rattle.desk_memory.specs.Entry.{Entry, first_home, last_in, with_entries}
 use Rattle.text_scan.specs.FaultName.{fault_name}
 use Rattle.desk_memory.specs.SizedEntry.{is_short, is_short_answer, is_short_line, is_short_number}
 use Rattle.verifier_desk.specs.DeviceKey.{is_name_character, name_fault}
-use Rattle.desk_cli.specs.ReadBack.{IsWritable, StatesReadBack}
-use Rattle.desk_cli.specs.StateFile.{entries_with, goes_behind, states_of, with_line}
-use Rattle.desk_cli.specs.StateText.{answer_pieces, last_pieces, number_piece, state_pieces, state_line, states_text}
+use Rattle.desk_cli.specs.declared.line_form.LineForm.{LineForm}
+use Rattle.desk_cli.specs.declared.line_form.LineForm.TheVariants.{VersionOne, Here, Gone}
+use Rattle.desk_cli.specs.ReadBack.{AreNotable, IsWritable, StatesReadBack, VersionOneReadsBack}
+use Rattle.desk_cli.specs.StateFile.{entry_of, goes_behind, goes_on, is_in_range as ranged, states_of, with_line}
+use Rattle.desk_cli.specs.StateText.{answer_pieces, desk_pieces, form_for, form_name, last_pieces, moves_pieces, number_piece, state_pieces, state_line, text_by, version_one_line}
 use Rattle.desk_cli.proofs.StatesBehind.{stand_behind}
-use Rattle.desk_cli.proofs.StatesNoted.{AreWritable, StandWritten, stand-noted}
-use Rattle.desk_cli.proofs.StateWords.{entry-read, sizes}
+use Rattle.desk_cli.proofs.StatesGoOn.{go_on}
+use Rattle.desk_cli.proofs.StatesNoted.{AreWritable, Each, StandWritten, each-of, noted-all, stand-noted}
+use Rattle.desk_cli.proofs.StateWords.{sizes, state-line-read, version-one-read}
 
 -- the words are plain
 
@@ -113,47 +116,127 @@ name-some : (name : List ℕ) → name_fault name ≡ Ok tt → 0 < length name
 name-some [] passes = absurd (cc passes)
 name-some (character ∷ name) passes = omega arith
 
-name-plain : (entry : Entry) → IsWritable entry → IsPlainWord entry.name
-name-plain entry writable = (
-  name-some entry.name writable.name,
-  each-plain entry.name
-      (name-characters entry.name (list_all is_name_character entry.name) refl writable.name),
+name-plain : (name : List ℕ) → name_fault name ≡ Ok tt → IsPlainWord name
+name-plain name sound = (
+  name-some name sound,
+  each-plain name (name-characters name (list_all is_name_character name) refl sound),
 )
 
-abbrev pieces : Entry → List (List ℕ)
-pieces entry = entry.name ∷ state_pieces entry
+form-plain : (form : LineForm) → IsPlainWord (form_name form)
+form-plain = search rules
 
-are_pieces : (entry : Entry) → IsWritable entry → ArePieces (codes "state" ∷ pieces entry)
-are_pieces entry writable =
+desk-are : (gone : Option (List ℕ)) (later : List (List ℕ))
+    → IfSome gone (λ desk. name_fault desk ≡ Ok tt) → ArePieces later
+    → ArePieces (desk_pieces gone ++ later)
+desk-are None later sound are = are
+desk-are (Some desk) later sound are = ((omega arith, refl), (name-plain desk sound, are))
+
+state-are : (entry : Entry) → IsWritable entry → ArePieces (state_pieces entry)
+state-are entry writable =
     let sized = sizes entry writable.sized in
-    let last : ArePieces (drop 7 (pieces entry)) =
+    let last : ArePieces (drop 6 (state_pieces entry)) =
     ((omega arith, refl), last-are entry.state.last sized.last) in
-    let outstanding : ArePieces (drop 5 (pieces entry)) =
+    let outstanding : ArePieces (drop 4 (state_pieces entry)) =
     ((omega arith, refl), (number-plain entry.state.outstanding sized.outstanding, last)) in
-    let count : ArePieces (drop 3 (pieces entry)) =
+    let count : ArePieces (drop 2 (state_pieces entry)) =
     ((omega arith, refl), (short-plain entry.state.count sized.count, outstanding)) in
     let mark = plain-encoded entry.mark writable.mark (omega (arith, sized.mark)) in
-    ((omega arith, refl), (name-plain entry writable, ((omega arith, refl), (mark, count))))
+    ((omega arith, refl), (mark, count))
+
+moves-are : (entry : Entry) → IsWritable entry → ArePieces (moves_pieces entry)
+moves-are entry writable = (
+  (omega arith, refl),
+  (
+    short-plain entry.home.moves (sizes entry writable.sized).moves,
+    state-are entry writable,
+  ),
+)
+
+-- lines that are read as their entries
+
+record IsLineOf (line : List ℕ) (entry : Entry) : Type 0 where
+  form : LineForm
+  pieces : List (List ℕ)
+  text : line ≡ line_of (form_name form) pieces
+  are : ArePieces pieces
+  told : entry_of (form_name form ∷ pieces) ≡ Ok entry
+
+state-line-is : (entry : Entry) → IsWritable entry → IsLineOf (state_line entry) entry
+state-line-is entry writable = record {
+  form = form_for entry.home.gone;
+  pieces = entry.name ∷ desk_pieces entry.home.gone ++ moves_pieces entry;
+  text = refl;
+  are = (
+    name-plain entry.name writable.name,
+    desk-are entry.home.gone (moves_pieces entry) writable.desk (moves-are entry writable),
+  );
+  told = state-line-read entry writable;
+}
+
+version-one-line-is : (entry : Entry) → IsWritable entry → entry.home ≡ first_home
+    → IsLineOf (version_one_line entry) entry
+version-one-line-is entry writable unmoved = record {
+  form = VersionOne;
+  pieces = entry.name ∷ state_pieces entry;
+  text = refl;
+  are = (name-plain entry.name writable.name, state-are entry writable);
+  told = version-one-read entry writable unmoved;
+}
 
 -- one line, and all
 
-abbrev line_text : Entry → List ℕ
-line_text entry = with_pieces (codes "state") (pieces entry)
+abbrev line_text : {line : List ℕ} {entry : Entry} → IsLineOf line entry → List ℕ
+line_text is = with_pieces (form_name is.form) is.pieces
 
-first : (entry : Entry) (rest : List ℕ) → IsWritable entry
-    → IsFirstLine (codes "state") (pieces entry) rest
-first entry rest writable =
-    first_line (codes "state") (pieces entry) rest (are_pieces entry writable)
+first : {line : List ℕ} {entry : Entry} (is : IsLineOf line entry) (rest : List ℕ)
+    → IsFirstLine (form_name is.form) is.pieces rest
+first is rest = first_line (form_name is.form) is.pieces rest (form-plain is.form, is.are)
 
-line-taken : (before : List Entry) (entry : Entry) → IsWritable entry
-    → goes_behind before entry ≡ true
-    → with_line before (line_text entry) ≡ Ok (before ++ entry ∷ [])
+form-says : (form : LineForm) (pieces : List (List ℕ))
+    → says_nothing (form_name form ∷ pieces) ≡ false
+form-says VersionOne pieces = refl
+form-says Here pieces = refl
+form-says Gone pieces = refl
+
+-- nothing is wrong with an entry behind these
+abbrev is_in_order : List Entry → Entry → Bool
+is_in_order before entry =
+    ranged entry.state && goes_behind before entry && goes_on (last_in before entry.name) entry
+
+-- nor with any of these
+abbrev are_in_order : List Entry → List Entry → Bool
+are_in_order before [] = true
+are_in_order before (entry ∷ entries) =
+    is_in_order before entry && are_in_order (before ++ entry ∷ []) entries
+
+in-order : (before entries : List Entry) → AreWritable entries
+    → stand_behind before entries ≡ true → go_on before entries ≡ true
+    → are_in_order before entries ≡ true
+in-order before [] writable behind go = refl
+in-order before (entry ∷ entries) writable behind go =
+    let stand = and_parts (goes_behind before entry)
+    (stand_behind (before ++ entry ∷ []) entries) behind in
+    let order = and_parts (goes_on (last_in before entry.name) entry)
+    (go_on (before ++ entry ∷ []) entries) go in
+    and_from (is_in_order before entry) (are_in_order (before ++ entry ∷ []) entries)
+    (and_from (ranged entry.state && goes_behind before entry)
+    (goes_on (last_in before entry.name) entry)
+    (and_from (ranged entry.state) (goes_behind before entry) writable.0.range stand.0) order.0)
+    (in-order (before ++ entry ∷ []) entries writable.1 stand.1 order.1)
+
+line-taken : {line : List ℕ} (before : List Entry) (entry : Entry) (is : IsLineOf line entry)
+    → is_in_order before entry ≡ true
+    → with_line before (line_text is) ≡ Ok (before ++ entry ∷ [])
 unfolding with_line
-line-taken before entry writable apart =
-    rw ((first entry [] writable).words, entry-read entry writable, apart) refl
+line-taken before entry is order =
+    let all = and_parts (ranged entry.state && goes_behind before entry)
+    (goes_on (last_in before entry.name) entry) order in
+    let parts = and_parts (ranged entry.state) (goes_behind before entry) all.0 in
+    rw ((first is []).words, is.told, parts.0, parts.1, all.1) refl
 
-line-passed : (entry : Entry) → IsWritable entry → is_passed_over (line_text entry) ≡ false
-line-passed entry writable = ap says_nothing (first entry [] writable).words
+line-passed : {line : List ℕ} {entry : Entry} (is : IsLineOf line entry)
+    → is_passed_over (line_text is) ≡ false
+line-passed is = ap says_nothing (first is []).words ∙ form-says is.form is.pieces
 
 next-state : (before next : List Entry) (number : ℕ) (line : List ℕ)
     (later : List (ℕ × List ℕ))
@@ -162,40 +245,82 @@ next-state : (before next : List Entry) (number : ℕ) (line : List ℕ)
 unfolding state_after
 next-state before next number line later says answer = rw says (rw answer refl)
 
-states-read : (before entries : List Entry) (number : ℕ) → AreWritable entries
-    → stand_behind before entries ≡ true
-    → state_after with_line before (numbered_lines number (lines (states_text entries)))
+abbrev AreLines : (Entry → List ℕ) → List Entry → Type 0
+AreLines line entries = Each (λ entry. IsLineOf (line entry) entry) entries
+
+lines-read : (line : Entry → List ℕ) (before entries : List Entry) (number : ℕ)
+    → AreLines line entries → are_in_order before entries ≡ true
+    → state_after with_line before (numbered_lines number (lines (text_by line entries)))
     ≡ Ok (before ++ entries)
 unfolding state_after
-states-read before [] number writable behind =
+lines-read line before [] number are order =
     ap (λ (entries : List Entry). Ok entries) (sym (append-nil before))
-states-read before (entry ∷ entries) number writable behind =
-    let rest : List ℕ = states_text entries in
-    let parts = and_parts (goes_behind before entry)
-    (stand_behind (before ++ entry ∷ []) entries) behind in
+lines-read line before (entry ∷ entries) number are order =
+    let rest : List ℕ = text_by line entries in
+    let parts = and_parts (is_in_order before entry)
+    (are_in_order (before ++ entry ∷ []) entries) order in
     ap (λ (all : List (List ℕ)). state_after with_line before (numbered_lines number all))
-    (first entry rest writable.0).line
-    ∙ next-state before (before ++ entry ∷ []) number (line_text entry)
-    (numbered_lines (number + 1) (lines rest)) (line-passed entry writable.0)
-    (line-taken before entry writable.0 parts.0)
-    ∙ states-read (before ++ entry ∷ []) entries (number + 1) writable.1 parts.1
+    (ap (λ (text : List ℕ). lines (text ++ rest)) are.0.text ∙ (first are.0 rest).line)
+    ∙ next-state before (before ++ entry ∷ []) number (line_text are.0)
+    (numbered_lines (number + 1) (lines rest)) (line-passed are.0)
+    (line-taken before entry are.0 parts.0)
+    ∙ lines-read line (before ++ entry ∷ []) entries (number + 1) are.1 parts.1
     ∙ ap (λ (all : List Entry). Ok all) (append_assoc before (entry ∷ []) entries)
 
-text-utf8 : (entries : List Entry) → AreWritable entries → IsUtf8 (states_text entries)
-text-utf8 [] writable = IsUtf8-nil
-text-utf8 (entry ∷ entries) writable =
-    IsUtf8-append (state_line entry) (states_text entries)
-    (utf8_line (codes "state") (pieces entry) (are_pieces entry writable.0))
-    (text-utf8 entries writable.1)
+text-utf8 : (line : Entry → List ℕ) (entries : List Entry) → AreLines line entries
+    → IsUtf8 (text_by line entries)
+text-utf8 line [] are = IsUtf8-nil
+text-utf8 line (entry ∷ entries) are =
+    IsUtf8-append (line entry) (text_by line entries)
+    (subst IsUtf8 (sym are.0.text)
+    (utf8_line (form_name are.0.form) are.0.pieces (form-plain are.0.form, are.0.are)))
+    (text-utf8 line entries are.1)
 
-stand-read : (entries : List Entry) → StandWritten entries
-    → states_of (states_text entries) ≡ Ok entries
+text-read : (line : Entry → List ℕ) (entries : List Entry) → AreLines line entries
+    → are_in_order [] entries ≡ true
+    → states_of (text_by line entries) ≡ Ok entries
 unfolding text_fold
-stand-read entries stand =
-    rw ((utf8_of-whole (states_text entries)).1 (text-utf8 entries stand.writable))
-    (states-read [] entries 1 stand.writable stand.behind)
+text-read line entries are order =
+    rw ((utf8_of-whole (text_by line entries)).1 (text-utf8 line entries are))
+    (lines-read line [] entries 1 are order)
+
+noted : (entries : List Entry) → AreNotable [] entries → StandWritten (with_entries [] entries)
+noted entries notable = stand-noted [] entries (record {
+  writable = tt;
+  behind = refl;
+  order = refl;
+}) notable
+
+stands-in-order : (entries : List Entry) → StandWritten entries → are_in_order [] entries ≡ true
+stands-in-order entries stand = in-order [] entries stand.writable stand.behind stand.order
+
+state-lines : (entries : List Entry) → AreWritable entries → AreLines state_line entries
+state-lines [] writable = tt
+state-lines (entry ∷ entries) writable =
+    (state-line-is entry writable.0, state-lines entries writable.1)
 
 pub read_back : StatesReadBack
 read_back entries notable =
-    stand-read (entries_with [] entries)
-    (stand-noted [] entries (record { writable = tt; behind = refl }) notable)
+    let stand = noted entries notable in
+    let all : List Entry = with_entries [] entries in
+    text-read state_line all (state-lines all stand.writable) (stands-in-order all stand)
+
+abbrev has_not_moved : Entry → Type 0
+has_not_moved entry = entry.home ≡ first_home
+
+version-one-lines : (entries : List Entry) → AreWritable entries → Each has_not_moved entries
+    → AreLines version_one_line entries
+version-one-lines [] writable unmoved = tt
+version-one-lines (entry ∷ entries) writable unmoved = (
+  version-one-line-is entry writable.0 unmoved.0,
+  version-one-lines entries writable.1 unmoved.1,
+)
+
+pub version_one_read_back : VersionOneReadsBack
+version_one_read_back entries notable unmoved =
+    let stand = noted entries notable in
+    let all : List Entry = with_entries [] entries in
+    let none_moved = noted-all has_not_moved [] entries tt
+    (each-of has_not_moved entries unmoved) in
+    text-read version_one_line all (version-one-lines all stand.writable none_moved)
+    (stands-in-order all stand)

@@ -19,12 +19,15 @@ use Rattle.desk_memory.specs.declared.answer.Answer.TheVariants.{Stale, Bad, Spe
 use Rattle.desk_memory.specs.declared.device_state.DeviceState.{DeviceState}
 use Rattle.desk_memory.specs.AnswerRead.{answer_of, answer_with, most_number}
 use Rattle.desk_memory.specs.AnswerText.{answer_text}
-use Rattle.desk_memory.specs.Entry.{Entry}
+use Rattle.desk_memory.specs.Entry.{Entry, first_home}
 use Rattle.text_scan.specs.FaultName.{fault_name, fault_names}
 use Rattle.desk_memory.specs.SizedEntry.{is_short, is_short_answer, is_short_line, is_short_number, is_sized}
+use Rattle.verifier_desk.specs.DeviceKey.{name_fault}
+use Rattle.desk_cli.specs.declared.line_form.LineForm.{LineForm}
+use Rattle.desk_cli.specs.declared.line_form.LineForm.TheVariants.{VersionOne}
 use Rattle.desk_cli.specs.ReadBack.{IsWritable, is_made}
-use Rattle.desk_cli.specs.StateFile.{entry_of, last_of, last_with, number_in, outstanding_of, state_of}
-use Rattle.desk_cli.specs.StateText.{answer_pieces, last_pieces, number_piece, state_pieces}
+use Rattle.desk_cli.specs.StateFile.{entry_of, home_said, last_of, last_with, moves_of, name_of, number_in, outstanding_of, state_of}
+use Rattle.desk_cli.specs.StateText.{answer_pieces, desk_pieces, form_for, form_name, form_names, last_pieces, moves_pieces, number_piece, state_pieces}
 
 -- an answer's text is its pieces
 pub answer_text_pieces : (text : List ℕ) (answer : Answer)
@@ -135,12 +138,17 @@ pub record Sizes (entry : Entry) : Type 0 where
   pub count : is_short entry.state.count ≡ true
   pub outstanding : is_short_number entry.state.outstanding ≡ true
   pub last : is_short_line entry.state.last ≡ true
+  pub moves : is_short entry.home.moves ≡ true
 
 pub sizes : (entry : Entry) → is_sized entry ≡ true → Sizes entry
 sizes entry is =
+    let all = and_parts
+    (length entry.mark == 16 && is_short entry.state.count
+    && is_short_number entry.state.outstanding && is_short_line entry.state.last)
+    (is_short entry.home.moves) is in
     let first = and_parts
     (length entry.mark == 16 && is_short entry.state.count
-    && is_short_number entry.state.outstanding) (is_short_line entry.state.last) is in
+    && is_short_number entry.state.outstanding) (is_short_line entry.state.last) all.0 in
     let second = and_parts (length entry.mark == 16 && is_short entry.state.count)
     (is_short_number entry.state.outstanding) first.0 in
     let third = and_parts (length entry.mark == 16) (is_short entry.state.count) second.0 in
@@ -149,15 +157,65 @@ sizes entry is =
       count = third.1;
       outstanding = second.1;
       last = first.1;
+      moves = all.1;
     }
 
-pub entry-read : (entry : Entry) → IsWritable entry
-    → entry_of (codes "state" ∷ entry.name ∷ state_pieces entry) ≡ Ok entry
+-- the form of a line, and what it says of a home
+
+form-told : (form : LineForm) → value_named form_names (form_name form) ≡ Some form
+form-told = search rules
+
+name-read : (name : List ℕ) (rest : List (List ℕ)) → name_fault name ≡ Ok tt
+    → name_of (name ∷ rest) ≡ Ok (name, rest)
+unfolding name_of
+name-read name rest sound = rw sound refl
+
+moves-read : (desk : Option (List ℕ)) (moves : ℕ) (rest : List (List ℕ))
+    → is_short moves ≡ true
+    → moves_of desk (codes "moves" ∷ decimal moves ∷ rest)
+    ≡ Ok (record { moves = moves; gone = desk }, rest)
+unfolding moves_of
+moves-read desk moves rest few = rw (count-read moves rest few) refl
+
+home-read : (gone : Option (List ℕ)) (moves : ℕ) (rest : List (List ℕ))
+    → IfSome gone (λ desk. name_fault desk ≡ Ok tt) → is_short moves ≡ true
+    → home_said (form_for gone) (desk_pieces gone ++ codes "moves" ∷ decimal moves ∷ rest)
+    ≡ Ok (record { moves = moves; gone = gone }, rest)
+unfolding home_said
+home-read None moves rest sound few = moves-read None moves rest few
+home-read (Some desk) moves rest sound few =
+    rw (
+      name-read desk (codes "moves" ∷ decimal moves ∷ rest) sound,
+      moves-read (Some desk) moves rest few,
+    ) refl
+
+-- a line of any form that says the home of its entry
+entry-read : (form : LineForm) (entry : Entry) (words : List (List ℕ)) → IsWritable entry
+    → home_said form words ≡ Ok (entry.home, state_pieces entry)
+    → entry_of (form_name form ∷ entry.name ∷ words) ≡ Ok entry
 unfolding entry_of block_of
-entry-read entry writable =
+entry-read form entry words writable home =
     let sized = sizes entry writable.sized in
     rw (
-      writable.name,
+      value_of-name form_names form (entry.name ∷ words) (form-told form),
+      name-read entry.name words writable.name,
+      home,
       hex_bytes_of-digits 16 entry.mark sized.mark writable.mark,
       state-read entry.state writable.made sized.count sized.last,
     ) refl
+
+pub state-line-read : (entry : Entry) → IsWritable entry
+    → entry_of (form_name (form_for entry.home.gone) ∷ entry.name
+    ∷ desk_pieces entry.home.gone ++ moves_pieces entry)
+    ≡ Ok entry
+state-line-read entry writable =
+    entry-read (form_for entry.home.gone) entry
+    (desk_pieces entry.home.gone ++ moves_pieces entry) writable
+    (home-read entry.home.gone entry.home.moves (state_pieces entry) writable.desk
+    (sizes entry writable.sized).moves)
+
+pub version-one-read : (entry : Entry) → IsWritable entry → entry.home ≡ first_home
+    → entry_of (form_name VersionOne ∷ entry.name ∷ state_pieces entry) ≡ Ok entry
+unfolding home_said
+version-one-read entry writable unmoved =
+    entry-read VersionOne entry (state_pieces entry) writable (rw unmoved refl)

@@ -1,33 +1,39 @@
 -- Entries each of which goes behind those before it.
-use Rattle.std.proofs.Common.{◌≡◌, ◌∙◌, ℕ, suc, Bool, true, ◌&&◌, List, [], ◌∷◌, ◌++◌, Option, Some, None, append_assoc, append-nil, length, refl, ap, inl, inr, sym, arith}
+use Rattle.std.proofs.Common.{◌≡◌, ◌∙◌, ℕ, suc, Bool, true, ◌&&◌, List, [], ◌∷◌, ◌++◌, Option, Some, None, Ok, append_assoc, append-nil, length, refl, ap, inl, inr, sym, arith}
 use Rattle.std.specs.Prelude.{◌==◌, not}
 use Rattle.std.specs.Option.{is_some}
 use Rattle.std.specs.Str.{bytes_eq}
 use Rattle.std.proofs.lemmas.Bool.{and_from, and_parts, cases_Bool, eqb-false, eqb-true}
 use Rattle.std.proofs.lemmas.Slice.Eq.{bytes_eq-Decides}
 use Rattle.desk_memory.specs.DeviceState.{new_device}
-use Rattle.desk_memory.specs.Entry.{Entry, is_replaced, owner_in, last_in, with_entry}
+use Rattle.desk_memory.specs.Entry.{Entry, first_home, is_replaced, owner_in, last_in, with_entries, with_entry}
 use Rattle.desk_memory.specs.EntryPlace.{place_for}
 use Rattle.desk_memory.proofs.Places.{with_entry-push}
 use Rattle.verifier_desk.specs.KeyOwner.{IsFreeFor}
-use Rattle.desk_cli.specs.StateFile.{entries_with, goes_behind, is_owner}
-
--- the last one is noted after the others
-pub noted-last : (had entries : List Entry) (entry : Entry)
-    → entries_with had (entries ++ entry ∷ []) ≡ with_entry (entries_with had entries) entry
-noted-last had [] entry = refl
-noted-last had (first ∷ entries) entry = noted-last (with_entry had first) entries entry
+use Rattle.desk_cli.specs.StateFile.{entry_fault, goes_behind, is_in_range, is_owner}
+use Rattle.desk_cli.proofs.Noting.{noted-last}
 
 behind-all : (entries : List Entry) (entry : Entry) → place_for entries entry ≡ length entries
     → with_entry entries entry ≡ entries ++ entry ∷ []
 behind-all entries entry is = sym (with_entry-push entries entry (omega (arith, is)))
 
+-- an entry that is not at fault goes behind all
+sound-behind : (entries : List Entry) (entry : Entry) → entry_fault entries entry ≡ Ok tt
+    → goes_behind entries entry ≡ true
+sound-behind entries entry sound = elim (cases_Bool (is_in_range entry.state)) [
+  | inl ranged ↦ elim (cases_Bool (goes_behind entries entry)) [
+    | inl behind ↦ behind
+    | inr before ↦ absurd (let known = rw (ranged, before) at sound in cc known)
+  ]
+  | inr unranged ↦ absurd (let known = rw unranged at sound in cc known)
+]
+
 pub add_keeps : (entries : List Entry) (entry : Entry)
-    → entries_with [] entries ≡ entries → goes_behind entries entry ≡ true
-    → entries_with [] (entries ++ entry ∷ []) ≡ entries ++ entry ∷ []
-add_keeps entries entry noted apart =
+    → with_entries [] entries ≡ entries → entry_fault entries entry ≡ Ok tt
+    → with_entries [] (entries ++ entry ∷ []) ≡ entries ++ entry ∷ []
+add_keeps entries entry noted sound =
     let parts = and_parts (place_for entries entry == length entries)
-    (is_owner entry.name (owner_in entries entry.mark)) apart in
+    (is_owner entry.name (owner_in entries entry.mark)) (sound-behind entries entry sound) in
     noted-last [] entries entry
     ∙ ap (λ (all : List Entry). with_entry all entry) noted
     ∙ behind-all entries entry (eqb-true (place_for entries entry) (length entries) parts.0)
@@ -57,7 +63,8 @@ last-behind before (first ∷ entries) entry stand behind =
 -- whether they do is seen of names and marks alone
 
 abbrev without_state : Entry → Entry
-without_state entry = record { name = entry.name; mark = entry.mark; state = new_device }
+without_state entry =
+    record { name = entry.name; mark = entry.mark; state = new_device; home = first_home }
 
 abbrev without_states : List Entry → List Entry
 without_states [] = []

@@ -1,8 +1,11 @@
 -- The lines of entries, one after another.
-use Rattle.std.proofs.Common.{◌≡◌, ◌∙◌, ◌<◌, ◌+◌, ℕ, List, [], ◌∷◌, ◌++◌, length, take, drop, get_or, take-append-drop, append_assoc, append-nil, refl, ap, sym}
+use Rattle.std.proofs.Common.{◌≡◌, ◌∙◌, ◌<◌, ◌+◌, ℕ, List, [], ◌∷◌, ◌++◌, Option, Some, None, length, take, drop, get_or, take-append-drop, append_assoc, append-nil, refl, ap, sym}
+use Rattle.std.specs.Prelude.{codes}
 use Rattle.std.proofs.lemmas.List.{take_more}
 use Rattle.desk_memory.specs.Entry.{Entry}
-use Rattle.desk_cli.specs.StateText.{state_line, states_text}
+use Rattle.printed_lines.specs.Line.{line_of, with_pieces}
+use Rattle.line_buffer.proofs.PieceLines.{line_of-parts}
+use Rattle.desk_cli.specs.StateText.{desk_pieces, form_for, form_name, state_line, states_text}
 
 states-append : (before later : List Entry)
     → states_text (before ++ later) ≡ states_text before ++ states_text later
@@ -32,3 +35,11 @@ states-begin entries i d entry below is =
     ∙ states-append (take (i + 1) entries) (drop (i + 1) entries)
     ∙ ap (λ (begin : List ℕ). begin ++ states_text (drop (i + 1) entries))
     (states-next entries i d entry below is)
+
+-- a line that is put in parts: up to its names, and what follows them
+pub line-parts : (name : List ℕ) (gone : Option (List ℕ)) (later : List (List ℕ))
+    → line_of (form_name (form_for gone)) (name ∷ desk_pieces gone ++ later)
+    ≡ with_pieces (form_name (form_for gone)) (name ∷ desk_pieces gone) ++ line_of [] later
+line-parts name None later = line_of-parts (codes "state2") [] name later
+line-parts name (Some desk) later =
+    line_of-parts (codes "moved") (name ∷ codes "to" ∷ []) desk later

@@ -14,17 +14,19 @@ use Rattle.desk_memory.specs.NoMemory.{forgets}
 use Rattle.verifier_desk.specs.declared.served.Served.{Served}
 use Rattle.verifier_desk.specs.Desk.{desk_with}
 use Rattle.verifier_desk.specs.DeviceKey.{DeviceKey}
+use Rattle.verifier_desk.specs.Gone.{first_gone}
 use Rattle.verifier_desk.specs.KeyOwner.{IsFirstTaken, KeysStandApart}
 use Rattle.verifier_desk.specs.Replies.{DeskFields}
 use Rattle.verifier_desk.specs.Serving.{Serves, most_input}
 use Rattle.input_files.specs.declared.status.Status.{Status}
-use Rattle.input_files.specs.declared.status.Status.TheVariants.{Done, Words, Memory, Spent, BadMemory, TakenKey, InUse, Unwritten}
+use Rattle.input_files.specs.declared.status.Status.TheVariants.{BadMemory, Done, Memory, Spent, Words}
+use Rattle.input_files.specs.declared.unfit.Unfit.TheVariants.{GoneDevice, TakenKey}
 use Rattle.input_files.specs.FileKind.{image_kind}
 use Rattle.input_files.specs.Reading.{IsRefusal, Reaches, Refuses, first_refusal}
 use Rattle.input_files.specs.Row.{RowOf, Ends, read_file}
 use Rattle.desk_cli.specs.Edge.{Ports}
 use Rattle.desk_cli.specs.FileKind.{desk_policy_kind, keys_kind}
-use Rattle.desk_cli.specs.MemoryFiles.{IsOpened, LacksMemory, ToldMemories}
+use Rattle.desk_cli.specs.MemoryFiles.{IsUnhindered, ToldMemories, UsesIf}
 use Rattle.desk_cli.specs.Status.{status_of_served}
 
 -- the names of its files
@@ -86,48 +88,47 @@ pub record HasServed {R M W : Type 0} (r : source.Ghosts R) (m : memory.Ghosts M
 pub record IsTaken (devices : List DeviceKey) (entries : List Entry) (status : Status)
     : Type 0 where
   pub place : ℕ
-  pub answer : status ≡ TakenKey (place + 1)
+  pub answer : status ≡ BadMemory (TakenKey (place + 1))
   pub first : IsFirstTaken sha256 devices entries (Some place)
 
--- what came of a memory that has these entries: a key is taken or memory ran out, and it stays as
--- it is, or the desk served the source
-abbrev pub Meets : {R M W : Type 0} → source.Ghosts R → memory.Ghosts M → sink.Ghosts W
-    → DeskValues → List Entry → M → M → Ports R W → Ports R W → Status → Type 0
-Meets r m w values entries opened left old new status =
-    (IsTaken values.devices entries status × (left ≡ opened) × (new ≡ old))
-    ⊎ ((status ≡ Memory) × (left ≡ opened) × (new ≡ old))
-    ⊎ (KeysStandApart sha256 values.devices entries
-    × HasServed r m w (desk_over values entries) opened left old new status)
+-- or the device is gone to another desk
+pub record IsGone (devices : List DeviceKey) (entries : List Entry) (status : Status) : Type 0 where
+  pub place : ℕ
+  pub answer : status ≡ BadMemory (GoneDevice (place + 1))
+  pub first : first_gone entries 0 devices ≡ Some place
 
--- a memory was opened, and closed as it was left
-pub record HasOpened {F R M W : Type 0} (told : ToldMemories F M) (r : source.Ghosts R)
-    (m : memory.Ghosts M) (w : sink.Ghosts W) (values : DeskValues) (name : List ℕ)
-    (memories memories_after : F) (old new : Ports R W) (status : Status) : Type 0 where
-  pub opened : M
-  pub left : M
-  pub entries : List Entry
-  pub found : IsOpened told m memories name opened entries
-  pub meets : Meets r m w values entries opened left old new status
-  pub closed : told.left memories_after ≡ Some left
+-- what came of a memory that has these entries: a key is taken, a device is gone or memory ran out,
+-- and it stays as it is, or the desk served the source
+abbrev pub Meets : {R M W : Type 0} → source.Ghosts R → memory.Ghosts M → sink.Ghosts W
+    → DeskValues → Ports R W → Ports R W → Status → List ℕ → List Entry → M → M → Type 0
+Meets r m w values old new status desk entries opened left =
+    ((IsTaken values.devices entries status ⊎ IsGone values.devices entries status
+    ⊎ (status ≡ Memory)) × (left ≡ opened) × (new ≡ old))
+    ⊎ (KeysStandApart sha256 values.devices entries
+    × (first_gone entries 0 values.devices ≡ None)
+    × HasServed r m w (desk_over values entries) opened left old new status)
 
 -- the desk of these files served the source: with no memory, or over that of a name
 abbrev pub ServesFrom : {F R M W : Type 0} → ToldMemories F M → source.Ghosts R
-    → memory.Ghosts M → sink.Ghosts W → DeskValues → Option (List ℕ) → F → F → Ports R W
-    → Ports R W → Status → Type 0
-ServesFrom told r m w values None memories memories_after old new status =
+    → memory.Ghosts M → (M → List ℕ) → sink.Ghosts W → DeskValues → Option (List ℕ) → F → F
+    → Ports R W → Ports R W → Status → Type 0
+ServesFrom told r m desk_of w values None memories memories_after old new status =
     (memories_after ≡ memories)
     × ((opened : NoMemory) × (left : NoMemory)
     × HasServed r forgets w (desk_over values []) opened left old new status)
-ServesFrom told r m w values (Some name) memories memories_after old new status =
-    (LacksMemory told memories memories_after name status × (new ≡ old))
-    ⊎ HasOpened told r m w values name memories memories_after old new status
+ServesFrom told r m desk_of w values (Some name) memories memories_after old new status =
+    UsesIf told m desk_of memories memories_after name status (new ≡ old)
+    (Meets r m w values old new status)
 
--- an answer that only a memory gives
-abbrev pub IsOfMemory : Option (List ℕ) → Status → Type 0
-IsOfMemory None status = ⊥
-IsOfMemory (Some name) status =
-    (status ≡ BadMemory) ⊎ (status ≡ InUse) ⊎ (status ≡ Unwritten)
-    ⊎ ((number : ℕ) × (status ≡ TakenKey number))
+-- a memory of a name can be opened and served: nothing hinders that, the keys of these devices
+-- stand apart in it, and none is gone
+abbrev pub MayServe : {F M : Type 0} → ToldMemories F M → memory.Ghosts M → List DeviceKey
+    → Option (List ℕ) → F → F → Type 0
+MayServe told m devices None old new = Unit {0}
+MayServe told m devices (Some name) old new =
+    IsUnhindered told m old new name
+    × ((desk : List ℕ) (entries : List Entry) → told.finds old name desk entries
+    → KeysStandApart sha256 devices entries × (first_gone entries 0 devices ≡ None))
 
 -- a source gave no more than the limit, told or not, and that much where this is the answer
 pub record KeepsLimit {R : Type 0} (r : source.Ghosts R) (old new : R) (status : Status)
@@ -137,9 +138,9 @@ pub record KeepsLimit {R : Type 0} (r : source.Ghosts R) (old new : R) (status :
 
 -- an answer to arguments that may name its files
 pub record IsDeskAnswer {S F R M W : Type 0} (s : shelves.Ghosts S) (told : ToldMemories F M)
-    (r : source.Ghosts R) (m : memory.Ghosts M) (w : sink.Ghosts W) (shelf shelf_after : S)
-    (memories memories_after : F) (old new : Ports R W) (names : Option DeskNames)
-    (status : Status) : Type 0 where
+    (r : source.Ghosts R) (m : memory.Ghosts M) (desk_of : M → List ℕ) (w : sink.Ghosts W)
+    (shelf shelf_after : S) (memories memories_after : F) (old new : Ports R W)
+    (names : Option DeskNames) (status : Status) : Type 0 where
   pub words : (status ≡ Words) ↔ (names ≡ None)
   pub unread : status ≡ Words
       → (shelf_after ≡ shelf) × (memories_after ≡ memories) × (new ≡ old)
@@ -147,9 +148,9 @@ pub record IsDeskAnswer {S F R M W : Type 0} (s : shelves.Ghosts S) (told : Told
   pub answers : IfSome names (λ names.
       IsRefused s shelf shelf_after memories memories_after old new names status
       ⊎ ((values : DeskValues) × Reaches (s.files shelf) (desk_row names) (Ok values)
-      × ServesFrom told r m w values names.memory memories memories_after old new status))
-  -- where files and lines are told, no file is refused, the lines are not too many, and no fault
-  -- was counted, all lines were answered or memory ran out, or it is an answer of the memory
+      × ServesFrom told r m desk_of w values names.memory memories memories_after old new status))
+  -- where files and lines are told, no file is refused, the lines are not too many, no fault was
+  -- counted, and the memory can be served, all lines were answered or memory ran out
   pub complete : IfSome names (λ names. IfSome (s.files shelf) (λ contents.
       IfSome (r.left old.source) (λ lines.
       first_refusal (desk_row names) contents ≡ None
@@ -157,7 +158,9 @@ pub record IsDeskAnswer {S F R M W : Type 0} (s : shelves.Ghosts S) (told : Told
       → ¬ Rose (s.faults shelf) (s.faults shelf_after)
       → ¬ Rose (r.faults old.source) (r.faults new.source)
       → ¬ Rose (w.faults old.sink) (w.faults new.sink)
-      → (status ≡ Done) ⊎ (status ≡ Memory) ⊎ IsOfMemory names.memory status)))
+      → ((values : DeskValues) → Reaches (s.files shelf) (desk_row names) (Ok values)
+      → MayServe told m values.devices names.memory memories memories_after)
+      → (status ≡ Done) ⊎ (status ≡ Memory))))
   pub limit : KeepsLimit r old.source new.source status
   pub kept : KeepsFiles s.files s.faults s.misses shelf shelf_after
   pub source_counted : r.faults old.source ≤ r.faults new.source

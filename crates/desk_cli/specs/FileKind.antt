@@ -7,12 +7,11 @@ use Rattle.text_scan.specs.Reader.{◌>>=◌}
 use Rattle.report_verifier.specs.Policy.{PolicyFields}
 use Rattle.report_verifier.specs.PolicyGrammar.{policy_of}
 use Rattle.report_verifier.specs.Verdict.{same_version}
-use Rattle.desk_memory.specs.Entry.{Entry}
 use Rattle.verifier_desk.specs.DeviceKey.{DeviceKey, devices_of}
 use Rattle.input_files.specs.declared.bad_file.BadFile.TheVariants as bad
 use Rattle.input_files.specs.Limit.{policy_limit}
 use Rattle.input_files.specs.Row.{FileKind}
-use Rattle.desk_cli.specs.StateFile.{states_of}
+use Rattle.desk_cli.specs.StateFile.{NumberedEntries, numbered_entries_of}
 
 -- the longest file of keys, in bytes
 abbrev pub keys_limit : ℕ
@@ -42,5 +41,6 @@ abbrev pub states_limit : ℕ
 states_limit = 4194304
 
 -- the states of a memory, as `states` prints them
-abbrev pub states_kind : FileKind (List Entry)
-states_kind = record { limit = states_limit; grammar = states_of; refusal = bad.States }
+abbrev pub states_kind : FileKind NumberedEntries
+states_kind =
+    record { limit = states_limit; grammar = numbered_entries_of; refusal = bad.States }

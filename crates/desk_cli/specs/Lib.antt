@@ -1,9 +1,12 @@
+pub mod Adopt
 pub mod Desk
 pub mod Edge
 pub mod FileKind
+pub mod Founding
 pub mod MemoryFiles
+pub mod Move
+pub mod Noting
 pub mod ReadBack
-pub mod Remember
 pub mod Run
 pub mod StateFile
 pub mod States

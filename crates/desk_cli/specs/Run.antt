@@ -12,4 +12,7 @@ abbrev pub HasNoCommand : List (List ℕ) → Type 0
 HasNoCommand arguments =
     (arguments_behind (codes "desk") arguments ≡ None)
     × (arguments_behind (codes "states") arguments ≡ None)
+    × (arguments_behind (codes "found") arguments ≡ None)
     × (arguments_behind (codes "remember") arguments ≡ None)
+    × (arguments_behind (codes "move") arguments ≡ None)
+    × (arguments_behind (codes "adopt") arguments ≡ None)

@@ -1,20 +1,26 @@
 -- The entries of a text that `states` printed, or its first fault.
-use Rattle.std.specs.Prelude.{ℕ, ◌==◌, ◌&&◌, Bool, true, List, [], ◌∷◌, ◌++◌, length, if◌then◌else◌, Option, Some, None, Result, Ok, Err, codes}
+use Rattle.std.specs.Prelude.{ℕ, ◌==◌, ◌&&◌, Bool, true, List, [], ◌∷◌, ◌++◌, length, if◌then◌else◌, nat_le, not, Option, Some, None, Result, Ok, Err, codes}
 use Rattle.std.specs.Str.{bytes_eq}
 use Rattle.text_scan.specs.declared.fault_at.FaultAt.{FaultAt}
 use Rattle.text_scan.specs.declared.fault_kind.FaultKind.{FaultKind}
-use Rattle.text_scan.specs.declared.fault_kind.FaultKind.TheVariants.{Twice}
+use Rattle.text_scan.specs.declared.fault_kind.FaultKind.TheVariants.{Order, Range, Twice}
 use Rattle.text_scan.specs.Decimal.{decimal_of}
+use Rattle.text_scan.specs.Line.{text_lines}
 use Rattle.text_scan.specs.LineFold.{text_fold}
 use Rattle.text_scan.specs.Reader.{◌>>=◌}
-use Rattle.text_scan.specs.Word.{words_of, word_of, keyword_of, end_of}
-use Rattle.text_scan.specs.WordValue.{block_of, number_of}
+use Rattle.text_scan.specs.Word.{words_of, word_of, keyword_of, end_of, is_passed_over}
+use Rattle.text_scan.specs.WordValue.{block_of, number_of, value_of}
 use Rattle.desk_memory.specs.declared.answer.Answer.{Answer}
+use Rattle.desk_memory.specs.declared.answer.Answer.TheVariants.{Requested}
 use Rattle.desk_memory.specs.declared.device_state.DeviceState.{DeviceState}
 use Rattle.desk_memory.specs.AnswerRead.{answer_of, most_number}
-use Rattle.desk_memory.specs.Entry.{Entry, owner_in, with_entry}
+use Rattle.desk_memory.specs.Entry.{Entry, Home, first_home, last_in, owner_in}
 use Rattle.desk_memory.specs.EntryPlace.{place_for}
 use Rattle.verifier_desk.specs.DeviceKey.{name_fault}
+use Rattle.verifier_desk.specs.DeviceReply.{LAST_COUNT}
+use Rattle.desk_cli.specs.declared.line_form.LineForm.{LineForm}
+use Rattle.desk_cli.specs.declared.line_form.LineForm.TheVariants.{VersionOne, Here, Gone}
+use Rattle.desk_cli.specs.StateText.{form_names}
 
 -- a decimal of at most so much, or `none`
 unfoldable pub number_in : ℕ → List ℕ → Result (Option ℕ) FaultKind
@@ -56,22 +62,41 @@ state_of words = do
   last ← last_of outstanding.1
   Ok (record { count = count.0; outstanding = outstanding.0; last = last.0 }, last.1)
 
--- `state NAME key H32 count N outstanding N|none last R ANSWER|none`
+-- the name of a device or of a desk
+unfoldable pub name_of : List (List ℕ) → Result (List ℕ × List (List ℕ)) FaultKind
+name_of words = do
+  name ← word_of words
+  sound ← name_fault name.0
+  Ok name
+
+unfoldable pub moves_of : Option (List ℕ) → List (List ℕ) → Result (Home × List (List ℕ)) FaultKind
+moves_of gone words = do
+  rest ← keyword_of (codes "moves") words
+  moves ← number_of 0 most_number rest
+  Ok (record { moves = moves.0; gone = gone }, moves.1)
+
+-- what a line of a form says of its device's home
+unfoldable pub home_said : LineForm → List (List ℕ) → Result (Home × List (List ℕ)) FaultKind
+home_said VersionOne words = Ok (first_home, words)
+home_said Here words = moves_of None words
+home_said Gone words = do
+  rest ← keyword_of (codes "to") words
+  desk ← name_of rest
+  moves_of (Some desk.0) desk.1
+
+-- `state2 NAME moves M key H32 count N outstanding N|none last R ANSWER|none` of a device that is
+-- here, `moved NAME to DESK moves M ..` of one that is gone, and `state NAME ..`, as version 1 had
+-- it, of one that has not moved
 unfoldable pub entry_of : List (List ℕ) → Result Entry FaultKind
 entry_of words = do
-  rest ← keyword_of (codes "state") words
-  name ← word_of rest
-  sound ← name_fault name.0
-  key ← keyword_of (codes "key") name.1
+  form ← value_of form_names words
+  name ← name_of form.1
+  home ← home_said form.0 name.1
+  key ← keyword_of (codes "key") home.1
   mark ← block_of 16 key
   state ← state_of mark.1
   end ← end_of state.1
-  Ok (record { name = name.0; mark = mark.0; state = state.0 })
-
--- entries after further ones were noted in their order
-abbrev pub entries_with : List Entry → List Entry → List Entry
-entries_with had [] = had
-entries_with had (entry ∷ entries) = entries_with (with_entry had entry) entries
+  Ok (record { name = name.0; mark = mark.0; state = state.0; home = home.0 })
 
 -- a key stands under this name or under none
 abbrev pub is_owner : List ℕ → Option (List ℕ) → Bool
@@ -83,9 +108,42 @@ abbrev pub goes_behind : List Entry → Entry → Bool
 goes_behind entries entry =
     (place_for entries entry == length entries) && is_owner entry.name (owner_in entries entry.mark)
 
+-- a request of the last answer is one of those that were made, and more can be made
+abbrev pub is_answer_made : ℕ → Option (ℕ × Answer) → Bool
+is_answer_made count (Some (number, Requested request)) = nat_le request count
+is_answer_made count last = true
+
+abbrev pub is_in_range : DeviceState → Bool
+is_in_range state = is_answer_made state.count state.last && not (state.count == LAST_COUNT)
+
+-- an entry goes on from its device's last before it: neither the count, nor the number of the last
+-- line, nor that of moves falls
+abbrev pub last_number : Option (ℕ × Answer) → ℕ
+last_number None = 0
+last_number (Some last) = last.0
+
+abbrev pub goes_on_from : Entry → Entry → Bool
+goes_on_from last entry =
+    nat_le last.state.count entry.state.count
+    && nat_le (last_number last.state.last) (last_number entry.state.last)
+    && nat_le last.home.moves entry.home.moves
+
+abbrev pub goes_on : Option Entry → Entry → Bool
+goes_on None entry = true
+goes_on (Some last) entry = goes_on_from last entry
+
+-- what is wrong with an entry behind these
+abbrev pub entry_fault : List Entry → Entry → Result Unit FaultKind
+entry_fault entries entry =
+    if not (is_in_range entry.state) then Err Range
+    else if not (goes_behind entries entry) then Err Twice
+    else if not (goes_on (last_in entries entry.name) entry) then Err Order
+    else Ok tt
+
 abbrev pub with_new_entry : List Entry → Entry → Result (List Entry) FaultKind
-with_new_entry entries entry =
-    if goes_behind entries entry then Ok (entries ++ entry ∷ []) else Err Twice
+with_new_entry entries entry = do
+  sound ← entry_fault entries entry
+  Ok (entries ++ entry ∷ [])
 
 unfoldable pub with_line : List Entry → List ℕ → Result (List Entry) FaultKind
 with_line entries line = do
@@ -95,3 +153,19 @@ with_line entries line = do
 -- the entries in the order of the lines, or the first fault
 abbrev pub states_of : List ℕ → Result (List Entry) FaultAt
 states_of text = text_fold with_line [] text
+
+-- the numbers of those lines that say something
+abbrev pub said_numbers : List (ℕ × List ℕ) → List ℕ
+said_numbers [] = []
+said_numbers (line ∷ lines) =
+    if is_passed_over line.1 then said_numbers lines else line.0 ∷ said_numbers lines
+
+-- the entries, and the numbers of their lines
+pub record NumberedEntries : Type 0 where
+  pub entries : List Entry
+  pub numbers : List ℕ
+
+abbrev pub numbered_entries_of : List ℕ → Result NumberedEntries FaultAt
+numbered_entries_of text = do
+  entries ← states_of text
+  Ok (record { entries = entries; numbers = said_numbers (text_lines text) })

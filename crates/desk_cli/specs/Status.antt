@@ -7,13 +7,18 @@ use Rattle.verifier_desk.specs.declared.served.Served.{Served}
 use Rattle.verifier_desk.specs.declared.served.Served.TheVariants as served
 use Rattle.input_files.specs.declared.status.Status.{Status}
 use Rattle.input_files.specs.declared.status.Status.TheVariants as status
+use Rattle.input_files.specs.declared.unfit.Unfit.TheVariants as unfit
 
--- where a memory was not opened
+-- where a memory was not opened or made
 abbrev pub status_of_unopened : MemoryFileFault → Status
+status_of_unopened opened.Missing = status.BadMemory unfit.Missing
 status_of_unopened opened.Place = status.Unwritten
 status_of_unopened opened.InUse = status.InUse
-status_of_unopened opened.HotJournal = status.BadMemory
-status_of_unopened opened.Foreign = status.BadMemory
+status_of_unopened opened.HotJournal = status.BadMemory unfit.Foreign
+status_of_unopened opened.Unfounded = status.BadMemory unfit.Unfounded
+status_of_unopened opened.Founded = status.BadMemory unfit.Founded
+status_of_unopened opened.OtherLog = status.BadMemory unfit.OtherLog
+status_of_unopened opened.Foreign = status.BadMemory unfit.Foreign
 status_of_unopened opened.Disk = status.Unwritten
 status_of_unopened opened.Full = status.Unwritten
 status_of_unopened opened.OutOfMemory = status.Memory

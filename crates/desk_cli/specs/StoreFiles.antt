@@ -1,5 +1,5 @@
--- The memories of the file system: what is found in the one that is opened.
-use Rattle.std.specs.Prelude.{◌≡◌, ℕ, List, [], Option, Some, None, IsTrue}
+-- The memories of the file system: what is found in the one that is opened or made.
+use Rattle.std.specs.Prelude.{◌≡◌, Bool, true, false, ℕ, List, Option, Some, None, IsTrue, ⊤}
 use Rattle.sqlite_disk.specs.declared.Disk.{Ghosts}
 use Rattle.sqlite_wal.specs.Files.{IsHuge, outcomes}
 use Rattle.sqlite_wal.specs.Recovery.{Image}
@@ -9,42 +9,61 @@ use Rattle.sqlite_store.specs.FileStore.{recovers}
 use Rattle.sqlite_store.specs.Unopened.{StopsCreating, state_of}
 use Rattle.desk_memory.specs.Entry.{Entry}
 use Rattle.desk_memory.specs.SizedEntry.{are_sized}
-use Rattle.state_table.specs.Rows.{rows_from}
-use Rattle.memory_file.specs.Held.{HasEntries, HoldsMemory, HoldsNothing}
-use Rattle.memory_file.specs.Opening.{IsCleanLeft, Leaves, faults_of, image_of}
+use Rattle.state_table.specs.Table.{FindsEntries, IsMemoryOf}
+use Rattle.memory_file.specs.Held.{HoldsMemory, IsKept, IsSpared}
+use Rattle.memory_file.specs.Log.{stored_page}
+use Rattle.memory_file.specs.Opening.{IsCleanLeft, Leaves, WhyUnmade, WhyUnopened, faults_of, image_of}
 use Rattle.memory_file.specs.declared.left.Left.{Left}
 use Rattle.memory_file.specs.declared.left.Left.TheVariants as left
+use Rattle.memory_file.specs.declared.memory_file_fault.MemoryFileFault.{MemoryFileFault}
+use Rattle.memory_file.specs.declared.memory_file_fault.MemoryFileFault.TheVariants.{Missing, Place, InUse, HotJournal}
+use Rattle.desk_cli.specs.declared.refusals.Refusals.{Refusals}
 use Rattle.desk_cli.specs.MemoryFiles.{ToldMemories}
 
--- files with this image hold the rows of these entries, or nothing, and there are none
-pub record FindsIn (image : Image) (entries : List Entry) : Type 0 where
-  pub holds : (db : Trees) → HoldsMemory image db → db 0 ≡ rows_from 0 entries
-  pub nothing : HoldsNothing image → entries ≡ []
+-- the faults with which a path is refused, before anything is read, and how often it was
+abbrev pub IsRefused : MemoryFileFault → Type 0
+IsRefused Missing = ⊤
+IsRefused Place = ⊤
+IsRefused InUse = ⊤
+IsRefused HotJournal = ⊤
+IsRefused fault = ⊥
+
+abbrev pub refused_with : Refusals → MemoryFileFault → ℕ
+refused_with refusals Missing = refusals.missing
+refused_with refusals Place = refusals.places
+refused_with refusals InUse = refusals.locks
+refused_with refusals HotJournal = refusals.journals
+refused_with refusals fault = 0
+
+-- a memory that files with this image hold is of this desk and has these entries
+pub record FindsIn (image : Image) (desk : List ℕ) (entries : List Entry) : Type 0 where
+  pub holds : (db : Trees) → HoldsMemory image db → IsMemoryOf db desk entries
   pub sized : IsTrue (are_sized entries)
 
-abbrev pub IsMemory : Image → Type 0
-IsMemory image = ∥ HasEntries image ∥₁
+-- a crash leaves what an open spares, or else what a making keeps
+abbrev pub keeps_as : Bool → Type 0 → Image → Image → Type 0
+keeps_as false = IsSpared
+keeps_as true = IsKept
 
 module _ {D : Type 0} {g : Ghosts D} where
-  -- the entries that are found in what is left of files, now or after a crash
-  abbrev pub FindsLeft : Left D g → List Entry → Type 0
-  FindsLeft (left.Files files) entries =
-      (after : Image) × outcomes g files.log files.db after × FindsIn after entries
-  FindsLeft (left.Unopened files) entries =
-      (after : Image) × (state_of files).may_leave after × FindsIn after entries
-  FindsLeft (left.Store store) entries =
-      (db : Trees) × recovers store db × (db 0 ≡ rows_from 0 entries)
-      × IsTrue (are_sized entries)
+  -- the desk and the entries that are found in what is left of files, now or after a crash
+  abbrev pub FindsLeft : Left D g → List ℕ → List Entry → Type 0
+  FindsLeft (left.Files files) desk entries =
+      (after : Image) × outcomes g files.log files.db after × FindsIn after desk entries
+  FindsLeft (left.Unopened files) desk entries =
+      (after : Image) × (state_of files).may_leave after × FindsIn after desk entries
+  FindsLeft (left.Store store) desk entries = FindsEntries (recovers store) desk entries
 
   -- before a file was opened they are those of the image at the start
-  abbrev pub FindsNow : Image → Option (Left D g) → List Entry → Type 0
-  FindsNow start None entries = FindsIn start entries
-  FindsNow start (Some files) entries = FindsLeft files entries
+  abbrev pub FindsNow : Image → Option (Left D g) → List ℕ → List Entry → Type 0
+  FindsNow start None = FindsIn start
+  FindsNow start (Some files) = FindsLeft files
 
   -- a crash leaves of them what the files held
-  abbrev pub LeavesNow : Image → Option (Left D g) → Type 0
-  LeavesNow start None = Unit {0}
-  LeavesNow start (Some files) = Leaves (λ after. after ≡ start) start files
+  abbrev pub LeavesNow : Bool → Image → Option (Left D g) → Type 0
+  LeavesNow is_making start None = Unit {0}
+  LeavesNow is_making start (Some files) =
+      Leaves (keeps_as is_making) (λ after. after ≡ start) start files
 
   -- where no file was opened nothing was read
   abbrev pub IsHonestNow : Option (Left D g) → Type 0
@@ -62,7 +81,7 @@ module _ {D : Type 0} {g : Ghosts D} where
 
   -- they have too many pages, or more would not fit into them
   abbrev pub IsFullLeft : Left D g → Type 0
-  IsFullLeft (left.Files files) = IsHuge 4096 (image_of g files)
+  IsFullLeft (left.Files files) = IsHuge stored_page (image_of g files)
   IsFullLeft (left.Unopened files) = StopsCreating files
   IsFullLeft (left.Store store) = ⊥
 
@@ -70,19 +89,22 @@ module _ {D : Type 0} {g : Ghosts D} where
   IsFullNow None = ⊥
   IsFullNow (Some files) = IsFullLeft files
 
-  -- what is told of files with this image at the start, by what is left of those that were refused,
-  -- and the memory that was closed
+  -- what is told of files whose images these are at the start, by their names: by whether the one
+  -- that was asked for was to be made, how often paths were refused, what is left of files that
+  -- were, and the memory that was closed
   abbrev pub told_over :
-      {F M : Type 0} → Image → (F → Type 0) → (F → Option (Left D g)) → (F → Option M)
-      → ToldMemories F M
-  told_over start is_unopened left_of closed_of =
+      {F M : Type 0} → (List ℕ → Image) → (F → Type 0) → (F → Bool) → (F → Refusals)
+      → (F → Option (Left D g)) → (F → Option M) → ToldMemories F M
+  told_over start is_unopened is_making refusals_of left_of closed_of =
       record {
         is_unopened = is_unopened;
-        is_memory = λ files name. IsMemory start;
-        finds = λ files name. FindsNow start (left_of files);
-        is_unharmed = λ files name. LeavesNow start (left_of files);
+        unopened_for = λ files name. WhyUnopened (start name);
+        unmade_for = λ files name. WhyUnmade (start name);
+        finds = λ files name. FindsNow (start name) (left_of files);
+        is_unharmed = λ files name. LeavesNow (is_making files) (start name) (left_of files);
         is_honest = λ files. IsHonestNow (left_of files);
         faults = λ files. faults_now (left_of files);
+        refused = λ files. refused_with (refusals_of files);
         is_full = λ files. IsFullNow (left_of files);
         left = closed_of;
       }

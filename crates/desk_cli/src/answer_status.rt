@@ -1,17 +1,25 @@
 ghost use Rattle.std.specs.Prelude.{◌≡◌};
+ghost use Rattle.std.specs.Result.{result_err};
+ghost use Rattle.desk_cli.specs.Noting.{status_of_noted};
 ghost use Rattle.desk_cli.specs.Status.{status_of_served, status_of_unkept, status_of_unopened};
 
 use desk_memory::MemoryFault;
-use input_files::Status;
+use input_files::{Status, Unfit};
 use memory_file::MemoryFileFault;
 use verifier_desk::Served;
 
-/// The answer where a memory was not opened.
+/// The answer where a memory was not opened or made.
 pub fn unopened_status(fault: MemoryFileFault) -> Status
     ensures { result ≡ status_of_unopened fault }
 {
     match fault {
-        MemoryFileFault::Foreign | MemoryFileFault::HotJournal => Status::BadMemory,
+        MemoryFileFault::Missing => Status::BadMemory(Unfit::Missing),
+        MemoryFileFault::Unfounded => Status::BadMemory(Unfit::Unfounded),
+        MemoryFileFault::Founded => Status::BadMemory(Unfit::Founded),
+        MemoryFileFault::OtherLog => Status::BadMemory(Unfit::OtherLog),
+        MemoryFileFault::Foreign | MemoryFileFault::HotJournal => {
+            Status::BadMemory(Unfit::Foreign)
+        }
         MemoryFileFault::InUse => Status::InUse,
         MemoryFileFault::Place | MemoryFileFault::Disk | MemoryFileFault::Full => Status::Unwritten,
         MemoryFileFault::OutOfMemory => Status::Memory,
@@ -39,5 +47,15 @@ pub fn served_status(served: Served) -> Status
         Served::WriteFault => Status::WriteFault,
         Served::Memory => Status::Memory,
         Served::Unkept(fault) => unkept_status(fault),
+    }
+}
+
+/// The answer where entries were to be kept.
+pub fn noted_status(noted: Result<(), MemoryFault>) -> Status
+    ensures { result ≡ status_of_noted (result_err noted) }
+{
+    match noted {
+        Ok(()) => Status::Done,
+        Err(fault) => unkept_status(fault),
     }
 }

@@ -14,11 +14,11 @@ use crate::kind::desk_policy::DeskPolicy;
 use crate::kind::keys::Keys;
 use crate::memory_files::MemoryFiles;
 use desk_memory::{EntryMemory, Memory, NoMemory};
-use input_files::{File, Image, Inputs, RowEnd, Status};
+use input_files::{File, Image, Inputs, RowEnd, Status, Unfit};
 use outside_edge::{Shelf, Sink, Source};
 use report_verifier::Policy;
 use std::alloc::{AllocError, Global};
-use verifier_desk::{Desk, KeyList, first_taken, serve};
+use verifier_desk::{Desk, KeyList, first_gone, first_taken, serve};
 
 /// The row of a desk ends with what its files say.
 pub struct DeskEnd;
@@ -63,7 +63,7 @@ pub fn run_desk<S: Shelf, M: EntryMemory + Drop, F: MemoryFiles<M>, R: Source, W
     source: &mut R,
     sink: &mut W,
 ) -> Status
-    ensures { IsDeskAnswer S.Shelf F.told R.Source M.Memory W.Sink shelf.old shelf.new
+    ensures { IsDeskAnswer S.Shelf F.told R.Source M.Memory M.desk_of W.Sink shelf.old shelf.new
         memories.old memories.new (record { source = source.old; sink = sink.old })
         (record { source = source.new; sink = sink.new })
         (desk_names_of (texts arguments.now)) result }
@@ -86,7 +86,7 @@ fn serve_files<M: EntryMemory + Drop, F: MemoryFiles<M>, R: Source, W: Sink>(
     source: &mut R,
     sink: &mut W,
 ) -> Status
-    ensures served { ServesFrom F.told R.Source M.Memory W.Sink
+    ensures served { ServesFrom F.told R.Source M.Memory M.desk_of W.Sink
         (record {
           devices = values.0;
           image = byte_in values.1.0;
@@ -131,7 +131,8 @@ fn serve_alone<R: Source, W: Sink>(
     serve_from(alloc, desk, &mut NoMemory, source, sink)
 }
 
-// Serves the source over a memory that was opened, where each key stands under its own name there.
+// Serves the source over a memory that was opened, where each key stands under its own name there,
+// and no device is gone.
 fn serve_over<M: EntryMemory, R: Source, W: Sink>(
     alloc: Global,
     values: FileValues,
@@ -147,8 +148,9 @@ fn serve_over<M: EntryMemory, R: Source, W: Sink>(
           image = byte_in values.1.0;
           policy = values.1.1;
         })
-        entries memory.old memory.new (record { source = source.old; sink = sink.old })
-        (record { source = source.new; sink = sink.new }) result) }
+        (record { source = source.old; sink = sink.old })
+        (record { source = source.new; sink = sink.new }) result (M.desk_of memory.old) entries
+        memory.old memory.new) }
     ensures source_faults { R.faults source.old ≤ R.faults source.new }
     ensures sink_faults { W.faults sink.old ≤ W.faults sink.new }
 {
@@ -156,8 +158,11 @@ fn serve_over<M: EntryMemory, R: Source, W: Sink>(
     let entries = memory.entries();
     match first_taken(alloc, &keys, entries) {
         Ok(None) => {}
-        Ok(Some(place)) => return Status::TakenKey(place as u64 + 1),
+        Ok(Some(place)) => return Status::BadMemory(Unfit::TakenKey(place as u64 + 1)),
         Err(_) => return Status::Memory,
+    }
+    if let Some(place) = first_gone(&keys, entries) {
+        return Status::BadMemory(Unfit::GoneDevice(place as u64 + 1));
     }
     let desk = Desk::new(alloc, keys, image, policy, entries);
     serve_from(alloc, desk, memory, source, sink)

@@ -8,12 +8,19 @@
 //! [`StoreFiles`] are the memories, standard input and standard output.
 #![tactic(auto)]
 
+mod adopting;
 mod answer_status;
 mod desk;
+mod entry_fault;
+mod founding;
 mod kind;
 mod law;
+mod line_form;
 mod memory_files;
-mod remember;
+mod moving;
+mod note_all;
+mod numbered_entries;
+mod refusals;
 pub mod run;
 mod state_entry;
 mod state_line;
@@ -21,6 +28,7 @@ mod state_list;
 mod states;
 mod store_files;
 
+pub use law::{states_read_back, version_one_reads_back};
 pub use memory_files::MemoryFiles;
 pub use state_list::{StateList, read_states};
 pub use store_files::{FileMemory, StoreFiles};

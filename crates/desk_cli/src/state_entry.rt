@@ -1,28 +1,70 @@
-ghost use Rattle.std.specs.Prelude.{◌≡◌};
-ghost use Rattle.text_scan.specs.Reader.{ReadsOn, ReadsWord};
+ghost use Rattle.std.specs.Prelude.{◌≡◌, option_map};
+ghost use Rattle.text_scan.specs.Reader.{ReadsOn, ReadsWord, value_as};
 ghost use Rattle.text_scan.specs.Word.{words_of};
 ghost use Rattle.desk_memory.specs.AnswerRead.{answer_of, answer_with};
-ghost use Rattle.desk_cli.specs.StateFile.{entry_of, last_of, last_with, number_in, outstanding_of, state_of};
+ghost use Rattle.desk_memory.specs.Entry.{home_fields};
+ghost use Rattle.desk_cli.specs.StateFile.{entry_of, home_said, last_of, last_with, moves_of, name_of, number_in, outstanding_of, state_of};
 
-use desk_memory::{Answer, DeviceState, Entry, MARK};
+use crate::line_form::LineForm;
+use desk_memory::{Answer, DeviceState, Entry, Home, MARK};
 use std::alloc::Global;
 use text_scan::{FaultKind, WordFault, Words, decimal};
 use verifier_desk::check_name;
 
-/// The entry of a line `state NAME key H32 count N outstanding N|none last R ANSWER|none`.
+/// The entry of a line of any form.
 #[tactic(auto, unfolding(crate::specs::StateFile::entry_of))]
 pub fn read_entry(alloc: Global, line: &[u8]) -> Result<Entry, WordFault>
     ensures { ReadsWord result (entry_of (words_of line.now)) }
 {
     let mut words = Words::new(line);
-    words.keyword(b"state")?;
-    let name = words.word()?;
-    check_name(name)?;
+    let form = words.value::<LineForm>()?;
+    let name = read_name(&mut words)?;
+    let home = read_home(form, &mut words)?;
     words.keyword(b"key")?;
     let mark = words.block::<MARK>()?;
     let state = read_state(&mut words)?;
     words.end()?;
-    Entry::new(alloc, name, &mark, state).map_err(WordFault::Memory)
+    Entry::new(alloc, name, &mark, state, home).map_err(WordFault::Memory)
+}
+
+// The name of a device or of a desk.
+#[tactic(auto, unfolding(crate::specs::StateFile::name_of))]
+fn read_name<'a>(words: &mut Words<'a>) -> Result<&'a [u8], FaultKind>
+    ensures { ReadsOn (value_as (λ name. name.now) result) words.new (name_of words.old) }
+{
+    let name = words.word()?;
+    check_name(name)?;
+    Ok(name)
+}
+
+// What a line of this form says of its device's home.
+#[tactic(auto, unfolding(crate::specs::StateFile::home_said))]
+fn read_home<'a>(form: LineForm, words: &mut Words<'a>) -> Result<Home<'a>, FaultKind>
+    ensures { ReadsOn (value_as home_fields result) words.new (home_said form words.old) }
+{
+    match form {
+        LineForm::VersionOne => Ok(Home {
+            moves: 0,
+            gone: None,
+        }),
+        LineForm::Here => read_moves(None, words),
+        LineForm::Gone => {
+            words.keyword(b"to")?;
+            let desk = read_name(words)?;
+            read_moves(Some(desk), words)
+        }
+    }
+}
+
+// How often a device has moved that is gone to this desk, or is here.
+#[tactic(auto, unfolding(crate::specs::StateFile::moves_of))]
+fn read_moves<'a>(gone: Option<&'a [u8]>, words: &mut Words<'a>) -> Result<Home<'a>, FaultKind>
+    ensures { ReadsOn (value_as home_fields result) words.new
+        (moves_of (option_map (λ desk. desk.now) gone.entry) words.old) }
+{
+    words.keyword(b"moves")?;
+    let moves = words.number(0, u64::from(u32::MAX))? as u32;
+    Ok(Home { moves, gone })
 }
 
 #[tactic(auto, unfolding(crate::specs::StateFile::state_of))]

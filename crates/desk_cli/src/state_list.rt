@@ -1,14 +1,14 @@
 ghost use Rattle.std.specs.Prelude.{◌≡◌, ◌++◌, ◌∷◌, []};
 ghost use Rattle.text_scan.specs.LineFold.{TakesLine};
 ghost use Rattle.text_scan.specs.Reader.{Reads};
-ghost use Rattle.desk_memory.specs.Entry.{owner_in};
-ghost use Rattle.desk_cli.specs.StateFile.{goes_behind, is_owner, states_of, with_line, with_new_entry};
+ghost use Rattle.desk_cli.specs.StateFile.{states_of, with_line, with_new_entry};
 
+use crate::entry_fault::check_entry;
 use crate::state_entry::read_entry;
-use desk_memory::{Entry, owner_of, place_for};
+use desk_memory::Entry;
 use std::alloc::Global;
 use std::marker::Model;
-use text_scan::{FaultKind, LineReader, TextFault, WordFault, read_text};
+use text_scan::{LineReader, TextFault, WordFault, read_text};
 
 /// The entries of a text of states in its order.
 #[derive(Drop)]
@@ -19,14 +19,13 @@ pub struct StateList {
 /// Seen as its entries.
 impl Model for StateList {
     ghost use Rattle.std.specs.Prelude.{◌≡◌, [], List};
-    ghost use Rattle.desk_memory.specs.Entry.{Entry as EntryFields};
-    ghost use Rattle.desk_cli.specs.StateFile.{entries_with};
+    ghost use Rattle.desk_memory.specs.Entry.{Entry as EntryFields, with_entries};
 
     ghost Value = { List EntryFields };
 
     ghost view = { λ list. list.entries.items };
 
-    ghost invariant = { λ list. entries_with [] list.entries.items ≡ list.entries.items };
+    ghost invariant = { λ list. with_entries [] list.entries.items ≡ list.entries.items };
 }
 
 impl<'a> LineReader<'a> for StateList {
@@ -54,35 +53,16 @@ impl StateList {
         &self.entries
     }
 
-    // Puts an entry behind the others, where it goes there and its key has no other name.
+    // Puts an entry behind the others, where nothing is wrong with it there.
     #[tactic(auto, using(crate::proofs::StatesBehind::add_keeps))]
     fn add(&mut self, entry: Entry) -> Result<(), WordFault>
         ensures { TakesLine result self.new (with_new_entry self.old entry) }
     {
-        if !goes_behind(&self.entries, &entry) {
-            return Err(WordFault::Kind(FaultKind::Twice));
-        }
+        check_entry(&self.entries, &entry)?;
         match self.entries.push(entry) {
             Ok(()) => Ok(()),
             Err(error) => Err(WordFault::Memory(error.into())),
         }
-    }
-}
-
-// Whether an entry goes behind these, and its key stands under no other name.
-fn goes_behind(entries: &[Entry], entry: &Entry) -> bool
-    ensures { result ≡ goes_behind entries.now entry.now }
-{
-    place_for(entries, entry) == entries.len() && is_owner(entries, entry)
-}
-
-// Whether the key of an entry stands under its name or under none.
-fn is_owner(entries: &[Entry], entry: &Entry) -> bool
-    ensures { result ≡ is_owner entry.now.name (owner_in entries.now entry.now.mark) }
-{
-    match owner_of(entries, entry.mark()) {
-        None => true,
-        Some(owner) => owner == entry.name(),
     }
 }
 

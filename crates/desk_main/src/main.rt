@@ -10,6 +10,7 @@ use crate::version::VERSION;
 use desk_cli::StoreFiles;
 use desk_cli::run::run;
 use input_files::{Status, exit_with, given_arguments, own_text, print_text};
+use memory_file::SystemPlaces;
 use outside_edge::{BufferedSink, Failed, FileShelf, Sink, StdSink, StdSource, SystemFiles};
 use sqlite_std_file::{Start, Wary};
 use std::process::ExitCode;
@@ -46,10 +47,10 @@ fn answer(rt: &HostRuntime, arguments: &[String]) -> Status {
     }
 }
 
-// Runs the arguments over the files and memories of the file system and standard input. `start`
-// stands for what a memory's files hold. Where standard input is closed, the first file that is
-// opened takes its descriptor: let it be a folder, which no read of standard input can take for its
-// bytes.
+// Runs the arguments over the files and memories of the file system and standard input, and ends
+// the use of the memory. `start` stands for what a memory's files hold. Where standard input is
+// closed, the first file that is opened takes its descriptor: let it be a folder, which no read of
+// standard input can take for its bytes.
 fn run_into<S: Start, W: Sink>(
     rt: &HostRuntime,
     arguments: &[String],
@@ -58,14 +59,16 @@ fn run_into<S: Start, W: Sink>(
 ) -> Status {
     let _folder = fs::open(rt, "/");
     let mut shelf = FileShelf::new(SystemFiles::new(rt));
-    let mut memories = StoreFiles::new(rt, start);
+    let mut memories = StoreFiles::new(rt.alloc(), SystemPlaces::new(rt, start));
     let mut source = StdSource::new(rt.reader());
-    run(
+    let status = run(
         rt.alloc(),
         arguments,
         &mut shelf,
         &mut memories,
         &mut source,
         output,
-    )
+    );
+    memories.end();
+    status
 }

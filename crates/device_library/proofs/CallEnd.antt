@@ -3,7 +3,7 @@ use Rattle.std.proofs.Common.{rules, ◌≡◌, [], ℕ, List, Option, Some, Non
 use Rattle.outside_edge.specs.Count.{Rose}
 use Rattle.outside_edge.specs.Shelf.{SureShelf}
 use Rattle.input_files.specs.declared.status.Status.{Status}
-use Rattle.input_files.specs.declared.status.Status.TheVariants.{Done, Rejected, Words, Absent, ReadFault, WriteFault, Memory, Bad, Spent, BadMemory, TakenKey, InUse, Unwritten}
+use Rattle.input_files.specs.declared.status.Status.TheVariants.{Done, Rejected, Words, Absent, ReadFault, WriteFault, Memory, Bad, Spent, BadMemory, InUse, Unwritten}
 use Rattle.input_files.specs.Reading.{Files, IsRefusal, first_refusal}
 use Rattle.device_cli.specs.Answer.{Answers, Follows, HasOutcome, PutsAll}
 use Rattle.device_cli.specs.Row.{Row, ending_of}
@@ -103,7 +103,8 @@ told-row shelf shelf_after before after row Done told piece count empty ran (inl
 told-row shelf shelf_after before after row Done told piece count empty ran (inr (is, shows)) =
     rw is (record {
       text = tt;
-      longer = shown-first (Some shelf.files) row Done before after piece count empty shows ran.text;
+      longer = shown-first (Some shelf.files) row Done before after piece count empty shows
+          ran.text;
       refusal = tt;
     })
 told-row shelf shelf_after before after row Rejected told piece count empty ran (inl (is, shows)) =
@@ -151,17 +152,11 @@ told-row shelf shelf_after before after row Spent told piece count empty ran is 
       longer = tt;
       refusal = refused shelf shelf_after before after row Spent piece count (search rules) ran;
     })
-told-row shelf shelf_after before after row BadMemory told piece count empty ran is =
+told-row shelf shelf_after before after row (BadMemory unfit) told piece count empty ran is =
     rw is (record {
       text = tt;
       longer = tt;
-      refusal = refused shelf shelf_after before after row BadMemory piece count (search rules) ran;
-    })
-told-row shelf shelf_after before after row (TakenKey number) told piece count empty ran is =
-    rw is (record {
-      text = tt;
-      longer = tt;
-      refusal = refused shelf shelf_after before after row (TakenKey number) piece count
+      refusal = refused shelf shelf_after before after row (BadMemory unfit) piece count
           (search rules) ran;
     })
 told-row shelf shelf_after before after row InUse told piece count empty ran is =

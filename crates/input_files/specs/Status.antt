@@ -5,7 +5,7 @@ use Rattle.input_files.specs.declared.bad_file.BadFile.TheVariants as bad
 use Rattle.input_files.specs.declared.refusal.Refusal.{Refusal}
 use Rattle.input_files.specs.declared.refusal.Refusal.TheVariants as refusal
 use Rattle.input_files.specs.declared.status.Status.{Status}
-use Rattle.input_files.specs.declared.status.Status.TheVariants.{Done, Rejected, Words, Absent, ReadFault, WriteFault, Memory, Bad, Spent, BadMemory, TakenKey, InUse, Unwritten}
+use Rattle.input_files.specs.declared.status.Status.TheVariants.{Done, Rejected, Words, Absent, ReadFault, WriteFault, Memory, Bad, Spent, BadMemory, InUse, Unwritten}
 
 -- the exit status that says which kind of file has a fault
 abbrev pub code_of_file : BadFile → ℕ
@@ -29,8 +29,7 @@ code_of WriteFault = 5
 code_of Memory = 6
 code_of (Bad fault) = code_of_file fault
 code_of Spent = 15
-code_of BadMemory = 16
-code_of (TakenKey number) = 16
+code_of (BadMemory unfit) = 16
 code_of InUse = 17
 code_of Unwritten = 18
 

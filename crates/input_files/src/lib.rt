@@ -17,6 +17,7 @@ mod program_text;
 mod refusal;
 mod row_end;
 mod status;
+mod unfit;
 
 pub use bad_file::BadFile;
 pub use command_line::given_arguments;
@@ -32,3 +33,4 @@ pub use program_text::{own_text, print_text};
 pub use refusal::Refusal;
 pub use row_end::RowEnd;
 pub use status::Status;
+pub use unfit::Unfit;

@@ -3,6 +3,7 @@ ghost use Rattle.input_files.specs.Status.{code_of, status_of_refusal};
 
 use crate::bad_file::BadFile;
 use crate::refusal::Refusal;
+use crate::unfit::Unfit;
 use thiserror::Error;
 
 /// How a run ended. It displays as the line on standard error, but for `Done`, which has none.
@@ -35,12 +36,9 @@ pub enum Status {
     /// As many bytes were taken of the input as are taken at most.
     #[error("input is too long")]
     Spent,
-    /// The file is no memory of a desk, or is damaged; or a new one was to be made, and it is none.
-    #[error("bad memory: no memory of a desk, or damaged")]
-    BadMemory,
-    /// In the memory the key of the device of this number stands under another name.
-    #[error("bad memory: the key of device {0} stands under another name")]
-    TakenKey(u64),
+    /// The memory is not one that the command asks for.
+    #[error("bad memory: {0}")]
+    BadMemory(Unfit),
     /// Another program has the memory open.
     #[error("memory is in use")]
     InUse,
@@ -64,7 +62,7 @@ impl Status {
             Status::Memory => 6,
             Status::Bad(fault) => fault.code(),
             Status::Spent => 15,
-            Status::BadMemory | Status::TakenKey(_) => 16,
+            Status::BadMemory(_) => 16,
             Status::InUse => 17,
             Status::Unwritten => 18,
         }

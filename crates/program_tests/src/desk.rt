@@ -4,6 +4,7 @@
 mod desk_row;
 mod mem_files;
 mod memory_row;
+mod move_row;
 mod states_row;
 
 ghost use Rattle.std.specs.Prelude.{◌≤◌};

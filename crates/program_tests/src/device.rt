@@ -9,7 +9,7 @@ mod load_row;
 mod request_row;
 
 use device_cli::run::run;
-use input_files::{BadFile, Status};
+use input_files::{BadFile, Status, Unfit};
 use outside_edge::{MemShelf, MemSink};
 use std::alloc::{AllocError, Global};
 use std::process::Abort;
@@ -243,12 +243,12 @@ fn a_status_has_its_number_and_its_line(rt: HostRuntime) -> Result<(), Fail> {
         ),
         (Status::Spent, 15, "input is too long"),
         (
-            Status::BadMemory,
+            Status::BadMemory(Unfit::Foreign),
             16,
             "bad memory: no memory of a desk, or damaged",
         ),
         (
-            Status::TakenKey(3),
+            Status::BadMemory(Unfit::TakenKey(3)),
             16,
             "bad memory: the key of device 3 stands under another name",
         ),

@@ -1,4 +1,4 @@
-use crate::state_list::{StateList, read_states};
+use crate::numbered_entries::{NumberedEntries, read_numbered};
 use input_files::{BadFile, Kind};
 use std::alloc::Global;
 use text_scan::{FaultAt, TextFault};
@@ -11,13 +11,12 @@ const STATES_LIMIT: usize = 4_194_304;
 pub struct States;
 
 impl Kind for States {
-    ghost use Rattle.std.specs.Prelude.{List};
-    ghost use Rattle.desk_memory.specs.Entry.{Entry};
     ghost use Rattle.desk_cli.specs.FileKind.{states_kind};
+    ghost use Rattle.desk_cli.specs.StateFile.{NumberedEntries as Fields};
 
-    type Value = StateList;
+    type Value = NumberedEntries;
 
-    ghost Meaning = { List Entry };
+    ghost Meaning = { Fields };
 
     ghost meaning = { λ states. states };
 
@@ -27,8 +26,8 @@ impl Kind for States {
         STATES_LIMIT
     }
 
-    fn parse(alloc: Global, bytes: Vec<u8>) -> Result<StateList, TextFault> {
-        read_states(alloc, &bytes)
+    fn parse(alloc: Global, bytes: Vec<u8>) -> Result<NumberedEntries, TextFault> {
+        read_numbered(alloc, &bytes)
     }
 
     fn refusal(fault: FaultAt) -> BadFile {

@@ -4,7 +4,10 @@ use memory_file::MemoryFileFault;
 use std::alloc::{AllocError, Global};
 use std::marker::Model;
 
-/// A memory in memory, opened by any name, or never.
+/// The desk that a memory belongs to.
+pub const DESK: &[u8] = b"north";
+
+/// A memory in memory, opened or made by any name, or never.
 #[derive(Drop)]
 pub struct MemFiles {
     alloc: Global,
@@ -32,7 +35,9 @@ impl Model for MemFiles {
 }
 
 impl MemFiles {
-    ghost use Rattle.std.specs.Prelude.{◌≡◌, IfOk, None, Some, false};
+    ghost use Rattle.std.specs.Prelude.{◌≡◌, ◌⊎◌, [], IfErr, IfOk, None, OnOk, Some, false, true};
+    ghost use Rattle.outside_edge.specs.Count.{Rose};
+    ghost use Rattle.memory_file.specs.declared.memory_file_fault.MemoryFileFault.TheVariants.{InUse};
 
     /// A memory of these entries, whose call of this number fails once it is opened.
     pub fn new(alloc: Global, entries: Vec<Entry>, failing: u64) -> MemFiles
@@ -71,30 +76,39 @@ impl MemFiles {
     // The memory, where there is memory for it.
     fn copy(&self) -> Result<MemMemory, AllocError>
         ensures entries { IfOk result (λ memory. memory.entries ≡ self.now.entries) }
-        ensures settled { IfOk result (λ memory. memory.settled ≡ self.now.entries) }
+        ensures settled { IfOk result (λ memory. memory.settled ≡ Some self.now.entries) }
     {
         let entries = copy_of(self.alloc, &self.entries)?;
-        MemMemory::new(self.alloc, entries, [self.failing].to_vec(self.alloc)?)
+        MemMemory::new(
+            self.alloc,
+            DESK.to_vec(self.alloc)?,
+            entries,
+            [self.failing].to_vec(self.alloc)?,
+        )
     }
-}
 
-impl MemoryFiles<MemMemory> for MemFiles {
-    ghost use Rattle.std.specs.Prelude.{◌≡◌, None, Some, false};
-    ghost use Rattle.memory_file.specs.declared.memory_file_fault.MemoryFileFault.TheVariants.{Foreign, Full};
+    // A new memory of a desk, where there is memory for it.
+    fn made(&self, desk: &[u8]) -> Result<MemMemory, AllocError>
+        ensures desk { IfOk result (λ memory. memory.desk ≡ desk.now) }
+        ensures entries { IfOk result (λ memory. memory.entries ≡ []) }
+        ensures unsettled { IfOk result (λ memory. memory.settled ≡ None) }
+    {
+        let desk = desk.to_vec(self.alloc)?;
+        MemMemory::made(self.alloc, desk, [self.failing].to_vec(self.alloc)?)
+    }
 
-    ghost told = { record {
-      is_unopened = λ files. files.is_opened ≡ false;
-      is_memory = λ files name. files.fault ≡ Some Foreign → ⊥;
-      finds = λ files name entries. entries ≡ files.entries;
-      is_unharmed = λ files name. Unit {0};
-      is_honest = λ files. Unit {0};
-      faults = λ files. files.faults;
-      is_full = λ files. files.fault ≡ Some Full;
-      left = λ files. files.closed;
-    } };
-
-    fn open(&mut self, _name: &str) -> Result<MemMemory, MemoryFileFault> {
+    // Counts a call that is refused, where it is.
+    fn refuse(&mut self) -> Result<(), MemoryFileFault>
+        ensures first { OnOk result (self.old.is_opened ≡ false) }
+        ensures opened { self.new.is_opened ≡ true }
+        ensures fit { OnOk result (self.old.fault ≡ None) }
+        ensures refused { IfErr result (λ fault. Rose self.old.faults self.new.faults
+            × ((fault ≡ InUse) ⊎ (self.old.fault ≡ Some fault))) }
+        ensures entries { self.new.entries ≡ self.old.entries }
+        ensures fault { self.new.fault ≡ self.old.fault }
+    {
         if self.is_opened {
+            self.faults = self.faults.saturating_add(1);
             return Err(MemoryFileFault::InUse);
         }
         self.is_opened = true;
@@ -102,7 +116,38 @@ impl MemoryFiles<MemMemory> for MemFiles {
             self.faults = self.faults.saturating_add(1);
             return Err(fault);
         }
+        Ok(())
+    }
+}
+
+impl MemoryFiles<MemMemory> for MemFiles {
+    ghost use Rattle.std.specs.Prelude.{◌≡◌, None, Some, false};
+    ghost use Rattle.memory_file.specs.declared.memory_file_fault.MemoryFileFault.TheVariants.{Full};
+
+    ghost told = { record {
+      is_unopened = λ files. files.is_opened ≡ false;
+      unopened_for = λ files name fault. files.fault ≡ Some fault;
+      unmade_for = λ files name fault. files.fault ≡ Some fault;
+      finds = λ files name desk entries. entries ≡ files.entries;
+      is_unharmed = λ files name. Unit {0};
+      is_honest = λ files. Unit {0};
+      faults = λ files. files.faults;
+      refused = λ files fault. files.faults;
+      is_full = λ files. files.fault ≡ Some Full;
+      left = λ files. files.closed;
+    } };
+
+    fn open(&mut self, _name: &str) -> Result<MemMemory, MemoryFileFault> {
+        self.refuse()?;
         match self.copy() {
+            Ok(memory) => Ok(memory),
+            Err(_) => Err(MemoryFileFault::OutOfMemory),
+        }
+    }
+
+    fn make(&mut self, _name: &str, desk: &[u8]) -> Result<MemMemory, MemoryFileFault> {
+        self.refuse()?;
+        match self.made(desk) {
             Ok(memory) => Ok(memory),
             Err(_) => Err(MemoryFileFault::OutOfMemory),
         }

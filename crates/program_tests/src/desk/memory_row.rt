@@ -4,7 +4,7 @@ use crate::desk::desk_row::{REPORT, REQUEST_A};
 use crate::desk::mem_files::MemFiles;
 use crate::desk::states_row::{STATE_A, STATE_B, entries_of};
 use crate::desk::{DEVICE_A, DEVICE_B, NEVER, WITH_MEMORY, run_over};
-use input_files::{BadFile, Status};
+use input_files::{BadFile, Status, Unfit};
 use memory_file::MemoryFileFault;
 use std::alloc::{AllocError, Global};
 use std::test::Fail;
@@ -78,8 +78,21 @@ fn a_memory_that_is_not_opened_has_its_answer(rt: HostRuntime) -> Result<(), Fai
     let rows = [
         (MemoryFileFault::Place, Status::Unwritten),
         (MemoryFileFault::InUse, Status::InUse),
-        (MemoryFileFault::HotJournal, Status::BadMemory),
-        (MemoryFileFault::Foreign, Status::BadMemory),
+        (
+            MemoryFileFault::HotJournal,
+            Status::BadMemory(Unfit::Foreign),
+        ),
+        (MemoryFileFault::Missing, Status::BadMemory(Unfit::Missing)),
+        (
+            MemoryFileFault::Unfounded,
+            Status::BadMemory(Unfit::Unfounded),
+        ),
+        (MemoryFileFault::Founded, Status::BadMemory(Unfit::Founded)),
+        (
+            MemoryFileFault::OtherLog,
+            Status::BadMemory(Unfit::OtherLog),
+        ),
+        (MemoryFileFault::Foreign, Status::BadMemory(Unfit::Foreign)),
         (MemoryFileFault::Disk, Status::Unwritten),
         (MemoryFileFault::Full, Status::Unwritten),
         (MemoryFileFault::OutOfMemory, Status::Memory),
@@ -88,7 +101,10 @@ fn a_memory_that_is_not_opened_has_its_answer(rt: HostRuntime) -> Result<(), Fai
         for words in [
             WITH_MEMORY.as_slice(),
             &["states", "memory"],
-            &["remember", "states", "memory"],
+            &["found", "memory", "north"],
+            &["remember", "states", "memory", "north"],
+            &["move", "memory", "a", "south"],
+            &["adopt", "states", "memory"],
         ] {
             let mut memories = MemFiles::refused(alloc, fault);
             let lines = ["ask a 1\n"];
@@ -119,10 +135,13 @@ fn a_memory_is_opened_last(rt: HostRuntime) -> Result<(), Fail> {
     for (words, answer) in [
         (WITH_MEMORY.as_slice(), Status::Bad(BadFile::Keys(fault))),
         (
-            &["remember", "states", "memory"],
+            &["remember", "states", "memory", "north"],
             Status::Bad(BadFile::States(fault)),
         ),
-        (&["states", "absent"], Status::Absent),
+        (
+            &["adopt", "states", "memory"],
+            Status::Bad(BadFile::States(fault)),
+        ),
     ] {
         let mut memories = MemFiles::refused(alloc, MemoryFileFault::Foreign);
         let texts: (&[&str], &[&str]) = (&["device\n"], &["state\n"]);

@@ -14,7 +14,8 @@ returns-in-Ok g c =
     } in
     let reads = c.in-Ok.ensures desk_end in
     let served = c.serve_files.ensures in
-    served-answer g.S.Shelf g.F.MemoryFiles.told g.R.Source g.M.Memory g.W.Sink c.args.shelf.now
+    served-answer g.S.Shelf g.F.MemoryFiles.told g.R.Source g.M.Memory g.M.EntryMemory.desk_of
+    g.W.Sink c.args.shelf.now
     c.read.new.shelf c.args.memories.now c.serve_files.new.memories
     (record { source = c.args.source.now; sink = c.args.sink.now })
     (record { source = c.serve_files.new.source; sink = c.serve_files.new.sink }) _ _ values
@@ -25,7 +26,8 @@ returns-in-Ok g c =
 pub returns-in-Err : goal.returns-in-Err
 returns-in-Err g c =
     rw c.of_refusal.ensures
-    (refused-answer g.S.Shelf g.F.MemoryFiles.told g.R.Source g.M.Memory g.W.Sink c.args.shelf.now
+    (refused-answer g.S.Shelf g.F.MemoryFiles.told g.R.Source g.M.Memory g.M.EntryMemory.desk_of
+    g.W.Sink c.args.shelf.now
     c.read.new.shelf c.args.memories.now
     (record { source = c.args.source.now; sink = c.args.sink.now }) _ _ _ c.in-Err.refusal
     c.in-Some.ensures (c.in-Err.ensures desk_end))

@@ -1,0 +1,101 @@
+-- What came of a departure.
+use Rattle.std.proofs.Common.{◌≡◌, ◌∙◌, ℕ, List, Option, Some, None, Result, Ok, Err, refl, ap, sym, subst, inl, inr}
+use Rattle.std.specs.Prelude.{◌==◌}
+use Rattle.std.specs.Str.{bytes_eq}
+use Rattle.std.proofs.lemmas.Bool.{cases_Bool}
+use Rattle.outside_edge.specs.declared.sink.Sink as sink
+use Rattle.desk_memory.specs.declared.memory.Memory as memory
+use Rattle.desk_memory.specs.AnswerRead.{most_number}
+use Rattle.desk_memory.specs.Entry.{Entry, last_in, with_entry}
+use Rattle.desk_memory.specs.Moving.{departed, gone_to, is_gone_to, is_here, lines_at, moved_lines}
+use Rattle.input_files.specs.declared.status.Status.{Status}
+use Rattle.input_files.specs.declared.unfit.Unfit.{Unfit}
+use Rattle.desk_cli.specs.Move.{Departs, KeepsAndPuts, MoveNames, Stays, departure, home_behind}
+use Rattle.desk_cli.specs.States.{PutsText}
+use Rattle.desk_cli.specs.StateText.{states_text}
+use Rattle.desk_cli.proofs.DepartedLines.{departed-lines}
+
+-- it stays
+pub stays : {M W : Type 0} (m : memory.Ghosts M) (w : sink.Ghosts W) (opened : M) (old : W)
+    (names : MoveNames) (entries : List Entry) (departs : Result (Option Entry) Unfit)
+    (status : Status)
+    → Stays departs status → Departs m w opened opened old old names entries departs status
+stays m w opened old names entries (Err unfit) status is = (is, refl, refl)
+stays m w opened old names entries (Ok None) status is = (refl, inl (is, refl))
+stays m w opened old names entries (Ok (Some gone)) status is = inl (is, refl, refl)
+
+-- it is gone already
+pub is-gone : {M W : Type 0} (m : memory.Ghosts M) (w : sink.Ghosts W) (opened : M) (old new : W)
+    (names : MoveNames) (entries lines : List Entry) (departs : Result (Option Entry) Unfit)
+    (found : Option Entry) (status : Status)
+    → departs ≡ Ok found → found ≡ None
+    → lines ≡ lines_at (home_behind found (last_in entries names.device)) names.device entries
+    → PutsText w old new (states_text lines) status
+    → Departs m w opened opened old new names entries departs status
+is-gone m w opened old new names entries lines departs found status is none are puts =
+    let known : departs ≡ Ok None = is ∙ ap (λ (one : Option Entry). Ok one) none in
+    let all : lines ≡ moved_lines names.device entries =
+    are ∙ ap (λ (one : Option Entry).
+    lines_at (home_behind one (last_in entries names.device)) names.device entries) none in
+    rw known (
+      refl,
+      inr (subst (λ (text : List Entry). PutsText w old new (states_text text) status) all puts),
+    )
+
+-- the entry by which a device goes
+record GoesBy (to : List ℕ) (last : Option Entry) (gone : Entry) : Type 0 where
+  one : Entry
+  is : last ≡ Some one
+  by : gone ≡ gone_to to one
+
+same-gone : (one two : Entry) (leaves : Result (Option Entry) Unfit)
+    → leaves ≡ Ok (Some one) → leaves ≡ Ok (Some two) → one ≡ two
+same-gone one two leaves is same = cc (is, same)
+
+goes-by : (from to : List ℕ) (last : Option Entry) (gone : Entry)
+    → departure from to last ≡ Ok (Some gone) → GoesBy to last gone
+goes-by from to None gone is = absurd (cc is)
+goes-by from to (Some one) gone is = elim (cases_Bool (is_gone_to to one)) [
+  | inl there ↦ absurd (let known = rw there at is in cc known)
+  | inr not_there ↦ elim (cases_Bool (is_here one)) [
+    | inl here ↦ elim (cases_Bool (bytes_eq to from)) [
+      | inl own ↦ absurd (let known = rw (not_there, here, own) at is in cc known)
+      | inr other ↦ elim (cases_Bool (one.home.moves == most_number)) [
+        | inl last_move ↦
+            absurd (let known = rw (not_there, here, other, last_move) at is in cc known)
+        | inr more ↦ record {
+          one = one;
+          is = refl;
+          by = same-gone gone (gone_to to one) (Ok (Some gone)) refl
+              (sym (rw (not_there, here, other, more) at is));
+        }
+      ]
+    ]
+    | inr away ↦ absurd (let known = rw (not_there, away) at is in cc known)
+  ]
+]
+
+pub goes : {M W : Type 0} (m : memory.Ghosts M) (w : sink.Ghosts W) (opened left : M)
+    (old new : W) (names : MoveNames) (from : List ℕ) (entries lines : List Entry)
+    (found : Option Entry) (gone : Entry) (status : Status)
+    → departure from names.desk (last_in entries names.device) ≡ Ok found → found ≡ Some gone
+    → lines ≡ lines_at (home_behind found (last_in entries names.device)) names.device entries
+    → KeepsAndPuts m w opened left old new (with_entry entries gone) (states_text lines) status
+    → Departs m w opened left old new names entries
+    (departure from names.desk (last_in entries names.device)) status
+goes m w opened left old new names from entries lines found gone status is some are keeps =
+    let known : departure from names.desk (last_in entries names.device) ≡ Ok (Some gone) =
+    is ∙ ap (λ (one : Option Entry). Ok one) some in
+    let goes_by = goes-by from names.desk (last_in entries names.device) gone known in
+    let after : with_entry entries gone ≡ departed names.device names.desk entries =
+    rw goes_by.is (ap (with_entry entries) goes_by.by) in
+    let all : lines ≡ moved_lines names.device (departed names.device names.desk entries) =
+    are ∙ ap (λ (one : Option Entry).
+    lines_at (home_behind one (last_in entries names.device)) names.device entries) some
+    ∙ ap (λ (one : Entry). lines_at one.home names.device entries) goes_by.by
+    ∙ sym (departed-lines names.device names.desk entries goes_by.one goes_by.is) in
+    rw known (inr (subst (λ (text : List Entry).
+    KeepsAndPuts m w opened left old new (departed names.device names.desk entries)
+    (states_text text) status) all
+    (subst (λ (kept : List Entry). KeepsAndPuts m w opened left old new kept
+    (states_text lines) status) after keeps)))
