@@ -4,6 +4,7 @@ import os
 import random
 import resource
 import runpy
+import shutil
 import socket
 import subprocess
 import tempfile
@@ -11,9 +12,11 @@ import time
 from concurrent.futures import ThreadPoolExecutor
 
 import desk_model
-from memory_trial import DeskRun, try_memory
+from memory_trial import BY_STRACE, QUICK, Run, try_memory
+from memory_ways import WAYS, try_way
 from readers import READERS
-from reference import DAMAGED, TAKEN, ending
+from reference import (ABSENT, COMMANDS, DAMAGED, ELSEWHERE, FOUNDED, NO_DEVICE, OWN_DESK, TAKEN,
+                       UNFOUNDED, ending)
 from sample_files import EXAMPLES, Example, database, read, remove_memory
 from trial import limiting
 
@@ -59,8 +62,7 @@ def desk_files(trial, files):
         return files.words_of_round("desk", **others)
 
     words = words_with()
-    for wrong in (words[:1], words[:-1], (*words, words[-1], words[-1])):
-        trial.refuses(2, *wrong, input=b"ask a 1\n")
+    trial.refuses(2, *words, words[-1], words[-1], input=b"ask a 1\n")
     for kind, fault, others in (
             ("keys", "2: Twice", {"keys": files["keys-twice"], "image": files["none"]}),
             ("policy", "0: Word", {"policy": files.policy_with(version=1, requests=[])}),
@@ -85,12 +87,12 @@ def desk_pipes(trial, files):
     output ends a desk.
     """
     words = [trial.desk, *files.words_of_round("desk")]
-    run = DeskRun(words, trial.seconds)
+    run = Run(words, trial.seconds)
     for data, count in ((b"ask a 1\nask", 1), (b" a 2\r", 0), (b"\n", 1), (b"x\ny\nz\n", 3)):
         if not run.give(data, count):
             trial.fault(f"desk: {data} has not {count} replies")
         time.sleep(0.05)
-    status, printed = run.end()
+    status, printed, _ = run.end()
     if (status, printed.count(b"\n")) != (0, 5):
         trial.fault(f"desk: it ended with {status} after {printed}")
     reader, writer = os.pipe()
@@ -108,6 +110,7 @@ class MemoryTrial:
         self.keys = files[keys]
         self.model = desk_model.Desk(READERS["keys"](read(self.keys)),
                                      files.round.value("image"), files.policy)
+        trial.prints(b"", "found", self.memory, "north")
 
     def words(self, **others):
         return *self.files.words_of_round("desk", **{"keys": self.keys, **others}), self.memory
@@ -122,15 +125,21 @@ class MemoryTrial:
         self.keys, self.model.keys = keys, READERS["keys"](read(keys))
         self.model.start(self.model.entries)
 
+    def told(self):
+        """What the memory has, None where it is none, or is in use."""
+        answer = self.trial.call("states", self.memory)
+        return answer.output if answer.status == 0 else None
+
     def tells(self):
         self.trial.prints(desk_model.states_text(self.model.entries), "states", self.memory)
 
     def refuses(self, status, line, *words, **options):
         """These words are refused, and the memory stays as it is."""
-        before = read(self.memory)
+        before, told = os.path.exists(self.memory) and read(self.memory), self.told()
         self.trial.expect(status, line, *(words or self.words()),
                           **{"input": b"ask a 1\n", **options})
-        if read(self.memory) != before:
+        after = os.path.exists(self.memory) and read(self.memory)
+        if told is None and after != before or self.told() != told:
             self.trial.fault(f"{words}: refused, and the memory is another")
 
     def open_desk(self):
@@ -161,8 +170,6 @@ def desk_memory(trial, files):
     runs.model.image = Example("attest").value("image")
     runs.serve(b"give a 205 " + files.desk_report(count + 1), policy=other,
                image=Example("attest").file("image"))
-    with tempfile.TemporaryDirectory(prefix="check-program-") as folder:
-        try_memory(trial, folder, rng, "kills", 12)
 
 
 def desk_memory_keys(trial, files):
@@ -196,55 +203,112 @@ def desk_memory_states(trial, files):
     runs = MemoryTrial(trial, files)
     runs.serve(b"ask a 1\ngive A_9 1\ngive a 2 " + files.desk_report(1) + b"ask a 3\n")
     states = files.add("states-told", desk_model.states_text(runs.model.entries))
-    runs.refuses(16, DAMAGED, "remember", states, runs.memory)
+    runs.refuses(16, FOUNDED, "remember", states, runs.memory, "north")
     runs.memory = files["memory-new"]
-    trial.prints(b"", "remember", states, runs.memory)
+    trial.prints(b"", "remember", states, runs.memory, "north")
     runs.tells()
     runs.serve(b"ask a 3\ngive a 4 " + files.desk_report(2))
     raised = files.add("states-raised", read(states).replace(b"count 2 ", b"count 70000 "))
-    runs.model.states[b"a"] = runs.model.states[b"a"]._replace(count=70000)
     runs.memory = files["memory-raised"]
-    trial.prints(b"", "remember", raised, runs.memory)
+    trial.prints(b"", "remember", raised, runs.memory, "north")
     trial.prints(read(raised), "states", runs.memory)
-    trial.prints(b"", "remember", files["empty"], files["memory-empty"])
+    old = files.add("states-old", read(states).replace(b"state2", b"state").replace(
+        b" moves 0", b""))
+    trial.prints(b"", "remember", old, files["memory-old"], "north")
+    trial.prints(read(states), "states", files["memory-old"])
+    trial.prints(b"", "remember", files["empty"], files["memory-empty"], "north")
     trial.prints(b"", "states", files["memory-empty"])
-    trial.finds("states", "2: Twice", "remember", files["states-twice"], files["none"])
-    for words in (("states",), ("states", runs.memory, runs.memory), ("remember", states),
-                  ("remember", states, runs.memory, runs.memory), (*runs.words(), runs.memory)):
-        trial.refuses(2, *words)
-    trial.refuses(3, "states", files["none"])
-    trial.refuses(3, "remember", files["none"], files["none"])
-    trial.refuses(4, "states", files.folder)
-    with open("/dev/full", "wb") as full:
-        trial.refuses(5, "states", runs.memory, stdout=full)
+    trial.finds("states", "2: Twice", "remember", files["states-twice"], files["none"], "north")
+    trial.refuses(3, "remember", files["none"], files["none"], "north")
+    trial.refuses(4, "adopt", files.folder, runs.memory)
     if os.path.exists(files["none"]):
         trial.fault("remember: a memory of faulty states")
 
 
+def desk_moves(trial, files):
+    """A device goes from one memory to another by its lines, with a second one's in the same text
+    or alone; its desk then refuses it, and the other has what it was answered.
+    """
+    runs, south = MemoryTrial(trial, files), files["south"]
+    runs.serve(b"ask a 1\nask A_9 1\ngive a 2 " + files.desk_report(1) + b"ask a 3\n")
+    trial.prints(b"", "found", south, "south")
+    entries, text = runs.model.entries, b""
+    runs.refuses(16, OWN_DESK, "move", runs.memory, "a", "north")
+    for name in (b"a", b"A_9"):
+        entries, lines = desk_model.moved(entries, b"north", name, b"south")
+        trial.prints(lines, "move", runs.memory, name.decode(), "south")
+        text += lines
+    for words, line in ((("Z", "south"), NO_DEVICE), (("a", "west"), ELSEWHERE)):
+        runs.refuses(16, line, "move", runs.memory, *words)
+    with open("/dev/full", "wb") as full:
+        trial.refuses(5, "move", runs.memory, "a", "south", stdout=full)
+        trial.refuses(5, "states", runs.memory, stdout=full)
+    runs.model.start(entries)
+    runs.tells()
+    moved = files.add("moved-both", b"# both\r\n\n" + text)
+    for _ in range(2):
+        trial.prints(b"", "adopt", moved, south)
+        trial.prints(desk_model.states_text(desk_model.adopted((), b"south", text)), "states",
+                     south)
+    trial.finds("moved", "3: Place", "adopt", moved, runs.memory)
+    runs.memory = south
+    runs.model.start(desk_model.adopted((), b"south", text))
+    runs.serve(b"ask a 3\ngive a 4 " + files.desk_report(2) + b"ask A_9 2\n")
+
+
+def desk_words(trial, files):
+    """The words of the desk's commands: so many of them, and names as devices have them."""
+    words_of = {name: files.words_of_round(name) for name, command in COMMANDS.items()
+                if command.program == "desk_main"}
+    for name, words in words_of.items():
+        more = words[:-1] if name == "desk" else (*words, "x")
+        for wrong in (words[:1], words[:-1], more, (name.title(), *words[1:])):
+            trial.refuses(2, *wrong, input=b"ask a 1\n")
+    for name in ("", "a" * 33, "a-b", "a b", "\u00e4", "a\n"):
+        for command, place in (("found", 2), ("remember", 3), ("move", 2), ("move", 3)):
+            words = [*words_of[command]]
+            words[place] = name
+            trial.refuses(2, *words)
+    if os.path.exists(files["desk.db"]):
+        trial.fault("a memory is made by words that are no command")
+
+
 def desk_memory_files(trial, files):
-    """What is no memory is refused and stays as it is. Where a file of the desk is refused there is
-    no memory.
+    """What is no memory is refused and stays as it is, and none is made but by `found` and
+    `remember`. Where a file of the desk is refused nothing is made of the memory.
     """
     runs = MemoryTrial(trial, files)
+    runs.serve(b"ask a 1\n")
     for status, others in ((3, {"keys": files["none"]}), (14, {"keys": files["keys-twice"]}),
                            (8, {"image": files["empty"]}), (10, {"policy": files["empty"]})):
         if trial.call(*runs.words(**others), input=b"").status != status:
             trial.fault(f"desk: {others} with a memory: another status than {status}")
-        if os.path.exists(runs.memory):
-            trial.fault(f"desk: {others}: a memory is made")
-    runs.serve(b"ask a 1\n")
+    runs.tells()
     damaged = bytearray(read(runs.memory))
     damaged[len(damaged) // 2] ^= 1
     device = "create table device (place integer primary key, name text)"
-    for name in (files["keys"], files.image, files["policy"], files["states"],
-                 files.add("text", b"any text\n"), files.add("damaged", bytes(damaged)),
-                 files.add("cut", read(runs.memory)[:-100]), *filter(None, (
-                     database(files["other"], "create table other (number integer)"),
-                     database(files["device"], device)))):
+    wrong = (files["keys"], files.image, files["policy"], files["states"],
+             files.add("text", b"any text\n"), files.add("damaged", bytes(damaged)),
+             files.add("cut", read(runs.memory)[:-100]), *filter(None, (
+                 database(files["other"], "create table other (number integer)"),
+                 database(files["device"], device))))
+    for name in wrong:
         copy = runs.memory = files.add("memory-wrong", read(name))
-        for words in (runs.words(), ("states", copy), ("remember", files["states"], copy)):
+        for words in (runs.words(), ("states", copy), ("move", copy, "a", "south"),
+                      ("adopt", files["moved"], copy), ("found", copy, "north"),
+                      ("remember", files["states"], copy, "north")):
             runs.refuses(16, DAMAGED, *words)
+    os.symlink(files["none"], files["dangling"])
+    for runs.memory, line in ((files["none"], ABSENT), (files["empty"], UNFOUNDED),
+                              (files["none/memory"], ABSENT), (files["dangling"], ABSENT)):
+        for words in (runs.words(), ("states", runs.memory), ("move", runs.memory, "a", "south"),
+                      ("adopt", files["moved"], runs.memory)):
+            runs.refuses(16, line, *words)
+    if os.path.exists(files["none"]):
+        trial.fault("a memory is made where there is none")
     runs.memory = files["empty"]
+    trial.prints(b"", "found", runs.memory, "north")
+    runs.refuses(16, FOUNDED, "found", runs.memory, "north")
     runs.model.start()
     runs.serve(b"ask a 1\n")
 
@@ -257,7 +321,9 @@ def desk_memory_ends(trial, files):
     os.symlink(runs.memory, link)
     with runs.open_desk():
         for words in (runs.words(), (*runs.words()[:-1], link), ("states", link),
-                      ("remember", files["states"], runs.memory)):
+                      ("remember", files["states"], runs.memory, "north"),
+                      ("found", runs.memory, "north"), ("move", link, "a", "south"),
+                      ("adopt", files["moved"], link)):
             runs.refuses(*ending(17), *words)
     with open("/dev/full", "wb") as full:
         trial.refuses(5, *runs.words(), input=b"ask a 1\n", stdout=full)
@@ -266,11 +332,30 @@ def desk_memory_ends(trial, files):
     os.link(runs.memory, files["second"])
     runs.refuses(*ending(18))
     os.remove(files["second"])
-    for name in (files.folder, f"{files['none']}/memory", "/dev/null", ""):
+    for name in (files.folder, "/dev/null"):
         trial.refuses(18, *runs.words()[:-1], name, input=b"ask a 1\n")
+    for name in (files.folder, files["none/memory"], "/dev/null", ""):
+        trial.refuses(18, "found", name, "north")
     trial.refuses(18, *runs.words(), input=b"ask a 2\n",
                   preexec_fn=limiting(resource.RLIMIT_FSIZE, 0))
     runs.tells()
+
+
+# Cases of tools/try-memory, of each kind so many.
+FEW = {"acts": 60, "kills": 30, "refused calls": 15, "changed bits": 10, "power cuts": 50,
+       "left logs": 15}
+
+
+def desk_memories(trial, files):
+    """A few cases of each kind of tools/try-memory, and its ways."""
+    kinds = [*FEW, *WAYS] if shutil.which("strace") else [
+        kind for kind in FEW if kind not in BY_STRACE]
+    for kind in kinds:
+        with tempfile.TemporaryDirectory(prefix="check-program-", dir=QUICK) as folder:
+            if kind in WAYS:
+                try_way(trial, folder, kind)
+            else:
+                try_memory(trial, folder, random.Random(2), kind, FEW[kind])
 
 
 def received(client, count):

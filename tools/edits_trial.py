@@ -8,7 +8,7 @@ import re
 from sample_files import read
 from trial import ROOT
 
-MOST_OF_A_CRATE, MOST = 5, 90
+MOST_OF_A_CRATE, MOST, MOST_OUTSIDE = 5, 90, 10
 
 
 def fault_of(crate, text):
@@ -34,8 +34,8 @@ def edits(trial, files):
     for crate in sorted(glob.glob(f"{ROOT}/crates/*")):
         names = sorted(glob.glob(f"{crate}/must-fail/*.edit"))
         later = sorted(glob.glob(f"{crate}/edits/*.edit"))
-        if len(names + later) > MOST_OF_A_CRATE:
-            trial.fault(f"{os.path.relpath(crate, ROOT)}: {len(names + later)} edits")
+        if len(names) > MOST_OF_A_CRATE or len(later) > MOST_OUTSIDE:
+            trial.fault(f"{os.path.relpath(crate, ROOT)}: {len(names)} and {len(later)} edits")
         for name in names + later:
             fault = fault_of(crate, read(name).decode())
             if fault:

@@ -28,11 +28,18 @@ class State(NamedTuple):
     said: bytes = b""  # the kept answer: its verb, and its counter, fault or verdict
 
 
+class Home(NamedTuple):
+    """How often a device has moved from desk to desk, and which one it is gone to; None: none."""
+    moves: int = 0
+    gone: Optional[bytes] = None
+
+
 class Entry(NamedTuple):
     """What a desk's memory has of a device under one of its keys."""
     name: bytes
     mark: bytes
     state: State
+    home: Home = Home()
 
 
 class Fault(Exception):
@@ -100,27 +107,70 @@ def read_answer(words):
     return b"request %d" % words.decimal(MOST) if verb == b"request" else verb
 
 
-def read_states(text):
-    """The entries of a desk's memory: names, marks of keys, and states."""
-    entries, marks, names = [], {}, {}  # (the last mark of a name, and the name of a mark)
+def read_home(words):
+    """The name of a line's device, and where it is at home: a line of version 1 knows no moves."""
+    verb, gone = words.keyword(b"state", b"state2", b"moved"), None
+    name = words.name()
+    if verb == b"moved":
+        words.keyword(b"to")
+        gone = words.name()
+    if verb == b"state":
+        return name, Home()
+    words.keyword(b"moves")
+    return name, Home(words.decimal(MOST), gone)
+
+
+def read_state(words):
+    words.keyword(b"count")
+    count = words.decimal(MOST)
+    words.keyword(b"outstanding")
+    outstanding = words.decimal_or_none(count)
+    words.keyword(b"last")
+    last = words.decimal_or_none(MOST)
+    return State(count, outstanding, last or 0, b"" if last is None else read_answer(words))
+
+
+def read_entry(words):
+    name, home = read_home(words)
+    words.keyword(b"key")
+    mark = words.bytes(16)
+    state = read_state(words)
+    words.end()
+    return Entry(name, mark, state, home)
+
+
+def is_in_range(state):
+    """Whether requests are left, and the last answer tells none that was not made."""
+    verb, _, number = state.said.partition(b" ")
+    return state.count < MOST and not (verb == b"request" and int(number) > state.count)
+
+
+def falls_behind(entry, earlier):
+    """Whether an entry cannot come after this one of its device."""
+    return (entry.state.count < earlier.state.count or entry.state.number < earlier.state.number
+            or entry.home.moves < earlier.home.moves)
+
+
+def state_lines(text):
+    """The entries of a text of states, each with the number of its line."""
+    lines, last, names = [], {}, {}  # (the last entry of a name, and the name of a mark)
     for words in texts_of(text, "states")[0]:
-        words.keyword(b"state")
-        name = words.name()
-        words.keyword(b"key")
-        mark = words.bytes(16)
-        words.keyword(b"count")
-        count = words.decimal(MOST)
-        words.keyword(b"outstanding")
-        outstanding = words.decimal_or_none(count)
-        words.keyword(b"last")
-        last = words.decimal_or_none(MOST)
-        state = State(count, outstanding, last or 0, b"" if last is None else read_answer(words))
-        words.end()
-        if marks.get(name) == mark or names.setdefault(mark, name) != name:
+        entry = read_entry(words)
+        earlier = last.get(entry.name)
+        if not is_in_range(entry.state):
+            words.fault("Range")
+        if (names.setdefault(entry.mark, entry.name) != entry.name
+                or earlier and earlier.mark == entry.mark):
             words.fault("Twice")
-        marks[name] = mark
-        entries.append(Entry(name, mark, state))
-    return entries
+        if earlier and falls_behind(entry, earlier):
+            words.fault("Order")
+        last[entry.name] = entry
+        lines.append((words.number, entry))
+    return lines
+
+
+def read_states(text):
+    return [entry for _, entry in state_lines(text)]
 
 
 def is_place(place):

@@ -6,9 +6,8 @@ from sample_files import read, write
 
 
 class Plant(NamedTuple):
-    """Edits of the files of examples/fleet, and whether devices move before the desks stopped."""
+    """Edits of the files of examples/fleet."""
     edits: tuple = ()  # a file, a text that it has once, and what takes its place
-    is_early: bool = False
 
     def copy(self, source, target):
         """Copies a file with the edits."""
@@ -22,7 +21,7 @@ class Plant(NamedTuple):
         os.chmod(target, 0o755)
 
 
-SERVES = '"$desk" desk now/keys.txt image.hex policy.txt now/memory'
+SERVES = '"$desk" desk keys.txt image.hex policy.txt memory'
 NONE = Plant()
 PLANTS = {
     "none": NONE,
@@ -39,19 +38,22 @@ PLANTS = {
     "late-journal": Plant((("gateway.py", "            self.journal.keep()\n        for",
                             "            pass\n        for"),)),
     # A desk begins anew at each start.
-    "no-memory": Plant((("desk.sh", SERVES, "rm -f now/memory*\n" + SERVES),)),
+    "no-memory": Plant((("desk.sh", SERVES, """
+rm -f memory*
+"$desk" found memory "$(basename "$PWD")"
+""" + SERVES),)),
     # A desk goes back to the memory of its last start.
     "older-memory": Plant((("desk.sh", SERVES, """
-[ ! -e now/backup ] || cp now/backup now/memory
-[ ! -e now/memory ] || cp now/memory now/backup
+[ ! -e backup ] || { rm -f memory-wal; cp backup memory; }
+cp memory backup
 """ + SERVES),)),
     # A desk replies, and keeps a moment later what it replied.
     "late-memory": Plant((("desk.sh", SERVES, """
-rm -rf fast; mkdir fast; [ ! -e now/memory ] || cp now/memory fast
+rm -rf fast; mkdir fast; cp memory fast
 while sleep 0.5; do
-    cp fast/memory now/copy && mv now/copy now/memory
+    cp fast/memory copy && mv copy memory
 done 2>/dev/null &
-""" + SERVES.replace("now/memory", "fast/memory")),)),
+""" + SERVES.replace("txt memory", "txt fast/memory")),)),
     # A bridge gives each reply once, also where it was lost.
     "lost-replies": Plant((("desk.sh", "<replies", """< <(
     while IFS= read -r reply; do
@@ -62,19 +64,14 @@ done 2>/dev/null &
     "open-replies": Plant((("acl.txt", "pattern write desk/%u/replies", """
 pattern write desk/%u/replies
 pattern write desk/+/replies"""),)),
-    # The state is copied while the old desk serves.
-    "early-copy": Plant((
-        ("move.sh", "if ! flock -n 8 || ! flock -n 9; then", "if false; then"),
-        ("move.sh", '"$desk" states "$1/now/memory"',
-         '{ cp "$1/now/memory" "$next/copy"; "$desk" states "$next/copy"; }')), True),
-    # Two desks have a device.
+    # Two desks have a device, and the old memory does not keep that it is gone.
     "two-desks": Plant((
-        ("move.sh", 'mv "$old/now/keys.next" "$old/now/keys.txt"', "true"),
-        ("move.sh", 'refuse_any "$(with "$has" <"$old/now/keys.txt")" "both desks have"', ""))),
-    # A move that was done is done once more, with the state that the old desk had.
-    "second-copy": Plant((
-        ("move.sh", 'coming=$(without "$has" <"$devices")', 'coming=$(cat "$devices")'),
-        ("move.sh", '<<<"$coming")" "$old has not"', '</dev/null)" "$old has not"'))),
+        ("move.sh", 'put "$old/keys.txt" <<<"$staying"', "true"),
+        ("move.sh", "while read -r _ each _; do", """
+cp "$old/memory" "$old/copy"
+while read -r _ each _; do"""),
+        ("move.sh", '"$desk" move "$old/memory"', '"$desk" move "$old/copy"'),
+        ("move.sh", 'refuse_any "$(with "$has" <"$old/keys.txt")" "both desks have"', ""))),
     # A device comes to the new desk without its state.
-    "no-state": Plant((("move.sh", 'with "$coming" <"$next/states.old"', "true"),)),
+    "no-state": Plant((("move.sh", '"$desk" adopt "$new/moved.txt" "$new/memory"', "true"),)),
 }

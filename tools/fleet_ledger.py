@@ -126,20 +126,28 @@ class Ledger:
 
     def outcomes(self, desk, name, number):
         """The reply of the desk of each image, and what the memory has then."""
-        start, outcomes = [*desk.entries], []
+        start, outcomes = desk.entries, []
         for desk.image, desk.policy in zip(self.images, self.policies):
             desk.start(start)
             reply = desk.reply(self.lines[name, number])[:-1]
-            outcomes.append((reply, [*desk.entries]))
+            outcomes.append((reply, desk.entries))
         desk.start(start)
         return outcomes
 
     def check_states(self, text, names, expected):
-        """A desk's memory has of its devices what their lines lead to."""
-        found = {line.split(b" ")[1]: line for line in text.splitlines(True)}
+        """A desk's memory has of its devices what their lines lead to, however often they moved."""
+        found = {line.split(b" ")[1]: re.sub(rb" moves \d+", b" moves 0", line)
+                 for line in text.splitlines(True)}
         for name in names:
             if found.get(name, b"") not in expected[name]:
                 self.fault(f"the memory has {found.get(name)}, not {expected[name]}")
+
+    def check_gone(self, text, names, desk):
+        """An old desk's memory has that its devices are gone to this one."""
+        for line in text.splitlines():
+            verb, name, _, target = line.split(b" ")[:4]
+            if name not in names or (verb, target) != (b"moved", desk.encode()):
+                self.fault(f"a device did not leave for {desk}: {line}")
 
     def counts_text(self):
         self.counts["accept"] = sum(map(len, self.accepts.values()))

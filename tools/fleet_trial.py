@@ -96,17 +96,17 @@ class Fleet:
     def make_desk(self, number):
         """Those of the first image have all devices at first."""
         image, share = divmod(number, DESKS)
-        folder = f"{self.folder}/desk-{number}"
-        os.makedirs(f"{folder}/1")
-        os.symlink("1", f"{folder}/now")
+        folder = f"{self.folder}/desk_{number}"
+        os.mkdir(folder)
+        self.trial.prints(b"", "found", f"{folder}/memory", f"desk_{number}")
         names = [] if image else self.names_of(share)
-        write(f"{folder}/now/keys.txt", self.key_lines(names))
+        write(f"{folder}/keys.txt", self.key_lines(names))
         shutil.copy(f"{IMAGES[image]}/image.hex", folder)
         policy = read(f"{IMAGES[image]}/policy.txt")
         write(f"{folder}/policy.txt", b"".join(
             line for line in policy.splitlines(True) if not line.startswith(b"ask ")))
         words = [f"{self.folder}/desk.sh", folder, str(number), self.trial.desk]
-        return Party(self, f"desk-{number}", words, str(number))
+        return Party(self, f"desk_{number}", words, str(number))
 
     def make_gateway(self, number, gateways):
         folder = f"{self.folder}/gateway-{number}"
@@ -191,13 +191,14 @@ class Fleet:
             self.ledger.add_journal(read(journal))
         expected = self.ledger.check()
         for number, desk in enumerate(self.desks):
-            memory = f"{desk.words[1]}/now/memory"
-            states = self.trial.call("states", memory) if os.path.exists(memory) else None
-            if states and states.status:
+            states = self.trial.call("states", f"{desk.words[1]}/memory")
+            if states.status:
                 self.trial.fault(f"{desk.name}: states: {states}")
-            elif states:
-                names = self.names_of(number % DESKS) if number >= DESKS else []
+            names = self.names_of(number % DESKS)
+            if number >= DESKS:
                 self.ledger.check_states(states.output, names, expected)
+            else:
+                self.ledger.check_gone(states.output, names, f"desk_{number + DESKS}")
 
 
 class Mover:
@@ -247,8 +248,7 @@ class Mover:
 
     def try_move(self, desks, batch):
         """Whether a call went well. Between two calls the desks serve, or not."""
-        if not self.fleet.plant.is_early:
-            self.hold(desks, True)
+        self.hold(desks, True)
         status = self.call([f"{self.fleet.folder}/move.sh", *(desk.words[1] for desk in desks),
                             batch, self.fleet.trial.desk])
         self.hold(desks, True)
@@ -281,12 +281,12 @@ class Mover:
 HALF_LINE = b"#!/bin/bash\nprintf 'ask a 1\\nask A_9 1'\nsleep 0.5\nkill -9 $$\n"
 
 
-def desk_folder(files, name, keys):
+def desk_folder(trial, files, name, keys):
     """A folder for desk.sh and move.sh."""
     folder = files[name]
-    os.makedirs(f"{folder}/1")
-    os.symlink("1", f"{folder}/now")
-    write(f"{folder}/now/keys.txt", keys)
+    os.mkdir(folder)
+    trial.prints(b"", "found", f"{folder}/memory", name)
+    write(f"{folder}/keys.txt", keys)
     shutil.copy(files["policy"], f"{folder}/policy.txt")
     shutil.copy(files.round.file("image"), f"{folder}/image.hex")
     return folder
@@ -294,39 +294,45 @@ def desk_folder(files, name, keys):
 
 def half_line(trial, files):
     """A line that its client did not write whole has no reply, and spends no number."""
-    folder = desk_folder(files, "desk", read(files["keys-among"]))
+    folder = desk_folder(trial, files, "desk", read(files["keys-among"]))
     for name, text in {"mosquitto_sub": HALF_LINE,
                        "mosquitto_pub": b"#!/bin/bash\nexec cat >replies.txt\n"}.items():
         os.chmod(write(f"{folder}/{name}", text), 0o755)
     answer = trial.call(folder, "0", trial.desk,
                         command=["env", f"PATH={folder}:{PATH}", f"{EXAMPLES}/fleet/desk.sh"])
     replies = read(f"{folder}/replies.txt").splitlines()
-    states = trial.call("states", f"{folder}/now/memory").output
+    states = trial.call("states", f"{folder}/memory").output
     if (answer.status, len(replies), states.count(b"\n")) != (128 + signal.SIGKILL, 1, 1):
         trial.fault(f"fleet: half a line is answered: {answer}, {replies}, {states}")
 
 
 def moves(trial, files):
     """A device moves once, from the desk that has it, and never into a second one."""
-    device = b"device a " + read(files.key)
-    first, second, other = (desk_folder(files, name, keys) for name, keys in {
-        "first": device, "second": b"", "other": b"# none\n"}.items())
+    device, other_device = b"device a " + read(files.key), b"device b " + b"1" * 128 + b"\n"
+    first, second, other = (desk_folder(trial, files, name, keys) for name, keys in {
+        "first": device + other_device, "second": b"", "other": b"# none\n"}.items())
 
     def move(status, line, *folders):
-        return trial.expect(status, line, *folders, files.add("batch", device), trial.desk,
-                            command=[f"{EXAMPLES}/fleet/move.sh"])
+        return trial.expect(status, line, *folders, files.add("batch", device + other_device),
+                            trial.desk, command=[f"{EXAMPLES}/fleet/move.sh"])
 
-    move(2, f"move.sh: {other} has not a", other, second)
-    move(3, f"move.sh: there is no {files['none']}/now/keys.txt", first, files["none"])
-    trial.expect(0, "", "desk", f"{first}/now/keys.txt", f"{first}/image.hex",
-                 f"{first}/policy.txt", f"{first}/now/memory", input=b"ask a 1\n")
-    states = trial.call("states", f"{first}/now/memory").output
+    move(2, f"move.sh: {other} has not a b", other, second)
+    move(3, f"move.sh: there is no {files['none']}/keys.txt", first, files["none"])
+    trial.expect(0, "", "desk", f"{first}/keys.txt", f"{first}/image.hex",
+                 f"{first}/policy.txt", f"{first}/memory", input=b"ask a 1\n")
+    states = trial.call("states", f"{first}/memory").output
     move(0, "", first, second)
     move(0, "", first, second)
-    move(2, f"move.sh: {first} has not a", first, other)
-    trial.prints(states, "states", f"{second}/now/memory")
-    write(f"{first}/now/keys.txt", device)
+    move(2, f"move.sh: {first} has not a b", first, other)
+    trial.prints(states.replace(b"moves 0", b"moves 1"), "states", f"{second}/memory")
+    write(f"{first}/keys.txt", device)
     move(2, "move.sh: both desks have a", first, second)
+    write(f"{first}/keys.txt", b"")
+    move(0, "", second, first)
+    trial.prints(states.replace(b"moves 0", b"moves 2"), "states", f"{first}/memory")
+    if [read(f"{each}/keys.txt").strip() for each in (first, second)] != [
+            (device + other_device).strip(), b""]:
+        trial.fault("move.sh: other keys than those that moved")
 
 
 def fleet(trial, files):

@@ -9,7 +9,7 @@ import sys
 import textwrap
 
 from messages import explanation, is_shown
-from reference import COMMANDS, FILES, ending, fault_ending
+from reference import ABSENT, COMMANDS, FILES, ending, fault_ending
 from sample_files import read, write
 from trial import ROOT, limiting, random_bytes
 
@@ -113,6 +113,7 @@ def within_lines(trial, files, repository):
             ("policy", "5: Count", f"{policy}ask {digits} 1", "verify"),
             ("script", "1: Extra", f"at 5 rx {digits} x", "play"),
             ("states", "1: Count", f"state a key {digits}", "remember"),
+            ("moved", "1: Count", f"moved a to b moves 1 key {digits}", "adopt"),
             ("keys", "1: Extra", f"device a {digits} x", "desk"),
             ("reports", "1: Count", f"report2 1 exec 1 aux 1 count 1 chal {digits}", "verify"),
             ("trace", "1: Word", f"t 0 {digits}", "audit"),
@@ -121,6 +122,8 @@ def within_lines(trial, files, repository):
         hides(*fault_ending(kind, fault), *files.words_of_round(command, **{kind: name}))
     hides(*ending(2), "request", files.key, digits, "1")
     hides(*ending(2), "play", *files.letter, digits)
+    hides(*ending(2), "found", files["none"], digits)
+    hides(16, ABSENT, "states", digits)
     hides(*ending(3), "list", digits)
     hides(*ending(3), "play", *files.letter[:2], f"0x{digits}", "5")
 

@@ -1,227 +1,91 @@
-"""Trials of a desk's memory: desks that are killed, refused system calls, power cuts, and bits that
-are changed between runs.
+"""Trials of the memories of several desks: acts on them, those that are killed, system calls that
+are refused, power cuts, bits that are changed between acts, and logs and files that are left or
+lost.
 
-What is found in a memory has to be what a beginning of the lines leads to, in which every line is
-that had a reply. No counter is requested or accepted twice, and no line has two replies.
+What is found in a memory behind an act has to be what the model has, and behind one that was cut
+off what a beginning of it leads to, in which all is that was answered.
 """
 import os
-import re
 import select
 import signal
 import subprocess
 import time
 
-import attestation_model
 import desk_model
-import verifier_model
-from file_readers import Policy, Report
 from memory_cuts import Calls, recorded, torn
-from sample_files import Example, write
-from trial import random_bytes
+from memory_log import FRAME, is_alone, is_begun, is_of_another
+from memory_world import World
+from reference import ABSENT, DAMAGED, OTHER_LOG, UNFOUNDED
+from sample_files import write
 
 PARTS = ("", "-wal")  # of a memory, the ends of its files' names
 PATIENCE = 120  # seconds for a reply
 KILLED = (-signal.SIGKILL, 128 + signal.SIGKILL)
-LINES = 300  # that a memory is given before a new one is begun
+ACTS = 150  # on one world
+# A disk that syncs at once, where there is one: what a kill leaves does not depend on it.
+QUICK = "/dev/shm" if os.access("/dev/shm", os.W_OK) else None
 REFUSED = 16
-# The ends of a desk whose system calls are refused.
+# The ends of an act whose system calls are refused.
 FAULTS = (3, 4, 6, REFUSED, 18)
 NOT_STARTED = 127  # (the system could not load it)
 REFUSED_CALLS = {"pwrite64": 4, "fdatasync": 4, "fsync": 1, "ftruncate": 2, "pread64": 2,
-                 "openat": 1, "fcntl": 1}  # each so often
+                 "openat": 1, "fcntl": 1, "unlink": 1}  # each so often
 REFUSALS = ("error=EIO", "error=ENOSPC", "signal=KILL")
+NOT_TAKEN = ((REFUSED, ABSENT), (REFUSED, UNFOUNDED), (REFUSED, DAMAGED), (REFUSED, OTHER_LOG))
+IMAGES, AGAIN = 20, 5  # of the cuts of an act, and of those of what recovers one of them
 
 
-def report_on(key, image, bounds, count):
-    """The report of a device on the desk's request with this counter, in one line."""
-    size = bounds[3] + 2 - bounds[2]
-    output = (count.to_bytes(4, "little") * size)[:size]
-    report = Report(2, 100, 1, 0, count, desk_model.challenge(key, count), bounds, output, b"")
-    return attestation_model.report_line(verifier_model.with_right_mac(image, key, report))
+def contents(path):
+    """The bytes of a memory's files, None of one that is not there."""
+    found = {}
+    for part in PARTS:
+        found[part] = None
+        if os.path.exists(path + part):
+            with open(path + part, "rb") as file:
+                found[part] = file.read()
+    return found
 
 
-class Ledger:
-    """The replies of all runs, and what they say of counters."""
-
-    def __init__(self, fault):
-        self.fault, self.replies, self.counters = fault, {}, {}
-
-    def note(self, line, reply):
-        verb, *rest = reply.split()
-        if verb == b"stale" or len(rest) < 2:
-            return
-        number = tuple(rest[:2])
-        if number in self.replies:
-            if self.replies[number] != reply:
-                self.fault(f"two replies to one line: {self.replies[number]}, {reply}")
-            return
-        self.replies[number] = reply
-        if verb == b"request":
-            self.take("requested", rest[0], rest[3])
-        elif rest[-1] == b"accept":
-            self.take("accepted", rest[0], re.search(rb" count (\d+) ", line)[1])
-
-    def take(self, what, name, counter):
-        if (what, name, counter) in self.counters:
-            self.fault(f"the counter {counter} of {name} is {what} twice")
-        self.counters[what, name, counter] = True
+def put(path, parts):
+    for part, data in parts.items():
+        if data is not None:
+            write(path + part, data)
+        elif os.path.exists(path + part):
+            os.remove(path + part)
 
 
-class Memory:
-    """A memory, the lines that its desks were given, and what it may have."""
-
-    def __init__(self, trial, folder, rng, devices=5):
-        example = Example("round")
-        self.trial, self.rng, self.path = trial, rng, f"{folder}/memory"
-        image, policy = example.value("image"), example.value("policy")
-        keys = {b"pump_%d" % number: random_bytes(rng, 64) for number in range(devices)}
-        self.model = desk_model.Desk(keys, image, Policy(2, policy.bounds, "exec", []))
-        self.keys = {name: [key] for name, key in keys.items()}  # all that each device had
-        self.renewed = None  # the device whose key was changed last
-        files = [f"{folder}/keys", example.file("image"),
-                 write(f"{folder}/policy", verifier_model.policy_text(self.model.policy))]
-        self.write_keys(files[0])
-        self.words = ["desk", *files, self.path]
-        self.ledger = Ledger(self.fault)
-        self.lines, self.replies, self.kept = [], [], [()]
-        self.sent = {}  # the last new line of each number of a device
-        self.put(dict.fromkeys(PARTS))
-
-    def fault(self, what):
-        self.trial.fault(what)
-
-    # Its files.
-
-    def contents(self):
-        found = {}
-        for part in PARTS:
-            found[part] = None
-            if os.path.exists(self.path + part):
-                with open(self.path + part, "rb") as file:
-                    found[part] = file.read()
-        return found
-
-    def put(self, contents):
-        for part, data in contents.items():
-            if data is not None:
-                write(self.path + part, data)
-            elif os.path.exists(self.path + part):
-                os.remove(self.path + part)
-
-    # Keys.
-
-    def write_keys(self, name):
-        write(name, b"".join(b"device %s %s\n" % (device, key.hex().encode())
-                             for device, key in self.model.keys.items()))
-
-    def change_key(self):
-        """One device has another key, a new one or one that it had."""
-        name = self.rng.choice([*self.keys])
-        if self.rng.random() < 0.5:
-            self.keys[name].append(random_bytes(self.rng, 64))
-        self.model.keys[name] = self.rng.choice(self.keys[name])
-        self.write_keys(self.words[1])
-        self.model.start(self.model.entries)
-        self.renewed = name
-
-    # Lines to a desk.
-
-    def line(self):
-        """One of a device, most often a new one."""
-        name = self.rng.choice([*self.model.keys])
-        steps = (-1, 0, 1, 1, 1, 1, 1, 2)
-        if self.renewed and self.rng.random() < 0.3:
-            name, steps = self.renewed, (0, 0, 1)
-        last = self.model.states[name].number
-        number = max(1, last + self.rng.choice(steps))
-        if number > last:
-            self.sent[name, number] = self.new_line(name, number)
-        return self.sent.get((name, number)) or self.new_line(name, number)
-
-    def new_line(self, name, number):
-        """A request, or a report on one."""
-        rng, model = self.rng, self.model
-        state, chance = model.states[name], rng.random()
-        if chance < 0.4 or not state.count:
-            return b"ask %s %d%s\n" % (name, number, b" x" if chance < 0.02 else b"")
-        count = state.outstanding or 0
-        if not count or chance < 0.6:
-            count = rng.randint(1, state.count + 1)
-        key = rng.choice(self.keys[name]) if rng.random() < 0.2 else model.keys[name]
-        report = report_on(key, model.image, model.policy.bounds, count)
-        return b"give %s %d %s" % (name, number, report)
-
-    def add_lines(self, count):
-        """Lines that a desk is given next, with the replies and what the memory has after each. Now
-        and then a key is another before.
-        """
-        if self.rng.random() < 0.2:
-            self.change_key()
-        self.lines, self.replies, self.kept = [], [], [tuple(self.model.entries)]
-        for _ in range(count):
-            line = self.line()
-            self.lines.append(line)
-            self.replies.append(self.model.reply(line[:-1]))
-            self.kept.append(tuple(self.model.entries))
-
-    def pieces(self):
-        """The lines in pieces that are given at once: a line or several."""
-        at, most = 0, self.rng.choice((1, 1, 20, 80))
-        while at < len(self.lines):
-            end = at + self.rng.randint(1, most)
-            yield self.lines[at:end]
-            at = end
-
-    def serve(self, moment=None, most=None, before=()):
-        """Gives them to a desk, which is killed at a moment, or once it put so many replies; its
-        status, and how many replies it put, which are those of the model.
-        """
-        run = DeskRun([*before, self.trial.desk, *self.words], moment, most)
-        for piece in self.pieces():
-            if not run.give(b"".join(piece), len(piece)):
-                break
-        status, printed = run.end()
-        self.trial.tries += 1
-        *replies, rest = printed.split(b"\n")
-        replies = [reply + b"\n" for reply in replies]
-        for line, reply in zip(self.lines, replies):
-            self.ledger.note(line, reply)
-        if replies != self.replies[:len(replies)] or not self.is_begun(rest, len(replies)):
-            self.fault(f"other replies than those of the model: {printed[-200:]!r}")
-        return status, len(replies)
-
-    def is_begun(self, rest, count):
-        return not rest or self.replies[count:] and self.replies[count].startswith(rest)
-
-    # What is found.
-
-    def states(self):
-        """What `states` answers."""
-        return self.trial.call("states", self.path)
-
-    def look(self, what, answered):
-        """Looks what is found after a run of which so many lines had a reply, and goes on there."""
-        answer, text = self.states(), None
-        if answer.status == 3 and self.contents()[""] is None and not answered:
-            answer = answer._replace(status=0, output=b"", line="")  # (it was not made yet)
-        if answer.ending != (0, ""):
-            self.fault(f"{what}: {answer}")
-            return False
-        for count in range(len(self.lines), answered - 1, -1):
-            text = desk_model.states_text(self.kept[count])
-            if text == answer.output:
-                self.model.start(self.kept[count])
-                return True
-        if any(desk_model.states_text(kept) == answer.output for kept in self.kept[:answered]):
-            self.fault(f"{what}: the state before a line that had a reply is found")
-        else:
-            self.fault(f"{what}: states are found that no beginning of the lines leads to: "
-                       f"{answer.output[-300:]!r}")
-        return False
+def with_file(parts, file):
+    """The same, but for an empty file that is made where there was none."""
+    return {**parts, "": file if file is None and not parts[""] else parts[""]}
 
 
-class DeskRun:
-    """A desk between its start and its end."""
+def is_untouched(before, after):
+    """Whether a memory is as it was; beside it a log without a page may have been begun."""
+    log, new = (parts["-wal"] or b"" for parts in (before, after))
+    return before[""] == after[""] and (log == new or max(len(log), len(new)) < FRAME)
+
+
+def none_ending(path):
+    """How all but a making end where no memory was made, or its making was cut off."""
+    file, log = contents(path).values()
+    if file is None:
+        return REFUSED, ABSENT
+    return REFUSED, OTHER_LOG if is_begun(file, log) else UNFOUNDED
+
+
+def lost_endings(file, log):
+    """How the others end where no more than this is left of a memory, and how a making does."""
+    if is_alone(file, log):
+        return (REFUSED, ABSENT if file is None else OTHER_LOG), (REFUSED, OTHER_LOG)
+    if len(file or b"") > 1:
+        return (REFUSED, DAMAGED), (REFUSED, DAMAGED)
+    return (REFUSED, ABSENT if file is None else UNFOUNDED), (0, "")
+
+
+class Run:
+    """A program between its start and its end, which is killed at a moment, or once it put so many
+    lines.
+    """
 
     def __init__(self, words, moment=None, most=None):
         self.process = subprocess.Popen(words, stdin=subprocess.PIPE, stdout=subprocess.PIPE,
@@ -230,121 +94,304 @@ class DeskRun:
         self.printed, self.wanted, self.most = b"", 0, most
 
     def give(self, data, count):
-        """Whether so many replies came to these lines, before the desk ended."""
+        """Whether so many replies came to these lines, before the program ended."""
         self.wanted += count
         try:
             self.process.stdin.write(data)
         except BrokenPipeError:
             return False
         while self.printed.count(b"\n") < self.wanted:
-            left = self.until - time.monotonic()
-            if left <= 0 or not select.select([self.process.stdout], [], [], left)[0]:
-                return self.kill()
-            data = os.read(self.process.stdout.fileno(), 65536)
-            if not data:
+            if not self.reads():
                 return False
-            self.printed += data
-            if self.most is not None and self.printed.count(b"\n") >= self.most:
-                return self.kill()
         return True
+
+    def reads(self):
+        """Whether there was more to read before the moment."""
+        left = self.until - time.monotonic()
+        if left <= 0 or not select.select([self.process.stdout], [], [], left)[0]:
+            return self.kill()
+        data = os.read(self.process.stdout.fileno(), 65536)
+        self.printed += data
+        if self.most is not None and self.printed.count(b"\n") >= self.most:
+            return self.kill()
+        return data != b""
 
     def kill(self):
         os.killpg(self.process.pid, signal.SIGKILL)
         return False
 
     def end(self):
-        """Its status, and all that it printed."""
-        rest, _ = self.process.communicate()
-        return self.process.returncode, self.printed + rest
+        """Its status, all that it printed, and its line on standard error."""
+        self.process.stdin.close()
+        self.process.stdin = None
+        while self.reads():
+            pass
+        _, line = self.process.communicate()
+        return self.process.returncode, self.printed, line.decode("utf-8", "replace").rstrip("\n")
 
 
-def killed(memory):
-    """A desk that is killed at a random moment, or once it put a reply, or ends before it."""
-    rng = memory.rng
-    memory.add_lines(rng.randint(1, 60))
-    if rng.random() < 0.3:
-        status, answered = memory.serve(most=rng.randint(1, len(memory.lines)))
-    else:
-        status, answered = memory.serve(moment=rng.uniform(0, rng.choice((0.03, 0.3))))
-    if status not in (0, *KILLED) or status == 0 and answered < len(memory.lines):
-        memory.fault(f"a desk ended with {status} after {answered} replies")
-    return memory.look("after a kill", answered)
+class Trials:
+    """The trials over a world."""
 
+    def __init__(self, trial, folder, rng):
+        self.trial, self.rng, self.world = trial, rng, World(trial, folder, rng)
+        self.acts = self.cases = 0
 
-def refused(memory):
-    """A desk of which one system call is refused, or which is killed in it (by strace)."""
-    rng = memory.rng
-    call, = rng.choices([*REFUSED_CALLS], REFUSED_CALLS.values())
-    refusal = rng.choice(REFUSALS)
-    place = rng.randint(1, rng.choice((6, 60)))
-    memory.add_lines(rng.randint(1, 12))
-    status, answered = memory.serve(before=[
-        "strace", "-f", "-qq", "-o", "/dev/null", "-e", f"trace={call}", "-e",
-        f"inject={call}:{refusal}:when={place}"])
-    what = f"after {refusal} in the call {place} of {call}"
-    wanted = (0, *KILLED, *FAULTS, *(() if answered else (NOT_STARTED,)))
-    if status not in wanted or status == 0 and answered < len(memory.lines):
-        memory.fault(f"{what}: a desk ended with {status} after {answered} replies")
-    return memory.look(what, answered)
+    def is_worn(self):
+        return self.acts > ACTS or self.world.is_worn()
 
+    # Acts.
 
-def changed(memory):
-    """A bit of a memory is another: it is refused and stays as it is, or has the same states."""
-    rng = memory.rng
-    memory.add_lines(rng.randint(1, 12))
-    memory.serve()
-    if not memory.look("after a run", len(memory.lines)):
+    def pieces(self, act):
+        """The lines in pieces that are given at once: a line or several."""
+        at, most = 0, self.rng.choice((1, 1, 20, 80))
+        while at < len(act.lines):
+            end = at + self.rng.randint(1, most)
+            yield act.lines[at:end]
+            at = end
+
+    def run(self, act, moment=None, most=None, before=()):
+        """How it ended, and in how many of its steps it was answered, as the model has it."""
+        run = Run([*before, self.trial.desk, *act.words], moment, most)
+        for piece in self.pieces(act):
+            if not run.give(b"".join(piece), len(piece)):
+                break
+        status, printed, line = run.end()
+        self.trial.tries += 1
+        self.acts += 1
+        if not b"".join(act.replies).startswith(printed):
+            self.trial.fault(f"{act.words}: other text than that of the model: "
+                             f"{printed[-200:]!r}, not {b''.join(act.replies)[-200:]!r}")
+        return (status, line), self.answered(act, status, printed)
+
+    def answered(self, act, status, printed):
+        """How many of its steps must be kept now."""
+        if not act.lines:
+            return len(act.kept) - 1 if status == 0 or printed else 0
+        *replies, _ = printed.split(b"\n")
+        for line, reply in zip(act.lines, replies):
+            self.world.ledger.note(line, reply + b"\n")
+        return min(len(replies), len(act.kept) - 1)
+
+    def whole(self, act, **options):
+        """An act that is not disturbed; whether it ended as the model has it."""
+        (status, line), answered = self.run(act, **options)
+        is_right = (status, line) == act.ending and answered == len(act.kept) - 1
+        if not is_right:
+            self.trial.fault(f"{act.words}: status {status}, '{line}', {answered} answered, in "
+                             f"place of {act.ending} and {len(act.kept) - 1}")
+        return is_right
+
+    def look(self, what, act, answered, goes_on=True):
+        """Whether that is found which the act may leave; then the world goes on there. A making
+        that was cut off can be made again, now or later.
+        """
+        self.cases += 1
+        found = self.trial.call("states", act.memory)
+        for kept in act.kept[:answered - 1 if answered else None:-1]:
+            if self.shows(found, kept, act.memory):
+                if kept is None and not act.is_refused and self.rng.random() < 0.7:
+                    return self.made_again(what, act, goes_on)
+                if goes_on:
+                    self.world.settle(act, kept)
+                return True
+        self.trial.fault(f"{what}: {act.words}, {answered} answered: {found}")
         return False
-    contents = memory.contents()
-    part = rng.choice([part for part in PARTS if contents[part]])
-    data = bytearray(contents[part])
-    place = rng.randrange(len(data))
-    data[place] ^= 1 << rng.randrange(8)
-    memory.put({**contents, part: bytes(data)})
-    what = f"a bit at {place} of the {len(data)} bytes of memory{part}"
-    answer, text = memory.states(), desk_model.states_text(memory.model.entries)
-    if answer.status == REFUSED:
-        if memory.contents()[""] != (bytes(data) if not part else contents[""]):
-            memory.fault(f"{what}: refused, and written")
-    elif (answer.status, answer.output) != (0, text):
-        memory.fault(f"{what}: other states: {answer}")
-    memory.put(contents)
-    return True
 
-
-def cut(memory, images=25):
-    """The power is cut at random moments of one run: what was synced is there, and of the rest each
-    write is lost, whole, cut off, or any bytes.
-    """
-    start = memory.contents()
-    memory.add_lines(memory.rng.randint(1, 40))
-    kept = tuple(memory.model.entries)
-    name = f"{memory.path}.calls"
-    status, answered = memory.serve(before=recorded(name))
-    if (status, answered) != (0, len(memory.lines)):
-        memory.fault(f"under strace a desk ended with {status} after {answered} replies")
-    end, calls = memory.contents(), Calls(name, memory.path, PARTS, start)
-    for _ in range(images):
-        contents, answered = torn(memory.rng, calls, start)
-        memory.put(contents)
-        if not memory.look("after a power cut", answered):
+    def made_again(self, what, act, goes_on):
+        made, found = (self.trial.call(*words) for words in (act.words, ("states", act.memory)))
+        if made.ending != (0, "") or not self.shows(found, act.kept[-1], act.memory):
+            self.trial.fault(f"{what}: {act.words}, made again: {made}, then {found}")
             return False
-    memory.put(end)
-    memory.model.start(kept)
-    return True
+        if goes_on:
+            self.world.settle(act, act.kept[-1])
+        return True
+
+    @staticmethod
+    def shows(found, kept, path):
+        if kept is None:
+            return found.ending == none_ending(path) and not found.output
+        return found.ending == (0, "") and found.output == desk_model.states_text(kept)
+
+    # Trials; each tells whether the world is to go on.
+
+    def acted(self):
+        """An act that goes to its end."""
+        act = self.world.draw()
+        return self.whole(act) and self.look("behind an act", act, len(act.kept) - 1)
+
+    def killed(self):
+        """An act that is killed at a random moment, or once it put a line, or ends before it."""
+        rng, act = self.rng, self.world.draw()
+        options = {"moment": rng.uniform(0, rng.choice((0.01, 0.05, 0.3)))}
+        if rng.random() < 0.3:
+            options = {"most": rng.randint(1, max(1, len(act.lines)))}
+        (status, line), answered = self.run(act, **options)
+        if (status, line) != act.ending and status not in KILLED or status == 0 and (
+                answered < len(act.kept) - 1):
+            self.trial.fault(f"{act.words} ended with {status}, '{line}', {answered} answered")
+        return self.look("after a kill", act, answered)
+
+    def refused(self):
+        """An act of which one system call is refused, or which is killed in it (by strace)."""
+        act = self.world.draw()
+        what, (status, line), answered = self.refuse(act, self.rng.choice(REFUSALS))
+        wanted = (act.ending[0], *KILLED, *FAULTS, *(() if answered else (NOT_STARTED,)))
+        if status not in wanted or status == 0 and answered < len(act.kept) - 1:
+            self.trial.fault(f"{what}: {act.words} ended with {status}, '{line}', {answered} "
+                             "answered")
+        return self.look(what, act, answered)
+
+    def refuse(self, act, refusal):
+        """What is refused, and how the act ends."""
+        rng = self.rng
+        call, = rng.choices([*REFUSED_CALLS], REFUSED_CALLS.values())
+        place = rng.randint(1, rng.choice((6, 60)))
+        return f"after {refusal} in the call {place} of {call}", *self.run(act, before=[
+            "strace", "-f", "-qq", "-o", "/dev/null", "-e", f"trace={call}", "-e",
+            f"inject={call}:{refusal}:when={place}"])
+
+    def changed(self):
+        """A bit of a memory is another: it is refused and stays as it is, or has the same states.
+        """
+        if not self.acted():
+            return False
+        rng, seat = self.rng, self.rng.choice(self.world.seats)
+        before = contents(seat.path)
+        part = rng.choice([part for part in PARTS if before[part]])
+        data = bytearray(before[part])
+        place = rng.randrange(len(data))
+        data[place] ^= 1 << rng.randrange(8)
+        put(seat.path, {**before, part: bytes(data)})
+        self.is_left_alone(seat.path, seat,
+                           f"a bit at {place} of the {len(data)} bytes of memory{part}")
+        put(seat.path, before)
+        return True
+
+    def is_left_alone(self, path, seat, what):
+        """A memory is refused, and stays as it is with its log; or it has its states."""
+        self.cases += 1
+        before = contents(path)
+        found = self.trial.call("states", path)
+        if self.shows(found, seat.entries, path):
+            return
+        if found.ending not in NOT_TAKEN or found.output:
+            self.trial.fault(f"{what}: other states: {found}")
+        elif not is_untouched(before, contents(path)):
+            self.trial.fault(f"{what}: refused, and written")
+
+    def cut(self):
+        """The power is cut at random moments of one act: what was synced is there, and of the rest
+        each write is lost, whole, cut off, or any bytes. And it is cut again while that is
+        recovered, or made again.
+        """
+        act = self.world.draw()
+        start, name = contents(act.memory), f"{self.world.folder}/calls"
+        if not self.whole(act, before=recorded(name)):
+            return False
+        end, calls = contents(act.memory), Calls(name, act.memory, PARTS, start)
+        calls.add(None, len(act.kept))  # (at its end all was answered)
+        for _ in range(IMAGES):
+            parts, answered = self.cut_off(act, calls, start)
+            if not self.look("after a power cut", act, answered, goes_on=False):
+                return False
+        put(act.memory, parts)
+        is_making = act.kept[0] is None and self.rng.random() < 0.7
+        self.trial.call(*(act.words if is_making else ("states", act.memory)),
+                        command=[*recorded(name), self.trial.desk])
+        calls = Calls(name, act.memory, PARTS, parts)
+        for _ in range(AGAIN):
+            self.cut_off(act, calls, parts)
+            if not self.look("after a second power cut", act, answered, goes_on=False):
+                return False
+        put(act.memory, end)
+        self.world.settle(act, act.kept[-1])
+        return True
+
+    def cut_off(self, act, calls, start):
+        """What a cut leaves of a memory, which is there then, and how much was answered."""
+        parts, printed = torn(self.rng, calls, start)
+        put(act.memory, parts)
+        return parts, min(printed, len(act.kept) - 1)
+
+    def left(self):
+        """A log that a kill left, beside the memory of a later time, or another's, or none."""
+        seat = self.rng.choice(self.world.seats)
+        _, _, answered = self.refuse(act := self.world.serving(seat), "signal=KILL")
+        log = contents(seat.path)["-wal"]
+        if not self.look("after a kill", act, answered):
+            return False
+        later = self.world.serving(seat)
+        if not self.whole(later) or not self.look("behind a kill", later, len(later.kept) - 1):
+            return False
+        now, other = contents(seat.path), self.rng.choice(self.world.seats)
+        others = contents(other.path)
+        self.stands_beside(seat, now[""], log, seat.entries)
+        self.is_lost(seat, self.rng.choice((None, b"", b"x", now[""][:self.rng.randrange(100)])),
+                     log)
+        self.stands_beside(seat, others[""], log, other.entries)
+        put(seat.path, now)
+        return True
+
+    def calls(self, seat):
+        """A call of each command but those that make a memory."""
+        return (("states", seat.path), ("move", seat.path, "pump_0", "east"),
+                ("adopt", os.devnull, seat.path), self.world.serving(seat).words)
+
+    def stands_beside(self, seat, file, log, entries):
+        """A log that is not of the last opening of a memory is refused by all, and nothing is
+        written; another changes nothing.
+        """
+        put(seat.path, {"": file, "-wal": log})
+        before = contents(seat.path)
+        if not is_of_another(file, log):
+            self.cases += 1
+            found = self.trial.call("states", seat.path)
+            if not self.shows(found, entries, seat.path):
+                self.trial.fault(f"beside a log that says nothing: {found}")
+            return
+        makings = (("found", seat.path, seat.name), ("remember", os.devnull, seat.path, seat.name))
+        for call in (*self.calls(seat), *makings):
+            self.refuses("beside another's log", call, (REFUSED, OTHER_LOG), before, seat)
+
+    def refuses(self, what, call, wanted, before, seat):
+        """A call is refused so, and the memory stays as it was."""
+        self.cases += 1
+        found = self.trial.call(*call, input=b"ask pump_0 1\n")
+        if found.ending != wanted or found.output:
+            self.trial.fault(f"{what}: {call}: {found}, not {wanted}")
+        elif not is_untouched(before, contents(seat.path)):
+            self.trial.fault(f"{what}: {call}: refused, and written")
+
+    def is_lost(self, seat, file, log):
+        """No desk begins anew where a file is lost or cut off, nor is one made beside its log."""
+        put(seat.path, {"": file, "-wal": log})
+        before, (wanted, making) = contents(seat.path), lost_endings(file, log)
+        for call in self.calls(seat):
+            self.refuses(f"{file} for a memory", call, wanted, before, seat)
+        found = self.trial.call("found", seat.path, seat.name)
+        self.cases += 1
+        if found.ending != making:
+            self.trial.fault(f"found: {file} for a memory: {found}")
+        elif found.status and not is_untouched(before, with_file(contents(seat.path), file)):
+            self.trial.fault(f"found: {file} for a memory: refused, and written")
 
 
-TRIALS = {"kills": killed, "refused calls": refused, "changed bits": changed, "power cuts": cut}
+TRIALS = {"acts": Trials.acted, "kills": Trials.killed, "refused calls": Trials.refused,
+          "changed bits": Trials.changed, "power cuts": Trials.cut, "left logs": Trials.left}
+BY_STRACE = ("refused calls", "power cuts", "left logs")
 
 
-def try_memory(trial, folder, rng, kind, runs):
-    """So many trials of a kind. A memory is begun anew where something was wrong, and now and then.
+def try_memory(trial, folder, rng, kind, cases):
+    """At least so many cases of a kind; how many. All is begun anew where something was wrong, and
+    now and then.
     """
-    memory, given = None, 0
-    for _ in range(runs):
-        if memory is None or given > LINES:
-            memory, given = Memory(trial, folder, rng), 0
-        if TRIALS[kind](memory):
-            given += len(memory.lines)
-        else:
-            memory = None
+    trials, tried = None, 0
+    while tried < cases:
+        if trials is None or trials.is_worn():
+            trials = Trials(trial, folder, rng)
+        trials.cases = 0
+        goes_on = TRIALS[kind](trials)
+        tried += max(1, trials.cases)
+        trials = trials if goes_on else None
+    return tried

@@ -121,9 +121,8 @@ def judged_text(kind, name):
 
 
 def unread_file(words):
-    """What is said of the first file that is absent or cannot be read, MEMORY of `states` too."""
-    memory = [("memory", words[1])] if words[0] == "states" else []
-    for kind, name in files_of(words) + memory:
+    """What is said of the first file that is absent or cannot be read."""
+    for kind, name in files_of(words):
         try:
             contents(name, 1)
         except OSError as error:
@@ -137,7 +136,7 @@ def misplaced(kind, words):
     for place, name in names_of(words).items():
         start = text_of(name, mistaken_files.START) if place in FILES else None
         form = mistaken_files.kind_of(start or b"")
-        if form not in (None, place):
+        if form not in (None, place, *mistaken_files.OTHERS_IN.get(place, ())):
             what = mistaken_files.FORMS[form].name
             found[place] = mistaken_files.SAID["misplaced"].format(
                 name, what, place.upper())
@@ -198,14 +197,17 @@ def is_shown(kind, line):
 
 def file_fault(line, words):
     """What is said of the fault that the line names."""
-    match = re.fullmatch(r"bad (\w+): line (\d+): (\w+)", line)
-    if not match or match[1] not in FAULTS:
+    match = re.fullmatch(r"(bad \w+): line (\d+): (\w+)", line)
+    if not match:
         return []
-    kind, number, name = match[1], int(match[2]), dict(files_of(words))[match[1]]
+    number = int(match[2])
+    kind, name = next(file for file in files_of(words)
+                      if STATUSES[FILES[file[0]].status].line.startswith(f"{match[1]}:"))
     text = judged_text(kind, name)
     fault = fault_in(kind, text or b"", number, match[3])
     meaning = meaning_of(kind, fault)
-    hints = misplaced(kind, words) or mistaken_files.hints(kind, name, text or b"")
+    hints = (misplaced(kind, words) or mistaken_files.hints(kind, name, text or b"")
+             or memory_faults.hints(kind, fault, text or b"", names_of(words)))
     if fault.kind == "TooLong":
         return [f"{name}: {meaning}, {FILES[kind].limit} bytes", *hints]
     lines = text.split(b"\n") if text is not None else []
@@ -228,7 +230,8 @@ def explanation(status, line, words):
     if status == 15:
         return [said_of(words[:1], STATUSES[status].remedy).replace("`", "")]
     if status in memory_faults.OWN_STATUSES:
-        return memory_faults.explanation(status, line, names_of(words))
+        lines = memory_faults.explanation(status, line, names_of(words))
+        return [each and shown_word(each) for each in lines]
     return file_fault(line, words)
 
 

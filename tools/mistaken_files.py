@@ -52,21 +52,25 @@ FORMS = {
     "reports": Form("a file of reports", keywords(
         "report2?", "tx", "reset", "denied", "verdict", "collision", "end")),
     "trace": Form("a trace", rb"t[ \t]+[0-9]"),
-    "states": Form("a text of states", keywords("state")),
+    "states": Form("a text of states", keywords("state2?")),
+    "moved": Form("a text of moves", keywords("moved")),
     "source": Form("a source", STATEMENT),
 }
 
 
+OTHERS_IN = {"states": ("moved",)}  # what lines may stand in a file of a kind, of another one
+
+
 def begins_as(kind, line):
     """Whether this may be a line of a file of this kind, by how it begins."""
-    return bool(re.match(FORMS[kind].line, line))
+    return any(re.match(FORMS[form].line, line) for form in (kind, *OTHERS_IN.get(kind, ())))
 
 
 def kind_of(text):
     """The kind of a file, by the first line that says something; None where it is not known."""
     lines = (line for line in text.split(b"\n") if line.strip() and line.lstrip()[:1] not in b"#;")
     line = next(lines, b"")
-    return next((kind for kind in FORMS if begins_as(kind, line)), None)
+    return next((kind for kind in FORMS if re.match(FORMS[kind].line, line)), None)
 
 
 def in_digits(word):

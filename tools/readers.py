@@ -13,6 +13,7 @@ READERS = {
     "source": assembler_model.assemble,
     "trace": file_readers.read_trace,
     "states": file_readers.read_states,
+    "moved": file_readers.read_states,  # (what else may be wrong MEMORY says)
 }
 
 

@@ -71,6 +71,15 @@ class Digits(NamedTuple):
         return bool(re.fullmatch(f"[0-9A-Fa-f]{{{self.count}}}", word))
 
 
+class Name(NamedTuple):
+    """An argument that is a word, as the names of devices and desks are."""
+    about: str
+
+    @staticmethod
+    def takes(word):
+        return bool(re.fullmatch("[0-9A-Za-z_]{1,32}", word))
+
+
 class Memory(NamedTuple):
     """An argument that is the file of a desk's memory."""
     about: str
@@ -148,17 +157,34 @@ COMMANDS = {command.name: command for command in (
             "not forget is in MEMORY before a reply is out, and a desk that is started anew with "
             "it goes on; without MEMORY it is forgotten at the end.",
             "desk keys.txt image.hex policy.txt desk.db", "desk_main", ("memory",)),
+    Command("found", ("memory", "desk"),
+            "nothing: a new memory is made, of the desk of this name",
+            "Makes the new MEMORY of the desk of the name DESK, without a device. No other command "
+            "but remember makes one.",
+            "found desk.db north", "desk_main"),
     Command("states", ("memory",),
             "the state of each device in a desk's memory, one a line",
-            "Prints a line for each device in MEMORY, the oldest first, `state NAME key H32 count "
-            "N outstanding N last R ANSWER`: the mark of its key, how many requests were made, the "
-            "counter of the outstanding one, and the last line's number and answer; `none` where "
-            "there is none. No desk may run over MEMORY meanwhile.",
+            "Prints a line for each device in MEMORY, the oldest first, `state2 NAME moves M key "
+            "H32 count N outstanding N last R ANSWER`: how often it moved, the mark of its key, "
+            "how many requests were made, the counter of the outstanding one, and the last line's "
+            "number and answer; `none` where there is none. Of a device that is gone the line "
+            "begins with `moved NAME to DESK`. No desk may run over MEMORY meanwhile.",
             "states desk.db > states.txt", "desk_main"),
-    Command("remember", ("states", "memory"),
-            "nothing: a new memory of a desk is made of such lines",
-            "Makes the new MEMORY of lines as states prints them.",
-            "remember states.txt desk.db", "desk_main"),
+    Command("remember", ("states", "memory", "desk"),
+            "nothing: a new memory of the desk of this name is made of such lines",
+            "Makes the new MEMORY of the desk of the name DESK, of lines as states prints them.",
+            "remember states.txt desk.db north", "desk_main"),
+    Command("move", ("memory", "name", "desk"),
+            "the lines of a device that is gone to another desk, for `adopt`",
+            "Notes in MEMORY that the device NAME is gone to the desk of the name DESK, and then "
+            "prints a line for each key that it had, `moved NAME to DESK moves M key ..`, as "
+            "states does. Once more it prints the same.",
+            "move desk.db pump_1 south > moved.txt", "desk_main"),
+    Command("adopt", ("moved", "memory"),
+            "nothing: a memory gets the devices of such lines",
+            "Takes the devices of lines that move printed into MEMORY, which is that of the desk "
+            "that they name: all of them, or none. Once more it changes nothing.",
+            "adopt moved.txt desk.db", "desk_main"),
     Command("audit", ("trace",),
             "whether each line of a trace file names the right rule and EXEC",
             "Prints `clean N` where each of the N lines of TRACE names the first rule that its "
@@ -208,6 +234,7 @@ FILES = {
     "source": File(12, 1048576, "an assembler source"),
     "trace": File(13, 67108864, "lines as trace prints them"),
     "states": File(19, 4194304, "lines as states prints them"),
+    "moved": File(19, 4194304, "lines as move prints them, of any number of devices"),
 }
 
 # The arguments that are no files.
@@ -216,7 +243,9 @@ VALUES = {
     "counter": Decimal(1, 4294967295),
     "steps": Decimal(1, 10000000),
     "seed": Decimal(0, 4294967295),
-    "memory": Memory("a file that keeps the states of a desk's devices; made where there is none"),
+    "memory": Memory("a file that keeps the states of a desk's devices, made by found"),
+    "name": Name("a device, by its name: 1 to 32 letters, digits and _"),
+    "desk": Name("the name of a desk, 1 to 32 letters, digits and _; no two have the same"),
 }
 
 
@@ -305,6 +334,7 @@ STATUSES = {
                Part("seed", f", SEED none in {VALUES['seed']}"),
                Part("counter", f", COUNTER none in {VALUES['counter']}"),
                Part("chal", f", CHAL is not {VALUES['chal'].about}"),
+               Part("name", ", DESK or NAME is not 1 to 32 letters, digits and `_`"),
                ", or an argument is not UTF-8"), "compare with `--help`"),
     3: Status("file is absent", "one of the files is not there", "look for them in this order"),
     4: Status("reading failed",
@@ -337,16 +367,17 @@ STATUSES = {
                (Part("desk", "start the desk anew with its memory: `docs/desk.md`"),
                 Part("debug", "; or connect GDB anew")), WITH_INPUT),
     16: Status("bad memory: M",
-               "MEMORY is no memory of a desk, or is damaged; or a key of KEYS stands under "
-               "another name in it; or `remember` was to make it, and it has devices",
-               "`docs/desk.md` says what to do", WITH_MEMORY),
-    17: Status("memory is in use", "another desk, `states`, `remember` or sqlite3 has MEMORY open",
-               "end it first", WITH_MEMORY),
+               "M says it: there is no MEMORY, or none yet; it is no memory of a desk, or is "
+               "damaged; the log beside it is not its own; it was to be made, and is there; a key "
+               "of KEYS stands under another name in it; a device has gone to another desk, or "
+               "cannot go", "`docs/desk.md` says what to do", WITH_MEMORY),
+    17: Status("memory is in use", "another desk, another of these commands or sqlite3 has MEMORY "
+               "open", "end it first", WITH_MEMORY),
     18: Status("the memory could not be written",
                "MEMORY cannot be opened, made, read or written: no such folder, a lack of rights, "
                "a full or broken disk; no reply was put that it does not keep",
                "mend that, and start the desk anew", WITH_MEMORY),
-    19: Status("bad states: line L: K", "the first fault of a text of states",
+    19: Status("bad states: line L: K", "the first fault of a text of states or of moves",
                "`--help` says what K means"),
 }
 
@@ -366,8 +397,17 @@ def fault_ending(kind, fault):
 
 
 # What M says of a memory.
+ABSENT = "bad memory: there is none: found it first"
+UNFOUNDED = "bad memory: it was not founded: found it first"
 DAMAGED = "bad memory: no memory of a desk, or damaged"
+OTHER_LOG = "bad memory: the log beside it is not its own"
+FOUNDED = "bad memory: it is there already"
 TAKEN = "bad memory: the key of device {} stands under another name"
+GONE = "bad memory: device {} has gone to another desk"
+NO_DEVICE = "bad memory: it has no such device"
+ELSEWHERE = "bad memory: the device has gone to another desk"
+OWN_DESK = "bad memory: that is its own desk"
+AS_OFTEN = "bad memory: the device has moved as often as can be"
 # What a fault's kind means, of each file.
 TOO_LONG = {"TooLong": "the file is longer than its limit (line 0)"}
 IN_WORDS = {
@@ -379,6 +419,18 @@ IN_WORDS = {
     "Count": "a wrong number of hexadecimal digits",
     "Range": "a number is out of range",
     "Extra": "a word too many",
+}
+OF_STATES = {
+    **IN_WORDS,
+    "Word": "not the keyword that is wanted here, or no answer",
+    "Digit": "a character of a name is no letter, digit or `_`, or one of a key or a number no "
+             "digit",
+    "Count": "a name has more than 32 characters, or the mark of a key not 32 digits",
+    "Range": "a number is out of range, or a counter is greater than the count, or the count is at "
+             "its end",
+    "Twice": "the line before it of this device has this key, or the key stands under another name",
+    "Order": "the count, the number of the last line or the moves are less than in the line before "
+             "it of this device",
 }
 FAULTS = {
     "key": {
@@ -443,14 +495,14 @@ FAULTS = {
         "Extra": "a word too many",
         "Order": "the number of the step is not that of the lines before it",
     },
-    "states": {
-        **IN_WORDS,
-        "Word": "not the keyword that is wanted here, or no answer",
-        "Digit": "a character of a name is no letter, digit or `_`, or one of a key or a number no "
-                 "digit",
-        "Count": "a name has more than 32 characters, or the mark of a key not 32 digits",
-        "Range": "a number is out of range, or the outstanding counter is greater than the count",
-        "Twice": "the last line of this device has this key, or the key stands under another name",
+    "states": OF_STATES,
+    "moved": {
+        **OF_STATES,
+        "Twice": "the line before it of this device has this key, or the key stands under another "
+                 "name, in the text or in MEMORY",
+        "Order": "the line falls behind the one before it of its device, or the device is in "
+                 "MEMORY, or has moved on since",
+        "Place": "the line is of no move to the desk of MEMORY",
     },
 }
 

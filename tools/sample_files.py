@@ -2,6 +2,7 @@
 import contextlib
 import os
 import re
+import shutil
 import tempfile
 from string import ascii_letters
 from typing import NamedTuple
@@ -12,9 +13,9 @@ import verifier_model
 from assembler_model import hex_record, hex_text
 from desk_model import Desk
 from file_readers import Policy, read_reports
-from memory_faults import sqlite3
 from readers import READERS, first_fault
 from reference import ALL, COMMANDS, FILES, IMAGE_PLACES, PROGRAM, RESET_VECTOR
+from sqlite_rows import sqlite3
 from trial import ROOT
 
 EXAMPLES = f"{ROOT}/examples"
@@ -39,7 +40,14 @@ FIRST_FAULTS = {
               "place": "2: Range"},
     "states": {"twice": "2: Twice", "taken": "2: Twice", "word": "1: Word", "name": "1: Digit",
                "mark": "1: Count", "digit": "1: Digit", "range": "1: Range", "answer": "1: Word",
-               "extra": "1: Extra", "missing": "1: Missing", "utf8": "1: Utf8"},
+               "extra": "1: Extra", "missing": "1: Missing", "utf8": "1: Utf8",
+               "moves": "1: Digit", "request": "1: Range", "spent": "1: Range",
+               "count": "2: Order", "number": "2: Order", "fewer": "2: Order",
+               "first": "4: Order", "spent-again": "2: Range", "behind-again": "2: Twice"},
+    "moved": {"twice": "2: Twice", "taken": "2: Twice", "word": "1: Word", "to": "1: Word",
+              "name": "1: Digit", "desk": "1: Digit", "desk-long": "1: Count",
+              "moves": "1: Range", "extra": "1: Extra", "missing": "1: Missing",
+              "utf8": "1: Utf8", "fewer": "2: Order", "first": "4: Order"},
 }
 MOST_DEVICES = 1886  # of a file of keys, with names of one character and of two
 
@@ -79,7 +87,14 @@ class Call(NamedTuple):
     text: bytes
     input: bytes = None
     begun: tuple = ()  # what may be out before memory runs out
-    made: str = None  # the memory that it makes anew
+    made: str = None  # the memory that it is on, as it was before each call
+    start: str = None  # the memory of which that is a copy; of none it is not there
+
+    def begin(self):
+        if self.made:
+            remove_memory(self.made)
+        if self.start:
+            shutil.copy(self.start, self.made)
 
 
 def steps_of(text):
@@ -152,6 +167,8 @@ class SampleFiles:
         self.add_traces()
         self.add_verifier_files()
         self.add_faulty_files()
+        self.add_states()
+        self.add_moved()
         self.add_cut_files()
 
     def add(self, name, text):
@@ -167,7 +184,8 @@ class SampleFiles:
         return self.round.words(command, *option, **{
             "chal": self.report.challenge.hex(), "counter": str(self.report.count),
             "policy": self["policy"], "reports": self["reports"], "keys": self["keys"],
-            "states": self["states"], "memory": self["desk.db"], **others})
+            "states": self["states"], "moved": self["moved"], "memory": self["desk.db"],
+            "name": "a", "desk": "north", **others})
 
     def desk_of_round(self):
         """The model of a desk whose device `a` has the key of the example `round`."""
@@ -203,16 +221,21 @@ class SampleFiles:
         }
 
     def each_desk_call(self):
-        """Each command of the desk with files that it takes, in an order in which `states` has the
-        memory that was made before.
+        """Each command of the desk with files that it takes; each has the memory that an earlier
+        one made, or a copy of it.
         """
         words, lines, replies = self.desk_call()
-        text, memory = b"".join(replies), self["memory"]
+        text, new, full = b"".join(replies), self["memory-new"], self["memory-full"]
+        memory, states = self["memory"], read(self["states"])
+        gone = desk_model.moved(self.entries, b"north", b"a", b"south")[1]
         return [
             Call(words, text, lines, replies[:1]),
-            Call((*words, memory), text, lines, replies[:1], memory),
-            Call(("remember", self["states"], memory), b"", made=memory),
-            Call(("states", memory), read(self["states"])),
+            Call(("found", new, "north"), b"", made=new),
+            Call((*words, memory), text, lines, replies[:1], memory, new),
+            Call(("remember", self["states"], full, "north"), b"", made=full),
+            Call(("states", full), states),
+            Call(("move", memory, "a", "south"), gone, made=memory, start=full),
+            Call(("adopt", self["moved"], memory), b"", made=memory, start=new),
         ]
 
     @staticmethod
@@ -332,7 +355,6 @@ class SampleFiles:
         self.add("keys-extra", device[:-1] + b" b\n")
         self.add("keys-missing", b"device a\n")
         self.add("keys-utf8", b"# \xff\n")
-        self.add_states()
         self.add("key-256", b"0" * 256)
         self.add("key-257", b"0" * 257)
         self.add("image-no-end", b"".join(lines[:2]))
@@ -350,22 +372,53 @@ class SampleFiles:
         """States as a memory of the desk has them, and files with one fault each."""
         desk = self.desk_of_round()
         desk.replies(b"ask a 1\ngive a 2 " + self.desk_report(1) + b"ask a 3\nask a 4 x\n")
+        self.entries = desk.entries
         line = desk_model.states_text(desk.entries)
+        other = re.sub(b"key ..", b"key 00", line)
+        spent = line.replace(b"count 2", b"count 4294967295")
+        behind = other.replace(b"count 2 outstanding 2", b"count 1 outstanding none")
         self.add("states", line)
-        self.add("states-twice", line + line)
-        for name, old, new in (
-                ("word", b"state ", b"states "), ("name", b" a ", b" a-b "),
-                ("mark", b"key ", b"key 0"),
-                ("digit", b"count ", b"count x"), ("range", b"outstanding 2", b"outstanding 3"),
-                ("answer", b" bad Extra", b" bad Extras"), ("extra", b"\n", b" b\n"),
-                ("missing", b" bad Extra", b""), ("utf8", b"state", b"# \xff\nstate"),
-                ("taken", b"\n", b"\n" + line.replace(b" a key", b" b key"))):
-            self.add(f"states-{name}", line.replace(old, new))
+        for name, text in {
+                "word": line.replace(b"state2 ", b"states "),
+                "name": line.replace(b" a ", b" a-b "), "mark": line.replace(b"key ", b"key 0"),
+                "moves": line.replace(b"moves 0", b"moves x"),
+                "digit": line.replace(b"count ", b"count x"),
+                "range": line.replace(b"outstanding 2", b"outstanding 3"),
+                "answer": line.replace(b"Extra", b"Extras"), "extra": line.replace(b"\n", b" b\n"),
+                "missing": line.replace(b" Extra", b""), "utf8": b"# \xff\n" + line,
+                "request": line.replace(b"bad Extra", b"request 3"),
+                "spent": spent, "twice": line + line,
+                "taken": line + line.replace(b" a ", b" b "), "count": line + behind,
+                "number": line + other.replace(b"last 4", b"last 3"),
+                "fewer": line.replace(b"moves 0", b"moves 1") + other,
+                "first": line + b"# a comment\n\n" + behind + line, "spent-again": line + spent,
+                "behind-again": line + line.replace(b"last 4", b"last 3")}.items():
+            self.add(f"states-{name}", text)
+
+    def add_moved(self):
+        """The lines of a move to the desk `north`, and files with one fault each."""
+        line = desk_model.moved(self.entries, b"south", b"a", b"north")[1]
+        other = re.sub(b"key ..", b"key 00", line)
+        self.add("moved", line)
+        for name, text in {
+                "word": line.replace(b"moved ", b"move "), "to": line.replace(b" to ", b" two "),
+                "name": line.replace(b" a ", b" a-b "),
+                "desk": line.replace(b"north", b"no-rth"),
+                "desk-long": line.replace(b"north", b"n" * 33),
+                "moves": line.replace(b"moves 1", b"moves 4294967296"),
+                "extra": line.replace(b"\n", b" b\n"), "missing": line[:line.index(b" last")],
+                "utf8": b"# \xff\n" + line, "twice": line + line,
+                "taken": line + line.replace(b" a ", b" b "),
+                "fewer": line.replace(b"moves 1", b"moves 2") + other,
+                "first": line + b"\n# north\n" + other.replace(b"last 4", b"last 3") + line,
+                }.items():
+            self.add(f"moved-{name}", text)
 
     def add_cut_files(self):
         """Real files cut in the middle, where that is a fault; the faults by their kinds."""
         own = {"policy": self["policy"], "reports": self["reports"], "source": self["letter.asm"],
-               "trace": self["trace"], "keys": self["keys"], "states": self["states"]}
+               "trace": self["trace"], "keys": self["keys"], "states": self["states"],
+               "moved": self["moved"]}
         self.cut_faults = {}
         for kind in FILES:
             text = read(own.get(kind) or self.round.file(kind))
@@ -409,12 +462,15 @@ class SampleFiles:
             requests=[(self.report.challenge, count) for count in counts]))
         names = [letter + other for other in ("", *ascii_letters) for letter in ascii_letters]
         self.add("states-many", b"".join(
-            b"state d%d key %032d count 7 outstanding 7 last 9 request 7\n" % (number, number)
+            b"state2 d%d moves 0 key %032d count 7 outstanding 7 last 9 request 7\n"
+            % (number, number)
             for number in range(2000)))
         many = {
             "keys": b"".join(b"device %s %0128d\n" % (name.encode(), number)
                              for number, name in enumerate(names[:MOST_DEVICES])),
             "states": read(self["states-many"]) + b"# a comment\n" * 200000,
+            "moved": read(self["states-many"]).replace(b"state2", b"moved").replace(
+                b" moves 0", b" to north moves 1") + b"# a comment\n" * 200000,
             "image": lines[0] * 37447 + b"".join(lines[-2:]),
             "script": b"at 4 rx 000000 \n" * 65536,
             "source": b"".join(b".equ n%05d,1\n" % number for number in range(1, 74891))

@@ -41,6 +41,7 @@ play() {
     report=$("$program" play $image "$work/script" "$1.txt" 1192 | grep '^report2 ')
 }
 
+"$desk" found "$work/memory" north
 start
 for device in a b; do
     say "ask $device 1"

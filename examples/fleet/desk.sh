@@ -2,7 +2,7 @@
 # desk.sh FOLDER K [DESK]: answers the lines of the topic desk/K/lines to desk/K/replies, until one
 # of its three programs ends; then it ends the others, with that status.
 #
-# FOLDER has image.hex, policy.txt, and a folder `now` with keys.txt and memory. Broker, user and
+# FOLDER has image.hex, policy.txt, keys.txt, and the memory that was founded there. Broker, user and
 # password stand in $XDG_CONFIG_HOME, in the files mosquitto_sub and mosquitto_pub. DESK is the
 # proved program if none is named.
 set -eu
@@ -28,7 +28,7 @@ rm -f lines replies
 mkfifo lines replies
 exec 7<>lines 8<>replies
 mosquitto_sub -q 1 -t "desk/$2/lines" >lines 7>&- 8>&- &
-"$desk" desk now/keys.txt image.hex policy.txt now/memory <lines >replies 7>&- 8>&- &
+"$desk" desk keys.txt image.hex policy.txt memory <lines >replies 7>&- 8>&- &
 mosquitto_pub -q 1 -l -t "desk/$2/replies" <replies 7>&- 8>&- &
 
 end() {

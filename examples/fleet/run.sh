@@ -61,12 +61,12 @@ provision() {
     mkdir -p "$work/names"
     : >"$work/passwords"
     for ((number = 0; number < desks; number++)); do
-        mkdir -p "$work/desk-$number/1"
-        ln -s 1 "$work/desk-$number/now"
-        : >"$work/desk-$number/now/keys.txt"
-        cp "$folder/../sensor/image.hex" "$work/desk-$number/image.hex"
-        grep -v '^ask' "$folder/../sensor/policy.txt" >"$work/desk-$number/policy.txt"
-        user "$number" "$work/desk-$number/client"
+        mkdir -p "$work/desk_$number"
+        "$desk" found "$work/desk_$number/memory" "desk_$number"
+        : >"$work/desk_$number/keys.txt"
+        cp "$folder/../sensor/image.hex" "$work/desk_$number/image.hex"
+        grep -v '^ask' "$folder/../sensor/policy.txt" >"$work/desk_$number/policy.txt"
+        user "$number" "$work/desk_$number/client"
     done
     for ((number = 0; number < gateways; number++)); do
         mkdir -p "$work/gateway-$number/devices"
@@ -76,7 +76,7 @@ provision() {
         printf %s "meter_$number" >"$work/names/meter_$number"
     done
     while read -r sum name && read -r key <&3; do
-        echo "device $name $key" >>"$work/desk-$((16#${sum:0:8} % desks))/now/keys.txt"
+        echo "device $name $key" >>"$work/desk_$((16#${sum:0:8} % desks))/keys.txt"
         echo "$key" >"$work/gateway-$((number % gateways))/devices/$name.txt"
         number=$((number + 1))
     done < <(cd "$work/names" && sha256sum -- *) \
@@ -111,8 +111,8 @@ start_broker() {
 
 start_fleet() {
     for ((number = 0; number < desks; number++)); do
-        XDG_CONFIG_HOME=$work/desk-$number/client start "desk-$number" \
-            "$folder/desk.sh" "$work/desk-$number" "$number" "$desk"
+        XDG_CONFIG_HOME=$work/desk_$number/client start "desk_$number" \
+            "$folder/desk.sh" "$work/desk_$number" "$number" "$desk"
     done
     sleep 1
     for ((number = 0; number < gateways; number++)); do
@@ -126,7 +126,7 @@ start_fleet() {
 tell() {
     for ((number = 0; number < desks; number++)); do
         if ! runs "${jobs[number + 1]}"; then
-            say "the desk $number ended: $(cat "$work/desk-$number.log")"
+            say "the desk $number ended: $(cat "$work/desk_$number.log")"
             exit 1
         fi
     done
