@@ -11,8 +11,8 @@ pub fn trace_is_clean()
     ensures { (start : Start) (play : Play) → IsClean (trace_lines start play) }
 {}
 
-/// The lines of every play, and what a waveform shows beside them, are those that it has without its
-/// key, where the calls release the same words.
+/// The lines of every play, and what a waveform shows beside them, are those that it has without
+/// its key, where the calls release the same words.
 pub fn lines_are_keyless()
     ensures { (start : Start) (play : Play) → HasKeylessLines start play }
 {}
