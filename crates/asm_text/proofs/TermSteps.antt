@@ -69,9 +69,10 @@ pub next_term : {whole : Result (List SignedTerm) FaultKind} (prefix more : List
     → term_of (get_or tail 0 d) ≡ Ok term → sign_of (get_or tail 1 e) ≡ Ok next
     → more ≡ prefix ++ (is_subtracted, term) ∷ []
     → whole ≡ behind more (terms_of next (take (length tail - 2) (drop 2 tail)))
-next_term prefix more is_subtracted next [] d e term so_far long is has_sign adds = absurd (omega arith)
-next_term prefix more is_subtracted next (a ∷ []) d e term so_far long is has_sign adds = absurd (omega
-    arith)
+next_term prefix more is_subtracted next [] d e term so_far long is has_sign adds =
+    absurd (omega arith)
+next_term prefix more is_subtracted next (a ∷ []) d e term so_far long is has_sign adds =
+    absurd (omega arith)
 next_term prefix more is_subtracted next (a ∷ b ∷ rest) d e term so_far long is has_sign adds =
     terms-more prefix more is_subtracted next a b rest term so_far is has_sign adds
     ∙ ap (λ (tail : List Token). behind more (terms_of next tail)) (sym (take_rest (a ∷ b ∷ rest)

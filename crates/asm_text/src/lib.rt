@@ -5,8 +5,8 @@
 //! commas. The instructions are those of the MSP430x1xx Family User's Guide (SLAU049, the chapter
 //! on the 16-bit RISC CPU) with the operands that they take. The contract of [`parse`] is the
 //! statements of the text, one for each line, or its first fault; laws say the same of the lines as
-//! a whole. What a name or an expression is worth is no matter of this crate: names are parts of the
-//! text.
+//! a whole. What a name or an expression is worth is no matter of this crate: names are parts of
+//! the text.
 #![tactic(auto)]
 
 mod body;
