@@ -1,5 +1,5 @@
 -- What a take gives of the bytes that a source has left.
-use Rattle.std.specs.Prelude.{◌≡◌, ◌<◌, ◌≤◌, ℕ, List, [], ◌++◌, length, take, drop, Option, Some, None}
+use Rattle.std.specs.Prelude.{◌≡◌, ◌<◌, ◌≤◌, ℕ, List, [], ◌∷◌, ◌++◌, length, take, drop, Option, Some, None}
 use Rattle.outside_edge.specs.Calls.{CallCounts}
 
 -- the first n bytes of the piece are the next ones, which are left no more; n is 0 only at the end
@@ -14,6 +14,11 @@ abbrev pub Gives : Option (List ℕ) → Option (List ℕ) → ℕ → List ℕ 
 Gives (Some left) (Some after) n old new = GivesBytes left after n old new
 Gives None None n old new = Unit {0}
 Gives left after n old new = ⊥
+
+-- a source was asked once more, and gave so many bytes: each list of counts that it may have given
+-- grows by one
+abbrev pub IsAsked : {S : Type 0} → (S → List ℕ → Type 0) → S → S → ℕ → Type 0
+IsAsked asked old new n = (before : List ℕ) → asked old before → asked new (n ∷ before)
 
 -- A source in memory: the bytes that are left, how many it gave and how many it gives in one call,
 -- and its counts.

@@ -1,4 +1,4 @@
-ghost use Rattle.std.specs.Prelude.{◌≡◌, ◌≤◌, ◌+◌, ◌↔◌, Some, IsErr, Contains, length, min, IfOk, OnErr};
+ghost use Rattle.std.specs.Prelude.{◌≡◌, ◌≤◌, ◌+◌, ◌↔◌, Some, IsErr, Contains, length, min, IfOk, OnErr, sum};
 ghost use Rattle.outside_edge.specs.Calls.{with_call, with_fault};
 ghost use Rattle.outside_edge.specs.Sink.{CountsFaults};
 ghost use Rattle.outside_edge.specs.Source.{GivesBytes};
@@ -52,6 +52,8 @@ impl Source for MemSource {
     ghost left = { λ source. Some source.left };
 
     ghost given = { λ source. source.given };
+
+    ghost asked = { λ source counts. source.given ≡ sum counts };
 
     ghost faults = { λ source. source.counts.faults };
 

@@ -1,4 +1,4 @@
-ghost use Rattle.std.specs.Prelude.{◌≡◌, ◌≤◌, ◌+◌, Some, IsOk, length, min, IfOk};
+ghost use Rattle.std.specs.Prelude.{◌≡◌, ◌≤◌, ◌+◌, Some, IsOk, length, min, IfOk, sum};
 ghost use Rattle.outside_edge.specs.Source.{GivesBytes};
 
 use crate::byte_queue::ByteQueue;
@@ -36,6 +36,8 @@ impl Source for NeverFailSource {
     ghost left = { λ source. Some source.left };
 
     ghost given = { λ source. source.given };
+
+    ghost asked = { λ source counts. source.given ≡ sum counts };
 
     ghost faults = { λ _. 0 };
 
