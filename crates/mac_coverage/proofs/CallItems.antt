@@ -46,81 +46,33 @@ only_first_enters region decision count later =
     enters (KeyRead i) at =
         let other : (i == 0) ≡ false = ne_eqb i 0 (λ zero_word. omega (arith, at.0, zero_word)) in
         ap (λ (pc : ℕ). pc == ROM_ENTRY) (cond-false (i == 0) ROM_ENTRY ROM_BODY other)
-    enters (MetadataRead i) at = refl
-    enters (KeptRead i) at = refl
-    enters (KeptWrite i) at = refl
-    enters DecisionWrite at = refl
-    enters (DerivedKeyWrite i) at = refl
-    enters (RegionRead i) at = refl
-    enters (InnerDigestWrite i) at = refl
-    enters (MacWrite i) at = refl
-    enters ReturnRead at = refl
+    enters item at = refl
 
 pub exit_returns : (item : CallItem) → (item_pc item == ROM_EXIT) ≡ true → is_return item ≡ true
 exit_returns (KeyRead i) exit =
     absurd (cond_both (i == 0) ROM_ENTRY ROM_BODY (λ (pc : ℕ). (pc == ROM_EXIT) ≡ true → ⊥)
     (λ first wrong. absurd (cc)) (λ other wrong. absurd (cc)) exit)
-exit_returns (MetadataRead i) exit = absurd (cc)
-exit_returns (KeptRead i) exit = absurd (cc)
-exit_returns (KeptWrite i) exit = absurd (cc)
-exit_returns DecisionWrite exit = absurd (cc)
-exit_returns (DerivedKeyWrite i) exit = absurd (cc)
-exit_returns (RegionRead i) exit = absurd (cc)
-exit_returns (InnerDigestWrite i) exit = absurd (cc)
-exit_returns (MacWrite i) exit = absurd (cc)
 exit_returns ReturnRead exit = refl
+exit_returns item exit = absurd (cc)
 
 -- before the return there are fewer words, and at the return all have passed
 pub not_last : (region decision count : ℕ) (item : CallItem) → IsItemAt region decision count item
     → is_return item ≡ false → count < 125 + region
-not_last region decision count (KeyRead i) at goes_on =
-    let first = at.0 in let below = at.1 in omega (arith, first, below)
-not_last region decision count (MetadataRead i) at goes_on =
-    let first = at.0 in let below = at.1 in omega (arith, first, below)
-not_last region decision count (KeptRead i) at goes_on =
-    let first = at.0 in let below = at.1 in omega (arith, first, below)
-not_last region decision count (KeptWrite i) at goes_on =
-    let first = at.0 in let below = at.1 in omega (arith, first, below)
-not_last region decision count DecisionWrite at goes_on = omega (arith, at)
-not_last region decision count (DerivedKeyWrite i) at goes_on =
-    let first = at.0 in let below = at.1 in omega (arith, first, below)
-not_last region decision count (RegionRead i) at goes_on =
-    let first = at.0 in let below = at.1 in omega (arith, first, below)
-not_last region decision count (InnerDigestWrite i) at goes_on =
-    let first = at.0 in let below = at.1 in omega (arith, first, below)
-not_last region decision count (MacWrite i) at goes_on =
-    let first = at.0 in let below = at.1 in omega (arith, first, below)
 not_last region decision count ReturnRead at goes_on = absurd (cc)
+not_last region decision count item at goes_on = omega arith
 
 pub is_last : (region decision count : ℕ) (item : CallItem) → IsItemAt region decision count item
     → is_return item ≡ true → (77 ≤ count) × ((decision ≡ ATTESTS) → 125 + region ≤ count)
-is_last region decision count (KeyRead i) at returns = absurd (cc)
-is_last region decision count (MetadataRead i) at returns = absurd (cc)
-is_last region decision count (KeptRead i) at returns = absurd (cc)
-is_last region decision count (KeptWrite i) at returns = absurd (cc)
-is_last region decision count DecisionWrite at returns = absurd (cc)
-is_last region decision count (DerivedKeyWrite i) at returns = absurd (cc)
-is_last region decision count (RegionRead i) at returns = absurd (cc)
-is_last region decision count (InnerDigestWrite i) at returns = absurd (cc)
-is_last region decision count (MacWrite i) at returns = absurd (cc)
 is_last region decision count ReturnRead at returns = at
+is_last region decision count item at returns = absurd (cc)
 
 -- after the decision only a call that attests goes on
 pub goes_on-attests : (region decision count : ℕ) (item : CallItem)
     → IsItemAt region decision count item → is_return item ≡ false → 77 ≤ count
     → decision ≡ ATTESTS
-goes_on-attests region decision count (KeyRead i) at goes_on past =
-    absurd (let first = at.0 in let below = at.1 in omega (arith, first, below, past))
-goes_on-attests region decision count (MetadataRead i) at goes_on past =
-    absurd (let first = at.0 in let below = at.1 in omega (arith, first, below, past))
-goes_on-attests region decision count (KeptRead i) at goes_on past =
-    absurd (let first = at.0 in let below = at.1 in omega (arith, first, below, past))
-goes_on-attests region decision count (KeptWrite i) at goes_on past =
-    absurd (let first = at.0 in let below = at.1 in omega (arith, first, below, past))
-goes_on-attests region decision count DecisionWrite at goes_on past =
-    absurd (omega (arith, at, past))
 goes_on-attests region decision count (DerivedKeyWrite i) at goes_on past = at.2
 goes_on-attests region decision count (RegionRead i) at goes_on past = at.2
 goes_on-attests region decision count (InnerDigestWrite i) at goes_on past = at.2
 goes_on-attests region decision count (MacWrite i) at goes_on past = at.2
 goes_on-attests region decision count ReturnRead at goes_on past = absurd (cc)
+goes_on-attests region decision count item at goes_on past = absurd (omega arith)

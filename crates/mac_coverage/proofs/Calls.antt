@@ -1,6 +1,7 @@
 -- A call so far: what is attested has stood since its first step, the counter is kept, and the
 -- words of the call are the planned ones.
-use Rattle.std.proofs.Common.{◌≡◌, ℕ, zero, suc, ◌+◌, ◌-◌, ◌<◌, ◌≤◌, true, false, List, [], ◌∷◌, ◌++◌, Option, Some, None, length, refl, ap, sym, ◌∙◌, arith, subst}
+use Rattle.std.proofs.Common.{◌≡◌, ℕ, suc, ◌+◌, ◌<◌, ◌≤◌, true, false, List, [], ◌∷◌, ◌++◌, drop, Option, Some, None, length, refl, ap, sym, ◌∙◌, arith, subst}
+use Rattle.std.specs.Prelude.{if◌then◌else◌}
 use Rattle.std.proofs.lemmas.List.{length_push}
 use Rattle.bus_signals.specs.declared.access.Access.{Access}
 use Rattle.bus_signals.specs.declared.bounds.Bounds.{Bounds}
@@ -9,127 +10,141 @@ use Rattle.bus_signals.specs.declared.event.Event.{Event}
 use Rattle.bus_signals.specs.declared.kind.Kind.{Kind}
 use Rattle.bus_signals.specs.declared.kind.Kind.TheVariants.{Rom}
 use Rattle.bus_signals.specs.declared.rule.Rule.{Rule}
-use Rattle.part_definitions.specs.Attestation.{CallItem, KeyRead, MetadataRead, KeptRead, KeptWrite, DecisionWrite, DerivedKeyWrite, RegionRead, InnerDigestWrite, MacWrite, ReturnRead, bounds_read, call_item, is_return, item_access, word_passed}
+use Rattle.part_definitions.specs.Attestation.{CallItem, ReturnRead, bounds_read, call_item, is_return, item_access, word_passed}
 use Rattle.part_definitions.specs.CpuRegister.{sp_of}
 use Rattle.part_definitions.specs.Memory.{MemoryWrite, byte_at, is_flag_word, with_access}
-use Rattle.part_definitions.specs.Metadata.{kept_bytes}
 use Rattle.part_definitions.specs.Request.{ATTESTS}
 use Rattle.device_trace.specs.Play.{Play}
-use Rattle.device_trace.specs.Logs.{Logs, flags_of, logged_byte, released_words_after, with_released_word}
+use Rattle.device_trace.specs.Logs.{Logs, flags_of, released_words_after, with_events, with_released_word}
 use Rattle.device_trace.specs.Progress.{call_access}
 use Rattle.device_trace.specs.Signals.{value_read}
-use Rattle.device_trace.specs.Trace.{byte_after}
-use Rattle.mac_coverage.specs.AttestedBytes.{AttestedBytes, attested_bytes_in, counter_left, decision_of, tag_of, without_flag_words}
-use Rattle.mac_coverage.specs.Call.{mac_written}
-use Rattle.mac_coverage.specs.Coverage.{contents_before, kept_before}
+use Rattle.device_trace.specs.Start.{Start}
+use Rattle.device_trace.specs.Step.{next_record}
+use Rattle.device_trace.specs.Trace.{byte_after, logs_after, trace}
+use Rattle.mac_coverage.specs.AttestedBytes.{AttestedBytes, without_flag_words}
+use Rattle.mac_coverage.specs.Call.{begins_call, last_call, mac_written}
+use Rattle.mac_coverage.specs.Coverage.{attested_after, call_length, kept_after}
 use Rattle.trace_facts.proofs.ItemNumbers.{IsItemAt, item_after-at}
+use Rattle.mac_coverage.proofs.AttestedIs.{attested_bytes_in-is}
 use Rattle.mac_coverage.proofs.CallItems.{goes_on-attests, is_last, not_last}
-use Rattle.mac_coverage.proofs.Device.{Device, start_of}
+use Rattle.mac_coverage.proofs.Device.{Device, start_of, start_of-bytes}
+use Rattle.mac_coverage.proofs.ExecKept.{IsRomStep}
 use Rattle.mac_coverage.proofs.KeptStored.{kept-alike, kept-early, kept-late}
 use Rattle.mac_coverage.proofs.MacStored.{MacStands, mac-alike}
+use Rattle.mac_coverage.proofs.MemoryBytes.{byte_after-byte}
 use Rattle.mac_coverage.proofs.Passes.{Passes, item-passes, kept_at, mac_count, words_written}
-use Rattle.mac_coverage.proofs.WordPlan.{ArePlanned, IsAttested, IsCounter, attested_words, bounds_read-planned, call_item-planned, counter_left-is, counter_word-planned, decision_in-planned, first_mac_words, planned-more, planned_item, planned_word, tag_in-planned}
-use Rattle.mac_coverage.proofs.Steps.{IsCallStep}
+use Rattle.mac_coverage.proofs.WordPlan.{ArePlanned, IsAttested, IsCounter, Plan, call_item-planned, first_mac_words, planned-more, planned_counter, planned_decision, planned_item, planned_region, planned_tag}
+use Rattle.mac_coverage.proofs.Steps.{IsCallStep, bytes-after}
 use Rattle.mac_coverage.proofs.Words.{AreBytes}
 
-pub record CallSoFar (device : Device) (play : Play) (call : List BusRecord)
-    (words : List ℕ) (contents : AttestedBytes) (kept : List ℕ) : Type 0 where
-  pub throughout : (steps : ℕ) → steps < length call
-      → contents_before (start_of device) play steps ≡ contents
+-- the logs after the events of a step, its record, and the records of its call before it
+abbrev pub log_at : Device → Play → List Event → Logs
+log_at device play events = with_events (logs_after (start_of device) play) events
+
+abbrev pub entry_at : Device → Play → List Event → BusRecord
+entry_at device play events =
+    next_record (start_of device) (logs_after (start_of device) play) events
+
+abbrev pub earlier_records : Device → Play → List Event → List BusRecord
+earlier_records device play events =
+    if begins_call (entry_at device play events) then []
+    else last_call (trace (start_of device) play)
+
+-- the word that passed in the step
+abbrev pub word_in : Device → Play → List Event → ℕ
+word_in device play events =
+    word_passed (entry_at device play events).cpu (entry_at device play events).value
+
+-- this holds after each of the last steps of a play, so many
+abbrev pub AfterLast : Play → ℕ → (Play → Type 0) → Type 0
+AfterLast play count holds =
+    (later earlier : Play) → play ≡ later ++ earlier → length later < count → holds earlier
+
+-- with one step more, before it and after it
+pub before-last : (Holds : Play → Type 0) (events : List Event) (play : Play) (count : ℕ)
+    → AfterLast play count Holds
+    → (later earlier : Play) → events ∷ play ≡ later ++ earlier → length later < suc count
+    → 1 ≤ length later → Holds earlier
+before-last Holds events play count held [] earlier parts within some =
+    absurd (omega (arith, some))
+before-last Holds events play count held (last ∷ later) earlier parts within some =
+    held later earlier (ap (drop 1) parts) (omega (arith, within))
+
+after-last : (Holds : Play → Type 0) (events : List Event) (play : Play) (count : ℕ)
+    → AfterLast play count Holds → Holds (events ∷ play)
+    → AfterLast (events ∷ play) (suc count) Holds
+after-last Holds events play count held now [] earlier parts within = subst Holds parts now
+after-last Holds events play count held now (last ∷ later) earlier parts within =
+    before-last Holds events play count held (last ∷ later) earlier parts within (omega arith)
+
+-- what stood in memory since before these records of a call
+pub record HasStood (plan : Plan) (play : Play) (call : List BusRecord) : Type 0 where
   pub before :
-      without_flag_words (contents_before (start_of device) play (length call))
-      ≡ without_flag_words contents
-  pub kept_is : IsCounter kept
-  pub counter : (steps : ℕ) → steps ≤ length call
-      → kept_before (start_of device) play steps
-      ≡ kept_at device.digest device.key contents kept (length call - steps)
-  pub planned : ArePlanned device.digest device.key contents kept words
-  pub fits : length words ≤ 125 + attested_words contents
+      without_flag_words (attested_after (start_of plan.device) (drop (length call) play))
+      ≡ without_flag_words plan.contents
+  pub kept_before : kept_after (start_of plan.device) (drop (length call) play) ≡ plan.kept
+  pub kept_is : IsCounter plan.kept
+  pub throughout : AfterLast play (length call) (λ moment.
+      attested_after (start_of plan.device) moment ≡ plan.contents)
+  pub counter : AfterLast play (length call) (λ moment.
+      kept_after (start_of plan.device) moment
+      ≡ kept_at plan (call_length (start_of plan.device) moment))
+  pub now : kept_after (start_of plan.device) play ≡ kept_at plan (length call)
+
+pub record CallSoFar (plan : Plan) (play : Play) (call : List BusRecord) (words : List ℕ)
+    : Type 0 where
+  pub stood : HasStood plan play call
+  pub planned : ArePlanned plan words
+  pub fits : length words ≤ 125 + planned_region plan
   -- after the decision only a call that attests has gone on
-  pub attests : 78 ≤ length words
-      → decision_of device.digest device.key contents kept ≡ ATTESTS
-  pub written :
-      mac_written call
-      ≡ words_written device.digest device.key contents kept (length words)
-  pub stored : AreBytes (tag_of device.digest device.key contents)
-      → MacStands (byte_after (start_of device) play) (tag_of device.digest device.key contents)
-      (mac_count contents (length words))
+  pub attests : 78 ≤ length words → planned_decision plan ≡ ATTESTS
+  pub written : mac_written call ≡ words_written plan (length words)
+  pub stored : AreBytes (planned_tag plan)
+      → MacStands (byte_after (start_of plan.device) play) (planned_tag plan)
+      (mac_count plan (length words))
 
 -- before its first step
-pub call-begins : (device : Device) (play : Play) (contents : AttestedBytes)
-    → IsCounter (kept_before (start_of device) play 0)
-    → without_flag_words (contents_before (start_of device) play 0) ≡ without_flag_words contents
-    → CallSoFar device play [] [] contents (kept_before (start_of device) play 0)
-call-begins device play contents is alike =
-    let kept : List ℕ = kept_before (start_of device) play 0 in
-    let none : 0 ≡ mac_count contents 0 = omega arith in
+pub call-begins : (plan : Plan) (play : Play)
+    → IsCounter plan.kept → kept_after (start_of plan.device) play ≡ plan.kept
+    → without_flag_words (attested_after (start_of plan.device) play)
+    ≡ without_flag_words plan.contents
+    → CallSoFar plan play [] []
+call-begins plan play is same alike =
+    let none : 0 ≡ mac_count plan 0 = omega arith in
     record {
-      throughout = λ steps within. absurd (omega (arith, within));
-      before = alike;
-      kept_is = is;
-      counter = moments;
+      stood = record {
+        before = alike;
+        kept_before = same;
+        kept_is = is;
+        throughout = λ later earlier parts within. absurd (omega (arith, within));
+        counter = λ later earlier parts within. absurd (omega (arith, within));
+        now = same;
+      };
       planned = λ i within. absurd (omega (arith, within));
       fits = omega arith;
       attests = λ later. absurd (omega (arith, later));
-      written = ap (first_mac_words device.digest device.key contents) none;
+      written = ap (first_mac_words plan) none;
       stored = λ small i within. absurd (omega (arith, within));
     }
-  where
-    moments : (steps : ℕ) → steps ≤ 0
-        → kept_before (start_of device) play steps
-        ≡ kept_at device.digest device.key contents (kept_before (start_of device) play 0)
-        (0 - steps)
-    moments zero within = refl
-    moments (suc steps) within = absurd (omega (arith, within))
 
 -- after one step more
-call-more : (device : Device) (play : Play) (events : List Event)
-    (entry : BusRecord) (call : List BusRecord) (words more : List ℕ) (contents : AttestedBytes)
-    (kept : List ℕ)
-    → CallSoFar device play call words contents kept
-    → contents_before (start_of device) (events ∷ play) 0 ≡ contents
-    → kept_before (start_of device) (events ∷ play) 0
-    ≡ kept_at device.digest device.key contents kept (length call + 1)
-    → ArePlanned device.digest device.key contents kept more
-    → length more ≤ 125 + attested_words contents
-    → (78 ≤ length more → decision_of device.digest device.key contents kept ≡ ATTESTS)
-    → mac_written (entry ∷ call)
-    ≡ words_written device.digest device.key contents kept (length more)
-    → (AreBytes (tag_of device.digest device.key contents)
-    → MacStands (byte_after (start_of device) (events ∷ play))
-    (tag_of device.digest device.key contents)
-    (mac_count contents (length more)))
-    → CallSoFar device (events ∷ play) (entry ∷ call) more contents kept
-call-more device play events entry call words more contents kept
-    so_far stands counts by_plan fits decided same_words stores =
+stood-more : (plan : Plan) (play : Play) (events : List Event)
+    → HasStood plan play (earlier_records plan.device play events)
+    → attested_after (start_of plan.device) (events ∷ play) ≡ plan.contents
+    → kept_after (start_of plan.device) (events ∷ play)
+    ≡ kept_at plan (suc (length (earlier_records plan.device play events)))
+    → HasStood plan (events ∷ play)
+    (entry_at plan.device play events ∷ earlier_records plan.device play events)
+unfolding trace
+stood-more plan play events stood stands counts =
     record {
-      throughout = moments;
-      before = so_far.before;
-      kept_is = so_far.kept_is;
-      counter = counters;
-      planned = by_plan;
-      fits = fits;
-      attests = decided;
-      written = same_words;
-      stored = stores;
+      before = stood.before;
+      kept_before = stood.kept_before;
+      kept_is = stood.kept_is;
+      throughout = after-last _ events play _ stood.throughout stands;
+      counter = after-last _ events play _ stood.counter counts;
+      now = counts;
     }
-  where
-    moments : (steps : ℕ) → steps < length (entry ∷ call)
-        → contents_before (start_of device) (events ∷ play) steps ≡ contents
-    moments zero within = stands
-    moments (suc steps) within = so_far.throughout steps (omega (arith, within))
-
-    counters : (steps : ℕ) → steps ≤ length (entry ∷ call)
-        → kept_before (start_of device) (events ∷ play) steps
-        ≡ kept_at device.digest device.key contents kept (length (entry ∷ call) - steps)
-    counters zero within =
-        counts
-        ∙ ap (kept_at device.digest device.key contents kept)
-        (let same : length call + 1 ≡ length (entry ∷ call) - 0 = omega arith in same)
-    counters (suc steps) within =
-        so_far.counter steps (omega (arith, within))
-        ∙ ap (kept_at device.digest device.key contents kept)
-        (let same : length call - steps ≡ length (entry ∷ call) - suc steps = omega arith in same)
 
 -- what a step adds to the words of the MAC
 released-rom : (rule : Option Rule) (kind : Kind) (access : Option Access) (words : List ℕ)
@@ -139,161 +154,154 @@ released-rom rule kind access words none rom =
     λ i. released_words_after (none i) (rom i) access words
 
 -- a step of a call that was not refused, from memory to memory
-pub record CallGoes
-    (device : Device) (play : Play) (events : List Event) (logs : Logs)
-    (regs words : List ℕ) (entry : BusRecord) (contents : AttestedBytes) : Type 0 where
-  pub step : IsCallStep (start_of device) logs regs words entry
-  -- what is attested is of bytes; it stands before the step, if it is not the first, and after it
-  pub is : IsAttested contents
-  pub stands : 1 ≤ length words → attested_bytes_in (logged_byte (start_of device) logs) ≡ contents
-  pub after : contents_before (start_of device) (events ∷ play) 0 ≡ contents
-  -- the memory before, and after but for the flags
-  pub bytes_before : (p : ℕ)
-      → logged_byte (start_of device) logs p ≡ byte_after (start_of device) play p
-  pub bytes_after : (p : ℕ) → is_flag_word p ≡ false
-      → byte_after (start_of device) (events ∷ play) p
-      ≡ byte_at (start_of device).power (flags_of (start_of device) logs)
-      (with_access entry.cpu logs.memory) p
+pub record CallGoes (plan : Plan) (play : Play) (events : List Event) (regs words : List ℕ)
+    : Type 0 where
+  pub step :
+      IsCallStep (start_of plan.device) (log_at plan.device play events) regs words
+      (entry_at plan.device play events)
+  pub so_far : CallSoFar plan play (earlier_records plan.device play events) words
+  pub made : length (earlier_records plan.device play events) ≡ length words
+  -- what is attested stands before the step, if it is not the first, and after it
+  pub stands : 1 ≤ length words → attested_after (start_of plan.device) play ≡ plan.contents
+  pub after : attested_after (start_of plan.device) (events ∷ play) ≡ plan.contents
 
 -- its access, and the number that it carries
-abbrev access_in : Device → Logs → List ℕ → List ℕ → Access
-access_in device logs regs words =
-    call_access (start_of device) (length logs.released_words) regs words
+abbrev access_in : Device → Play → List Event → List ℕ → List ℕ → Access
+access_in device play events regs words =
+    call_access (start_of device) (length (log_at device play events).released_words) regs words
 
-abbrev value_in : Device → Logs → List ℕ → List ℕ → ℕ
-value_in device logs regs words =
-    value_read (start_of device) logs (Some (access_in device logs regs words))
+abbrev value_in : Device → Play → List Event → List ℕ → List ℕ → ℕ
+value_in device play events regs words =
+    value_read (start_of device) (log_at device play events)
+    (Some (access_in device play events regs words))
 
-pub item-at : (device : Device) (contents : AttestedBytes) (kept words : List ℕ)
-    → ArePlanned device.digest device.key contents kept words
-    → IsItemAt (attested_words contents) (decision_of device.digest device.key contents kept)
-    (length words) (call_item words)
-item-at device contents kept words by_plan =
-    subst
-    (IsItemAt (attested_words contents) (decision_of device.digest device.key contents kept)
-    (length words))
-    (sym (call_item-planned device.digest device.key contents kept words by_plan))
-    (item_after-at (attested_words contents) (decision_of device.digest device.key contents kept)
-    (length words))
+-- what is attested in the memory after a play is of bytes
+pub attested-is : (device : Device) (play : Play) (contents : AttestedBytes)
+    → attested_after (start_of device) play ≡ contents → IsAttested contents
+attested-is device play contents stands =
+    subst IsAttested stands
+    (attested_bytes_in-is (byte_after (start_of device) play)
+    (λ place. byte_after-byte (start_of device) play place (start_of-bytes device)))
 
--- the kept counter now, in a call that has made as many steps as words passed
-kept-now : (device : Device) (play : Play) (call : List BusRecord) (words : List ℕ)
-    (contents : AttestedBytes) (kept : List ℕ)
-    → CallSoFar device play call words contents kept → length call ≡ length words
-    → kept_bytes (byte_after (start_of device) play)
-    ≡ kept_at device.digest device.key contents kept (length words)
-kept-now device play call words contents kept so_far made =
-    so_far.counter 0 (omega arith)
-    ∙ ap (kept_at device.digest device.key contents kept)
-    (let same : length call - 0 ≡ length words = omega (arith, made) in same)
+-- what a step of the ROM leaves
+after_step-bytes : (device : Device) (play : Play) (events : List Event) (access : Option Access)
+    → IsRomStep (entry_at device play events) → (entry_at device play events).cpu ≡ access
+    → (p : ℕ) → is_flag_word p ≡ false
+    → byte_after (start_of device) (events ∷ play) p
+    ≡ byte_at (start_of device).power (flags_of (start_of device) (log_at device play events))
+    (with_access access (log_at device play events).memory) p
+unfolding logs_after
+after_step-bytes device play events access step same p off_flags =
+    bytes-after (start_of device) (log_at device play events) (entry_at device play events) step p
+    off_flags
+    ∙ ap (λ (access : Option Access).
+    byte_at (start_of device).power (flags_of (start_of device) (log_at device play events))
+    (with_access access (log_at device play events).memory) p) same
 
-step-passes : (device : Device) (play : Play) (events : List Event) (logs : Logs)
-    (regs words : List ℕ) (entry : BusRecord) (call : List BusRecord) (contents : AttestedBytes)
-    (kept : List ℕ)
-    → CallGoes device play events logs regs words entry contents
-    → CallSoFar device play call words contents kept → length call ≡ length words
-    → is_return (call_item words) ≡ false
-    → Passes device.digest device.key contents kept (length words) (call_item words)
-    (access_in device logs regs words) (value_in device logs regs words)
-step-passes device play events logs regs words entry call contents kept goes so_far made goes_on =
-    let digest = device.digest in
-    let key = device.key in
-    let by_plan = so_far.planned in
-    item-passes device logs contents kept words (sp_of regs) (bounds_read words) (length words)
-    (call_item words) (item-at device contents kept words by_plan) goes_on
+item-at : (plan : Plan) (words : List ℕ) → ArePlanned plan words
+    → IsItemAt (planned_region plan) (planned_decision plan) (length words) (call_item words)
+item-at plan words by_plan =
+    subst (IsItemAt (planned_region plan) (planned_decision plan) (length words))
+    (sym (call_item-planned plan words by_plan))
+    (item_after-at (planned_region plan) (planned_decision plan) (length words))
+
+-- the kept counter before the step
+kept-now : (plan : Plan) (play : Play) (events : List Event) (regs words : List ℕ)
+    → CallGoes plan play events regs words
+    → kept_after (start_of plan.device) play ≡ kept_at plan (length words)
+kept-now plan play events regs words goes =
+    goes.so_far.stood.now ∙ ap (kept_at plan) goes.made
+
+step-passes : (plan : Plan) (play : Play) (events : List Event) (regs words : List ℕ)
+    → CallGoes plan play events regs words → is_return (call_item words) ≡ false
+    → Passes plan (length words) (call_item words)
+    (access_in plan.device play events regs words) (value_in plan.device play events regs words)
+unfolding with_events
+step-passes plan play events regs words goes goes_on =
+    item-passes plan (log_at plan.device play events) words (sp_of regs) (call_item words)
+    (item-at plan words goes.so_far.planned) goes_on
     (record {
+      planned = goes.so_far.planned;
+      is = attested-is plan.device (events ∷ play) plan.contents goes.after;
+      kept_is = goes.so_far.stood.kept_is;
       stands = goes.stands;
       counter = λ early.
-          kept-alike (logged_byte (start_of device) logs) (byte_after (start_of device) play)
-          (λ p off. goes.bytes_before p)
-          ∙ (kept-now device play call words contents kept so_far made
-          ∙ kept-early kept (counter_left digest key contents kept) (length words) early);
-      kept_is = so_far.kept_is;
-      left_is = counter_left-is digest key contents kept goes.is so_far.kept_is;
-      names = λ past. bounds_read-planned digest key contents kept words by_plan past;
-      decides = λ past.
-          decision_in-planned digest key contents kept words by_plan goes.is so_far.kept_is
-          device.key_size device.key_bytes past;
-      leaves = λ past i within.
-          counter_word-planned digest key contents kept words i by_plan goes.is so_far.kept_is
-          device.key_size device.key_bytes past within;
-      tag = λ decided past.
-          tag_in-planned digest key contents kept words by_plan goes.is device.key_size
-          device.key_bytes decided past;
+          kept-now plan play events regs words goes
+          ∙ kept-early plan.kept (planned_counter plan) (length words) early;
     })
 
 -- one that does not return
-pub call-goes_on : (device : Device) (play : Play) (events : List Event)
-    (logs : Logs) (regs words : List ℕ) (entry : BusRecord) (call : List BusRecord)
-    (contents : AttestedBytes) (kept : List ℕ)
-    → CallGoes device play events logs regs words entry contents
-    → CallSoFar device play call words contents kept → length call ≡ length words
-    → is_return (call_item words) ≡ false
-    → CallSoFar device (events ∷ play) (entry ∷ call)
-    (words ++ word_passed entry.cpu entry.value ∷ []) contents kept
-call-goes_on device play events logs regs words entry call contents kept goes so_far made goes_on =
-    let tag : List ℕ = tag_of device.digest device.key contents in
-    let word : ℕ = word_passed entry.cpu entry.value in
+pub call-goes_on : (plan : Plan) (play : Play) (events : List Event) (regs words : List ℕ)
+    → CallGoes plan play events regs words → is_return (call_item words) ≡ false
+    → CallSoFar plan (events ∷ play)
+    (entry_at plan.device play events ∷ earlier_records plan.device play events)
+    (words ++ word_in plan.device play events ∷ [])
+unfolding with_events
+call-goes_on plan play events regs words goes goes_on =
+    let so_far = goes.so_far in
+    let made = goes.made in
     let step = goes.step in
-    let passes = step-passes device play events logs regs words entry call contents kept goes so_far
-    made goes_on in
+    let start : Start = start_of plan.device in
+    let entry : BusRecord = entry_at plan.device play events in
+    let call : List BusRecord = earlier_records plan.device play events in
+    let logs : Logs = log_at plan.device play events in
+    let decision : ℕ = planned_decision plan in
+    let word : ℕ = word_in plan.device play events in
+    let passes = step-passes plan play events regs words goes goes_on in
     let size : length words + 1 ≡ length (words ++ word ∷ []) = sym (length_push words word) in
-    let item = item-at device contents kept words so_far.planned in
-    let decision : ℕ = decision_of device.digest device.key contents kept in
-    let below : length words < 125 + attested_words contents =
-    not_last (attested_words contents) decision (length words) (call_item words) item goes_on in
-    let same_item : planned_item device.digest device.key contents kept (call_item words)
-    ≡ planned_word device.digest device.key contents kept (length words) =
-    ap (planned_item device.digest device.key contents kept)
-    (call_item-planned device.digest device.key contents kept words so_far.planned) in
-    let is_word : word ≡ planned_word device.digest device.key contents kept (length words) =
-    (λ j. word_passed (step.cpu j) (step.value j)) ∙ (passes.word ∙ same_item) in
-    let after_access : (p : ℕ) → is_flag_word p ≡ false
-    → byte_after (start_of device) (events ∷ play) p
-    ≡ byte_at (start_of device).power (flags_of (start_of device) logs)
-    (with_access (Some (access_in device logs regs words)) logs.memory) p =
-    (λ p off_flags.
-    goes.bytes_after p off_flags
-    ∙ ap (λ (access : Option Access).
-    byte_at (start_of device).power (flags_of (start_of device) logs)
-    (with_access access logs.memory) p) step.cpu) in
-    call-more device play events entry call words (words ++ word ∷ []) contents kept so_far
-    goes.after
-    (kept-alike (byte_after (start_of device) (events ∷ play)) _ after_access
-    ∙ (passes.counter (start_of device).power (flags_of (start_of device) logs) logs.memory
-    (kept-alike (logged_byte (start_of device) logs) (byte_after (start_of device) play)
-    (λ p off. goes.bytes_before p)
-    ∙ kept-now device play call words contents kept so_far made)
-    ∙ ap (kept_at device.digest device.key contents kept)
-    (let same : length words + 1 ≡ length call + 1 = omega (arith, made) in same)))
-    (planned-more device.digest device.key contents kept words word so_far.planned is_word)
-    (omega (arith, size, below))
-    (λ past.
-    goes_on-attests (attested_words contents) decision (length words) (call_item words) item goes_on
-    (omega (arith, size, past)))
-    (released-rom entry.reset entry.kind entry.cpu (mac_written call) step.rom.none step.rom.kind
-    ∙ (ap (λ (access : Option Access). with_released_word access (mac_written call)) step.cpu
-    ∙ (passes.released (mac_written call) so_far.written
-    ∙ ap (λ (n : ℕ). words_written device.digest device.key contents kept n) size)))
-    (λ small.
-    let before : MacStands (logged_byte (start_of device) logs) tag
-    (mac_count contents (length words)) =
-    mac-alike (logged_byte (start_of device) logs) (byte_after (start_of device) play) tag
-    (mac_count contents (length words)) (omega (arith, below)) (λ p off_flags. goes.bytes_before p)
-    (so_far.stored small) in
-    let puts : MacStands
-    (byte_at (start_of device).power (flags_of (start_of device) logs)
-    (with_access (Some (access_in device logs regs words)) logs.memory)) tag
-    (mac_count contents (length words + 1)) =
-    passes.stored (start_of device).power (flags_of (start_of device) logs) logs.memory small before
-    in
-    let after : MacStands (byte_after (start_of device) (events ∷ play)) tag
-    (mac_count contents (length words + 1)) =
-    mac-alike (byte_after (start_of device) (events ∷ play)) _ tag
-    (mac_count contents (length words + 1)) (omega (arith, below)) after_access puts in
-    subst
-    (λ (n : ℕ). MacStands (byte_after (start_of device) (events ∷ play)) tag (mac_count contents n))
-    size after)
+    let item = item-at plan words so_far.planned in
+    let below : length words < 125 + planned_region plan =
+    not_last (planned_region plan) decision (length words) (call_item words) item goes_on in
+    let after = after_step-bytes plan.device play events
+    (Some (access_in plan.device play events regs words)) step.rom step.cpu in
+    record {
+      stood =
+          stood-more plan play events so_far.stood goes.after
+          (kept-alike (byte_after start (events ∷ play)) _ after
+          ∙ (passes.counter start.power (flags_of start logs) logs.memory
+          (kept-now plan play events regs words goes)
+          ∙ ap (kept_at plan)
+          (let same : length words + 1 ≡ suc (length call) = omega (arith, made) in same)));
+      planned =
+          planned-more plan words word so_far.planned
+          ((λ j. word_passed (step.cpu j) (step.value j))
+          ∙ (passes.word
+          ∙ ap (planned_item plan) (call_item-planned plan words so_far.planned)));
+      fits = omega (arith, size, below);
+      attests = λ past.
+          goes_on-attests (planned_region plan) decision (length words) (call_item words) item
+          goes_on (omega (arith, size, past));
+      written =
+          released-rom entry.reset entry.kind entry.cpu (mac_written call) step.rom.none
+          step.rom.kind
+          ∙ (ap (λ (access : Option Access). with_released_word access (mac_written call)) step.cpu
+          ∙ (passes.released (mac_written call) so_far.written
+          ∙ ap (words_written plan) size));
+      stored = λ small.
+          subst
+          (λ (n : ℕ).
+          MacStands (byte_after start (events ∷ play)) (planned_tag plan) (mac_count plan n)) size
+          (mac-alike (byte_after start (events ∷ play)) _ (planned_tag plan)
+          (mac_count plan (length words + 1)) (omega (arith, below)) after
+          (passes.stored start.power (flags_of start logs) logs.memory small
+          (so_far.stored small)));
+    }
+
+-- at the return the decision is written, and all words of the MAC where the call attests
+pub return-is_last : (plan : Plan) (play : Play) (words : List ℕ) (call : List BusRecord)
+    → CallSoFar plan play call words
+    → is_return (call_item words) ≡ true
+    → (77 ≤ length words)
+    × ((planned_decision plan ≡ ATTESTS) → mac_count plan (length words) ≡ 16)
+return-is_last plan play words call so_far returns =
+    let last = is_last (planned_region plan) (planned_decision plan) (length words)
+    (call_item words) (item-at plan words so_far.planned) returns in (
+      last.0,
+      λ decided.
+          let fits = so_far.fits in
+          let past = last.1 decided in
+          omega (arith, fits, past),
+    )
 
 -- the return
 return-leaves : (sp : ℕ) (bounds : Bounds) (item : CallItem) (number : ℕ)
@@ -302,74 +310,50 @@ return-leaves : (sp : ℕ) (bounds : Bounds) (item : CallItem) (number : ℕ)
     → with_released_word (Some (item_access sp bounds item number)) words ≡ words)
     × ((writes : List MemoryWrite)
     → with_access (Some (item_access sp bounds item number)) writes ≡ writes)
-return-leaves sp bounds (KeyRead i) number returns = absurd (cc)
-return-leaves sp bounds (MetadataRead i) number returns = absurd (cc)
-return-leaves sp bounds (KeptRead i) number returns = absurd (cc)
-return-leaves sp bounds (KeptWrite i) number returns = absurd (cc)
-return-leaves sp bounds DecisionWrite number returns = absurd (cc)
-return-leaves sp bounds (DerivedKeyWrite i) number returns = absurd (cc)
-return-leaves sp bounds (RegionRead i) number returns = absurd (cc)
-return-leaves sp bounds (InnerDigestWrite i) number returns = absurd (cc)
-return-leaves sp bounds (MacWrite i) number returns = absurd (cc)
 return-leaves sp bounds ReturnRead number returns = (λ words. refl, λ writes. refl)
+return-leaves sp bounds item number returns = absurd (cc)
 
-pub call-returns : (device : Device) (play : Play) (events : List Event)
-    (logs : Logs) (regs words : List ℕ) (entry : BusRecord) (call : List BusRecord)
-    (contents : AttestedBytes) (kept : List ℕ)
-    → CallGoes device play events logs regs words entry contents
-    → CallSoFar device play call words contents kept → length call ≡ length words
-    → is_return (call_item words) ≡ true
-    → CallSoFar device (events ∷ play) (entry ∷ call) words contents kept
-call-returns device play events logs regs words entry call contents kept goes so_far made returns =
+pub call-returns : (plan : Plan) (play : Play) (events : List Event) (regs words : List ℕ)
+    → CallGoes plan play events regs words → is_return (call_item words) ≡ true
+    → CallSoFar plan (events ∷ play)
+    (entry_at plan.device play events ∷ earlier_records plan.device play events) words
+unfolding with_events
+call-returns plan play events regs words goes returns =
+    let so_far = goes.so_far in
     let fits = so_far.fits in
+    let made = goes.made in
     let step = goes.step in
-    let decision : ℕ = decision_of device.digest device.key contents kept in
-    let left : List ℕ = counter_left device.digest device.key contents kept in
-    let last = is_last (attested_words contents) decision (length words) (call_item words)
-    (item-at device contents kept words so_far.planned) returns in
+    let start : Start = start_of plan.device in
+    let entry : BusRecord = entry_at plan.device play events in
+    let call : List BusRecord = earlier_records plan.device play events in
+    let logs : Logs = log_at plan.device play events in
+    let late = kept-late plan.kept (planned_counter plan) in
+    let past = (return-is_last plan play words call so_far returns).0 in
     let leaves = return-leaves (sp_of regs) (bounds_read words) (call_item words)
-    ((start_of device).call_word (length logs.released_words) (call_item words) words) returns in
+    (start.call_word (length logs.released_words) (call_item words) words) returns in
     let same_bytes : (p : ℕ) → is_flag_word p ≡ false
-    → byte_after (start_of device) (events ∷ play) p ≡ byte_after (start_of device) play p =
+    → byte_after start (events ∷ play) p ≡ byte_after start play p =
     (λ p off_flags.
-    goes.bytes_after p off_flags
-    ∙ (ap (λ (access : Option Access).
-    byte_at (start_of device).power (flags_of (start_of device) logs)
-    (with_access access logs.memory) p) step.cpu
-    ∙ (ap (λ (writes : List MemoryWrite).
-    byte_at (start_of device).power (flags_of (start_of device) logs) writes p)
-    (leaves.1 logs.memory)
-    ∙ goes.bytes_before p))) in
-    call-more device play events entry call words words contents kept so_far goes.after
-    (kept-alike (byte_after (start_of device) (events ∷ play)) (byte_after (start_of device) play)
-    same_bytes
-    ∙ (kept-now device play call words contents kept so_far made
-    ∙ (kept-late kept left (length words) (omega (arith, last.0))
-    ∙ sym (kept-late kept left (length call + 1) (omega (arith, last.0, made))))))
-    so_far.planned so_far.fits so_far.attests
-    (released-rom entry.reset entry.kind entry.cpu (mac_written call) step.rom.none step.rom.kind
-    ∙ (ap (λ (access : Option Access). with_released_word access (mac_written call)) step.cpu
-    ∙ (leaves.0 (mac_written call) ∙ so_far.written)))
-    (λ small.
-    mac-alike (byte_after (start_of device) (events ∷ play)) (byte_after (start_of device) play)
-    (tag_of device.digest device.key contents) (mac_count contents (length words))
-    (omega (arith, fits)) same_bytes (so_far.stored small))
-
--- at the return the decision is written, and all words of the MAC where the call attests
-pub return-is_last : (device : Device) (play : Play) (words : List ℕ)
-    (call : List BusRecord) (contents : AttestedBytes) (kept : List ℕ)
-    → CallSoFar device play call words contents kept
-    → is_return (call_item words) ≡ true
-    → (77 ≤ length words)
-    × ((decision_of device.digest device.key contents kept ≡ ATTESTS)
-    → mac_count contents (length words) ≡ 16)
-return-is_last device play words call contents kept so_far returns =
-    let last = is_last (attested_words contents)
-    (decision_of device.digest device.key contents kept) (length words) (call_item words)
-    (item-at device contents kept words so_far.planned) returns in (
-      last.0,
-      λ decided.
-          let fits = so_far.fits in
-          let past = last.1 decided in
-          omega (arith, fits, past),
-    )
+    after_step-bytes plan.device play events
+    (Some (access_in plan.device play events regs words)) step.rom step.cpu p off_flags
+    ∙ ap (λ (writes : List MemoryWrite). byte_at start.power (flags_of start logs) writes p)
+    (leaves.1 logs.memory)) in
+    record {
+      stood =
+          stood-more plan play events so_far.stood goes.after
+          (kept-alike (byte_after start (events ∷ play)) (byte_after start play) same_bytes
+          ∙ (so_far.stood.now
+          ∙ (late (length call) (omega (arith, past, made))
+          ∙ sym (late (suc (length call)) (omega (arith, past, made))))));
+      planned = so_far.planned;
+      fits = so_far.fits;
+      attests = so_far.attests;
+      written =
+          released-rom entry.reset entry.kind entry.cpu (mac_written call) step.rom.none
+          step.rom.kind
+          ∙ (ap (λ (access : Option Access). with_released_word access (mac_written call)) step.cpu
+          ∙ (leaves.0 (mac_written call) ∙ so_far.written));
+      stored = λ small.
+          mac-alike (byte_after start (events ∷ play)) (byte_after start play) (planned_tag plan)
+          (mac_count plan (length words)) (omega (arith, fits)) same_bytes (so_far.stored small);
+    }

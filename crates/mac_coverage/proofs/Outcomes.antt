@@ -9,11 +9,9 @@ use Rattle.bus_signals.specs.declared.kind.Kind.TheVariants.{Rom}
 use Rattle.bus_signals.specs.declared.rule.Rule.{Rule}
 use Rattle.bus_signals.specs.Kind.{is_rom}
 use Rattle.bus_signals.specs.Map.{ROM_ENTRY, ROM_EXIT}
-use Rattle.part_definitions.specs.Attestation.{CallItem, KeptWrite, bounds_read, call_item, decision_read, is_return, item_access, region_words, word_passed}
+use Rattle.part_definitions.specs.Attestation.{CallItem, KeptWrite, bounds_read, call_item, decision_read, is_return, item_access, region_words}
 use Rattle.part_definitions.specs.CpuRegister.{sp_of}
 use Rattle.part_definitions.proofs.CallItems.{first_pc, item_after}
-use Rattle.bus_signals.specs.Address.{Bytes}
-use Rattle.part_definitions.specs.Hmac.{Digest}
 use Rattle.device_trace.specs.Play.{Play}
 use Rattle.device_trace.specs.Logs.{Logs, call_decision, finishes_call, progress_after, step_progress, vector_of, with_events, with_record}
 use Rattle.device_trace.specs.Progress.{Progress, InCall, after_return}
@@ -21,16 +19,16 @@ use Rattle.device_trace.specs.Signals.{step_kind}
 use Rattle.device_trace.specs.Text.{last_decision}
 use Rattle.device_trace.specs.Trace.{logs_after, trace}
 use Rattle.trace_facts.proofs.Choices.{none_there}
-use Rattle.mac_coverage.specs.AttestedBytes.{AttestedBytes, decision_of}
-use Rattle.mac_coverage.specs.Call.{begins_call, last_call, mac_written}
-use Rattle.mac_coverage.specs.Coverage.{MacCoversCall, contents_before, kept_before}
+use Rattle.mac_coverage.specs.AttestedBytes.{AttestedBytes}
+use Rattle.mac_coverage.specs.Call.{begins_call, ends_refused, last_call, mac_written}
+use Rattle.mac_coverage.specs.Coverage.{MacCoversCall, attested_after, kept_after}
 use Rattle.mac_coverage.proofs.CallItems.{exit_returns, high_word_item, only_first_enters}
-use Rattle.mac_coverage.proofs.Calls.{CallGoes, CallSoFar, call-goes_on, call-returns, return-is_last}
-use Rattle.mac_coverage.proofs.Covers.{covers_refused, covers_so_far, released-refused}
+use Rattle.mac_coverage.proofs.Calls.{CallGoes, CallSoFar, call-goes_on, call-returns, earlier_records, entry_at, log_at, return-is_last, word_in}
+use Rattle.mac_coverage.proofs.Covers.{covers_refused, covers_so_far}
 use Rattle.mac_coverage.proofs.Device.{Device, start_of}
-use Rattle.mac_coverage.proofs.PlaySteps.{CallGoesOn, IsTurnOfCall, LastWroteHighWord, PlayStands, WritesHighWord, all_earlier, earlier_records, after_step-alike, after_step-bytes, after_step-same, attested-is, entry-kind, entry-pc, entry-step, entry_at, first_step, log_at, last-in_rom, later_step, none_earlier}
+use Rattle.mac_coverage.proofs.PlaySteps.{CallGoesOn, IsTurnOfCall, LastWroteHighWord, PlayStands, WritesHighWord, all_earlier, after_step-alike, after_step-same, entry-kind, entry-pc, entry-step, first_step, last-in_rom, later_step, none_earlier, plan_of}
 use Rattle.mac_coverage.proofs.Passes.{decision_words, mac_count, words_written}
-use Rattle.mac_coverage.proofs.WordPlan.{ArePlanned, attested_words, call_item-planned, decision_read-planned, first_mac_words}
+use Rattle.mac_coverage.proofs.WordPlan.{ArePlanned, Plan, call_item-planned, decision_read-planned, first_mac_words, planned_decision, planned_region}
 use Rattle.mac_coverage.proofs.Steps.{IsCallStep, IsOfCall, OnCall, progress-call_step, rom_step-of_call}
 
 -- the MAC covers the call, and if it goes on, it is one so far
@@ -38,12 +36,9 @@ pub record Outcome (device : Device) (play : Play) : Type 0 where
   pub covers : MacCoversCall device.digest device.key (start_of device) play
   pub next : PlayStands device play
   -- the first word that the call writes to the MAC is the decision
-  pub timed : 1 ≤ length (mac_written (last_call (trace (start_of device) play)))
+  pub timed : ends_refused (trace (start_of device) play) ≡ false
+      → 1 ≤ length (mac_written (last_call (trace (start_of device) play)))
       → 77 ≤ length (last_call (trace (start_of device) play))
-
-abbrev word_in : Device → Play → List Event → ℕ
-word_in device play events =
-    word_passed (entry_at device play events).cpu (entry_at device play events).value
 
 -- after a step of a call, and so after one that goes on, one that returns and one that is refused
 step-next : (device : Device) (play : Play) (events : List Event)
@@ -106,70 +101,42 @@ refused-next device play events refuses =
     holds (Some rule) refuses = tt
 
 -- the step that writes the high word of the kept counter
-high_item : (device : Device) (contents : AttestedBytes) (kept words : List ℕ)
-    → ArePlanned device.digest device.key contents kept words → length words ≡ 74
+high_item : (plan : Plan) (words : List ℕ) → ArePlanned plan words → length words ≡ 74
     → call_item words ≡ KeptWrite 1
-high_item device contents kept words by_plan count =
-    call_item-planned device.digest device.key contents kept words by_plan
-    ∙ (ap
-    (item_after (attested_words contents)
-    (decision_of device.digest device.key contents kept))
-    count
-    ∙ high_word_item (attested_words contents) (decision_of device.digest device.key contents kept))
+high_item plan words by_plan count =
+    call_item-planned plan words by_plan
+    ∙ (ap (item_after (planned_region plan) (planned_decision plan)) count
+    ∙ high_word_item (planned_region plan) (planned_decision plan))
 
-wrote_high : (device : Device) (play : Play) (events : List Event)
-    (regs words : List ℕ) (contents : AttestedBytes) (kept : List ℕ)
-    → IsCallStep (start_of device) (log_at device play events) regs words
-    (entry_at device play events)
-    → ArePlanned device.digest device.key contents kept words
-    → length words + 1 ≡ 75
-    → LastWroteHighWord (trace (start_of device) (events ∷ play))
+wrote_high : (plan : Plan) (play : Play) (events : List Event) (regs words : List ℕ)
+    → CallGoes plan play events regs words → length words ≡ 74
+    → LastWroteHighWord (trace (start_of plan.device) (events ∷ play))
 unfolding trace
-wrote_high device play events regs words contents kept step by_plan count =
-    let item : call_item words ≡ KeptWrite 1 =
-    high_item device contents kept words by_plan (omega (arith, count)) in (
-      step.rom.none,
-      subst WritesHighWord
-          (sym (step.cpu
-          ∙ ap (λ (i : CallItem). Some (item_access (sp_of regs) (bounds_read words) i
-          ((start_of device).call_word (length (log_at device play events).released_words)
-          (call_item words) words))) item)) refl,
-    )
+wrote_high plan play events regs words goes count = (
+  goes.step.rom.none,
+  subst WritesHighWord
+      (sym (goes.step.cpu
+      ∙ ap (λ (i : CallItem). Some (item_access (sp_of regs) (bounds_read words) i
+      ((start_of plan.device).call_word
+      (length (log_at plan.device play events).released_words) (call_item words) words)))
+      (high_item plan words goes.so_far.planned count))) refl,
+)
 
 -- before the decision no word is written to the MAC
-written-late : (digest : Digest) (key : Bytes) (contents : AttestedBytes)
-    (kept : List ℕ) (index : ℕ) (words : List ℕ)
-    → words ≡ words_written digest key contents kept index → 1 ≤ length words
-    → 77 ≤ index
-written-late digest key contents kept index words is some =
+written-late : (plan : Plan) (index : ℕ) (words : List ℕ)
+    → words ≡ words_written plan index → 1 ≤ length words → 77 ≤ index
+written-late plan index words is some =
     elim (cases_lt index 77) [
       | inl early ↦
-          let none : mac_count contents index ≡ 0 = omega (arith, early) in
-          let decision : decision_words digest key contents kept index ≡ [] =
+          let none : mac_count plan index ≡ 0 = omega (arith, early) in
+          let decision : decision_words plan index ≡ [] =
           cond-true (nat_lt index 77) [] _ (lt-ltb index 77 early) in
           let empty : length words ≡ 0 =
           ap (λ (list : List ℕ). length list) is
-          ∙ (λ j. length (decision j ++ first_mac_words digest key contents (none j))) in
+          ∙ (λ j. length (decision j ++ first_mac_words plan (none j))) in
           absurd (omega (arith, some, empty))
       | inr past ↦ past
     ]
-
-refused-late : (device : Device) (play : Play) (events : List Event)
-    (words : List ℕ) (contents : AttestedBytes) (kept : List ℕ)
-    → is_some (entry_at device play events).reset ≡ true
-    → CallSoFar device play (earlier_records device play events) words contents kept
-    → length (earlier_records device play events) ≡ length words
-    → 1 ≤ length (mac_written (last_call (trace (start_of device) (events ∷ play))))
-    → 77 ≤ length (last_call (trace (start_of device) (events ∷ play)))
-unfolding trace
-refused-late device play events words contents kept refuses so_far made some =
-    let entry : BusRecord = entry_at device play events in
-    let call : List BusRecord = earlier_records device play events in
-    let same : mac_written (entry ∷ call) ≡ mac_written call =
-    released-refused entry.reset entry (mac_written call) refuses in
-    let past = written-late device.digest device.key contents kept (length words)
-    (mac_written (entry ∷ call)) (same ∙ so_far.written) some in
-    omega (arith, past, made)
 
 -- the decision that a finished call tells
 told-returns : (device : Device) (play : Play) (events : List Event)
@@ -185,29 +152,17 @@ told-returns device play events regs words turn finishes =
     ∙ ap call_decision (ap (step_progress logs) (entry-kind device play events) ∙ turn.progress)
 
 -- a step that was not refused
-unrefused_outcome : (device : Device) (play : Play) (events : List Event)
-    (regs words : List ℕ) (contents : AttestedBytes) (kept : List ℕ)
-    → IsTurnOfCall device play events regs words
-    → IsCallStep (start_of device) (log_at device play events) regs words
-    (entry_at device play events)
-    → CallSoFar device play (earlier_records device play events) words contents kept
-    → length (earlier_records device play events) ≡ length words
-    → (1 ≤ length words → contents_before (start_of device) play 0 ≡ contents)
-    → contents_before (start_of device) (events ∷ play) 0 ≡ contents
-    → Outcome device (events ∷ play)
-unfolding trace with_events
-unrefused_outcome device play events regs words contents kept turn step so_far made stands after =
+unrefused_outcome : (plan : Plan) (play : Play) (events : List Event) (regs words : List ℕ)
+    → IsTurnOfCall plan.device play events regs words
+    → CallGoes plan play events regs words
+    → Outcome plan.device (events ∷ play)
+unfolding trace
+unrefused_outcome plan play events regs words turn goes =
+    let device : Device = plan.device in
     let entry : BusRecord = entry_at device play events in
-    let goes : CallGoes device play events (log_at device play events) regs words entry contents =
-    record {
-      step = step;
-      is = attested-is device (events ∷ play) contents after;
-      stands = stands;
-      after = after;
-      bytes_before = λ p. refl;
-      bytes_after = after_step-bytes device play events step.rom;
-    } in
     let call : List BusRecord = earlier_records device play events in
+    let so_far = goes.so_far in
+    let made = goes.made in
     let exit : finishes_call entry ≡ true → is_return (call_item words) ≡ true =
     λ finishes.
     let parts = and_parts (is_rom entry.kind && (entry.pc == ROM_EXIT)) (is_none entry.reset)
@@ -218,59 +173,65 @@ unrefused_outcome device play events regs words contents kept turn step so_far m
     in
     elim (cases_Bool (is_return (call_item words))) [
       | inl returns ↦
-          let more : CallSoFar device (events ∷ play) (entry ∷ call) words contents kept =
-          call-returns device play events (log_at device play events) regs words entry call contents
-          kept goes so_far made returns in
-          let last = return-is_last device play words call contents kept so_far returns in
+          let last = return-is_last plan play words call so_far returns in
           record {
             covers =
-                covers_so_far device (events ∷ play) words contents kept more (λ finishes. last)
+                covers_so_far plan (events ∷ play) words
+                (call-returns plan play events regs words goes returns)
+                (λ finishes. last)
                 (λ finishes.
                 told-returns device play events regs words turn finishes
                 ∙ ap (λ (decision : ℕ). Some decision)
-                (decision_read-planned device.digest device.key contents kept words so_far.planned
-                last.0));
-            next = returns-next device play events regs words turn step returns;
-            timed = λ some.
+                (decision_read-planned plan words so_far.planned last.0));
+            next = returns-next device play events regs words turn goes.step returns;
+            timed = λ unrefused some.
                 (let past = last.0 in omega (arith, past, made));
           }
       | inr goes_on ↦
-          let word : ℕ = word_passed entry.cpu entry.value in
-          let more : CallSoFar device (events ∷ play) (entry ∷ call) (words ++ word ∷ []) contents
-          kept =
-          call-goes_on device play events (log_at device play events) regs words entry call contents
-          kept goes so_far made goes_on in
-          let size : length (words ++ word ∷ []) ≡ length words + 1 = length_push words word in
+          let passed : List ℕ = words ++ word_in device play events ∷ [] in
+          let more : CallSoFar plan (events ∷ play) (entry ∷ call) passed =
+          call-goes_on plan play events regs words goes goes_on in
+          let size : length passed ≡ length words + 1 =
+          length_push words (word_in device play events) in
           record {
             covers =
-                covers_so_far device (events ∷ play) (words ++ word ∷ []) contents kept more
-                (λ finishes.
-                let returns = exit finishes in
-                let wrong : true ≡ false = sym returns ∙ goes_on in
-                absurd (cc))
-                (λ finishes.
-                let wrong : true ≡ false = sym (exit finishes) ∙ goes_on in
-                absurd (cc));
+                covers_so_far plan (events ∷ play) passed more
+                (λ finishes. absurd (no_return (exit finishes) goes_on))
+                (λ finishes. absurd (no_return (exit finishes) goes_on));
             next =
-                goes_on-next device play events regs words turn step goes_on
+                goes_on-next device play events regs words turn goes.step goes_on
                 (record {
-                  contents = contents;
-                  kept = kept;
+                  contents = plan.contents;
+                  kept = plan.kept;
                   so_far = more;
                   made = omega (arith, made, size);
                   high = λ count.
-                      wrote_high device play events regs words contents kept step so_far.planned
-                      (omega (arith, count, size));
-                  stands = after;
+                      wrote_high plan play events regs words goes (omega (arith, count, size));
                   begun = omega (arith, size);
-                  last = last-in_rom device play events step.rom;
+                  last = last-in_rom device play events goes.step.rom;
                 });
-            timed = λ some.
-                (let past = written-late device.digest device.key contents kept
-                (length (words ++ word ∷ [])) (mac_written (entry ∷ call)) more.written some in
+            timed = λ unrefused some.
+                (let past = written-late plan (length passed) (mac_written (entry ∷ call))
+                more.written some in
                 omega (arith, past, made, size));
           }
     ]
+  where
+    no_return : is_return (call_item words) ≡ true → is_return (call_item words) ≡ false → ⊥
+    no_return returns goes_on = let wrong : true ≡ false = sym returns ∙ goes_on in cc
+
+refused_outcome : (plan : Plan) (play : Play) (events : List Event) (words : List ℕ)
+    → is_some (entry_at plan.device play events).reset ≡ true
+    → CallSoFar plan play (earlier_records plan.device play events) words
+    → Outcome plan.device (events ∷ play)
+unfolding trace
+refused_outcome plan play events words refuses so_far =
+    record {
+      covers = covers_refused plan play events words refuses so_far;
+      next = refused-next plan.device play events refuses;
+      timed = λ unrefused some.
+          (let wrong : true ≡ false = sym refuses ∙ unrefused in absurd (cc));
+    }
 
 -- the first step of a call, and a later one
 first_outcome : (device : Device) (play : Play) (events : List Event) (regs : List ℕ)
@@ -278,42 +239,38 @@ first_outcome : (device : Device) (play : Play) (events : List Event) (regs : Li
     → Outcome device (events ∷ play)
 first_outcome device play events regs turn =
     let entry : BusRecord = entry_at device play events in
-    let before : AttestedBytes = contents_before (start_of device) play 0 in
-    let kept : List ℕ = kept_before (start_of device) play 0 in
+    let kept : List ℕ = kept_after (start_of device) play in
     let begins : begins_call entry ≡ true =
     and_from (is_rom entry.kind) (entry.pc == ROM_ENTRY)
     (ap is_rom (entry-kind device play events ∙ turn.kind))
     (ap (λ (pc : ℕ). pc == ROM_ENTRY) (entry-pc device play events regs [] turn ∙ first_pc)) in
     elim (cases_Bool (is_some entry.reset)) [
       | inl refuses ↦
-          record {
-            covers =
-                covers_refused device play events [] before kept refuses
-                (first_step device play events before begins refl);
-            next = refused-next device play events refuses;
-            timed = λ some.
-                refused-late device play events [] before kept refuses
-                (first_step device play events before begins refl)
-                (ap (λ (call : List BusRecord). length call)
-                (none_earlier device play events begins)) some;
-          }
+          let before : AttestedBytes = attested_after (start_of device) play in
+          refused_outcome (plan_of device before kept) play events [] refuses
+          (first_step device play events before begins refl)
       | inr no_reset ↦
-          let none = none_there entry.reset no_reset in
-          let step = entry-step device play events regs [] turn none in
-          let after : AttestedBytes = contents_before (start_of device) (events ∷ play) 0 in
-          unrefused_outcome device play events regs [] after kept turn step
-          (first_step device play events after begins
-          (after_step-alike device play events step.rom))
-          (ap (λ (call : List BusRecord). length call) (none_earlier device play events begins))
-          (λ later. absurd (omega (arith, later))) refl
+          let step = entry-step device play events regs [] turn (none_there entry.reset no_reset) in
+          let after : AttestedBytes = attested_after (start_of device) (events ∷ play) in
+          unrefused_outcome (plan_of device after kept) play events regs [] turn (record {
+            step = step;
+            so_far =
+                first_step device play events after begins
+                (after_step-alike device play events step.rom);
+            made =
+                ap (λ (call : List BusRecord). length call)
+                (none_earlier device play events begins);
+            stands = λ later. absurd (omega (arith, later));
+            after = refl;
+          })
     ]
 
-later_outcome : (device : Device) (play : Play) (events : List Event)
-    (regs words : List ℕ)
+later_outcome : (device : Device) (play : Play) (events : List Event) (regs words : List ℕ)
     → IsTurnOfCall device play events regs words
     → CallGoesOn device play words
     → Outcome device (events ∷ play)
 later_outcome device play events regs words turn call =
+    let plan : Plan = plan_of device call.contents call.kept in
     let entry : BusRecord = entry_at device play events in
     let apart : (entry.pc == ROM_ENTRY) ≡ false =
     ap (λ (pc : ℕ). pc == ROM_ENTRY) (entry-pc device play events regs words turn)
@@ -321,28 +278,26 @@ later_outcome device play events regs words turn call =
     call.begun in
     let goes_on : begins_call entry ≡ false =
     and_right (is_rom entry.kind) (entry.pc == ROM_ENTRY) apart in
-    let so_far =
-    later_step device play events words call.contents call.kept goes_on call.so_far in
+    let so_far = later_step plan play events words goes_on call.so_far in
     elim (cases_Bool (is_some entry.reset)) [
-      | inl refuses ↦
-          record {
-            covers =
-                covers_refused device play events words call.contents call.kept refuses so_far;
-            next = refused-next device play events refuses;
-            timed = λ some.
-                refused-late device play events words call.contents call.kept refuses so_far
-                (ap (λ (call : List BusRecord). length call)
-                (all_earlier device play events goes_on)
-                ∙ call.made) some;
-          }
+      | inl refuses ↦ refused_outcome plan play events words refuses so_far
       | inr no_reset ↦
-          let none = none_there entry.reset no_reset in
-          let step = entry-step device play events regs words turn none in
-          unrefused_outcome device play events regs words call.contents call.kept turn step so_far
-          (ap (λ (call : List BusRecord). length call) (all_earlier device play events goes_on)
-          ∙ call.made)
-          (λ later. call.stands)
-          (after_step-same device play events step.rom apart call.last ∙ call.stands)
+          let step = entry-step device play events regs words turn
+          (none_there entry.reset no_reset) in
+          let begun = call.begun in
+          let made = call.made in
+          let stands : attested_after (start_of device) play ≡ call.contents =
+          call.so_far.stood.throughout [] play refl (omega (arith, begun, made)) in
+          unrefused_outcome plan play events regs words turn (record {
+            step = step;
+            so_far = so_far;
+            made =
+                ap (λ (call : List BusRecord). length call)
+                (all_earlier device play events goes_on)
+                ∙ made;
+            stands = λ later. stands;
+            after = after_step-same device play events step.rom apart call.last ∙ stands;
+          })
     ]
 
 -- a step of the ROM

@@ -1,6 +1,6 @@
 -- The next step of a play, where it is one of the ROM.
 use Rattle.std.proofs.Common.{◌≡◌, ℕ, ◌≤◌, true, false, List, [], ◌∷◌, None, length, refl, ap, sym, ◌∙◌, subst}
-use Rattle.std.specs.Prelude.{◌==◌, Option, Some, if◌then◌else◌}
+use Rattle.std.specs.Prelude.{◌==◌, Option, Some}
 use Rattle.std.proofs.lemmas.Bool.{cond-false, cond-true}
 use Rattle.bus_signals.specs.declared.access.Access.{Access}
 use Rattle.bus_signals.specs.declared.access.Access.TheVariants.{Fetch, Read, Write}
@@ -10,9 +10,8 @@ use Rattle.bus_signals.specs.declared.event.Event.{Event}
 use Rattle.bus_signals.specs.declared.kind.Kind.TheVariants.{Rom}
 use Rattle.part_definitions.specs.Attestation.{call_item, item_pc}
 use Rattle.bus_signals.specs.ExecFlag.{last_pc}
-use Rattle.part_definitions.specs.Memory.{byte_at, is_flag_word, with_access}
 use Rattle.device_trace.specs.Play.{Play}
-use Rattle.device_trace.specs.Logs.{Logs, flags_of, step_progress, with_events, with_record}
+use Rattle.device_trace.specs.Logs.{step_progress, with_events, with_record}
 use Rattle.device_trace.specs.Progress.{InCall, next_pc_of}
 use Rattle.device_trace.specs.Signals.{step_kind}
 use Rattle.device_trace.specs.Step.{asks_reset, next_record}
@@ -20,19 +19,17 @@ use Rattle.device_trace.specs.Trace.{byte_after, logs_after, trace}
 use Rattle.trace_facts.proofs.ExecFlag.{logs_after-valid}
 use Rattle.mac_coverage.specs.AttestedBytes.{AttestedBytes, without_flag_words}
 use Rattle.mac_coverage.specs.Call.{begins_call, last_call}
-use Rattle.mac_coverage.specs.Coverage.{contents_before, kept_before}
-use Rattle.mac_coverage.proofs.AttestedIs.{attested_bytes_in-is}
-use Rattle.mac_coverage.proofs.Calls.{CallSoFar, call-begins}
+use Rattle.mac_coverage.specs.Coverage.{attested_after, kept_after}
+use Rattle.mac_coverage.proofs.Calls.{CallSoFar, call-begins, earlier_records, entry_at, log_at}
 use Rattle.mac_coverage.proofs.Device.{Device, start_of, start_of-bytes}
 use Rattle.mac_coverage.proofs.ExecKept.{IsRomStep}
 use Rattle.mac_coverage.proofs.MemoryBytes.{byte_after-byte}
 use Rattle.mac_coverage.proofs.MemoryKept.{attested-but_flags, attested-same}
-use Rattle.mac_coverage.proofs.WordPlan.{IsAttested, IsCounter}
+use Rattle.mac_coverage.proofs.WordPlan.{IsCounter, Plan}
 use Rattle.part_definitions.proofs.BytesFrom.{length-bytes_from}
 use Rattle.mac_coverage.proofs.Words.{bytes_from-are}
-use Rattle.mac_coverage.proofs.Steps.{IsCallStep, IsInRom, OnCall, bytes-after, bytes-alike, bytes-same, record_of-call, record_of-kind, record_of-pc}
+use Rattle.mac_coverage.proofs.Steps.{IsCallStep, IsInRom, OnCall, bytes-alike, bytes-same, record_of-call, record_of-kind, record_of-pc}
 
--- after a play that is in a call
 -- the last record wrote the high word of the kept counter
 abbrev pub WritesHighWord : Option Access → Type 0
 WritesHighWord None = ⊥
@@ -44,36 +41,23 @@ abbrev pub LastWroteHighWord : List BusRecord → Type 0
 LastWroteHighWord [] = ⊥
 LastWroteHighWord (entry ∷ history) = (entry.reset ≡ None) × WritesHighWord entry.cpu
 
+abbrev pub plan_of : Device → AttestedBytes → List ℕ → Plan
+plan_of device contents kept = record { device = device; contents = contents; kept = kept }
+
+-- after a play that is in a call
 pub record CallGoesOn (device : Device) (play : Play) (words : List ℕ) : Type 0 where
   pub contents : AttestedBytes
   pub kept : List ℕ
-  pub so_far : CallSoFar device play (last_call (trace (start_of device) play)) words contents kept
+  pub so_far :
+      CallSoFar (plan_of device contents kept) play (last_call (trace (start_of device) play)) words
   pub made : length (last_call (trace (start_of device) play)) ≡ length words
   pub high : length words ≡ 75 → LastWroteHighWord (trace (start_of device) play)
-  pub stands : contents_before (start_of device) play 0 ≡ contents
   pub begun : 1 ≤ length words
   pub last : IsInRom (last_pc (logs_after (start_of device) play).records)
 
 abbrev pub PlayStands : Device → Play → Type 0
 PlayStands device play =
     OnCall (λ regs words. CallGoesOn device play words) (logs_after (start_of device) play).progress
-
--- the logs after the events of a step
-abbrev pub log_at : Device → Play → List Event → Logs
-log_at device play events = with_events (logs_after (start_of device) play) events
-
--- what is attested in the memory after a play is of bytes
-pub attested-is : (device : Device) (play : Play) (contents : AttestedBytes)
-    → contents_before (start_of device) play 0 ≡ contents → IsAttested contents
-attested-is device play contents stands =
-    subst IsAttested stands
-    (attested_bytes_in-is (byte_after (start_of device) play)
-    (λ place. byte_after-byte (start_of device) play place (start_of-bytes device)))
-
--- the record of the next step
-abbrev pub entry_at : Device → Play → List Event → BusRecord
-entry_at device play events =
-    next_record (start_of device) (logs_after (start_of device) play) events
 
 pub entry-kind : (device : Device) (play : Play) (events : List Event)
     → (entry_at device play events).kind ≡ step_kind (log_at device play events)
@@ -109,15 +93,9 @@ entry-step device play events regs words turn none =
     record_of-call (start_of device) (log_at device play events) (asks_reset events) regs words none
     turn.kind turn.progress
 
--- the records of its call before it
-abbrev pub earlier_records : Device → Play → List Event → List BusRecord
-earlier_records device play events =
-    if begins_call (entry_at device play events) then []
-    else last_call (trace (start_of device) play)
-
 -- the kept counter is of bytes
 pub kept-is : (device : Device) (play : Play)
-    → IsCounter (kept_before (start_of device) play 0)
+    → IsCounter (kept_after (start_of device) play)
 kept-is device play =
     record {
       size = length-bytes_from (byte_after (start_of device) play) 0x4060 4;
@@ -133,18 +111,16 @@ none_earlier device play events begins =
     cond-true (begins_call (entry_at device play events)) []
     (last_call (trace (start_of device) play)) begins
 
-pub first_step : (device : Device) (play : Play) (events : List Event)
-    (contents : AttestedBytes)
+pub first_step : (device : Device) (play : Play) (events : List Event) (contents : AttestedBytes)
     → begins_call (entry_at device play events) ≡ true
-    → without_flag_words (contents_before (start_of device) play 0) ≡ without_flag_words contents
-    → CallSoFar device play (earlier_records device play events) [] contents
-    (kept_before (start_of device) play 0)
+    → without_flag_words (attested_after (start_of device) play) ≡ without_flag_words contents
+    → CallSoFar (plan_of device contents (kept_after (start_of device) play)) play
+    (earlier_records device play events) []
 first_step device play events contents begins alike =
-    subst
-    (λ (call : List BusRecord).
-    CallSoFar device play call [] contents (kept_before (start_of device) play 0))
+    let plan : Plan = plan_of device contents (kept_after (start_of device) play) in
+    subst (λ (call : List BusRecord). CallSoFar plan play call [])
     (sym (none_earlier device play events begins))
-    (call-begins device play contents (kept-is device play) alike)
+    (call-begins plan play (kept-is device play) refl alike)
 
 pub all_earlier : (device : Device) (play : Play) (events : List Event)
     → begins_call (entry_at device play events) ≡ false
@@ -153,30 +129,19 @@ all_earlier device play events goes_on =
     cond-false (begins_call (entry_at device play events)) []
     (last_call (trace (start_of device) play)) goes_on
 
-pub later_step : (device : Device) (play : Play) (events : List Event)
-    (words : List ℕ) (contents : AttestedBytes) (kept : List ℕ)
-    → begins_call (entry_at device play events) ≡ false
-    → CallSoFar device play (last_call (trace (start_of device) play)) words contents kept
-    → CallSoFar device play (earlier_records device play events) words contents kept
-later_step device play events words contents kept goes_on so_far =
-    subst (λ (call : List BusRecord). CallSoFar device play call words contents kept)
-    (sym (all_earlier device play events goes_on)) so_far
+pub later_step : (plan : Plan) (play : Play) (events : List Event) (words : List ℕ)
+    → begins_call (entry_at plan.device play events) ≡ false
+    → CallSoFar plan play (last_call (trace (start_of plan.device) play)) words
+    → CallSoFar plan play (earlier_records plan.device play events) words
+later_step plan play events words goes_on so_far =
+    subst (λ (call : List BusRecord). CallSoFar plan play call words)
+    (sym (all_earlier plan.device play events goes_on)) so_far
 
 -- what a step of the ROM leaves
-pub after_step-bytes : (device : Device) (play : Play) (events : List Event)
-    → IsRomStep (entry_at device play events)
-    → (p : ℕ) → is_flag_word p ≡ false
-    → byte_after (start_of device) (events ∷ play) p
-    ≡ byte_at (start_of device).power (flags_of (start_of device) (log_at device play events))
-    (with_access (entry_at device play events).cpu (log_at device play events).memory) p
-unfolding logs_after
-after_step-bytes device play events step =
-    bytes-after (start_of device) (log_at device play events) (entry_at device play events) step
-
 pub after_step-alike : (device : Device) (play : Play) (events : List Event)
     → IsRomStep (entry_at device play events)
-    → without_flag_words (contents_before (start_of device) play 0)
-    ≡ without_flag_words (contents_before (start_of device) (events ∷ play) 0)
+    → without_flag_words (attested_after (start_of device) play)
+    ≡ without_flag_words (attested_after (start_of device) (events ∷ play))
 unfolding logs_after with_events
 after_step-alike device play events step =
     sym (attested-but_flags (byte_after (start_of device) (events ∷ play))
@@ -187,8 +152,8 @@ pub after_step-same : (device : Device) (play : Play) (events : List Event)
     → IsRomStep (entry_at device play events)
     → ((entry_at device play events).pc == ROM_ENTRY) ≡ false
     → IsInRom (last_pc (logs_after (start_of device) play).records)
-    → contents_before (start_of device) (events ∷ play) 0
-    ≡ contents_before (start_of device) play 0
+    → attested_after (start_of device) (events ∷ play)
+    ≡ attested_after (start_of device) play
 unfolding logs_after with_events
 after_step-same device play events step later last =
     attested-same (byte_after (start_of device) (events ∷ play)) (byte_after (start_of device) play)

@@ -24,11 +24,12 @@ use Rattle.device_trace.specs.Text.{last_decision, last_report}
 use Rattle.device_trace.specs.Trace.{byte_after, logs_after, trace}
 use Rattle.mac_coverage.specs.AttestedBytes.{tag_of}
 use Rattle.mac_coverage.specs.Call.{ends_finished, ends_in_call, ends_refused, last_call}
-use Rattle.mac_coverage.specs.Coverage.{Gives32Bytes, IsDeviceKey, IsOfBytes, MacCoversCall, MacCoversReport, contents_before}
+use Rattle.mac_coverage.specs.Coverage.{Gives32Bytes, IsDeviceKey, IsOfBytes, MacCoversCall, MacCoversReport, attested_after}
 use Rattle.mac_coverage.proofs.Covers.{decision_after-finishes}
 use Rattle.mac_coverage.proofs.Device.{Device, start_of}
 use Rattle.mac_coverage.proofs.Outcomes.{Outcome, rom_outcome}
-use Rattle.mac_coverage.proofs.PlaySteps.{CallGoesOn, PlayStands, entry-kind, entry_at, log_at}
+use Rattle.mac_coverage.proofs.Calls.{entry_at, log_at}
+use Rattle.mac_coverage.proofs.PlaySteps.{CallGoesOn, PlayStands, entry-kind}
 use Rattle.mac_coverage.proofs.Steps.{OnCall, other_step-no_call}
 use Rattle.mac_coverage.proofs.Words.{are_bytes}
 use Rattle.trace_facts.proofs.LastReport.{last_report-made}
@@ -147,18 +148,15 @@ pub reported_mac-is_tag : (flag : SeenHistory → Bool) (digest : Digest) (key :
     (image : Contents) (play : Play) (report : ReportFields)
     → IsDeviceKey key → IsOfBytes image → Gives32Bytes digest
     → last_report (with_key flag digest key image) play ≡ Some report
-    → report.mac ≡ tag_of digest key (contents_before (with_key flag digest key image) play 0)
+    → report.mac ≡ tag_of digest key (attested_after (with_key flag digest key image) play)
 reported_mac-is_tag flag digest key image play report device_key bytes gives is =
     let start : Start = with_key flag digest key image in
     let reports : Reports start play report = last_report-finishes start play report is in
     let covers : MacCoversCall digest key start play =
     mac_covers_call flag digest key image play device_key bytes reports.in_call in
-    let stands : contents_before start play 0 ≡ covers.contents =
-    covers.throughout 0 (record {
-      begun = call_begun (trace start play) reports.in_call;
-      unrefused = λ refuses.
-          (let wrong : true ≡ false = sym refuses ∙ reports.refused in absurd (cc));
-    }) in
+    let stands : attested_after start play ≡ covers.contents =
+    covers.throughout [] play refl (call_begun (trace start play) reports.in_call)
+    (λ refuses. (let wrong : true ≡ false = sym refuses ∙ reports.refused in absurd (cc))) in
     reports.mac
     ∙ (covers.stored reports.finished
     (some_same (sym (covers.told reports.finished) ∙ reports.attests)) gives

@@ -1,6 +1,6 @@
 -- The MAC covers what stands in memory throughout the call that writes it, and the call attests by
 -- the token and the counters that stand there.
-use Rattle.std.specs.Prelude.{◌≡◌, ◌<◌, ◌≤◌, ◌+◌, ◌-◌, ◌++◌, ℕ, All, List, [], IsTrue, Some, length, take, drop, nat_lt, if◌then◌else◌}
+use Rattle.std.specs.Prelude.{◌≡◌, ◌<◌, ◌≤◌, ◌+◌, ◌++◌, ℕ, All, List, [], IsTrue, Some, length, take, drop, nat_lt, if◌then◌else◌}
 use Rattle.word_arith.specs.Word16.{Word16}
 use Rattle.bus_signals.specs.Report.{ReportFields}
 use Rattle.bus_signals.specs.Address.{Contents, Bytes, Address}
@@ -14,7 +14,7 @@ use Rattle.device_trace.specs.Text.{last_decision}
 use Rattle.device_trace.specs.Trace.{trace, byte_after}
 use Rattle.device_trace.specs.Play.{Play}
 use Rattle.mac_coverage.specs.AttestedBytes.{AttestedBytes, attested_bytes_in, without_flag_words, tag_of, decision_of, call_words, counter_left}
-use Rattle.mac_coverage.specs.Call.{last_call, mac_written, ends_refused, ends_finished}
+use Rattle.mac_coverage.specs.Call.{last_call, mac_written, ends_in_call, ends_refused, ends_finished}
 
 -- 64 bytes
 pub record IsDeviceKey (key : Bytes) : Type 0 where
@@ -28,26 +28,28 @@ pub record Gives32Bytes (digest : Digest) : Type 0 where
   pub size : (message : Bytes) → length (digest message) ≡ 32
   pub bytes : (message : Bytes) → All (λ byte. byte < 256) (digest message)
 
--- what stands in memory before the last steps of a play, so many
-abbrev pub contents_before : Start → Play → ℕ → AttestedBytes
-contents_before start play steps = attested_bytes_in (byte_after start (drop steps play))
+-- the attested bytes and the kept counter, as they stand in memory after a play
+abbrev pub attested_after : Start → Play → AttestedBytes
+attested_after start play = attested_bytes_in (byte_after start play)
 
-abbrev pub kept_before : Start → Play → ℕ → Bytes
-kept_before start play steps = kept_bytes (byte_after start (drop steps play))
+abbrev pub kept_after : Start → Play → Bytes
+kept_after start play = kept_bytes (byte_after start play)
 
--- how many steps the last call of a play has made
+-- how many steps the last call of a play has made, and the play before that call
 abbrev pub call_length : Start → Play → ℕ
 call_length start play = length (last_call (trace start play))
 
--- so many steps before the end of a play its last call has begun, and met no step that is refused
-pub record IsInCall (start : Start) (play : Play) (steps : ℕ) : Type 0 where
-  pub begun : steps < call_length start play
-  pub unrefused : IsTrue (ends_refused (trace start play)) → 1 ≤ steps
+abbrev pub before_call : Start → Play → Play
+before_call start play = drop (call_length start play) play
 
--- or it has not made its first step yet
-pub record IsAtCall (start : Start) (play : Play) (steps : ℕ) : Type 0 where
-  pub within : steps ≤ call_length start play
-  pub unrefused : IsTrue (ends_refused (trace start play)) → 1 ≤ steps
+-- this holds after each step of the last call of a play, but for a last step that is refused
+abbrev pub ThroughoutCall : Start → Play → (Play → Type 0) → Type 0
+ThroughoutCall start play holds =
+    (later earlier : Play)
+    → play ≡ later ++ earlier
+    → length later < call_length start play
+    → (IsTrue (ends_refused (trace start play)) → 1 ≤ length later)
+    → holds earlier
 
 -- the kept counter after so many steps of a call, which replaces one by the other, high word first
 abbrev pub kept_within : Bytes → Bytes → ℕ → Bytes
@@ -60,18 +62,17 @@ kept_within kept left steps =
 pub record MacCoversCall (digest : Digest) (key : Bytes) (start : Start) (play : Play)
     : Type 0 where
   pub contents : AttestedBytes
-  -- it stands in memory throughout the call
-  pub throughout : (steps : ℕ) → IsInCall start play steps
-      → contents_before start play steps ≡ contents
-  -- and before the call, but for the EXEC word and the AUX word
-  pub before :
-      without_flag_words (contents_before start play (call_length start play))
-      ≡ without_flag_words contents
-  -- this counter is kept up to the two writes of it, and from then on the one that the call leaves
   pub kept : Bytes
-  pub counter : (steps : ℕ) → IsAtCall start play steps
-      → kept_before start play steps
-      ≡ kept_within kept (counter_left digest key contents kept) (call_length start play - steps)
+  -- they stand in memory before the call, the contents but for the EXEC word and the AUX word
+  pub before :
+      without_flag_words (attested_after start (before_call start play))
+      ≡ without_flag_words contents
+  pub kept_before : kept_after start (before_call start play) ≡ kept
+  -- and throughout it, the counter up to the two writes of the one that the call leaves
+  pub throughout : ThroughoutCall start play (λ moment. attested_after start moment ≡ contents)
+  pub counter : ThroughoutCall start play (λ moment.
+      kept_after start moment
+      ≡ kept_within kept (counter_left digest key contents kept) (call_length start moment))
   -- what the call wrote to the MAC and has yet to write: its decision and, if it attests, the tag
   pub later : List Word16
   pub words :
@@ -86,10 +87,14 @@ pub record MacCoversCall (digest : Digest) (key : Bytes) (start : Start) (play :
       → Gives32Bytes digest
       → mac_bytes (byte_after start play) ≡ tag_of digest key contents
 
+-- where a play ends in a call, under way, finished or broken off, the MAC covers that call
+abbrev pub MacCoversLastCall : Digest → Bytes → Start → Play → Type 0
+MacCoversLastCall digest key start play =
+    IsTrue (ends_in_call (trace start play)) → MacCoversCall digest key start play
+
 -- the MAC in a report, which the last step of a play makes, covers its call, and is the tag of what
 -- stands in memory, where the digest gives 32 bytes
 abbrev pub MacCoversReport : Digest → Bytes → Start → ReportFields → Play → Type 0
 MacCoversReport digest key start report play =
     MacCoversCall digest key start play
-    × (Gives32Bytes digest
-    → report.mac ≡ tag_of digest key (attested_bytes_in (byte_after start play)))
+    × (Gives32Bytes digest → report.mac ≡ tag_of digest key (attested_after start play))

@@ -8,7 +8,7 @@ use Rattle.device_trace.specs.Example.{counting_words, event_after, quiet_steps,
 use Rattle.device_trace.specs.Trace.{trace, byte_after}
 use Rattle.device_trace.specs.Play.{Play}
 use Rattle.mac_coverage.specs.Call.{last_call, mac_written}
-use Rattle.mac_coverage.specs.Coverage.{contents_before, kept_before}
+use Rattle.mac_coverage.specs.Coverage.{attested_after, kept_after}
 
 -- the call of `attestation` begins after 7 steps; in its step 124 it is broken off by a reset
 abbrev pub broken_call : Play
@@ -31,10 +31,10 @@ words_written image play = mac_written (last_call (trace (start_with image) play
 -- the bytes of ER and OR that stand in memory after so many steps with no event, and the kept
 -- counter
 abbrev pub rest_standing : Contents → ℕ → Bytes
-rest_standing image steps = (contents_before (start_with image) (quiet_steps steps []) 0).rest
+rest_standing image steps = (attested_after (start_with image) (quiet_steps steps [])).rest
 
 abbrev pub kept_standing : Contents → ℕ → Bytes
-kept_standing image steps = kept_before (start_with image) (quiet_steps steps []) 0
+kept_standing image steps = kept_after (start_with image) (quiet_steps steps [])
 
 -- the EXEC word then
 abbrev pub exec_standing : Contents → ℕ → ℕ

@@ -1,13 +1,11 @@
-ghost use Rattle.std.specs.Prelude.{◌≡◌, Bool, IsTrue, Some};
+ghost use Rattle.std.specs.Prelude.{◌≡◌, Bool, Some};
 ghost use Rattle.bus_signals.specs.Report.{ReportFields};
 ghost use Rattle.bus_signals.specs.SeenRecord.{SeenHistory};
 ghost use Rattle.device_trace.specs.Report.{EachReport};
 ghost use Rattle.device_trace.specs.Start.{with_key};
 ghost use Rattle.device_trace.specs.Text.{last_report};
-ghost use Rattle.device_trace.specs.Trace.{byte_after, trace};
-ghost use Rattle.mac_coverage.specs.AttestedBytes.{attested_bytes_in, tag_of};
-ghost use Rattle.mac_coverage.specs.Call.{ends_in_call};
-ghost use Rattle.mac_coverage.specs.Coverage.{Gives32Bytes, IsDeviceKey, IsOfBytes, MacCoversCall, MacCoversReport};
+ghost use Rattle.mac_coverage.specs.AttestedBytes.{tag_of};
+ghost use Rattle.mac_coverage.specs.Coverage.{Gives32Bytes, IsDeviceKey, IsOfBytes, MacCoversLastCall, MacCoversReport, attested_after};
 ghost use Rattle.bus_signals.specs.Address.{Contents, Bytes};
 ghost use Rattle.part_definitions.specs.Hmac.{Digest};
 ghost use Rattle.device_trace.specs.Play.{Play};
@@ -25,8 +23,7 @@ pub fn mac_covers_region_throughout_call()
         (play : Play)
         → IsDeviceKey key
         → IsOfBytes image
-        → IsTrue (ends_in_call (trace (with_key flag digest key image) play))
-        → MacCoversCall digest key (with_key flag digest key image) play }
+        → MacCoversLastCall digest key (with_key flag digest key image) play }
 {}
 
 /// The MAC in a report is the tag, under the device key, of the metadata and the bytes of ER and OR
@@ -40,7 +37,7 @@ pub fn reported_mac_is_tag()
         → Gives32Bytes digest
         → last_report (with_key flag digest key image) play ≡ Some report
         → report.mac
-        ≡ tag_of digest key (attested_bytes_in (byte_after (with_key flag digest key image) play)) }
+        ≡ tag_of digest key (attested_after (with_key flag digest key image) play) }
 {}
 
 /// So the MAC of each report of a play covers its call.
