@@ -51,10 +51,9 @@ lawful_report digest key start play report moment is =
     let covers : MacCoversCall digest key start play = moment.call made.in_call in
     record {
       contents = covers.contents;
-      throughout = λ steps within. covers.throughout steps (record {
-        begun = within;
-        unrefused = λ refuses. absurd (false≢true (sym made.refused ∙ refuses));
-      });
+      throughout = λ later earlier parts within.
+          covers.throughout later earlier parts within
+          (λ refuses. absurd (false≢true (sym made.refused ∙ refuses)));
       tag = λ gives.
           made.mac
           ∙ covers.stored made.finished

@@ -11,7 +11,7 @@ use Rattle.device_trace.specs.Trace.{trace}
 use Rattle.trace_facts.specs.Naming.{NamesNeitherA1NorK3}
 use Rattle.trace_facts.specs.RomCode.{RunsRomInCall}
 use Rattle.key_isolation.specs.Keyless.{LooksKeyless}
-use Rattle.mac_coverage.specs.LastCall.{MacCoversLastCall}
+use Rattle.mac_coverage.specs.Coverage.{MacCoversLastCall}
 use Rattle.proof_of_execution.specs.WholeCall.{ExecAfterCallMeansWholeRun}
 use Rattle.trusted_execution.specs.TrustedCall.{AuxAfterCallMeansTrustedRun}
 use Rattle.request_freshness.specs.Freshness.{TellsNewCounter}

@@ -1,5 +1,5 @@
 -- Over a play the kept counter does not fall, and the counters of attested requests grow.
-use Rattle.std.proofs.Common.{◌≡◌, ℕ, ◌-◌, ◌<◌, ◌≤◌, Bool, true, false, List, [], ◌∷◌, ◌++◌, drop, inl, inr, Option, Some, None, length, ap, sym, ◌∙◌, arith}
+use Rattle.std.proofs.Common.{◌≡◌, ℕ, ◌<◌, ◌≤◌, Bool, true, false, List, [], ◌∷◌, ◌++◌, drop, inl, inr, Option, Some, None, length, ap, sym, ◌∙◌, arith}
 use Rattle.std.specs.Prelude.{◌==◌, ◌&&◌, is_none, IsFalse}
 use Rattle.std.proofs.lemmas.Bool.{cases_lt, cond-true, eq-eqb}
 use Rattle.std.proofs.lemmas.List.{drop-append-le}
@@ -17,7 +17,7 @@ use Rattle.device_trace.specs.Start.{Start, with_key}
 use Rattle.device_trace.specs.Trace.{trace}
 use Rattle.mac_coverage.specs.AttestedBytes.{AttestedBytes, decision_of}
 use Rattle.mac_coverage.specs.Call.{last_call, mac_written}
-use Rattle.mac_coverage.specs.Coverage.{IsDeviceKey, IsOfBytes, call_length, kept_before}
+use Rattle.mac_coverage.specs.Coverage.{IsDeviceKey, IsOfBytes, before_call, call_length}
 use Rattle.mac_coverage.proofs.Device.{Device, start_of}
 use Rattle.mac_coverage.proofs.KeptStored.{kept-late}
 use Rattle.mac_coverage.proofs.Plays.{outcome_at}
@@ -103,8 +103,7 @@ record AttestsHere (device : Device) (play : Play) (counter : ℕ) : Type 0 wher
   kept : kept_counter (start_of device) play ≡ counter
   late : 77 ≤ call_length (start_of device) play
   -- and is greater than the one that was kept before the call
-  older :
-      kept_counter (start_of device) (drop (call_length (start_of device) play) play) < counter
+  older : kept_counter (start_of device) (before_call (start_of device) play) < counter
 
 first_word-is : (words later rest : List ℕ) (decision first : ℕ)
     → first_word words ≡ Some first → words ++ later ≡ decision ∷ rest
@@ -124,19 +123,18 @@ attests-here device play counter attests =
     let first = first_word-is (mac_written (last_call (trace start play))) call.covers.later _
     decision ATTESTS attests.decision call.covers.words in
     let late : 77 ≤ call_length start play =
-    (outcome_at device play attests.in_call).timed first.1 in
+    (outcome_at device play attests.in_call).timed attests.unrefused first.1 in
     let request : left_by device play call.covers ≡ counter_in contents.metadata =
     cond-true (decision == ATTESTS) (counter_in contents.metadata) kept
     (eq-eqb decision ATTESTS first.0) in
     let asked : little_endian (counter_in contents.metadata) ≡ counter =
     ap (λ (bytes : AttestedBytes). little_endian (counter_in bytes.metadata)) (sym call.stands)
     ∙ attests.request in
-    let now : kept_before start play 0 ≡ left_by device play call.covers =
-    call.at 0 (omega arith)
-    ∙ kept-late kept (left_by device play call.covers) (call_length start play - 0)
+    let now = call.now
+    ∙ kept-late kept (left_by device play call.covers) (call_length start play)
     (omega (arith, late)) in
     let newer = attests-newer device.digest device.key contents.metadata kept first.0 in
-    let number_before = ap little_endian call.before in
+    let number_before = ap little_endian call.covers.kept_before in
     record {
       kept = ap little_endian (now ∙ request) ∙ asked;
       late = late;

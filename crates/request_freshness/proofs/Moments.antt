@@ -8,7 +8,7 @@ use Rattle.bus_signals.specs.declared.event.Event.{Event}
 use Rattle.bus_signals.specs.declared.kind.Kind.TheVariants.{Rom}
 use Rattle.bus_signals.specs.Kind.{is_rom}
 use Rattle.bus_signals.specs.Map.{ROM_ENTRY}
-use Rattle.part_definitions.specs.Metadata.{counter_in, kept_bytes, little_endian, token_in}
+use Rattle.part_definitions.specs.Metadata.{counter_in, little_endian, token_in}
 use Rattle.part_definitions.specs.Request.{ATTESTS, request_decision, right_token}
 use Rattle.bus_signals.specs.Address.{Bytes}
 use Rattle.part_definitions.specs.Hmac.{Digest}
@@ -18,17 +18,18 @@ use Rattle.device_trace.specs.Logs.{Logs, step_progress, vector_of, with_events}
 use Rattle.device_trace.specs.Progress.{InCall}
 use Rattle.device_trace.specs.Signals.{step_kind}
 use Rattle.device_trace.specs.Step.{asks_reset, next_record}
-use Rattle.device_trace.specs.Trace.{byte_after, logs_after, trace}
+use Rattle.device_trace.specs.Trace.{logs_after, trace}
 use Rattle.trace_facts.proofs.SoundPlay.{logs_after-sound}
 use Rattle.mac_coverage.specs.AttestedBytes.{AttestedBytes, counter_left, decision_of}
 use Rattle.mac_coverage.specs.Call.{begins_call, ends_in_call, ends_refused, last_call}
-use Rattle.mac_coverage.specs.Coverage.{MacCoversCall, call_length, contents_before, kept_before, kept_within}
+use Rattle.mac_coverage.specs.Coverage.{MacCoversCall, attested_after, before_call, call_length, kept_after, kept_within}
+use Rattle.mac_coverage.proofs.Calls.{attested-is, entry_at, log_at}
 use Rattle.mac_coverage.proofs.Device.{Device, start_of}
 use Rattle.mac_coverage.proofs.KeptStored.{kept-early, kept-late}
 use Rattle.mac_coverage.proofs.Plays.{outcome_at, play_stands, rom_kind, call_begun}
-use Rattle.mac_coverage.proofs.PlaySteps.{CallGoesOn, LastWroteHighWord, attested-is, entry-kind, entry-pc, entry_at, kept-is, log_at}
+use Rattle.mac_coverage.proofs.PlaySteps.{CallGoesOn, LastWroteHighWord, entry-kind, entry-pc, kept-is, plan_of}
 use Rattle.mac_coverage.proofs.Steps.{IsOfCall, OnCall, rom_step-of_call}
-use Rattle.mac_coverage.proofs.WordPlan.{IsCounter, counter_left-is}
+use Rattle.mac_coverage.proofs.WordPlan.{IsCounter, planned_counter-is}
 use Rattle.request_freshness.proofs.Untouched.{other_step-leaves, refused_step-leaves}
 
 -- a request that is attested has a greater counter than the kept one
@@ -72,14 +73,10 @@ left_by device play covers = counter_left device.digest device.key covers.conten
 pub record CallMoments (device : Device) (play : Play) : Type 0 where
   pub in_call : ends_in_call (trace (start_of device) play) ≡ true
   pub covers : MacCoversCall device.digest device.key (start_of device) play
-  pub begun : 1 ≤ call_length (start_of device) play
-  pub stands : contents_before (start_of device) play 0 ≡ covers.contents
-  pub at : (steps : ℕ) → steps ≤ call_length (start_of device) play
-      → kept_before (start_of device) play steps
-      ≡ kept_within covers.kept (left_by device play covers)
-      (call_length (start_of device) play - steps)
-  pub before : kept_before (start_of device) play (call_length (start_of device) play)
-      ≡ covers.kept
+  pub stands : attested_after (start_of device) play ≡ covers.contents
+  pub now :
+      kept_after (start_of device) play
+      ≡ kept_within covers.kept (left_by device play covers) (call_length (start_of device) play)
   pub is_kept : IsCounter covers.kept
   pub is_left : IsCounter (left_by device play covers)
   pub grows : little_endian covers.kept ≤ little_endian (left_by device play covers)
@@ -89,32 +86,21 @@ pub call-moments : (device : Device) (play : Play)
     → ends_refused (trace (start_of device) play) ≡ false → CallMoments device play
 call-moments device play in_call unrefused =
     let start = start_of device in
-    let count : ℕ = call_length start play in
     let covers = (outcome_at device play in_call).covers in
-    let goes : (steps : ℕ) → IsTrue (ends_refused (trace start play)) → 1 ≤ steps =
-    λ steps refuses. (let wrong : true ≡ false = sym refuses ∙ unrefused in absurd (cc)) in
-    let left : Bytes = left_by device play covers in
-    let at : (steps : ℕ) → steps ≤ count
-    → kept_before start play steps ≡ kept_within covers.kept left (count - steps) =
-    λ steps within. covers.counter steps (record { within = within; unrefused = goes steps }) in
-    let before : kept_before start play count ≡ covers.kept =
-    at count (omega arith)
-    ∙ ap (kept_within covers.kept left) (let none : count - count ≡ 0 = omega arith in none) in
-    let begun : 1 ≤ count = call_begun (trace start play) in_call in
-    let stands : contents_before start play 0 ≡ covers.contents =
-    covers.throughout 0 (record { begun = begun; unrefused = goes 0 }) in
+    let begun : 0 < call_length start play = call_begun (trace start play) in_call in
+    let goes : IsTrue (ends_refused (trace start play)) → 1 ≤ 0 =
+    λ refuses. (let wrong : true ≡ false = sym refuses ∙ unrefused in absurd (cc)) in
+    let stands = covers.throughout [] play refl begun goes in
     let is_kept : IsCounter covers.kept =
-    subst IsCounter before (kept-is device (drop count play)) in
+    subst IsCounter covers.kept_before (kept-is device (before_call start play)) in
     record {
       in_call = in_call;
       covers = covers;
-      begun = begun;
       stands = stands;
-      at = at;
-      before = before;
+      now = covers.counter [] play refl begun goes;
       is_kept = is_kept;
       is_left =
-          counter_left-is device.digest device.key covers.contents covers.kept
+          planned_counter-is (plan_of device covers.contents covers.kept)
           (attested-is device play covers.contents stands) is_kept;
       grows = left-grows device.digest device.key covers.contents covers.kept;
     }
@@ -124,6 +110,7 @@ pub record IsLaterStep (device : Device) (play : Play) (events : List Event)
     : Type 0 where
   pub count :
       call_length (start_of device) (events ∷ play) ≡ call_length (start_of device) play + 1
+  pub begun : 1 ≤ call_length (start_of device) play
   pub high : call_length (start_of device) play ≡ 75
       → LastWroteHighWord (trace (start_of device) play)
   pub regs : List ℕ
@@ -157,6 +144,8 @@ later_or_first device play events rom =
                       ∙ (let more : suc (length (last_call (trace (start_of device) play)))
                       ≡ length (last_call (trace (start_of device) play)) + 1 = omega arith in
                       more);
+                  begun = (let begun = stands.begun in let made = stands.made in
+                      omega (arith, begun, made));
                   high = λ count. stands.high (sym stands.made ∙ count);
                   regs = call.regs;
                   words = call.words;
@@ -175,23 +164,66 @@ later_or_first device play events rom =
           ]
     ]
 
+-- the kept bytes before a step of a call, and one step earlier at the second write
+before_step : (device : Device) (play : Play) (events : List Event)
+    → step_kind (log_at device play events) ≡ Rom
+    → (call : CallMoments device (events ∷ play))
+    → kept_after (start_of device) play
+    ≡ kept_within call.covers.kept (left_by device (events ∷ play) call.covers)
+    (call_length (start_of device) (events ∷ play) - 1)
+before_step device play events rom call =
+    let within : ℕ → Bytes =
+    kept_within call.covers.kept (left_by device (events ∷ play) call.covers) in
+    let count : ℕ = call_length (start_of device) (events ∷ play) in
+    elim (later_or_first device play events rom) [
+      | inl first ↦
+          ap (λ (n : ℕ). kept_after (start_of device) (drop n (events ∷ play))) (sym first)
+          ∙ (call.covers.kept_before
+          ∙ ap within (let none : 0 ≡ count - 1 = omega (arith, first) in none))
+      | inr later ↦
+          (let more = later.count in
+          let begun = later.begun in
+          let same : call_length (start_of device) play ≡ count - 1 = omega (arith, more) in
+          call.covers.counter (events ∷ []) play refl (omega (arith, more, begun))
+          (λ refuses. omega arith)
+          ∙ ap within same)
+    ]
+
+two_before : (device : Device) (play : Play) (events : List Event)
+    (call : CallMoments device (events ∷ play))
+    → call_length (start_of device) play ≡ 75
+    → call_length (start_of device) (events ∷ play) ≡ 76
+    → kept_after (start_of device) (drop 1 play) ≡ call.covers.kept
+unfolding trace
+two_before device [] events call last now = absurd (omega (arith, last))
+two_before device (before ∷ play) events call last now =
+    call.covers.counter (events ∷ before ∷ []) play refl (omega (arith, now))
+    (λ refuses. omega arith)
+    ∙ kept-early call.covers.kept (left_by device (events ∷ before ∷ play) call.covers)
+    (call_length (start_of device) play)
+    (earlier_less (begins_call (entry_at device play before))
+    (last_call (trace (start_of device) play)) last)
+  where
+    earlier_less : (begins : Bool) (records : List BusRecord)
+        → suc (length (if begins then [] else records)) ≡ 75 → length records < 75
+    earlier_less true records last = absurd (omega (arith, last))
+    earlier_less false records last = omega (arith, last)
+
 -- a step leaves the bytes, or writes the high word of those that the call leaves, or the low one
 abbrev pub Leaves : Device → Play → List Event → Type 0
 Leaves device play events =
-    kept_bytes (byte_after (start_of device) (events ∷ play))
-    ≡ kept_bytes (byte_after (start_of device) play)
+    kept_after (start_of device) (events ∷ play) ≡ kept_after (start_of device) play
 
 pub record WritesHigh (device : Device) (play : Play) (events : List Event) (kept left : Bytes)
     : Type 0 where
-  pub now :
-      kept_bytes (byte_after (start_of device) (events ∷ play)) ≡ take 2 kept ++ drop 2 left
-  pub before : kept_bytes (byte_after (start_of device) play) ≡ kept
+  pub now : kept_after (start_of device) (events ∷ play) ≡ take 2 kept ++ drop 2 left
+  pub before : kept_after (start_of device) play ≡ kept
 
 pub record WritesLow (device : Device) (play : Play) (events : List Event) (kept left : Bytes)
     : Type 0 where
-  pub now : kept_bytes (byte_after (start_of device) (events ∷ play)) ≡ left
-  pub before : kept_bytes (byte_after (start_of device) play) ≡ take 2 kept ++ drop 2 left
-  pub older : kept_bytes (byte_after (start_of device) (drop 1 play)) ≡ kept
+  pub now : kept_after (start_of device) (events ∷ play) ≡ left
+  pub before : kept_after (start_of device) play ≡ take 2 kept ++ drop 2 left
+  pub older : kept_after (start_of device) (drop 1 play) ≡ kept
   pub count : call_length (start_of device) play ≡ 75
   pub high : LastWroteHighWord (trace (start_of device) play)
 
@@ -230,17 +262,17 @@ call_step : (device : Device) (play : Play) (events : List Event) (Holds : Type 
 call_step device play events Holds cases rom call =
     let kept : Bytes = call.covers.kept in
     let left : Bytes = left_by device (events ∷ play) call.covers in
-    let within : ℕ → Bytes = kept_within kept left in
     let count : ℕ = call_length (start_of device) (events ∷ play) in
+    let before = before_step device play events rom call in
     by_count Holds count
     (λ early.
     cases.leaves
-    (call.at 0 (omega arith) ∙ (kept-early kept left (count - 0) (omega (arith, early))
-    ∙ sym (call.at 1 call.begun ∙ kept-early kept left (count - 1) (omega (arith, early))))))
+    (call.now ∙ (kept-early kept left count early
+    ∙ sym (before ∙ kept-early kept left (count - 1) (omega (arith, early))))))
     (λ high.
     cases.high call (record {
-      now = call.at 0 (omega arith) ∙ ap (λ (n : ℕ). within (n - 0)) high;
-      before = call.at 1 call.begun ∙ ap (λ (n : ℕ). within (n - 1)) high;
+      now = call.now ∙ ap (kept_within kept left) high;
+      before = before ∙ ap (λ (n : ℕ). kept_within kept left (n - 1)) high;
     }))
     (λ low.
     elim (later_or_first device play events rom) [
@@ -249,17 +281,17 @@ call_step device play events Holds cases rom call =
           let more = later.count in
           let older : call_length (start_of device) play ≡ 75 = omega (arith, more, low) in
           cases.low call (record {
-            now = call.at 0 (omega arith) ∙ ap (λ (n : ℕ). within (n - 0)) low;
-            before = call.at 1 call.begun ∙ ap (λ (n : ℕ). within (n - 1)) low;
-            older = call.at 2 (omega (arith, low)) ∙ ap (λ (n : ℕ). within (n - 2)) low;
+            now = call.now ∙ ap (kept_within kept left) low;
+            before = before ∙ ap (λ (n : ℕ). kept_within kept left (n - 1)) low;
+            older = two_before device play events call older low;
             count = older;
             high = later.high older;
           })
     ])
     (λ late.
     cases.leaves
-    (call.at 0 (omega arith) ∙ (kept-late kept left (count - 0) (omega (arith, late))
-    ∙ sym (call.at 1 call.begun ∙ kept-late kept left (count - 1) (omega (arith, late))))))
+    (call.now ∙ (kept-late kept left count (omega (arith, late))
+    ∙ sym (before ∙ kept-late kept left (count - 1) (omega (arith, late))))))
 
 pub each_step : (device : Device) (play : Play) (events : List Event) (Holds : Type 0)
     → ByCases device play events Holds → Holds

@@ -26,7 +26,8 @@ use Rattle.mac_coverage.specs.Coverage.{IsDeviceKey, IsOfBytes, call_length}
 use Rattle.mac_coverage.proofs.CallItems.{exit_returns}
 use Rattle.mac_coverage.proofs.Device.{Device, start_of}
 use Rattle.mac_coverage.proofs.Plays.{Reports, last_report-finishes, outcome_at, rom_kind, record_of-on_call}
-use Rattle.mac_coverage.proofs.PlaySteps.{IsTurnOfCall, entry-kind, entry-pc, entry-step, entry_at, log_at}
+use Rattle.mac_coverage.proofs.Calls.{entry_at, log_at}
+use Rattle.mac_coverage.proofs.PlaySteps.{IsTurnOfCall, entry-kind, entry-pc, entry-step}
 use Rattle.mac_coverage.proofs.Steps.{IsOfCall, OnCall, progress-call_step, rom_step-of_call}
 use Rattle.request_freshness.specs.Freshness.{Attests, TellsNewCounter, first_word}
 use Rattle.request_freshness.proofs.Moments.{later_or_first}

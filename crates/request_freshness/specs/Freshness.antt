@@ -5,7 +5,7 @@ use Rattle.bus_signals.specs.declared.access.Access.{Access}
 use Rattle.bus_signals.specs.declared.access.Access.TheVariants.{Write}
 use Rattle.bus_signals.specs.declared.bus_record.BusRecord.{BusRecord}
 use Rattle.bus_signals.specs.Map.{KEPT_COUNTER}
-use Rattle.part_definitions.specs.Metadata.{counter_bytes, kept_bytes, little_endian, token_in}
+use Rattle.part_definitions.specs.Metadata.{counter_bytes, little_endian, token_in}
 use Rattle.part_definitions.specs.Region.{metadata_bytes}
 use Rattle.part_definitions.specs.Request.{ATTESTS, right_token}
 use Rattle.part_definitions.specs.Hmac.{Digest}
@@ -16,11 +16,11 @@ use Rattle.device_trace.specs.Text.{last_report}
 use Rattle.device_trace.specs.Trace.{trace, byte_after}
 use Rattle.device_trace.specs.Play.{Play}
 use Rattle.mac_coverage.specs.Call.{ends_in_call, ends_refused, last_call, mac_written}
-use Rattle.mac_coverage.specs.Coverage.{call_length}
+use Rattle.mac_coverage.specs.Coverage.{call_length, kept_after}
 
 -- the counter that is kept after a play, and the one of the request in the metadata
 abbrev pub kept_counter : Start → Play → ℕ
-kept_counter start play = little_endian (kept_bytes (byte_after start play))
+kept_counter start play = little_endian (kept_after start play)
 
 abbrev pub request_counter : Start → Play → ℕ
 request_counter start play = little_endian (counter_bytes (byte_after start play))
