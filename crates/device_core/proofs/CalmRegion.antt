@@ -1,4 +1,5 @@
 -- Calm steps in a row.
+use borrow.Author.Tests.{not-true}
 use Rattle.std.proofs.Common.{◌≡◌, ◌∙◌, ◌&&◌, ◌∷◌, ℕ, Bool, true, false, not, Some, None, refl, sym, ap}
 use Rattle.bus_signals.specs.declared.bus_record.BusRecord.{BusRecord}
 use Rattle.bus_signals.specs.declared.kind.Kind.{Kind}
@@ -45,10 +46,6 @@ cpu-kind Boot is = absurd cc
 cpu-kind Idle is = absurd cc
 cpu-kind Irq is = absurd cc
 cpu-kind Rom is = absurd cc
-
-pub not-true : (value : Bool) → not value ≡ true → value ≡ false
-not-true false is = refl
-not-true true is = absurd cc
 
 -- a calm turn, beside which the DMA asks for nothing
 pub calm-signals :

@@ -27,7 +27,7 @@ use Rattle.device_core.specs.declared.machine.Machine.{Machine}
 use Rattle.device_core.specs.declared.stage.Stage.TheVariants.{Running}
 use Rattle.device_core.proofs.Calls.{ended}
 use Rattle.device_core.proofs.CalmRegion.{calm-after, calm-answer}
-use Rattle.device_core.proofs.CalmStep.{and-false}
+use Rattle.std.proofs.lemmas.Bool.{and_right}
 use Rattle.device_core.proofs.Decisions.{decision-none, other-decision}
 use Rattle.device_core.proofs.Idle.{idle-logs, idle-more}
 use Rattle.device_core.proofs.NextProgress.{progress-performed}
@@ -83,7 +83,7 @@ unfolding signals_at
 fetched-legal start logs value place access reads legal =
     let word = rw access at reads in
     let same = rw word at legal in
-    rw (access, same) (and-false (fetches_opcode (step_kind logs) logs.progress))
+    rw (access, same) (and_right (fetches_opcode (step_kind logs) logs.progress) false refl)
 
 pub runs-on :
     {D G : Type 0} (hash : Hash D) (machine : Machine D G) (start : Start) (logs : Logs)

@@ -2,6 +2,7 @@
 use Rattle.std.proofs.Common.{◌≡◌, ◌∙◌, ◌+◌, ◌==◌, ◌&&◌, ◌||◌, ℕ, Bool, true, false, not, List, [], ◌∷◌, ◌++◌, Option, None, Some, refl, sym, ap, arith}
 use Rattle.std.specs.Prelude.{nat_le, nat_lt, option_to_list}
 use Rattle.std.specs.List.{list_any}
+use Rattle.std.proofs.lemmas.Bool.{and_right}
 use Rattle.std.proofs.lemmas.Bool.Decides.{nat_tests}
 use Rattle.word_arith.specs.declared.size.Size.{Size}
 use Rattle.word_arith.specs.declared.size.Size.TheVariants.{Byte, Word}
@@ -138,10 +139,6 @@ last-false : (first second third : Bool) → third ≡ false → (first && secon
 last-false true true third is = is
 last-false true false third is = refl
 last-false false second third is = refl
-
-pub and-false : (first : Bool) → (first && false) ≡ false
-and-false true = refl
-and-false false = refl
 
 was-outside : (code : Region) (last : Option ℕ)
     → is_above_rom code ≡ true → ran_inside last code ≡ true → was_inside last ≡ false
@@ -317,6 +314,6 @@ calm-quiet bounds last now entry above ran calm is =
       calm-writes code metadata_region entry.cpu refl plain,
       calm-fetches code entry.cpu plain,
       last-false (some_writes entry.cpu) (some_touches entry.cpu (output_region bounds)) false refl,
-      and-false (not (ran_at last bounds.er_max)),
+      and_right (not (ran_at last bounds.er_max)) false refl,
     )
     refl

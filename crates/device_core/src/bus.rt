@@ -419,7 +419,7 @@ impl<G: TraceFlag> Bus<G> {
         ensures stands { MakesTurn G.flag self.old regs.now turn.now dma script_reset self.new }
     {
         if CR.contains(turn.pc) {
-            self.act_in_rom(regs, *turn, script_reset, keeps)
+            self.act_in_rom(regs, *turn, dma, script_reset, keeps)
         } else {
             self.act_anywhere(regs, turn, dma, script_reset, keeps)
         }
@@ -506,16 +506,14 @@ impl<G: TraceFlag> Bus<G> {
         &mut self,
         regs: &[u16; 16],
         turn: Turn,
+        dma: Option<Access>,
         script_reset: bool,
         keeps: bool,
     ) -> Option<u16>
         ensures kept { keeps ≡ true → IsSome self.new.last }
-        ensures answer { (dma : Option Access)
-            → AnswersTurn G.flag self.old regs.now turn dma script_reset result }
-        ensures stands { (dma : Option Access)
-            → MakesTurn G.flag self.old regs.now turn dma script_reset self.new }
+        ensures answer { AnswersTurn G.flag self.old regs.now turn dma script_reset result }
+        ensures stands { MakesTurn G.flag self.old regs.now turn dma script_reset self.new }
     {
-        let dma = self.dma_access();
         self.act_anywhere(regs, &turn, dma, script_reset, keeps)
     }
 

@@ -5,7 +5,7 @@ use Rattle.part_definitions.specs.CpuRegister.{pc_of}
 use Rattle.part_definitions.specs.CpuState.{Boundary}
 use Rattle.part_definitions.specs.NextAccess.{is_illegal}
 use Rattle.device_trace.specs.Progress.{last_registers}
-use Rattle.device_core.proofs.CalmRegion.{not-true}
+use borrow.Author.Tests.{not-true}
 use Rattle.device_core.proofs.CalmRuns.{fetched-legal, goes-calmly, opcode-fetched}
 use Rattle.device_core.proofs.Turns.{boundary-access, boundary-step, turn-within}
 use Rattle.device_core.proofs.machine.Machine.fetch_calmly.Goals as goal
