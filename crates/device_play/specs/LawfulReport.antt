@@ -16,8 +16,7 @@ pub record IsLawfulReport (digest : Digest) (key : Bytes) (start : Start) (repor
   -- its MAC is the tag of what stands in memory from the end of the first step of its call on
   pub contents : AttestedBytes
   pub throughout : (later earlier : Play)
-      → play ≡ later ++ earlier
-      → length later < call_length start play
+      → play ≡ later ++ earlier → length later < call_length start play
       → attested_after start earlier ≡ contents
   pub tag : Gives32Bytes digest → report.mac ≡ tag_of digest key contents
   -- EXEC 1 comes with a whole run, and AUX 1 with a trusted one

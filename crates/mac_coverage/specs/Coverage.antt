@@ -45,11 +45,8 @@ before_call start play = drop (call_length start play) play
 -- this holds after each step of the last call of a play, but for a last step that is refused
 abbrev pub ThroughoutCall : Start → Play → (Play → Type 0) → Type 0
 ThroughoutCall start play holds =
-    (later earlier : Play)
-    → play ≡ later ++ earlier
-    → length later < call_length start play
-    → (IsTrue (ends_refused (trace start play)) → 1 ≤ length later)
-    → holds earlier
+    (later earlier : Play) → play ≡ later ++ earlier → length later < call_length start play
+    → (IsTrue (ends_refused (trace start play)) → 1 ≤ length later) → holds earlier
 
 -- the kept counter after so many steps of a call, which replaces one by the other, high word first
 abbrev pub kept_within : Bytes → Bytes → ℕ → Bytes
@@ -63,9 +60,8 @@ pub record MacCoversCall (digest : Digest) (key : Bytes) (start : Start) (play :
     : Type 0 where
   pub contents : AttestedBytes
   pub kept : Bytes
-  -- they stand in memory before the call, the contents but for the EXEC word and the AUX word
-  pub before :
-      without_flag_words (attested_after start (before_call start play))
+  -- they stand in memory before the call, but for the EXEC word and the AUX word
+  pub before : without_flag_words (attested_after start (before_call start play))
       ≡ without_flag_words contents
   pub kept_before : kept_after start (before_call start play) ≡ kept
   -- and throughout it, the counter up to the two writes of the one that the call leaves
@@ -83,8 +79,7 @@ pub record MacCoversCall (digest : Digest) (key : Bytes) (start : Start) (play :
       → last_decision start play ≡ Some (decision_of digest key contents kept)
   -- and then the tag stands in memory, where the digest gives 32 bytes
   pub stored : IsTrue (ends_finished (trace start play))
-      → decision_of digest key contents kept ≡ ATTESTS
-      → Gives32Bytes digest
+      → decision_of digest key contents kept ≡ ATTESTS → Gives32Bytes digest
       → mac_bytes (byte_after start play) ≡ tag_of digest key contents
 
 -- where a play ends in a call, under way, finished or broken off, the MAC covers that call
