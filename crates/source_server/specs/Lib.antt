@@ -1,0 +1,7 @@
+pub mod HeldLine
+pub mod LineCut
+pub mod LineResponder
+pub mod Lines
+pub mod Responder
+pub mod Serving
+pub mod Taken

@@ -1,0 +1,49 @@
+-- What is answered of bytes that are cut into lines.
+use Rattle.std.specs.Prelude.{◌≡◌, ◌++◌, ℕ, List, Option, Result, OnOk, IfErr}
+use Rattle.source_server.specs.declared.halt.Halt.{Halt}
+use Rattle.source_server.specs.declared.lines.Lines.{Lines}
+use Rattle.source_server.specs.HeldLine.{HoldsRest}
+use Rattle.source_server.specs.LineCut.{LineCut, all_lines, cut_of, whole_lines, with_bytes}
+use Rattle.source_server.specs.LineResponder.{LinePromise}
+use Rattle.source_server.specs.Responder.{Moment, Promise}
+
+-- the lines of a cut were answered, and what is held stands for the rest
+pub record HoldsCut {X O : Type 0} (promise : LinePromise X O) (held : Option (List ℕ)) (now : X)
+    (cut : LineCut) : Type 0 where
+  pub told : promise.told now cut.lines
+  pub holds : HoldsRest held cut.rest
+
+-- it stopped at one of these lines, behind those that were whole before
+pub record StopsAmong (Stopped : List (List ℕ) → Type 0) (lines whole : List (List ℕ)) : Type 0 where
+  pub later : List (List ℕ)
+  pub newer : List (List ℕ)
+  pub parts : lines ≡ later ++ (newer ++ whole)
+  pub stopped : Stopped (newer ++ whole)
+
+-- the lines that end in a piece were answered
+pub record TellsPiece {X O : Type 0} (promise : LinePromise X O) (held : Option (List ℕ)) (now : X)
+    (cut : LineCut) (piece : List ℕ) (result : Result Unit (Halt O)) : Type 0 where
+  pub goes_on : OnOk result (HoldsCut promise held now (with_bytes cut piece))
+  pub stops : IfErr result (λ halt.
+      StopsAmong (λ lines. promise.stopped now lines halt) (with_bytes cut piece).lines cut.lines)
+
+-- who answers the lines, at the edge
+abbrev pub within : {L E : Type 0} → Moment (Lines L) E → Moment L E
+within now = record { responder = now.responder.responder; edge = now.edge }
+
+-- what a responder of lines promises of bytes: of the lines that are whole, of all at the end, and
+-- of those up to the one at which it stopped
+abbrev pub promise_of : {L E O : Type 0} → LinePromise (Moment L E) O → Promise (Moment (Lines L) E) O
+promise_of promise =
+    record {
+      answered = λ now bytes. HoldsCut promise now.responder.held (within now) (cut_of bytes)
+          × promise.answered (within now) (whole_lines bytes);
+      ended = λ now bytes. promise.answered (within now) (all_lines bytes);
+      stopped = λ now before last halt.
+          StopsAmong (λ lines. promise.stopped (within now) lines halt) (all_lines (before ++ last))
+          (whole_lines before);
+    }
+
+abbrev pub since_of : {L E : Type 0} → (Moment L E → Moment L E → Type 0)
+    → Moment (Lines L) E → Moment (Lines L) E → Type 0
+since_of since old new = since (within old) (within new)
