@@ -9,7 +9,7 @@ use Rattle.source_server.specs.declared.served.Served.{Served}
 use Rattle.source_server.specs.declared.served.Served.TheVariants.{Done, Spent, ReadFault, WriteFault, Own}
 use Rattle.source_server.specs.Responder.{Promise}
 use Rattle.source_server.specs.Serving.{EndsSo, Serves, Stops, served_of}
-use Rattle.source_server.specs.Taken.{earlier, joined, most_input, newest}
+use Rattle.source_server.specs.Taken.{KeepsLimit, earlier, joined, most_input, newest}
 
 -- no more were taken than were left
 few_taken : (bytes : List ℕ) (rest : Option (List ℕ)) (taken : List ℕ)
@@ -33,11 +33,6 @@ module _ {R X O : Type 0} (r : source.Ghosts R) (promise : Promise X O) (old new
   pub unwritten : Serves r promise old new now WriteFault → StopsSomewhere halt.Write
   unwritten so = stops_somewhere so.pieces halt.Write so.ends
 
-  -- no more was given than the limit, and that much where this is the end
-  pub few_given : (served : Served O) → Serves r promise old new now served
-      → r.given new ≤ r.given old + most_input
-  few_given served so = omega (arith, so.given.gave.count, so.given.few)
-
   spent_pieces : (pieces : List (List ℕ)) (served : Served O)
       → EndsSo r promise old new now pieces served → served ≡ Spent
       → length (joined pieces) ≡ most_input
@@ -47,10 +42,16 @@ module _ {R X O : Type 0} (r : source.Ghosts R) (promise : Promise X O) (old new
   spent_pieces pieces WriteFault so is = absurd (cc is)
   spent_pieces pieces (Own own) so is = absurd (cc is)
 
-  pub spent_given : (served : Served O) → Serves r promise old new now served → served ≡ Spent
-      → r.given new ≡ r.given old + most_input
-  spent_given served so is =
-      omega (arith, so.given.gave.count, spent_pieces so.pieces served so.ends is)
+  -- no more was given than the limit, and that much where this is the end
+  pub keeps_limit : {IsSpent : Type 0} (served : Served O) → Serves r promise old new now served
+      → (IsSpent → served ≡ Spent) → KeepsLimit r old new IsSpent
+  keeps_limit served so spends =
+      record {
+        few = omega (arith, so.given.gave.count, so.given.few);
+        spent = λ is.
+            let spent = spent_pieces so.pieces served so.ends (spends is) in
+            omega (arith, so.given.gave.count, spent);
+      }
 
   -- of what is told and within the limit all is answered, unless its responder stops
   whole_pieces : (pieces : List (List ℕ)) (served : Served O)

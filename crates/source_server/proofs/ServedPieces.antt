@@ -11,7 +11,7 @@ use Rattle.source_server.specs.declared.served.Served.{Served}
 use Rattle.source_server.specs.declared.served.Served.TheVariants as served
 use Rattle.source_server.specs.Responder.{Answers, Ends, Moment, Promise}
 use Rattle.source_server.specs.Serving.{EndsSo, Serves, Stops, served_after, served_of}
-use Rattle.source_server.specs.Taken.{Gave, HaveBytes, counts_of, IsAtEnd, IsLeft, earlier, joined, most_input, newest}
+use Rattle.source_server.specs.Taken.{Gave, HasGiven, counts_of, IsAtEnd, IsLeft, earlier, joined, most_input, newest}
 
 -- one take after another, of the bytes that are told
 left_both : (left : Option (List ℕ)) (one two : List ℕ)
@@ -43,6 +43,9 @@ module _ {R : Type 0} (r : source.Ghosts R) where
   pub gave_none : (now : R) → Gave r now now []
   gave_none now = record { told = left_same (r.left now); count = omega arith }
 
+  pub given_none : (now : R) → HasGiven r now now []
+  given_none now = record { gave = gave_none now; whole = tt; few = omega arith }
+
   -- a take that gave nothing
   gave_still : (first mid last : R) (bytes : List ℕ)
       → Gave r first mid bytes → Gave r mid last [] → Gave r first last bytes
@@ -69,8 +72,7 @@ module _ {R T E Start O : Type 0} (r : source.Ghosts R)
   pub record IsServedTo (first : Moment T E) (source : R) (now : Moment T E) (source_now : R)
       (room : ℕ) : Type 0 where
     pub pieces : List (List ℕ)
-    pub gave : Gave r source source_now (joined pieces)
-    pub whole : HaveBytes pieces
+    pub given : HasGiven r source source_now pieces
     pub count : length (joined pieces) + room ≡ most_input
     pub asked : IsLeft r source source_now pieces
     pub answered : (start : Start) → (promise start).answered first []
@@ -83,8 +85,7 @@ module _ {R T E Start O : Type 0} (r : source.Ghosts R)
   none_taken first source =
       record {
         pieces = [];
-        gave = gave_none r source;
-        whole = tt;
+        given = given_none r source;
         count = refl;
         asked = λ before holds. holds;
         answered = λ start so. so;
@@ -95,6 +96,14 @@ module _ {R T E Start O : Type 0} (r : source.Ghosts R)
   module _ {first : Moment T E} {source : R} {now : Moment T E} {source_now : R} {room : ℕ}
       (so : IsServedTo first source now source_now room) (source_new : R) where
     -- a call that gave nothing
+    none_more : Gave r source_now source_new [] → HasGiven r source source_new so.pieces
+    none_more gave =
+        record {
+          gave = gave_still r source source_now source_new (joined so.pieces) so.given.gave gave;
+          whole = so.given.whole;
+          few = so.given.few;
+        }
+
     asked_more : IsAsked r.asked source_now source_new 0 → (before : List ℕ)
         → r.asked source before
         → r.asked source_new (0 ∷ (counts_of so.pieces ++ before))
@@ -113,12 +122,7 @@ module _ {R T E Start O : Type 0} (r : source.Ghosts R)
         let Nothing : ℕ → Type 0 = λ count. Gave r source_now source_new (take count piece) in
         record {
           pieces = so.pieces;
-          given = record {
-            gave = gave_still r source source_now source_new (joined so.pieces) so.gave
-                (subst Nothing none gave);
-            whole = so.whole;
-            few = omega (arith, so.count);
-          };
+          given = none_more (subst Nothing none gave);
           ends = ends_so r (promise start) source source_new new so.pieces result
               (record {
                 asked = asked_more (subst (IsAsked r.asked source_now source_new) none asked);
@@ -136,11 +140,7 @@ module _ {R T E Start O : Type 0} (r : source.Ghosts R)
     fault_served some gave asked rose start begins =
         record {
           pieces = so.pieces;
-          given = record {
-            gave = gave_still r source source_now source_new (joined so.pieces) so.gave gave;
-            whole = so.whole;
-            few = omega (arith, so.count);
-          };
+          given = none_more gave;
           ends = (
             record {
               asked = asked_more asked;
@@ -160,9 +160,23 @@ module _ {R T E Start O : Type 0} (r : source.Ghosts R)
         rw (length-take-le n piece within)
         (asked (counts_of so.pieces ++ before) (so.asked before holds))
 
-    some_bytes : {n : ℕ} (piece : List ℕ) → n ≤ length piece → 0 < n
-        → 0 < length (take n piece)
-    some_bytes {n} piece within some = omega (arith, length-take-le n piece within, some)
+    piece_given : {n : ℕ} (piece : List ℕ) → n ≤ length piece → 0 < n → n ≤ room
+        → Gave r source_now source_new (take n piece)
+        → HasGiven r source source_new (take n piece ∷ so.pieces)
+    piece_given {n} piece within some few gave =
+        let count : length (take n piece) ≡ n = length-take-le n piece within in
+        record {
+          gave = gave_both r source source_now source_new (joined so.pieces) (take n piece)
+              so.given.gave gave;
+          whole = (omega (arith, count, some), so.given.whole);
+          few = omega (
+            arith,
+            so.count,
+            few,
+            length-append (joined so.pieces) (take n piece),
+            count,
+          );
+        }
 
     pub piece_served : {room_new n : ℕ} (piece : List ℕ) (new : Moment T E)
         → n ≤ length piece → 0 < n → room_new + n ≡ room
@@ -176,9 +190,7 @@ module _ {R T E Start O : Type 0} (r : source.Ghosts R)
     piece_served {room_new} {n} piece new within some less gave asked rises came grows =
         record {
           pieces = take n piece ∷ so.pieces;
-          gave = gave_both r source source_now source_new (joined so.pieces) (take n piece) so.gave
-              gave;
-          whole = (some_bytes piece within some, so.whole);
+          given = piece_given piece within some (omega (arith, less)) gave;
           count = omega (
             arith,
             so.count,
@@ -205,18 +217,7 @@ module _ {R T E Start O : Type 0} (r : source.Ghosts R)
     piece_stopped {n} piece new why within some few gave asked came start begins =
         record {
           pieces = take n piece ∷ so.pieces;
-          given = record {
-            gave = gave_both r source source_now source_new (joined so.pieces) (take n piece)
-                so.gave gave;
-            whole = (some_bytes piece within some, so.whole);
-            few = omega (
-              arith,
-              so.count,
-              few,
-              length-append (joined so.pieces) (take n piece),
-              length-take-le n piece within,
-            );
-          };
+          given = piece_given piece within some few gave;
           ends = stops_so r (promise start) source source_new new (take n piece ∷ so.pieces) why
               (inl (
                 asked_piece piece within asked,
@@ -233,11 +234,7 @@ module _ {R T E Start O : Type 0} (r : source.Ghosts R)
   spent_served so none start begins =
       record {
         pieces = so.pieces;
-        given = record {
-          gave = so.gave;
-          whole = so.whole;
-          few = omega (arith, so.count);
-        };
+        given = so.given;
         ends = (so.asked, omega (arith, so.count, none), so.answered start begins);
       }
 
@@ -273,6 +270,6 @@ pub none_served : {R X O : Type 0} (r : source.Ghosts R) (promise : Promise X O)
 none_served r promise source now why so =
     record {
       pieces = [];
-      given = record { gave = gave_none r source; whole = tt; few = omega arith };
+      given = given_none r source;
       ends = stops_so r promise source source now [] why (inl ((λ before holds. holds), so));
     }

@@ -1,5 +1,6 @@
 use Rattle.std.proofs.Common.{◌+◌, arith, take, drop, length-drop, length-take, List, ℕ}
 use Rattle.std.proofs.lemmas.List.{take_rest}
+use Rattle.std.proofs.lemmas.Result.{err_from_is_err_and}
 use Rattle.source_server.proofs.LineLemmas.{line_more, none_answered, piece_stopped, piece_told, plain_front, split_at_end}
 use Rattle.source_server.proofs.lines.answer_lines.Goals as goal
 
@@ -27,23 +28,25 @@ loop-end-preserved g c =
           (split_at_end rest end c.in-Some.ensures.within c.in-Some.ensures.end)
           (take_rest rest (end + 1))
           (plain_front rest end c.in-Some.ensures.before) c.push.ensures c.ended.ensures
-          c.clear.ensures (c.in-Ok.ensures.answers start);
-      grows = λ first so. c.in-Ok.ensures.grows first (c.loop-end.invariant.grows first so);
+          c.clear.ensures (c.in_ok-answer.ensures.answers start);
+      grows = λ first so. c.in_ok-answer.ensures.grows first (c.loop-end.invariant.grows first so);
     }
 
-pub returns-in-Err-clause-tells : goal.returns-in-Err-clause-tells
-returns-in-Err-clause-tells g c = λ start cut before.
+pub returns-in_err-answer-clause-tells : goal.returns-in_err-answer-clause-tells
+returns-in_err-answer-clause-tells g c =
     let rest : List ℕ = c.loop-end.rest.now in
     let end : ℕ = c.in-Some.end in
+    let error = err_from_is_err_and c.from_residual.result c.from_residual.ensures.1 in
+    rw (error.1, error.2) (λ start cut before.
     piece_stopped (g.L.LineResponder.promise start) (take end rest) (drop (end + 1) rest)
-    c.in-Err.halt (c.loop-end.invariant.tells start)
+    c.in_err-answer.field-0.0 (c.loop-end.invariant.tells start)
     (split_at_end rest end c.in-Some.ensures.within c.in-Some.ensures.end)
     (plain_front rest end c.in-Some.ensures.before) c.push.ensures c.ended.ensures
-    (c.in-Err.ensures.answers start) cut before
+    (c.in_err-answer.ensures.answers start) cut before)
 
-pub returns-in-Err-clause-grows : goal.returns-in-Err-clause-grows
-returns-in-Err-clause-grows g c = λ first so.
-    c.in-Err.ensures.grows first (c.loop-end.invariant.grows first so)
+pub returns-in_err-answer-clause-grows : goal.returns-in_err-answer-clause-grows
+returns-in_err-answer-clause-grows g c = λ first so.
+    c.answer.ensures.grows first (c.loop-end.invariant.grows first so)
 
 pub returns-clause-tells : goal.returns-clause-tells
 returns-clause-tells g c = λ start cut before.
