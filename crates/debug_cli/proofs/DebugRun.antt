@@ -1,6 +1,5 @@
 -- The run that a debugger is given is that of its files.
 use Rattle.std.proofs.Common.{◌≡◌, ◌∙◌, ℕ, List, [], ◌++◌, Option, Some, None, refl, ap, arith}
-use Rattle.std.specs.Prelude.{option_map}
 use Rattle.std.proofs.lemmas.List.{append-nil}
 use Rattle.bus_signals.specs.TraceFlag.{Flag}
 use Rattle.hmac_core.specs.Hash.{Hash}
@@ -10,8 +9,12 @@ use Rattle.play_script.specs.Script.{TimedEvent, events_of}
 use Rattle.device_trace.specs.Start.{with_key}
 use Rattle.outside_edge.specs.declared.sink.Sink as sink
 use Rattle.outside_edge.specs.declared.source.Source as source
-use Rattle.debug_link.specs.Serving.{Serves}
-use Rattle.debug_link.specs.declared.served.Served.TheVariants.{Memory}
+use Rattle.source_server.specs.declared.halt.Halt.TheVariants as halt
+use Rattle.source_server.specs.declared.served.Served.TheVariants.{Own}
+use Rattle.source_server.specs.Serving.{Serves}
+use Rattle.source_server.proofs.ServedPieces.{none_served}
+use Rattle.debug_link.specs.Serving.{talk_promise}
+use Rattle.debug_link.specs.declared.talk_end.TalkEnd.TheVariants.{Memory}
 use Rattle.debug_session.specs.Place.{Run}
 use Rattle.debug_session.specs.Session.{first_session}
 use Rattle.debug_walk.specs.PlayedRun.{played_run}
@@ -50,19 +53,10 @@ stands-first hash flag debugger run key image script run_is key_is image_is scri
   stands,
 )
 
-left-same : (left : Option (List ℕ)) → left ≡ option_map (λ (rest : List ℕ). [] ++ rest) left
-left-same None = refl
-left-same (Some left) = refl
-
 -- nothing was taken and put: there was no memory for a debugger
 pub none-served : {R W : Type 0} (r : source.Ghosts R) (w : sink.Ghosts W) (run : Run)
     (source : R) (sink : W)
-    → Serves r w run_reply (first_of run) source source sink sink Memory
+    → Serves r (talk_promise w run_reply (first_of run) sink) source source sink (Own Memory)
 none-served r w run source sink =
-    record {
-      taken = [];
-      gave = record { told = left-same (r.left source); count = omega arith };
-      few = omega arith;
-      puts = (0, omega arith, λ before holds. rw (append-nil before) holds);
-      cause = tt;
-    }
+    none_served r (talk_promise w run_reply (first_of run) sink) source sink (halt.Own Memory)
+    (0, omega arith, λ before holds. rw (append-nil before) holds)

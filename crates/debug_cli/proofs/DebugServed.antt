@@ -1,125 +1,78 @@
 -- What is answered once a debugger served its source.
-use Rattle.std.proofs.Common.{◌≡◌, ◌<◌, ◌≤◌, ◌⊎◌, ℕ, List, length, Option, Some, None, IfSome, refl, inl, inr, rules, arith, length-append}
-use Rattle.std.specs.Prelude.{◌++◌, option_map}
+use Rattle.std.proofs.Common.{◌≡◌, ◌<◌, ◌≤◌, ◌⊎◌, ℕ, List, length, Option, Some, None, IfSome, refl, inl, inr, rules}
 use Rattle.outside_edge.specs.Count.{Rose}
 use Rattle.outside_edge.specs.declared.sink.Sink as sink
 use Rattle.outside_edge.specs.declared.source.Source as source
-use Rattle.debug_link.specs.Conversation.{Talk, conversation}
-use Rattle.debug_link.specs.Serving.{HasCause, most_input}
-use Rattle.debug_link.specs.declared.served.Served.{Served}
-use Rattle.debug_link.specs.declared.served.Served.TheVariants as served
+use Rattle.source_server.specs.declared.halt.Halt.{Halt}
+use Rattle.source_server.specs.declared.halt.Halt.TheVariants as halt
+use Rattle.source_server.specs.declared.served.Served.{Served}
+use Rattle.source_server.specs.declared.served.Served.TheVariants as served
+use Rattle.source_server.specs.Serving.{served_of}
+use Rattle.source_server.specs.Taken.{KeepsLimit, most_input}
+use Rattle.source_server.proofs.ServedEnds.{StopsSomewhere, keeps_limit, whole_or_stopped}
+use Rattle.debug_link.specs.Conversation.{Answer}
+use Rattle.debug_link.specs.Serving.{talk_promise}
+use Rattle.debug_link.specs.declared.talk_end.TalkEnd.{TalkEnd}
+use Rattle.debug_link.specs.declared.talk_end.TalkEnd.TheVariants as talk
 use Rattle.debug_session.specs.Place.{Run}
-use Rattle.device_debug.specs.Session.{RunSession, run_reply}
+use Rattle.device_debug.specs.Session.{run_reply}
 use Rattle.input_files.specs.declared.status.Status.{Status}
 use Rattle.input_files.specs.declared.status.Status.TheVariants.{Done, Words, Memory, Spent}
-use Rattle.input_files.specs.Reading.{Files, first_refusal}
-use Rattle.input_files.specs.Row.{RowOf}
-use Rattle.debug_cli.specs.Debug.{HasServed, KeepsLimit, first_of}
+use Rattle.debug_cli.specs.Debug.{HasServed, first_of}
 use Rattle.debug_cli.specs.Edge.{Ports}
 use Rattle.debug_cli.specs.Status.{status_of_served}
 
-ended-words : (ended : Served) → status_of_served ended ≡ Words → ⊥
+ended-words : (ended : Served TalkEnd) → status_of_served ended ≡ Words → ⊥
 ended-words = search rules
 
--- no more were taken than were left
-few-taken : (bytes : List ℕ) (rest : Option (List ℕ)) (taken : List ℕ)
-    → Some bytes ≡ option_map (λ (rest : List ℕ). taken ++ rest) rest
-    → length taken ≤ length bytes
-few-taken bytes None taken is = absurd (cc is)
-few-taken bytes (Some rest) taken is =
-    let same : bytes ≡ taken ++ rest = cc is in
-    rw (same, length-append) (omega arith)
+ended-spent : (ended : Served TalkEnd) → status_of_served ended ≡ Spent → ended ≡ served.Spent
+ended-spent served.Spent is = refl
+ended-spent served.Done is = absurd (cc is)
+ended-spent served.ReadFault is = absurd (cc is)
+ended-spent served.WriteFault is = absurd (cc is)
+ended-spent (served.Own talk.Closed) is = absurd (cc is)
+ended-spent (served.Own talk.Memory) is = absurd (cc is)
 
 module _ {R W : Type 0} (r : source.Ghosts R) (w : sink.Ghosts W) where
   pub served-words : (run : Run) (old new : Ports R W) (status : Status)
       → HasServed r w run old new status → status ≡ Words → ⊥
   served-words run old new status has is = ended-words has.ended (rw has.answer at is)
 
-  -- as many as the limit were taken where that is the answer
-  spent-count : {Session : Type 0} (old new : Ports R W) (talk : Talk Session) (count : ℕ)
-      (ended : Served)
-      → HasCause r w old.source new.source old.sink new.sink talk count ended
-      → status_of_served ended ≡ Spent → count ≡ most_input
-  spent-count old new talk count served.Spent cause is = cause.0
-  spent-count old new talk count served.Done cause is = absurd (cc is)
-  spent-count old new talk count served.ReadFault cause is = absurd (cc is)
-  spent-count old new talk count served.WriteFault cause is = absurd (cc is)
-  spent-count old new talk count served.Memory cause is = absurd (cc is)
-
   pub served-limit : (run : Run) (old new : Ports R W) (status : Status)
-      → HasServed r w run old new status → KeepsLimit r old.source new.source status
+      → HasServed r w run old new status → KeepsLimit r old.source new.source (status ≡ Spent)
   served-limit run old new status has =
-      let serves = has.serves in
-      record {
-        few = omega (arith, serves.gave.count, serves.few);
-        spent = λ is.
-            let count = spent-count {Session = RunSession} old new
-            (conversation run_reply (first_of run) serves.taken) (length serves.taken) has.ended
-            serves.cause (rw has.answer at is) in
-            omega (arith, serves.gave.count, count);
-      }
+      keeps_limit r (talk_promise w run_reply (first_of run) old.sink) old.source new.source new.sink
+      has.ended has.serves (λ is. ended-spent has.ended (rw has.answer at is))
 
   -- all was answered, or memory ran out
-  ended-whole : {Session : Type 0} (old new : Ports R W) (talk : Talk Session) (count : ℕ)
-      (ended : Served)
-      → HasCause r w old.source new.source old.sink new.sink talk count ended
-      → count < most_input
-      → ¬ Rose (r.faults old.source) (r.faults new.source)
-      → ¬ Rose (w.faults old.sink) (w.faults new.sink)
-      → (status_of_served ended ≡ Done) ⊎ (status_of_served ended ≡ Memory)
-  ended-whole old new talk count served.Done cause few no_source no_sink = inl refl
-  ended-whole old new talk count served.Spent cause few no_source no_sink =
-      absurd (omega (arith, few, cause.0))
-  ended-whole old new talk count served.ReadFault cause few no_source no_sink =
-      absurd (no_source cause.0)
-  ended-whole old new talk count served.WriteFault cause few no_source no_sink =
-      absurd (no_sink cause)
-  ended-whole old new talk count served.Memory cause few no_source no_sink = inr refl
+  stopped-whole : {Session : Type 0} (reply : Session → List ℕ → Answer Session)
+      (session : Session) (old new : W) (before last : List ℕ) (why : Halt TalkEnd)
+      → (talk_promise w reply session old).stopped new before last why
+      → ¬ Rose (w.faults old) (w.faults new)
+      → (status_of_served (served_of why) ≡ Done) ⊎ (status_of_served (served_of why) ≡ Memory)
+  stopped-whole reply session old new before last halt.Write so no_sink = absurd (no_sink so.1)
+  stopped-whole reply session old new before last (halt.Own talk.Closed) so no_sink = inl refl
+  stopped-whole reply session old new before last (halt.Own talk.Memory) so no_sink = inr refl
 
-  served-whole : (run : Run) (old new : Ports R W) (status : Status) (bytes : List ℕ)
+  ended-whole : (run : Run) (old new : Ports R W) (ended : Served TalkEnd)
+      → ¬ Rose (w.faults old.sink) (w.faults new.sink)
+      → (ended ≡ served.Done)
+      ⊎ ((why : Halt TalkEnd) × (ended ≡ served_of why)
+      × StopsSomewhere r (talk_promise w run_reply (first_of run) old.sink) old.source new.source
+      new.sink why)
+      → (status_of_served ended ≡ Done) ⊎ (status_of_served ended ≡ Memory)
+  ended-whole run old new ended no_sink (inl is) = rw is (inl refl)
+  ended-whole run old new ended no_sink (inr (why, is, (before, last, so))) =
+      rw is (stopped-whole run_reply (first_of run) old.sink new.sink before last why so no_sink)
+
+  pub served-whole : (run : Run) (old new : Ports R W) (status : Status) (bytes : List ℕ)
       → HasServed r w run old new status
       → r.left old.source ≡ Some bytes → length bytes < most_input
       → ¬ Rose (r.faults old.source) (r.faults new.source)
       → ¬ Rose (w.faults old.sink) (w.faults new.sink)
       → (status ≡ Done) ⊎ (status ≡ Memory)
   served-whole run old new status bytes has is few no_source no_sink =
-      let serves = has.serves in
-      let within = few-taken bytes (r.left new.source) serves.taken (rw is at serves.gave.told) in
       rw has.answer
-      (ended-whole {Session = RunSession} old new
-      (conversation run_reply (first_of run) serves.taken) (length serves.taken) has.ended
-      serves.cause (omega (arith, few, within)) no_source no_sink)
-
-  -- where files and packets are told
-  complete-where : {Outcome : Type 0} (files : Files) (left : Option (List ℕ))
-      (row : RowOf Outcome) (status : Status) (shelf_rose source_rose sink_rose : Type 0)
-      → ((bytes : List ℕ) → left ≡ Some bytes → length bytes < most_input
-      → ¬ source_rose → ¬ sink_rose → (status ≡ Done) ⊎ (status ≡ Memory))
-      → IfSome files (λ contents. IfSome left (λ bytes.
-      first_refusal row contents ≡ None
-      → length bytes < most_input
-      → ¬ shelf_rose
-      → ¬ source_rose
-      → ¬ sink_rose
-      → (status ≡ Done) ⊎ (status ≡ Memory)))
-  complete-where None left row status shelf_rose source_rose sink_rose whole = tt
-  complete-where (Some contents) None row status shelf_rose source_rose sink_rose whole = tt
-  complete-where (Some contents) (Some bytes) row status shelf_rose source_rose sink_rose whole =
-      λ none few no_read no_source no_sink. whole bytes refl few no_source no_sink
-
-  pub served-complete : {Outcome : Type 0} (files : Files) (row : RowOf Outcome)
-      (shelf_rose : Type 0) (run : Run) (old new : Ports R W) (status : Status)
-      → HasServed r w run old new status
-      → IfSome files (λ contents. IfSome (r.left old.source) (λ bytes.
-      first_refusal row contents ≡ None
-      → length bytes < most_input
-      → ¬ shelf_rose
-      → ¬ Rose (r.faults old.source) (r.faults new.source)
-      → ¬ Rose (w.faults old.sink) (w.faults new.sink)
-      → (status ≡ Done) ⊎ (status ≡ Memory)))
-  served-complete files row shelf_rose run old new status has =
-      complete-where files (r.left old.source) row status shelf_rose
-      (Rose (r.faults old.source) (r.faults new.source))
-      (Rose (w.faults old.sink) (w.faults new.sink))
-      (λ bytes is few no_source no_sink.
-      served-whole run old new status bytes has is few no_source no_sink)
+      (ended-whole run old new has.ended no_sink
+      (whole_or_stopped r (talk_promise w run_reply (first_of run) old.sink) old.source new.source
+      new.sink bytes has.ended has.serves is few no_source))

@@ -1,5 +1,5 @@
 -- The command `debug`: a debugger drives a device by the packets of a source.
-use Rattle.std.specs.Prelude.{◌≡◌, ◌<◌, ◌≤◌, ◌⊎◌, ◌↔◌, ◌+◌, ℕ, List, [], ◌∷◌, bytes_eq, codes, length, Option, Some, None, IfSome, Ok, if◌then◌else◌}
+use Rattle.std.specs.Prelude.{◌≡◌, ◌<◌, ◌≤◌, ◌⊎◌, ◌↔◌, ℕ, List, [], ◌∷◌, bytes_eq, codes, length, Option, Some, None, IfSome, Ok, if◌then◌else◌}
 use Rattle.bus_signals.specs.Address.{Bytes}
 use Rattle.part_definitions.specs.TrustedFlag.{aux}
 use Rattle.mem_map.specs.Image.{image_byte}
@@ -11,8 +11,11 @@ use Rattle.outside_edge.specs.Shelf.{KeepsFiles}
 use Rattle.outside_edge.specs.declared.shelf.Shelf as shelves
 use Rattle.outside_edge.specs.declared.sink.Sink as sink
 use Rattle.outside_edge.specs.declared.source.Source as source
-use Rattle.debug_link.specs.Serving.{Serves, most_input}
-use Rattle.debug_link.specs.declared.served.Served.{Served}
+use Rattle.source_server.specs.declared.served.Served.{Served}
+use Rattle.source_server.specs.Serving.{Serves}
+use Rattle.source_server.specs.Taken.{KeepsLimit, most_input}
+use Rattle.debug_link.specs.Serving.{talk_promise}
+use Rattle.debug_link.specs.declared.talk_end.TalkEnd.{TalkEnd}
 use Rattle.debug_session.specs.Place.{Run}
 use Rattle.debug_session.specs.Session.{first_session}
 use Rattle.device_debug.specs.Session.{RunSession, run_reply}
@@ -65,15 +68,10 @@ first_of run = record { run = run; session = first_session }
 -- what was put is the conversation of the bytes that the source gave, or a prefix of it
 pub record HasServed {R W : Type 0} (r : source.Ghosts R) (w : sink.Ghosts W) (run : Run)
     (old new : Ports R W) (status : Status) : Type 0 where
-  pub ended : Served
+  pub ended : Served TalkEnd
   pub answer : status ≡ status_of_served ended
-  pub serves : Serves r w run_reply (first_of run) old.source new.source old.sink new.sink ended
-
--- a source gave no more than the limit, told or not, and that much where this is the answer
-pub record KeepsLimit {R : Type 0} (r : source.Ghosts R) (old new : R) (status : Status)
-    : Type 0 where
-  pub few : r.given new ≤ r.given old + most_input
-  pub spent : status ≡ Spent → r.given new ≡ r.given old + most_input
+  pub serves : Serves r (talk_promise w run_reply (first_of run) old.sink) old.source new.source
+      new.sink ended
 
 -- an answer to arguments that may name its files
 pub record IsDebugAnswer {S R W : Type 0} (s : shelves.Ghosts S) (r : source.Ghosts R)
@@ -96,7 +94,7 @@ pub record IsDebugAnswer {S R W : Type 0} (s : shelves.Ghosts S) (r : source.Gho
       → ¬ Rose (r.faults old.source) (r.faults new.source)
       → ¬ Rose (w.faults old.sink) (w.faults new.sink)
       → (status ≡ Done) ⊎ (status ≡ Memory))))
-  pub limit : KeepsLimit r old.source new.source status
+  pub limit : KeepsLimit r old.source new.source (status ≡ Spent)
   pub kept : KeepsFiles s.files s.faults s.misses shelf shelf_after
   pub source_counted : r.faults old.source ≤ r.faults new.source
   pub sink_counted : w.faults old.sink ≤ w.faults new.sink

@@ -86,10 +86,10 @@ fn serve_run<R: Source, W: Sink + Drop>(
 {
     let (key, (image, script)) = values;
     let run = Run::new(key, image, script);
-    let Ok(mut debugger) = Debugger::<Sha256Digest>::new(alloc, run) else {
+    let Ok(debugger) = Debugger::<Sha256Digest>::new(alloc, run) else {
         return (Status::Memory, sink);
     };
     let mut packets = PacketWriter::new(sink);
-    let served = serve(source, &mut debugger, &mut packets);
+    let served = serve(source, debugger, &mut packets);
     (served_status(served), packets.into_sink())
 }

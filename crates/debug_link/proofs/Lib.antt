@@ -2,6 +2,6 @@ pub mod AddedText
 pub mod Bodies
 pub mod ConsolePieces
 pub mod Faults
-mod Parties
-mod Sources
-mod Talks
+pub mod Parties
+pub mod PacketPieces
+pub mod Talks

@@ -1,58 +1,48 @@
 -- What is put into a sink of the bytes that a source gives, and why it ends.
-use Rattle.std.specs.Prelude.{◌≡◌, ◌<◌, ◌≤◌, ◌+◌, ◌⊎◌, ◌++◌, ℕ, false, List, [], length, option_map, Result, OnErr, IfOk, IfSome, IsTrue}
+use Rattle.std.specs.Prelude.{◌≡◌, ◌≤◌, ◌++◌, ℕ, false, List, Result, Ok, Err, OnErr, IfOk, IsTrue}
 use Rattle.outside_edge.specs.Count.{Rose}
 use Rattle.outside_edge.specs.Sink.{Takes, TakesPrefix}
 use Rattle.outside_edge.specs.declared.sink.Sink as sink
-use Rattle.outside_edge.specs.declared.source.Source as source
+use Rattle.source_server.specs.declared.halt.Halt.{Halt}
+use Rattle.source_server.specs.declared.halt.Halt.TheVariants.{Write, Own}
+use Rattle.source_server.specs.Responder.{Moment, Promise}
 use Rattle.debug_link.specs.Conversation.{Answer, Talk, conversation, is_closed}
 use Rattle.debug_link.specs.Reading.{ReaderStandsFor}
 use Rattle.debug_link.specs.Writing.{PacketSink}
 use Rattle.debug_link.specs.declared.answer_fault.AnswerFault.{AnswerFault}
+use Rattle.debug_link.specs.declared.answer_fault.AnswerFault.TheVariants as fault
 use Rattle.debug_link.specs.declared.connection.Connection.{Connection}
+use Rattle.debug_link.specs.declared.connection.Connection.TheVariants as connection
 use Rattle.debug_link.specs.declared.packet_reader.PacketReader.{PacketReader}
-use Rattle.debug_link.specs.declared.served.Served.{Served}
-use Rattle.debug_link.specs.declared.served.Served.TheVariants.{Done, Spent, ReadFault, WriteFault, Memory}
+use Rattle.debug_link.specs.declared.packet_responder.PacketResponder.{PacketResponder}
+use Rattle.debug_link.specs.declared.talk_end.TalkEnd.{TalkEnd}
+use Rattle.debug_link.specs.declared.talk_end.TalkEnd.TheVariants.{Closed, Memory}
 
--- the most bytes that are taken of a source: 1 GiB
-abbrev pub most_input : ℕ
-most_input = 1073741824
+-- a conversation was put, and is not over
+abbrev pub PutsTalk : {W Session : Type 0} → sink.Ghosts W → W → W → Talk Session → Type 0
+PutsTalk w old new talk = Takes w.stands old new talk.put × (talk.is_over ≡ false)
 
--- a source gave these bytes: what was left begins with them, where it is told
-pub record Gave {R : Type 0} (r : source.Ghosts R) (old new : R) (bytes : List ℕ) : Type 0 where
-  pub told : r.left old ≡ option_map (λ rest. bytes ++ rest) (r.left new)
-  pub count : r.given new ≡ r.given old + length bytes
+-- the debugger has ended it, and it was put; or the sink failed or memory ran out, and a prefix of
+-- it was put
+abbrev pub StopsTalk : {W Session : Type 0} → sink.Ghosts W → W → W → Talk Session
+    → Halt TalkEnd → Type 0
+StopsTalk w old new talk (Own Closed) =
+    Takes w.stands old new talk.put × IsTrue talk.is_over
+StopsTalk w old new talk (Own Memory) = TakesPrefix w.stands old new talk.put
+StopsTalk w old new talk Write =
+    TakesPrefix w.stands old new talk.put × Rose (w.faults old) (w.faults new)
 
--- all of this conversation was put, or a prefix of it
-abbrev pub PutsTalk : {W : Type 0} → sink.Ghosts W → W → W → List ℕ → Served → Type 0
-PutsTalk w old new put WriteFault = TakesPrefix w.stands old new put
-PutsTalk w old new put Memory = TakesPrefix w.stands old new put
-PutsTalk w old new put served = Takes w.stands old new put
-
--- why it ended so behind so many bytes: the conversation is over, or the source is at its end
--- before the limit; the source has given as many as the limit; or a fault was counted
-abbrev pub HasCause : {R Session W : Type 0} → source.Ghosts R → sink.Ghosts W → R → R → W → W
-    → Talk Session → ℕ → Served → Type 0
-HasCause r w source source_new sink sink_new talk count Done =
-    IsTrue talk.is_over
-    ⊎ (IfSome (r.left source_new) (λ left. left ≡ []) × (count < most_input))
-HasCause r w source source_new sink sink_new talk count Spent =
-    (count ≡ most_input) × (talk.is_over ≡ false)
-HasCause r w source source_new sink sink_new talk count ReadFault =
-    Rose (r.faults source) (r.faults source_new) × (count < most_input) × (talk.is_over ≡ false)
-HasCause r w source source_new sink sink_new talk count WriteFault =
-    Rose (w.faults sink) (w.faults sink_new)
-HasCause r w source source_new sink sink_new talk count Memory = Unit {0}
-
--- a source was served: which bytes it gave, that their conversation was put, and why it ended
-pub record Serves {R Session W : Type 0} (r : source.Ghosts R) (w : sink.Ghosts W)
-    (reply : Session → List ℕ → Answer Session) (session : Session) (source source_new : R)
-    (sink sink_new : W) (served : Served) : Type 0 where
-  pub taken : List ℕ
-  pub gave : Gave r source source_new taken
-  pub few : length taken ≤ most_input
-  pub puts : PutsTalk w sink sink_new (conversation reply session taken).put served
-  pub cause : HasCause r w source source_new sink sink_new (conversation reply session taken)
-      (length taken) served
+-- What a sink has taken, behind bytes that a source gave: their conversation, from where the
+-- answerer's session stood.
+abbrev pub talk_promise : {W Session : Type 0} → sink.Ghosts W
+    → (Session → List ℕ → Answer Session) → Session → W → Promise W TalkEnd
+talk_promise w reply session first =
+    record {
+      answered = λ now bytes. PutsTalk w first now (conversation reply session bytes);
+      ended = λ now bytes. PutsTalk w first now (conversation reply session bytes);
+      stopped = λ now before last why.
+          StopsTalk w first now (conversation reply session (before ++ last)) why;
+    }
 
 -- within a serving, who takes part: the reader of packets, the answerer, and the packets' sink
 pub record Parties (T W : Type 0) : Type 0 where
@@ -75,3 +65,43 @@ pub record GoesOnTo {T Session W : Type 0} (stands : T → Session → Type 0) (
   pub all : IfOk result (λ connection.
       (is_closed connection ≡ talk.is_over) × TalkStandsFor stands w first parties talk)
   pub prefix : OnErr result (TakesPrefix w.stands first parties.packets.sink talk.put)
+
+-- what comes of a piece, for whoever serves the source
+abbrev pub came_of : Result Connection AnswerFault → Result Unit (Halt TalkEnd)
+came_of (Ok connection.Open) = Ok tt
+came_of (Ok connection.Closed) = Err (Own Closed)
+came_of (Err fault.Write) = Err Write
+came_of (Err fault.Memory) = Err (Own Memory)
+
+-- where a session and the sink stood at first
+pub record TalkStart (Session W : Type 0) : Type 0 where
+  pub session : Session
+  pub sink : W
+
+abbrev pub parties_at : {T W : Type 0} → Moment (PacketResponder T) (PacketSink W) → Parties T W
+parties_at now =
+    record {
+      reader = now.responder.reader;
+      answerer = now.responder.answerer;
+      packets = now.edge;
+    }
+
+-- the parties stand for the conversation of these bytes, which goes on
+pub record StandsBehind {T Session W : Type 0} (stands : T → Session → Type 0)
+    (w : sink.Ghosts W) (first : W) (parties : Parties T W) (talk : Talk Session) : Type 0 where
+  pub talks : TalkStandsFor stands w first parties talk
+  pub goes_on : talk.is_over ≡ false
+  pub rises : w.faults first ≤ w.faults parties.packets.sink
+
+-- what is promised of the parties
+abbrev pub parties_promise : {T Session W : Type 0} → (T → Session → Type 0) → sink.Ghosts W
+    → (Session → List ℕ → Answer Session) → TalkStart Session W
+    → Promise (Moment (PacketResponder T) (PacketSink W)) TalkEnd
+parties_promise stands w reply start =
+    let talk = talk_promise w reply start.session start.sink in
+    record {
+      answered = λ now bytes. StandsBehind stands w start.sink (parties_at now)
+          (conversation reply start.session bytes);
+      ended = λ now bytes. talk.ended now.edge.sink bytes;
+      stopped = λ now before last why. talk.stopped now.edge.sink before last why;
+    }

@@ -13,9 +13,10 @@ mod connection;
 mod console_text;
 mod held_body;
 mod packet_reader;
+mod packet_responder;
 mod packet_writer;
-mod served;
 mod serving;
+mod talk_end;
 
 pub use answer_fault::AnswerFault;
 pub use answerer::Answerer;
@@ -23,8 +24,8 @@ pub use connection::Connection;
 pub use console_text::{ConsoleText, put_text};
 pub use held_body::LONGEST_BODY;
 pub use packet_writer::PacketWriter;
-pub use served::Served;
-pub use serving::{MOST_INPUT, serve};
+pub use serving::serve;
+pub use talk_end::TalkEnd;
 
 #[cfg(test)]
 mod tests;

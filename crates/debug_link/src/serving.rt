@@ -1,75 +1,43 @@
-ghost use Rattle.std.specs.Prelude.{◌≡◌, ◌<◌, ◌≤◌, ℕ, List, [], false, length, take, IfOk, IfSome, OnErr, option_map};
+ghost use Rattle.std.specs.Prelude.{◌≡◌, ◌≤◌, ℕ, List, [], false, length, IfSome, option_map};
 ghost use Rattle.outside_edge.specs.Sink.{CountsFaults, Puts};
+ghost use Rattle.source_server.specs.Serving.{Serves};
 ghost use Rattle.debug_link.specs.Conversation.{LONGEST_BODY as longest, Talk, answer_to, mark_of, with_byte, with_bytes};
 ghost use Rattle.debug_link.specs.Link.{Message};
 ghost use Rattle.debug_link.specs.HeldBody.{short_body};
 ghost use Rattle.debug_link.specs.Reading.{heard_of};
-ghost use Rattle.debug_link.specs.Serving.{Gave, GoesOnTo, Serves, TalkStandsFor};
+ghost use Rattle.debug_link.specs.Serving.{GoesOnTo, TalkStandsFor, talk_promise};
 ghost use Rattle.debug_link.specs.Writing.{Answers, CountsWriteFaults};
 
 use crate::answer_fault::AnswerFault;
 use crate::answerer::Answerer;
 use crate::connection::Connection;
 use crate::packet_reader::{Heard, PacketReader};
+use crate::packet_responder::PacketResponder;
 use crate::packet_writer::PacketWriter;
-use crate::served::Served;
+use crate::talk_end::TalkEnd;
 use outside_edge::{Failed, Sink, Source};
-
-/// The most bytes that are taken of a source.
-pub const MOST_INPUT: u64 = 1_073_741_824;
-
-// The most bytes that are taken at once.
-const PIECE: usize = 4_096;
+use source_server::Served;
 
 /// Answers the packets of a source, each as soon as it is whole: `+` is put before its answerer is
 /// asked, since a debugger waits for it a short time alone.
-pub fn serve<R: Source, A: Answerer, W: Sink + Drop>(
+pub fn serve<R: Source, A: Answerer + Drop, W: Sink + Drop>(
     source: &mut R,
-    answerer: &mut A,
+    answerer: A,
     packets: &mut PacketWriter<W>,
-) -> Served
-    ensures serves { (session : A.Session) → A.stands answerer.old session
+) -> Served<TalkEnd>
+    ensures serves { (session : A.Session) → A.stands answerer session
         → packets.old.last ≡ []
-        → Serves R.Source W.Sink A.reply session source.old source.new packets.old.sink
-        packets.new.sink result }
+        → Serves R.Source (talk_promise W.Sink A.reply session packets.old.sink) source.old
+        source.new packets.new.sink result }
     ensures source_faults { R.faults source.old ≤ R.faults source.new }
     ensures sink_faults { W.faults packets.old.sink ≤ W.faults packets.new.sink }
 {
-    let mut reader = PacketReader::new();
-    let mut piece = [0; PIECE];
-    let mut room = MOST_INPUT;
-    while room > 0 {
-        let count = match take_piece(source, &mut piece, room) {
-            Ok(0) => return Served::Done,
-            Ok(count) => count,
-            Err(Failed) => return Served::ReadFault,
-        };
-        match answer_piece(&piece[..count], &mut reader, answerer, packets) {
-            Ok(Connection::Open) => room -= count as u64,
-            Ok(Connection::Closed) => return Served::Done,
-            Err(AnswerFault::Write) => return Served::WriteFault,
-            Err(AnswerFault::Memory) => return Served::Memory,
-        }
-    }
-    Served::Spent
+    let mut responder = PacketResponder::new(answerer);
+    source_server::serve(source, &mut responder, packets)
 }
 
-// Takes what comes next into the beginning of a piece, no more than there is room for.
-fn take_piece<R: Source>(source: &mut R, piece: &mut [u8], room: u64) -> Result<usize, Failed>
-    requires { (0 < length piece.old) × (0 < room) }
-    ensures within { IfOk result (λ n. n ≤ length piece.new) }
-    ensures few { IfOk result (λ n. n ≤ room) }
-    ensures gave { IfOk result (λ n. Gave R.Source source.old source.new (take n piece.new)) }
-    ensures ends { IfOk result (λ n. n ≡ 0 → IfSome (R.left source.new) (λ left. left ≡ [])) }
-    ensures kept { OnErr result (Gave R.Source source.old source.new []) }
-    ensures counts { CountsFaults R.faults source.old source.new result }
-{
-    let most = (piece.len() as u64).min(room) as usize;
-    source.take(&mut piece[..most])
-}
-
-// Answers the packets that end in a piece, as long as the connection is open.
-fn answer_piece<A: Answerer, W: Sink + Drop>(
+/// Answers the packets that end in a piece, as long as the connection is open.
+pub fn answer_piece<A: Answerer, W: Sink + Drop>(
     piece: &[u8],
     reader: &mut PacketReader,
     answerer: &mut A,

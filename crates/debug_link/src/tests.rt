@@ -2,8 +2,9 @@
 
 ghost use Rattle.std.specs.Prelude.{◌≤◌};
 
-use crate::{AnswerFault, Answerer, Connection, PacketWriter, Served, put_text, serve};
+use crate::{AnswerFault, Answerer, Connection, PacketWriter, TalkEnd, put_text, serve};
 use outside_edge::{MemSink, MemSource, Sink};
+use source_server::Served;
 use std::alloc::{AllocError, Global};
 use std::test::Fail;
 
@@ -44,19 +45,19 @@ fn served(
     most: usize,
     unread: &[u64],
     unwritten: &[u64],
-) -> Result<(Served, Vec<u8>), AllocError>
+) -> Result<(Served<TalkEnd>, Vec<u8>), AllocError>
     requires { 1 ≤ most }
 {
     let mut source = MemSource::new(bytes.to_vec(alloc)?, most, unread.to_vec(alloc)?);
     let sink = MemSink::new(Vec::new(alloc), 64, 64, unwritten.to_vec(alloc)?)?;
     let mut packets = PacketWriter::new(sink);
-    let served = serve(&mut source, &mut Agreement, &mut packets);
+    let served = serve(&mut source, Agreement, &mut packets);
     Ok((served, packets.into_sink().held().to_vec(alloc)?))
 }
 
 #[test]
 fn packets_are_answered(rt: HostRuntime) -> Result<(), Fail> {
-    let rows: [(&[u8], &[u8]); 10] = [
+    let rows: [(&[u8], &[u8]); 9] = [
         (b"", b""),
         (b"-", b""),
         (b"+++junk\r\n$?#3f", b"+$OK#9a"),
@@ -65,7 +66,6 @@ fn packets_are_answered(rt: HostRuntime) -> Result<(), Fail> {
         (b"$mc000,$mc000,4#c0$g#67", b"+$OK#9a+$OK#9a"),
         (b"$g#6$g#67", b"+$OK#9a"),
         (b"$}]*~\xff\x00#81", b"+$OK#9a"),
-        (b"$?#3f$D#44$?#3f", b"+$OK#9a+$OK#9a"),
         (b"$?#3f$bs#d", b"+$OK#9a"),
     ];
     for (bytes, put) in rows {
@@ -74,6 +74,16 @@ fn packets_are_answered(rt: HostRuntime) -> Result<(), Fail> {
             assert_eq!(rt; end, Served::Done);
             assert_eq!(rt; text.as_slice(), put);
         }
+    }
+    Ok(())
+}
+
+#[test]
+fn a_debugger_ends_the_session(rt: HostRuntime) -> Result<(), Fail> {
+    for most in [1, 7, 4_096] {
+        let (end, text) = served(rt.alloc(), b"$?#3f$D#44$?#3f", most, &[], &[])?;
+        assert_eq!(rt; end, Served::Own(TalkEnd::Closed));
+        assert_eq!(rt; text.as_slice(), b"+$OK#9a+$OK#9a".as_slice());
     }
     Ok(())
 }

@@ -12,15 +12,16 @@ use Rattle.verifier_desk.specs.DeviceKey.{DeviceKey}
 use Rattle.verifier_desk.specs.Replies.{DeskFields}
 use Rattle.input_files.specs.declared.refusal.Refusal.{Refusal}
 use Rattle.input_files.specs.declared.status.Status.{Status}
-use Rattle.input_files.specs.declared.status.Status.TheVariants.{Done, Words, Memory}
-use Rattle.input_files.specs.Reading.{Files, IsRefusal, Reaches, Reads, Refuses, first_refusal}
+use Rattle.input_files.specs.declared.status.Status.TheVariants.{Words}
+use Rattle.input_files.specs.Reading.{Reaches, Reads}
 use Rattle.input_files.specs.Row.{RowOf, Ends}
 use Rattle.input_files.specs.Status.{status_of_refusal}
-use Rattle.input_files.proofs.Refused.{failed-counted, refused-words}
+use Rattle.input_files.proofs.Complete.{refused-complete, told-complete}
+use Rattle.input_files.proofs.Refused.{refused-words}
 use Rattle.desk_cli.specs.Desk.{DeskNames, DeskValues, HasServed, IsDeskAnswer, Meets, ServesFrom, desk_row}
 use Rattle.desk_cli.specs.Edge.{Ports}
 use Rattle.desk_cli.specs.MemoryFiles.{ToldMemories}
-use Rattle.desk_cli.proofs.DeskComplete.{serves-complete}
+use Rattle.desk_cli.proofs.DeskComplete.{serves-whole}
 use Rattle.desk_cli.proofs.DeskInput.{refused-limit, serves-limit}
 use Rattle.desk_cli.proofs.NoWords.{served-words, uses-words}
 
@@ -28,38 +29,6 @@ use Rattle.desk_cli.proofs.NoWords.{served-words, uses-words}
 abbrev pub desk_end : List DeviceKey × ((ℕ → Option ℕ) × PolicyFields) → RowOf DeskValues
 desk_end values =
     Ends (Ok (record { devices = values.0; image = values.1.0; policy = values.1.1 }))
-
--- files of which none is refused and none failed were refused only for lack of memory
-refused-memory : {Outcome : Type 0} (files : Files) (missed failed : Type 0)
-    (row : RowOf Outcome) (answer : Option Status) (status : Status)
-    → Refuses answer status → IsRefusal files missed failed row status → answer ≡ None → ¬ failed
-    → status ≡ Memory
-refused-memory files missed failed row (Some answer) status refuses cause none no_read =
-    absurd (cc none)
-refused-memory files missed failed row None status (inl fails) cause none no_read =
-    absurd (no_read (failed-counted files missed failed row (rw fails at cause)))
-refused-memory files missed failed row None status (inr memory) cause none no_read = memory
-
-refused-complete : {Outcome : Type 0} (files : Files) (left : Option (List ℕ))
-    (missed failed : Type 0) (row : RowOf Outcome) (status : Status)
-    (few : List ℕ → Type 0) (source_rose sink_rose may : Type 0)
-    → IfSome files (λ contents. Refuses (first_refusal row contents) status)
-    → IsRefusal files missed failed row status
-    → IfSome files (λ contents. IfSome left (λ lines.
-    first_refusal row contents ≡ None
-    → few lines
-    → ¬ failed
-    → ¬ source_rose
-    → ¬ sink_rose
-    → may
-    → (status ≡ Done) ⊎ (status ≡ Memory)))
-refused-complete None left missed failed row status few source_rose sink_rose may order cause = tt
-refused-complete (Some contents) None missed failed row status few source_rose sink_rose may order
-    cause = tt
-refused-complete (Some contents) (Some lines) missed failed row status few source_rose sink_rose may
-    order cause = λ none is_few no_read no_source no_sink serves.
-    inr (refused-memory (Some contents) missed failed row (first_refusal row contents) status order
-    cause none no_read)
 
 pub refused-answer : {S F R M W V : Type 0} (s : shelves.Ghosts S) (told : ToldMemories F M)
     (r : source.Ghosts R) (m : memory.Ghosts M) (desk_of : M → List ℕ) (w : sink.Ghosts W)
@@ -82,8 +51,8 @@ refused-answer s told r m desk_of w shelf shelf_after memories ports names named
         unopened = refl;
         silent = refl;
       });
-      complete = refused-complete (s.files shelf) (r.left ports.source) _ _ (desk_row names)
-          _ _ _ _ _ reads.order reads.refusal;
+      complete = refused-complete (s.files shelf) (r.left ports.source) _ _ (desk_row names) _ _ _
+          reads.order reads.refusal (λ is no_source no_sink serves. inr is);
       limit = refused-limit r ports.source refusal;
       kept = reads.kept;
       source_counted = omega arith;
@@ -147,8 +116,10 @@ served-answer s told r m desk_of w shelf shelf_after memories memories_after old
       words = (λ is. absurd (no_words is), λ none. absurd (cc none));
       unread = λ is. absurd (no_words is);
       answers = inr (values, reaches, serves);
-      complete = serves-complete told r m desk_of w (s.files shelf) (desk_row names) _ values
-          names.memory memories memories_after old new status reaches serves;
+      complete = told-complete (s.files shelf) (r.left old.source) _ (desk_row names) _ _
+          (λ lines is few no_source no_sink may. serves-whole told r m desk_of w values
+          names.memory memories memories_after old new status lines serves (may values reaches) is
+          few no_source no_sink);
       limit = serves-limit r told m desk_of w values names.memory memories memories_after old new
           status serves;
       kept = keeps;

@@ -1,5 +1,5 @@
 -- Where nothing failed or hindered its memory, a desk answers all lines, or memory runs out.
-use Rattle.std.proofs.Common.{◌≡◌, ◌<◌, ◌≤◌, ◌+◌, ◌⊎◌, ℕ, List, [], ◌∷◌, length, Option, Some, None, Ok, IfSome, refl, inl, inr, subst, arith, length-append}
+use Rattle.std.proofs.Common.{◌≡◌, ◌<◌, ◌+◌, ◌⊎◌, ℕ, List, [], ◌∷◌, length, Option, Some, None, Ok, IfSome, refl, inl, inr, subst, arith}
 use Rattle.std.proofs.lemmas.Bool.{cases_Bool}
 use Rattle.sha2.specs.Sha256.{sha256}
 use Rattle.outside_edge.specs.Count.{Rose}
@@ -12,17 +12,20 @@ use Rattle.desk_memory.specs.Entry.{Entry, last_in}
 use Rattle.desk_memory.specs.NoMemory.{forgets}
 use Rattle.memory_file.specs.declared.memory_file_fault.MemoryFileFault.{MemoryFileFault}
 use Rattle.memory_file.specs.declared.memory_file_fault.MemoryFileFault.TheVariants as opened
-use Rattle.verifier_desk.specs.declared.served.Served.{Served}
-use Rattle.verifier_desk.specs.declared.served.Served.TheVariants as served
+use Rattle.source_server.specs.declared.halt.Halt.{Halt}
+use Rattle.source_server.specs.declared.halt.Halt.TheVariants as halt
+use Rattle.source_server.specs.Serving.{served_of}
+use Rattle.source_server.specs.Taken.{most_input}
+use Rattle.source_server.proofs.ServedEnds.{whole_or_stopped}
+use Rattle.verifier_desk.specs.declared.answer_fault.AnswerFault.{AnswerFault}
+use Rattle.verifier_desk.specs.declared.answer_fault.AnswerFault.TheVariants as fault
 use Rattle.verifier_desk.specs.DeviceKey.{DeviceKey}
 use Rattle.verifier_desk.specs.Gone.{first_gone, is_gone}
 use Rattle.verifier_desk.specs.KeyOwner.{KeysStandApart}
 use Rattle.verifier_desk.specs.Replies.{DeskFields}
-use Rattle.verifier_desk.specs.Serving.{AreFirst, HasCause, HasFailed, Outside, most_input}
+use Rattle.verifier_desk.specs.Serving.{HasFailed, Outside, desk_promise}
 use Rattle.input_files.specs.declared.status.Status.{Status}
 use Rattle.input_files.specs.declared.status.Status.TheVariants.{Done, Memory}
-use Rattle.input_files.specs.Reading.{Files, Reaches, first_refusal}
-use Rattle.input_files.specs.Row.{RowOf}
 use Rattle.desk_cli.specs.Desk.{DeskValues, HasServed, IsTaken, MayServe, Meets, ServesFrom}
 use Rattle.desk_cli.specs.Edge.{Ports}
 use Rattle.desk_cli.specs.MemoryFiles.{FailsToOpen, IsUnhindered, ToldMemories}
@@ -37,32 +40,20 @@ abbrev FailsLater : {M : Type 0} → memory.Ghosts M → M → M → Status → 
 FailsLater m opened left status =
     (fault : MemoryFault) × (status ≡ status_of_unkept fault) × HasFailed m opened left fault
 
--- no more were taken than were left
-few-taken : (lines : List ℕ) (rest : Option (List ℕ)) (taken : List ℕ)
-    → AreFirst (Some lines) rest taken → length taken ≤ length lines
-few-taken lines None taken are_taken = absurd are_taken
-few-taken lines (Some rest) taken are_taken = rw (are_taken, length-append) (omega arith)
-
-ended-whole : {R M W : Type 0} (r : source.Ghosts R) (m : memory.Ghosts M) (w : sink.Ghosts W)
-    (old new : Outside R M W) (lines taken : List ℕ) (ended : Served)
-    → AreFirst (Some lines) (r.left new.source) taken
-    → HasCause r m w old new (length taken) ended
-    → length lines < most_input
-    → ¬ Rose (r.faults old.source) (r.faults new.source)
-    → ¬ Rose (w.faults old.sink) (w.faults new.sink)
-    → (status_of_served ended ≡ Done) ⊎ (status_of_served ended ≡ Memory)
-    ⊎ FailsLater m old.memory new.memory (status_of_served ended)
-ended-whole r m w old new lines taken served.Done are_taken cause few no_source no_sink = inl refl
-ended-whole r m w old new lines taken served.Spent are_taken cause few no_source no_sink =
-    absurd (omega (arith, few, cause, few-taken lines (r.left new.source) taken are_taken))
-ended-whole r m w old new lines taken served.ReadFault are_taken cause few no_source no_sink =
-    absurd (no_source cause.0)
-ended-whole r m w old new lines taken served.WriteFault are_taken cause few no_source no_sink =
-    absurd (no_sink cause)
-ended-whole r m w old new lines taken served.Memory are_taken cause few no_source no_sink =
-    inr (inl refl)
-ended-whole r m w old new lines taken (served.Unkept fault) are_taken cause few no_source no_sink
-    = inr (inr (fault, refl, cause))
+stopped-whole : {M W : Type 0} (m : memory.Ghosts M) (w : sink.Ghosts W) (desk : DeskFields)
+    (first now : Outside M W) (before last : List ℕ) (why : Halt AnswerFault)
+    → (desk_promise m w desk first).stopped now before last why
+    → ¬ Rose (w.faults first.sink) (w.faults now.sink)
+    → (status_of_served (served_of why) ≡ Done) ⊎ (status_of_served (served_of why) ≡ Memory)
+    ⊎ FailsLater m first.memory now.memory (status_of_served (served_of why))
+stopped-whole m w desk first now before last halt.Write (inl so) no_sink =
+    absurd (no_sink so.stopped.0)
+stopped-whole m w desk first now before last halt.Write (inr so) no_sink = absurd (cc so.0)
+stopped-whole m w desk first now before last (halt.Own fault.Memory) so no_sink = inr (inl refl)
+stopped-whole m w desk first now before last (halt.Own (fault.Unkept unkept)) (inl so) no_sink =
+    inr (inr (unkept, refl, so.stopped.0))
+stopped-whole m w desk first now before last (halt.Own (fault.Unkept unkept)) (inr so) no_sink =
+    absurd (cc so.0)
 
 served-whole : {R M W : Type 0} (r : source.Ghosts R) (m : memory.Ghosts M) (w : sink.Ghosts W)
     (desk : DeskFields) (opened left : M) (old new : Ports R W) (status : Status)
@@ -73,11 +64,16 @@ served-whole : {R M W : Type 0} (r : source.Ghosts R) (m : memory.Ghosts M) (w :
     → ¬ Rose (r.faults old.source) (r.faults new.source)
     → ¬ Rose (w.faults old.sink) (w.faults new.sink)
     → (status ≡ Done) ⊎ (status ≡ Memory) ⊎ FailsLater m opened left status
-served-whole r m w desk opened left old new status lines served is few no_source no_sink =
-    rw served.answer (ended-whole r m w
-    (record { source = old.source; memory = opened; sink = old.sink })
-    (record { source = new.source; memory = left; sink = new.sink }) lines served.serves.taken
-    served.ended (rw is at served.serves.are_taken.first) served.serves.cause few no_source no_sink)
+served-whole {M = M} {W = W} r m w desk opened left old new status lines has is few no_source
+    no_sink =
+    let first : Outside M W = record { memory = opened; sink = old.sink } in
+    let now : Outside M W = record { memory = left; sink = new.sink } in
+    rw has.answer (elim (whole_or_stopped r (desk_promise m w desk first) old.source new.source now
+    lines has.ended has.serves is few no_source) [
+      | inl done ↦ rw done (inl refl)
+      | inr (why, is, before, last, so) ↦
+          rw is (stopped-whole m w desk first now before last why so no_sink)
+    ])
 
 pub never-rises : Rose 0 0 → ⊥
 never-rises (inl more) = omega (arith, more)
@@ -201,7 +197,7 @@ meets-whole r m w values old new status desk entries opened left lines
     whole-over m opened left status sound (served-whole r m w _ opened left old new status lines
     served is few no_source no_sink)
 
-serves-whole : {F R M W : Type 0} (told : ToldMemories F M) (r : source.Ghosts R)
+pub serves-whole : {F R M W : Type 0} (told : ToldMemories F M) (r : source.Ghosts R)
     (m : memory.Ghosts M) (desk_of : M → List ℕ) (w : sink.Ghosts W) (values : DeskValues)
     (memory : Option (List ℕ))
     (memories memories_after : F) (old new : Ports R W) (status : Status) (lines : List ℕ)
@@ -228,47 +224,3 @@ serves-whole told r m desk_of w values (Some name) memories memories_after old n
     opens.left lines opens.does kept.0
     (λ honest. may.1 (desk_of opens.opened) opens.entries (opens.found.found honest)) kept.1 is few
     no_source no_sink
-
-complete-where : {Outcome : Type 0} (contents : Files) (left : Option (List ℕ))
-    (row : RowOf Outcome) (status : Status) (shelf_rose source_rose sink_rose may : Type 0)
-    → ((lines : List ℕ) → left ≡ Some lines → length lines < most_input
-    → ¬ source_rose → ¬ sink_rose → may → IsWhole status)
-    → IfSome contents (λ contents. IfSome left (λ lines.
-    first_refusal row contents ≡ None
-    → length lines < most_input
-    → ¬ shelf_rose
-    → ¬ source_rose
-    → ¬ sink_rose
-    → may
-    → (status ≡ Done) ⊎ (status ≡ Memory)))
-complete-where None left row status shelf_rose source_rose sink_rose may whole = tt
-complete-where (Some contents) None row status shelf_rose source_rose sink_rose may whole = tt
-complete-where (Some contents) (Some lines) row status shelf_rose source_rose sink_rose may
-    whole = λ none few no_read no_source no_sink serves.
-    whole lines refl few no_source no_sink serves
-
--- a desk that served, or met a memory
-pub serves-complete : {F R M W : Type 0} (told : ToldMemories F M) (r : source.Ghosts R)
-    (m : memory.Ghosts M) (desk_of : M → List ℕ) (w : sink.Ghosts W) (contents : Files)
-    (row : RowOf DeskValues) (shelf_rose : Type 0) (values : DeskValues) (memory : Option (List ℕ))
-    (memories memories_after : F) (old new : Ports R W) (status : Status)
-    → Reaches contents row (Ok values)
-    → ServesFrom told r m desk_of w values memory memories memories_after old new status
-    → IfSome contents (λ found. IfSome (r.left old.source) (λ lines.
-    first_refusal row found ≡ None
-    → length lines < most_input
-    → ¬ shelf_rose
-    → ¬ Rose (r.faults old.source) (r.faults new.source)
-    → ¬ Rose (w.faults old.sink) (w.faults new.sink)
-    → ((values : DeskValues) → Reaches contents row (Ok values)
-    → MayServe told m values.devices memory memories memories_after)
-    → (status ≡ Done) ⊎ (status ≡ Memory)))
-serves-complete told r m desk_of w contents row shelf_rose values memory memories memories_after
-    old new status reaches serves =
-    complete-where contents (r.left old.source) row status shelf_rose
-    (Rose (r.faults old.source) (r.faults new.source))
-    (Rose (w.faults old.sink) (w.faults new.sink))
-    ((values : DeskValues) → Reaches contents row (Ok values)
-    → MayServe told m values.devices memory memories memories_after)
-    (λ lines is few no_source no_sink may. serves-whole told r m desk_of w values memory memories
-    memories_after old new status lines serves (may values reaches) is few no_source no_sink)

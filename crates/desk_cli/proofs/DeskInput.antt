@@ -1,5 +1,5 @@
 -- How much a desk takes of its source, whatever the source tells.
-use Rattle.std.proofs.Common.{◌≡◌, ◌≤◌, ℕ, List, length, Option, Some, None, inl, inr, rules, arith}
+use Rattle.std.proofs.Common.{◌≡◌, ℕ, List, Option, Some, None, refl, inl, inr, rules, arith}
 use Rattle.outside_edge.specs.declared.sink.Sink as sink
 use Rattle.outside_edge.specs.declared.source.Source as source
 use Rattle.desk_memory.specs.declared.memory.Memory as memory
@@ -7,15 +7,19 @@ use Rattle.desk_memory.specs.declared.memory_fault.MemoryFault.{MemoryFault}
 use Rattle.desk_memory.specs.Entry.{Entry}
 use Rattle.desk_memory.specs.NoMemory.{forgets}
 use Rattle.memory_file.specs.declared.memory_file_fault.MemoryFileFault.{MemoryFileFault}
-use Rattle.verifier_desk.specs.declared.served.Served.{Served}
-use Rattle.verifier_desk.specs.declared.served.Served.TheVariants as served
+use Rattle.source_server.specs.declared.served.Served.{Served}
+use Rattle.source_server.specs.declared.served.Served.TheVariants as served
+use Rattle.source_server.specs.Taken.{KeepsLimit}
+use Rattle.source_server.proofs.ServedEnds.{keeps_limit}
+use Rattle.verifier_desk.specs.declared.answer_fault.AnswerFault.{AnswerFault}
+use Rattle.verifier_desk.specs.declared.answer_fault.AnswerFault.TheVariants as fault
 use Rattle.verifier_desk.specs.Replies.{DeskFields}
-use Rattle.verifier_desk.specs.Serving.{AreTaken, HasCause, Outside, most_input}
+use Rattle.verifier_desk.specs.Serving.{desk_promise}
 use Rattle.input_files.specs.declared.refusal.Refusal.{Refusal}
 use Rattle.input_files.specs.declared.status.Status.{Status}
 use Rattle.input_files.specs.declared.status.Status.TheVariants.{Spent}
 use Rattle.input_files.specs.Status.{status_of_refusal}
-use Rattle.desk_cli.specs.Desk.{DeskValues, HasServed, KeepsLimit, Meets, ServesFrom}
+use Rattle.desk_cli.specs.Desk.{DeskValues, HasServed, Meets, ServesFrom}
 use Rattle.desk_cli.specs.Edge.{Ports}
 use Rattle.desk_cli.specs.MemoryFiles.{ToldMemories}
 use Rattle.desk_cli.specs.Status.{status_of_served, status_of_unkept, status_of_unopened}
@@ -31,53 +35,38 @@ unopened-spent = search rules
 
 module _ {R : Type 0} (r : source.Ghosts R) where
   -- nothing was taken
-  untouched : (now : R) (status : Status) → (status ≡ Spent → ⊥) → KeepsLimit r now now status
+  untouched : (now : R) (status : Status) → (status ≡ Spent → ⊥)
+      → KeepsLimit r now now (status ≡ Spent)
   untouched now status other =
       record { few = omega arith; spent = λ is. absurd (other is) }
 
   pub refused-limit : (now : R) (refusal : Refusal)
-      → KeepsLimit r now now (status_of_refusal refusal)
+      → KeepsLimit r now now (status_of_refusal refusal ≡ Spent)
   refused-limit now refusal = untouched now (status_of_refusal refusal) (refusal-spent refusal)
 
-  -- as many as a desk took
-  spent-count : {M W : Type 0} (m : memory.Ghosts M) (w : sink.Ghosts W) (old new : Outside R M W)
-      (count : ℕ) (ended : Served)
-      → HasCause r m w old new count ended → status_of_served ended ≡ Spent
-      → count ≡ most_input
-  spent-count m w old new count served.Spent cause is = cause
-  spent-count m w old new count served.Done cause is = absurd (cc is)
-  spent-count m w old new count served.ReadFault cause is = absurd (cc is)
-  spent-count m w old new count served.WriteFault cause is = absurd (cc is)
-  spent-count m w old new count served.Memory cause is = absurd (cc is)
-  spent-count m w old new count (served.Unkept fault) cause is = absurd (unkept-spent fault is)
-
-  taken-limit : (old new : R) (taken : List ℕ) (status : Status)
-      → AreTaken r old new taken → length taken ≤ most_input
-      → (status ≡ Spent → length taken ≡ most_input)
-      → KeepsLimit r old new status
-  taken-limit old new taken status are few all =
-      record {
-        few = omega (arith, are.given, few);
-        spent = λ is. let count = all is in omega (arith, are.given, count);
-      }
+  ended-spent : (ended : Served AnswerFault) → status_of_served ended ≡ Spent
+      → ended ≡ served.Spent
+  ended-spent served.Spent is = refl
+  ended-spent served.Done is = absurd (cc is)
+  ended-spent served.ReadFault is = absurd (cc is)
+  ended-spent served.WriteFault is = absurd (cc is)
+  ended-spent (served.Own fault.Memory) is = absurd (cc is)
+  ended-spent (served.Own (fault.Unkept unkept)) is = absurd (unkept-spent unkept is)
 
   served-limit : {M W : Type 0} (m : memory.Ghosts M) (w : sink.Ghosts W) (desk : DeskFields)
       (opened left : M) (old new : Ports R W) (status : Status)
       → HasServed r m w desk opened left old new status
-      → KeepsLimit r old.source new.source status
+      → KeepsLimit r old.source new.source (status ≡ Spent)
   served-limit m w desk opened left old new status has =
-      taken-limit old.source new.source has.serves.taken status has.serves.are_taken
-      has.serves.few
-      (λ is. spent-count m w
-      (record { source = old.source; memory = opened; sink = old.sink })
-      (record { source = new.source; memory = left; sink = new.sink })
-      (length has.serves.taken) has.ended has.serves.cause (rw has.answer at is))
+      keeps_limit r (desk_promise m w desk (record { memory = opened; sink = old.sink }))
+      old.source new.source (record { memory = left; sink = new.sink }) has.ended has.serves
+      (λ is. ended-spent has.ended (rw has.answer at is))
 
   meets-limit : {M W : Type 0} (m : memory.Ghosts M) (w : sink.Ghosts W) (values : DeskValues)
       (old new : Ports R W) (status : Status) (desk : List ℕ) (entries : List Entry)
       (opened left : M)
       → Meets r m w values old new status desk entries opened left
-      → KeepsLimit r old.source new.source status
+      → KeepsLimit r old.source new.source (status ≡ Spent)
   meets-limit m w values old new status desk entries opened left
       (inl ((inl taken), same, silent)) =
       rw silent (untouched old.source status (λ is. cc (taken.answer, is)))
@@ -94,7 +83,7 @@ module _ {R : Type 0} (r : source.Ghosts R) where
       (desk_of : M → List ℕ) (w : sink.Ghosts W) (values : DeskValues) (memory : Option (List ℕ))
       (memories memories_after : F) (old new : Ports R W) (status : Status)
       → ServesFrom told r m desk_of w values memory memories memories_after old new status
-      → KeepsLimit r old.source new.source status
+      → KeepsLimit r old.source new.source (status ≡ Spent)
   serves-limit told m desk_of w values None memories memories_after old new status
       (same, (opened, left, has)) =
       served-limit forgets w _ opened left old new status has

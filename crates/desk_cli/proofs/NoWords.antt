@@ -6,8 +6,10 @@ use Rattle.desk_memory.specs.declared.memory_fault.MemoryFault.TheVariants as ke
 use Rattle.desk_memory.specs.Entry.{Entry}
 use Rattle.memory_file.specs.declared.memory_file_fault.MemoryFileFault.{MemoryFileFault}
 use Rattle.memory_file.specs.declared.memory_file_fault.MemoryFileFault.TheVariants as opened
-use Rattle.verifier_desk.specs.declared.served.Served.{Served}
-use Rattle.verifier_desk.specs.declared.served.Served.TheVariants as served
+use Rattle.source_server.specs.declared.served.Served.{Served}
+use Rattle.source_server.specs.declared.served.Served.TheVariants as served
+use Rattle.verifier_desk.specs.declared.answer_fault.AnswerFault.{AnswerFault}
+use Rattle.verifier_desk.specs.declared.answer_fault.AnswerFault.TheVariants as fault
 use Rattle.outside_edge.specs.declared.sink.Sink as sink
 use Rattle.input_files.specs.declared.status.Status.{Status}
 use Rattle.input_files.specs.declared.status.Status.TheVariants.{Words}
@@ -33,13 +35,13 @@ pub unkept-words : (fault : MemoryFault) → status_of_unkept fault ≡ Words �
 unkept-words kept.Memory is = cc is
 unkept-words kept.Failed is = cc is
 
-pub served-words : (ended : Served) → status_of_served ended ≡ Words → ⊥
+pub served-words : (ended : Served AnswerFault) → status_of_served ended ≡ Words → ⊥
 served-words served.Done is = cc is
 served-words served.Spent is = cc is
 served-words served.ReadFault is = cc is
 served-words served.WriteFault is = cc is
-served-words served.Memory is = cc is
-served-words (served.Unkept fault) is = unkept-words fault is
+served-words (served.Own fault.Memory) is = cc is
+served-words (served.Own (fault.Unkept unkept)) is = unkept-words unkept is
 
 noted-words : (result : Option MemoryFault) → status_of_noted result ≡ Words → ⊥
 noted-words None is = cc is

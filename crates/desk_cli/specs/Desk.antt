@@ -11,13 +11,16 @@ use Rattle.desk_memory.specs.declared.memory.Memory as memory
 use Rattle.desk_memory.specs.declared.no_memory.NoMemory.{NoMemory}
 use Rattle.desk_memory.specs.Entry.{Entry}
 use Rattle.desk_memory.specs.NoMemory.{forgets}
-use Rattle.verifier_desk.specs.declared.served.Served.{Served}
+use Rattle.source_server.specs.declared.served.Served.{Served}
+use Rattle.source_server.specs.Serving.{Serves}
+use Rattle.source_server.specs.Taken.{KeepsLimit, most_input}
+use Rattle.verifier_desk.specs.declared.answer_fault.AnswerFault.{AnswerFault}
 use Rattle.verifier_desk.specs.Desk.{desk_with}
 use Rattle.verifier_desk.specs.DeviceKey.{DeviceKey}
 use Rattle.verifier_desk.specs.Gone.{first_gone}
 use Rattle.verifier_desk.specs.KeyOwner.{IsFirstTaken, KeysStandApart}
 use Rattle.verifier_desk.specs.Replies.{DeskFields}
-use Rattle.verifier_desk.specs.Serving.{Serves, most_input}
+use Rattle.verifier_desk.specs.Serving.{desk_promise}
 use Rattle.input_files.specs.declared.status.Status.{Status}
 use Rattle.input_files.specs.declared.status.Status.TheVariants.{BadMemory, Done, Memory, Spent, Words}
 use Rattle.input_files.specs.declared.unfit.Unfit.TheVariants.{GoneDevice, TakenKey}
@@ -77,12 +80,11 @@ pub record IsRefused {S F R W : Type 0} (s : shelves.Ghosts S) (shelf shelf_afte
 pub record HasServed {R M W : Type 0} (r : source.Ghosts R) (m : memory.Ghosts M)
     (w : sink.Ghosts W) (desk : DeskFields) (opened left : M) (old new : Ports R W)
     (status : Status) : Type 0 where
-  pub ended : Served
+  pub ended : Served AnswerFault
   pub answer : status ≡ status_of_served ended
   pub honest : m.is_honest left → m.is_honest opened
-  pub serves : Serves r m w desk
-      (record { source = old.source; memory = opened; sink = old.sink })
-      (record { source = new.source; memory = left; sink = new.sink }) ended
+  pub serves : Serves r (desk_promise m w desk (record { memory = opened; sink = old.sink }))
+      old.source new.source (record { memory = left; sink = new.sink }) ended
 
 -- the key of a device stands under another name in the memory
 pub record IsTaken (devices : List DeviceKey) (entries : List Entry) (status : Status)
@@ -130,12 +132,6 @@ MayServe told m devices (Some name) old new =
     × ((desk : List ℕ) (entries : List Entry) → told.finds old name desk entries
     → KeysStandApart sha256 devices entries × (first_gone entries 0 devices ≡ None))
 
--- a source gave no more than the limit, told or not, and that much where this is the answer
-pub record KeepsLimit {R : Type 0} (r : source.Ghosts R) (old new : R) (status : Status)
-    : Type 0 where
-  pub few : r.given new ≤ r.given old + most_input
-  pub spent : status ≡ Spent → r.given new ≡ r.given old + most_input
-
 -- an answer to arguments that may name its files
 pub record IsDeskAnswer {S F R M W : Type 0} (s : shelves.Ghosts S) (told : ToldMemories F M)
     (r : source.Ghosts R) (m : memory.Ghosts M) (desk_of : M → List ℕ) (w : sink.Ghosts W)
@@ -161,7 +157,7 @@ pub record IsDeskAnswer {S F R M W : Type 0} (s : shelves.Ghosts S) (told : Told
       → ((values : DeskValues) → Reaches (s.files shelf) (desk_row names) (Ok values)
       → MayServe told m values.devices names.memory memories memories_after)
       → (status ≡ Done) ⊎ (status ≡ Memory))))
-  pub limit : KeepsLimit r old.source new.source status
+  pub limit : KeepsLimit r old.source new.source (status ≡ Spent)
   pub kept : KeepsFiles s.files s.faults s.misses shelf shelf_after
   pub source_counted : r.faults old.source ≤ r.faults new.source
   pub sink_counted : w.faults old.sink ≤ w.faults new.sink

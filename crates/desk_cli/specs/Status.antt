@@ -3,8 +3,10 @@ use Rattle.desk_memory.specs.declared.memory_fault.MemoryFault.{MemoryFault}
 use Rattle.desk_memory.specs.declared.memory_fault.MemoryFault.TheVariants as kept
 use Rattle.memory_file.specs.declared.memory_file_fault.MemoryFileFault.{MemoryFileFault}
 use Rattle.memory_file.specs.declared.memory_file_fault.MemoryFileFault.TheVariants as opened
-use Rattle.verifier_desk.specs.declared.served.Served.{Served}
-use Rattle.verifier_desk.specs.declared.served.Served.TheVariants as served
+use Rattle.source_server.specs.declared.served.Served.{Served}
+use Rattle.source_server.specs.declared.served.Served.TheVariants as served
+use Rattle.verifier_desk.specs.declared.answer_fault.AnswerFault.{AnswerFault}
+use Rattle.verifier_desk.specs.declared.answer_fault.AnswerFault.TheVariants.{Memory, Unkept}
 use Rattle.input_files.specs.declared.status.Status.{Status}
 use Rattle.input_files.specs.declared.status.Status.TheVariants as status
 use Rattle.input_files.specs.declared.unfit.Unfit.TheVariants as unfit
@@ -29,10 +31,10 @@ status_of_unkept kept.Memory = status.Memory
 status_of_unkept kept.Failed = status.Unwritten
 
 -- once a desk was opened
-abbrev pub status_of_served : Served → Status
+abbrev pub status_of_served : Served AnswerFault → Status
 status_of_served served.Done = status.Done
 status_of_served served.Spent = status.Spent
 status_of_served served.ReadFault = status.ReadFault
 status_of_served served.WriteFault = status.WriteFault
-status_of_served served.Memory = status.Memory
-status_of_served (served.Unkept fault) = status_of_unkept fault
+status_of_served (served.Own Memory) = status.Memory
+status_of_served (served.Own (Unkept fault)) = status_of_unkept fault

@@ -6,7 +6,8 @@ ghost use Rattle.desk_cli.specs.Status.{status_of_served, status_of_unkept, stat
 use desk_memory::MemoryFault;
 use input_files::{Status, Unfit};
 use memory_file::MemoryFileFault;
-use verifier_desk::Served;
+use source_server::Served;
+use verifier_desk::AnswerFault;
 
 /// The answer where a memory was not opened or made.
 pub fn unopened_status(fault: MemoryFileFault) -> Status
@@ -37,7 +38,7 @@ pub fn unkept_status(fault: MemoryFault) -> Status
 }
 
 /// The answer once a desk was opened.
-pub fn served_status(served: Served) -> Status
+pub fn served_status(served: Served<AnswerFault>) -> Status
     ensures { result ≡ status_of_served served }
 {
     match served {
@@ -45,8 +46,8 @@ pub fn served_status(served: Served) -> Status
         Served::Spent => Status::Spent,
         Served::ReadFault => Status::ReadFault,
         Served::WriteFault => Status::WriteFault,
-        Served::Memory => Status::Memory,
-        Served::Unkept(fault) => unkept_status(fault),
+        Served::Own(AnswerFault::Memory) => Status::Memory,
+        Served::Own(AnswerFault::Unkept(fault)) => unkept_status(fault),
     }
 }
 

@@ -101,8 +101,8 @@ fn serve_files<M: EntryMemory + Drop, F: MemoryFiles<M>, R: Source, W: Sink>(
     match memory {
         None => serve_alone(alloc, values, source, sink),
         Some(name) => match memories.open(name) {
-            Ok(mut memory) => {
-                let status = serve_over(alloc, values, &mut memory, source, sink);
+            Ok(memory) => {
+                let (status, memory) = serve_over(alloc, values, memory, source, sink);
                 memories.close(memory);
                 status
             }
@@ -128,20 +128,20 @@ fn serve_alone<R: Source, W: Sink>(
 {
     let (keys, (image, policy)) = values;
     let desk = Desk::new(alloc, keys, image, policy, &[]);
-    serve_from(alloc, desk, &mut NoMemory, source, sink)
+    serve_from(alloc, desk, NoMemory, source, sink).0
 }
 
 // Serves the source over a memory that was opened, where each key stands under its own name there,
-// and no device is gone.
+// and no device is gone. It gives the memory back.
 fn serve_over<M: EntryMemory, R: Source, W: Sink>(
     alloc: Global,
     values: FileValues,
-    memory: &mut M,
+    memory: M,
     source: &mut R,
     sink: &mut W,
-) -> Status
-    ensures meets { (entries : List Entry) × M.stands memory.old entries
-        × (Keeps M.Memory memory.old entries
+) -> (Status, M)
+    ensures meets { (entries : List Entry) × M.stands memory entries
+        × (Keeps M.Memory memory entries
         → Meets R.Source M.Memory W.Sink
         (record {
           devices = values.0;
@@ -149,8 +149,8 @@ fn serve_over<M: EntryMemory, R: Source, W: Sink>(
           policy = values.1.1;
         })
         (record { source = source.old; sink = sink.old })
-        (record { source = source.new; sink = sink.new }) result (M.desk_of memory.old) entries
-        memory.old memory.new) }
+        (record { source = source.new; sink = sink.new }) result.0 (M.desk_of memory) entries
+        memory result.1) }
     ensures source_faults { R.faults source.old ≤ R.faults source.new }
     ensures sink_faults { W.faults sink.old ≤ W.faults sink.new }
 {
@@ -158,35 +158,41 @@ fn serve_over<M: EntryMemory, R: Source, W: Sink>(
     let entries = memory.entries();
     match first_taken(alloc, &keys, entries) {
         Ok(None) => {}
-        Ok(Some(place)) => return Status::BadMemory(Unfit::TakenKey(place as u64 + 1)),
-        Err(_) => return Status::Memory,
+        Ok(Some(place)) => return (Status::BadMemory(Unfit::TakenKey(place as u64 + 1)), memory),
+        Err(_) => return (Status::Memory, memory),
     }
     if let Some(place) = first_gone(&keys, entries) {
-        return Status::BadMemory(Unfit::GoneDevice(place as u64 + 1));
+        return (
+            Status::BadMemory(Unfit::GoneDevice(place as u64 + 1)),
+            memory,
+        );
     }
     let desk = Desk::new(alloc, keys, image, policy, entries);
     serve_from(alloc, desk, memory, source, sink)
 }
 
-// Serves the source from a desk, where there was memory for one.
+// Serves the source from a desk, where there was memory for one. It gives the memory back.
 fn serve_from<M: Memory, R: Source, W: Sink>(
     alloc: Global,
     desk: Result<Desk, AllocError>,
-    memory: &mut M,
+    memory: M,
     source: &mut R,
     sink: &mut W,
-) -> Status
+) -> (Status, M)
     ensures served { (fields : DeskFields)
         → IfOk desk (λ desk. DeskStandsFor desk fields no_lines_of)
-        → Keeps M.Memory memory.old fields.entries
-        → HasServed R.Source M.Memory W.Sink fields memory.old memory.new
+        → Keeps M.Memory memory fields.entries
+        → HasServed R.Source M.Memory W.Sink fields memory result.1
         (record { source = source.old; sink = sink.old })
-        (record { source = source.new; sink = sink.new }) result }
+        (record { source = source.new; sink = sink.new }) result.0 }
     ensures source_faults { R.faults source.old ≤ R.faults source.new }
     ensures sink_faults { W.faults sink.old ≤ W.faults sink.new }
 {
     match desk {
-        Ok(mut desk) => served_status(serve(alloc, &mut desk, source, memory, sink)),
-        Err(_) => Status::Memory,
+        Ok(desk) => {
+            let (served, memory) = serve(alloc, desk, source, memory, sink);
+            (served_status(served), memory)
+        }
+        Err(_) => (Status::Memory, memory),
     }
 }

@@ -1,61 +1,100 @@
 -- Replies that are held back, put, and more of them.
-use Rattle.std.proofs.Common.{◌≡◌, ◌≤◌, ◌∙◌, ◌++◌, ◌⊎◌, ℕ, Bool, true, false, List, [], ◌∷◌, Option, Some, None, Ok, length, take, drop, refl, ap, sym, subst, append_assoc, ⊎_elim}
-use Rattle.std.specs.Prelude.{◌||◌, if◌then◌else◌, nat_lt}
+use Rattle.std.proofs.Common.{◌≡◌, ◌≤◌, ◌∙◌, ◌++◌, ℕ, Bool, true, false, List, [], ◌∷◌, Option, Some, None, Ok, Err, length, take, drop, refl, ap, sym, subst, arith, append_assoc, ⊎_elim}
+use Rattle.std.specs.Prelude.{◌||◌, if◌then◌else◌, nat_lt, IsTrue, OnOk, Result}
 use Rattle.std.proofs.Math.Bool.{or-false}
 use Rattle.std.proofs.lemmas.List.{append-nil, take-append-drop}
 use Rattle.text_scan.specs.Word.{words_of}
 use Rattle.outside_edge.specs.Sink.{Takes, TakesPrefix}
+use Rattle.outside_edge.specs.Count.{Rose}
 use Rattle.outside_edge.specs.declared.sink.Sink as sink
 use Rattle.outside_edge.proofs.SinkLemmas.{takes_both}
+use Rattle.source_server.specs.declared.halt.Halt.{Halt}
+use Rattle.source_server.specs.declared.halt.Halt.TheVariants.{Write, Own}
+use Rattle.source_server.specs.HeldLine.{LONGEST_LINE, short_line}
 use Rattle.desk_memory.specs.declared.memory.Memory as memory
+use Rattle.desk_memory.specs.declared.memory_fault.MemoryFault.{MemoryFault}
 use Rattle.desk_memory.specs.Entry.{Entry}
 use Rattle.desk_memory.specs.Kept.{LeavesOr}
-use Rattle.verifier_desk.specs.declared.served.Served.{Served}
-use Rattle.verifier_desk.specs.declared.served.Served.TheVariants.{Done, Spent, ReadFault, WriteFault, Memory, Unkept}
+use Rattle.verifier_desk.specs.declared.answer_fault.AnswerFault.{AnswerFault}
+use Rattle.verifier_desk.specs.declared.answer_fault.AnswerFault.TheVariants.{Memory, Unkept}
 use Rattle.verifier_desk.specs.declared.desk.Desk.{Desk}
 use Rattle.verifier_desk.specs.Answering.{Answers, OnlyNotes}
 use Rattle.verifier_desk.specs.Desk.{DeskStandsFor}
-use Rattle.verifier_desk.specs.DeskLine.{DeskLine, LONGEST_LINE, TooLong, desk_line_of, desk_line_of_words}
+use Rattle.verifier_desk.specs.DeskLine.{DeskLine, TooLong, desk_line_of, desk_line_of_words}
 use Rattle.verifier_desk.specs.DeviceKey.{DeviceKey}
-use Rattle.verifier_desk.specs.HeldLine.{short_line}
 use Rattle.verifier_desk.specs.Noted.{entries_after, noted_of, with_noted}
-use Rattle.verifier_desk.specs.Replies.{DeskFields, lines_said, replies, reply, reply_to}
+use Rattle.verifier_desk.specs.Replies.{DeskFields, gives_report, lines_said, replies, reply, reply_to}
 use Rattle.verifier_desk.specs.Reply.{ReplyFields}
-use Rattle.verifier_desk.proofs.MoreLines.{beginning_of_more, put_of_more, put_whole_of_more, puts_more, puts_since}
-use Rattle.verifier_desk.proofs.SessionLast.{told_anew}
 use Rattle.verifier_desk.specs.Standing.{with_said}
-use Rattle.verifier_desk.specs.Serving.{AnswersLine, HasAnswered, HasPut, HasPutWhole, Keeps, KeepsAnswered, PutsHeld, PutsLines, ServesLines, Told, Withheld, nothing_withheld}
+use Rattle.verifier_desk.specs.Serving.{HasAnswered, HasFailed, HasPut, Keeps, Outside, StopsAt}
+use Rattle.verifier_desk.specs.Telling.{FailsAt, Grows, PutsHeld, TellsLines, Told}
+use Rattle.verifier_desk.specs.Withheld.{Withheld, nothing_withheld}
+use Rattle.verifier_desk.proofs.MoreLines.{failed_since, fails_more, grows_more, put_of_more, rose_more}
 
-module _ {M W : Type 0} (m : memory.Ghosts M) (w : sink.Ghosts W) (first : W)
+module _ {M W : Type 0} (m : memory.Ghosts M) (w : sink.Ghosts W) (first : Outside M W)
     (fields : DeskFields) where
-  -- a memory that keeps all of the lines keeps what a prefix of the replies says
-  kept_answered : (now : M) (lines : List (List ℕ)) (text more : List ℕ)
-      → Keeps m now (entries_after fields lines) → replies fields lines ≡ text ++ more
-      → KeepsAnswered m now fields lines text
-  kept_answered now lines text more keeps parts = λ honest found may.
+  -- a memory that keeps all of the lines keeps what a beginning of their replies says
+  kept_put : (now : Outside M W) (lines : List (List ℕ)) (text more : List ℕ)
+      → Keeps m now.memory (entries_after fields lines) → replies fields lines ≡ text ++ more
+      → Takes w.stands first.sink now.sink text
+      → HasPut m w first now fields lines text
+  kept_put now lines text more keeps parts takes =
+      record {
+        put = takes;
+        answered = λ honest found may. record {
+          later = [];
+          kept = lines;
+          parts = refl;
+          entries = keeps.keeps honest found may;
+          more = more;
+          answered = parts;
+        };
+      }
+
+  -- where all replies were put, nothing is held back; and where nothing is, all were put
+  pub told_anew : (now : Outside M W) (lines : List (List ℕ)) → Grows m w first now
+      → HasAnswered m w first now fields lines
+      → Told m w first now nothing_withheld fields lines
+  told_anew now lines grows so =
+      let all = sym (append-nil (replies fields lines)) in
       record {
         later = [];
-        kept = lines;
+        done = lines;
         parts = refl;
-        entries = keeps.keeps honest found may;
-        more = more;
-        answered = parts;
+        has_put = kept_put now lines (replies fields lines) [] so.keeps all so.put;
+        held = all;
+        has = so.keeps.has;
+        settled = λ none. so.keeps.keeps;
+        grows = grows;
+      }
+
+  pub answered_of_told : (now : Outside M W) (lines : List (List ℕ))
+      → Told m w first now nothing_withheld fields lines → HasAnswered m w first now fields lines
+  answered_of_told now lines so =
+      record {
+        put = subst (Takes w.stands first.sink now.sink)
+            (sym (so.held ∙ append-nil (replies fields so.done))) so.has_put.put;
+        keeps = record { has = so.has; keeps = so.settled refl };
       }
 
   -- the memory failed before what was held back was put
-  pub unkept : (now : W) (old new : M) (withheld : Withheld) (lines : List (List ℕ))
-      → Told m w first now old withheld fields lines
-      → (m.is_honest new → m.is_honest old)
-      → (m.is_honest new → LeavesOr m.may_leave old new (entries_after fields lines))
-      → HasPutWhole m w first now new fields lines
-  unkept now old new withheld lines so honest leaves =
+  pub unkept : (old : Outside M W) (new : M) (withheld : Withheld) (lines : List (List ℕ))
+      (fault : MemoryFault)
+      → Told m w first old withheld fields lines
+      → (m.is_honest new → m.is_honest old.memory)
+      → (m.is_honest new → LeavesOr m.may_leave old.memory new (entries_after fields lines))
+      → HasFailed m old.memory new fault
+      → FailsAt m w first (record old { memory = new }) fields lines (Own (Unkept fault))
+  unkept old new withheld lines fault so honest leaves failed = (
+    failed_since m w first.memory old.memory new fault so.grows.memory_rises failed,
+    (
+      so.later,
+      so.done,
+      so.parts,
       record {
-        later = so.whole.later;
-        done = so.whole.done;
-        parts = so.whole.parts;
-        put = so.whole.put;
+        put = so.has_put.put;
         answered = λ sound found may.
-            ⊎_elim (λ before. so.whole.answered (honest sound) found before)
+            ⊎_elim (λ before. so.has_put.answered (honest sound) found before)
             (λ is. record {
               later = [];
               kept = lines;
@@ -64,232 +103,134 @@ module _ {M W : Type 0} (m : memory.Ghosts M) (w : sink.Ghosts W) (first : W)
               more = withheld.replies;
               answered = so.held;
             }) (leaves sound found may);
-      }
+      },
+    ),
+  )
 
-  -- what was held back was put, or a prefix of it
-  pub all_put : (old new : W) (before now : M) (withheld : Withheld) (lines : List (List ℕ))
-      → Told m w first old before withheld fields lines
-      → Keeps m now (entries_after fields lines)
-      → Takes w.stands old new withheld.replies
-      → HasAnswered m w first new now fields lines
-  all_put old new before now withheld lines so keeps takes =
-      record {
-        put = rw so.held (takes_both w.stands first old new (replies fields so.whole.done)
-            withheld.replies so.whole.put takes);
+  -- what was held back was put, or the sink failed
+  pub all_put : (old new : Outside M W) (withheld : Withheld) (lines : List (List ℕ))
+      → Told m w first old withheld fields lines → Grows m w old new
+      → Keeps m new.memory (entries_after fields lines)
+      → Takes w.stands old.sink new.sink withheld.replies
+      → Told m w first new nothing_withheld fields lines
+  all_put old new withheld lines so grows keeps takes =
+      told_anew new lines (grows_more m w first old new so.grows grows)
+      (record {
+        put = rw so.held (takes_both w.stands first.sink old.sink new.sink
+            (replies fields so.done) withheld.replies so.has_put.put takes);
         keeps = keeps;
-      }
+      })
 
-  pub prefix_put : (old new : W) (before now : M) (withheld : Withheld) (lines : List (List ℕ))
-      → Told m w first old before withheld fields lines
-      → Keeps m now (entries_after fields lines)
-      → TakesPrefix w.stands old new withheld.replies
-      → HasPut m w first new now fields lines
-  prefix_put old new before now withheld lines so keeps (n, within, takes) =
-      let done : List ℕ = replies fields so.whole.done in
-      let parts : replies fields lines ≡ (done ++ take n withheld.replies) ++ drop n
-      withheld.replies =
+  pub unwritten : (old new : Outside M W) (withheld : Withheld) (lines : List (List ℕ))
+      → Told m w first old withheld fields lines
+      → Keeps m new.memory (entries_after fields lines)
+      → TakesPrefix w.stands old.sink new.sink withheld.replies
+      → Rose (w.faults old.sink) (w.faults new.sink)
+      → FailsAt m w first new fields lines Write
+  unwritten old new withheld lines so keeps (n, within, takes) rose =
+      let done : List ℕ = replies fields so.done in
+      let text : List ℕ = done ++ take n withheld.replies in
+      let parts : replies fields lines ≡ text ++ drop n withheld.replies =
       so.held ∙ ap (λ (one : List ℕ). done ++ one) (sym (take-append-drop n withheld.replies))
-      ∙ sym (append_assoc done (take n withheld.replies) (drop n withheld.replies)) in
+      ∙ sym (append_assoc done (take n withheld.replies) (drop n withheld.replies)) in (
+        rose_more (w.faults first.sink) (w.faults old.sink) (w.faults new.sink)
+            so.grows.sink_rises rose,
+        (
+          text,
+          drop n withheld.replies,
+          parts,
+          kept_put new lines text (drop n withheld.replies) keeps parts
+              (takes_both w.stands first.sink old.sink new.sink done (take n withheld.replies)
+              so.has_put.put takes),
+        ),
+      )
+
+  -- a failure is where it stopped
+  pub stops_of_fails : (now : Outside M W) (lines : List (List ℕ)) (why : Halt AnswerFault)
+      → FailsAt m w first now fields lines why → StopsAt m w first now fields lines why
+  stops_of_fails now lines Write so = so
+  stops_of_fails now lines (Own (Unkept fault)) so = so
+  stops_of_fails now lines (Own Memory) so = absurd so
+
+  -- where there is room now, lines go on as they were
+  pub room_made : (now : Outside M W) (withheld : Withheld) (lines : List (List ℕ))
+      (result : Result Unit (Halt AnswerFault))
+      → OnOk result (withheld ≡ nothing_withheld)
+      → PutsHeld m w first now fields lines result
+      → OnOk result (Told m w first now withheld fields lines)
+  room_made now withheld lines (Ok unit) empty so = rw empty so.all
+  room_made now withheld lines (Err why) empty so = tt
+
+  -- what was put is so still, where the memory only noted
+  put_noted : (old : Outside M W) (new : M) (lines : List (List ℕ)) (text : List ℕ)
+      → OnlyNotes m old.memory new
+      → HasPut m w first old fields lines text
+      → HasPut m w first (record old { memory = new }) fields lines text
+  put_noted old new lines text only so =
       record {
-        text = done ++ take n withheld.replies;
-        more = drop n withheld.replies;
-        prefix = parts;
-        put = takes_both w.stands first old new done (take n withheld.replies) so.whole.put takes;
-        answered = kept_answered now lines (done ++ take n withheld.replies)
-            (drop n withheld.replies) keeps parts;
+        put = so.put;
+        answered = λ honest found may.
+            so.answered (only.honest honest) found (only.crash found may);
       }
 
   -- one line more
-  pub line_told : (now : W) (old new : M) (before withheld : Withheld)
+  pub line_told : (old : Outside M W) (new : M) (before withheld : Withheld)
       (earlier : List (List ℕ)) (bytes : List ℕ)
-      → Told m w first now old before fields earlier
-      → OnlyNotes m old new
+      → Told m w first old before fields earlier
+      → OnlyNotes m old.memory new
       → withheld.replies ≡ before.replies ++ reply fields earlier bytes
-      → ((entries : List Entry) → m.stands old entries
+      → ((entries : List Entry) → m.stands old.memory entries
       → m.stands new (with_noted (noted_of fields (lines_said fields earlier) (desk_line_of
       fields.devices bytes)) entries))
-      → (withheld.is_noted ≡ false → (before.is_noted ≡ false) × (new ≡ old)
+      → (withheld.is_noted ≡ false → (before.is_noted ≡ false) × (new ≡ old.memory)
       × (noted_of fields (lines_said fields earlier) (desk_line_of fields.devices bytes) ≡ None))
-      → Told m w first now new withheld fields (bytes ∷ earlier)
-  line_told now old new before withheld earlier bytes so only holds notes quiet =
-      let done : List ℕ = replies fields so.whole.done in
+      → Told m w first (record old { memory = new }) withheld fields (bytes ∷ earlier)
+  line_told old new before withheld earlier bytes so only holds notes quiet =
+      let put : List ℕ = replies fields so.done in
       record {
-        whole = record {
-          later = bytes ∷ so.whole.later;
-          done = so.whole.done;
-          parts = ap (λ (all : List (List ℕ)). bytes ∷ all) so.whole.parts;
-          put = so.whole.put;
-          answered = λ honest found may. beginning_of_more fields (bytes ∷ []) earlier done found
-              (so.whole.answered (only.honest honest) found (only.crash found may));
-        };
+        later = bytes ∷ so.later;
+        done = so.done;
+        parts = ap (λ (all : List (List ℕ)). bytes ∷ all) so.parts;
+        has_put = put_of_more m w first (record old { memory = new }) fields (bytes ∷ []) earlier
+            put (put_noted old new earlier put only so.has_put);
         held = ap (λ (text : List ℕ). text ++ reply fields earlier bytes) so.held
-            ∙ append_assoc done before.replies (reply fields earlier bytes)
-            ∙ ap (λ (text : List ℕ). done ++ text) (sym holds);
+            ∙ append_assoc put before.replies (reply fields earlier bytes)
+            ∙ ap (λ (text : List ℕ). put ++ text) (sym holds);
         has = notes (entries_after fields earlier) so.has;
         settled = λ none honest.
             let still = quiet none in
             rw (still.1, still.2) (so.settled still.0 (only.honest honest));
+        grows = record {
+          honest = λ sound. so.grows.honest (only.honest sound);
+          memory_rises = omega (arith, so.grows.memory_rises, only.counted);
+          sink_rises = so.grows.sink_rises;
+        };
       }
-
-  -- a fault stands where more lines follow, and since an earlier moment
-  lines_of_held : (old new : W) (memory_old memory_new : M) (lines : List (List ℕ))
-      (served : Served) → PutsHeld m w first old new memory_old memory_new fields lines served
-      → PutsLines m w first old new memory_old memory_new fields lines served
-  lines_of_held old new memory_old memory_new lines Done so = so
-  lines_of_held old new memory_old memory_new lines WriteFault so = so
-  lines_of_held old new memory_old memory_new lines (Unkept fault) so = so
-  lines_of_held old new memory_old memory_new lines Spent so = absurd so
-  lines_of_held old new memory_old memory_new lines ReadFault so = absurd so
-  lines_of_held old new memory_old memory_new lines Memory so = absurd so
-
-  held_over : (before old new : W) (memory_before memory_old memory_new : M)
-      (more lines : List (List ℕ)) (served : Served)
-      → (served ≡ Done → ⊥)
-      → w.faults before ≤ w.faults old → m.faults memory_before ≤ m.faults memory_old
-      → PutsHeld m w first old new memory_old memory_new fields lines served
-      → PutsLines m w first before new memory_before memory_new fields (more ++ lines) served
-  held_over before old new memory_before memory_old memory_new more lines served other rises grows
-      so =
-      puts_since m w first before old new memory_before memory_old memory_new fields
-      (more ++ lines) served grows rises
-      (puts_more m w first old new memory_old memory_new fields more lines served other
-      (lines_of_held old new memory_old memory_new lines served so))
-
-  -- what was held back is put where lines were answered, all or those before a report
-  abbrev pub PutsTold : W → W → M → M → Withheld → Served → Type 0
-  PutsTold old new memory_old memory_new withheld served =
-      (lines : List (List ℕ)) → Told m w first old memory_old withheld fields lines
-      → PutsHeld m w first old new memory_old memory_new fields lines served
-
-  pub put_to_end : (before old new : W) (memory_before memory_old memory_new : M)
-      (withheld : Withheld) (lines : List (List ℕ)) (answered : Served)
-      → (answered ≡ Done) ⊎ (answered ≡ Memory)
-      → PutsTold old new memory_old memory_new withheld Done
-      → ServesLines m w first before old memory_before memory_old withheld fields lines answered
-      → PutsLines m w first before new memory_before memory_new fields lines answered
-  put_to_end before old new memory_before memory_old memory_new withheld lines Done one puts so =
-      puts lines so
-  put_to_end before old new memory_before memory_old memory_new withheld lines Memory one puts
-      (later, line, earlier, parts, gives, told) = (
-        later,
-        line,
-        earlier,
-        parts,
-        gives,
-        puts earlier told,
-      )
-  put_to_end before old new memory_before memory_old memory_new withheld lines Spent one puts
-      so =
-      absurd so
-  put_to_end before old new memory_before memory_old memory_new withheld lines ReadFault one puts
-      so =
-      absurd so
-  put_to_end before old new memory_before memory_old memory_new withheld lines WriteFault one puts
-      so =
-      absurd (⊎_elim (λ is. cc is) (λ is. cc is) one)
-  put_to_end before old new memory_before memory_old memory_new withheld lines (Unkept fault) one
-      puts so =
-      absurd (⊎_elim (λ is. cc is) (λ is. cc is) one)
-
-  pub put_to_fault : (before old new : W) (memory_before memory_old memory_new : M)
-      (withheld : Withheld) (lines : List (List ℕ)) (answered served : Served)
-      → (answered ≡ Done) ⊎ (answered ≡ Memory) → (served ≡ Done → ⊥)
-      → PutsTold old new memory_old memory_new withheld served
-      → m.faults memory_before ≤ m.faults memory_old → w.faults before ≤ w.faults old
-      → ServesLines m w first before old memory_before memory_old withheld fields lines answered
-      → PutsLines m w first before new memory_before memory_new fields lines served
-  put_to_fault before old new memory_before memory_old memory_new withheld lines Done served one
-      other puts grows rises so =
-      held_over before old new memory_before memory_old memory_new [] lines served other rises grows
-      (puts lines so)
-  put_to_fault before old new memory_before memory_old memory_new withheld lines Memory served one
-      other puts grows rises (later, line, earlier, parts, gives, told) =
-      rw (parts ∙ sym (append_assoc later (line ∷ []) earlier))
-      (held_over before old new memory_before memory_old memory_new (later ++ line ∷ []) earlier
-      served other rises grows (puts earlier told))
-  put_to_fault before old new memory_before memory_old memory_new withheld lines Spent served one
-      other puts grows rises so =
-      absurd so
-  put_to_fault before old new memory_before memory_old memory_new withheld lines ReadFault served
-      one other puts grows rises so =
-      absurd so
-  put_to_fault before old new memory_before memory_old memory_new withheld lines WriteFault served
-      one other puts grows rises so =
-      absurd (⊎_elim (λ is. cc is) (λ is. cc is) one)
-  put_to_fault before old new memory_before memory_old memory_new withheld lines (Unkept fault)
-      served one other puts grows rises so =
-      absurd (⊎_elim (λ is. cc is) (λ is. cc is) one)
-
-  -- where there is room now, lines go on as they were
-  pub room_made : (old new : W) (memory_old memory_new : M) (withheld : Withheld)
-      (lines : List (List ℕ)) (served : Served)
-      → (served ≡ Done → withheld ≡ nothing_withheld)
-      → PutsHeld m w first old new memory_old memory_new fields lines served
-      → ServesLines m w first old new memory_old memory_new withheld fields lines served
-  room_made old new memory_old memory_new withheld lines Done empty so =
-      rw (empty refl) (told_anew m w first new memory_new fields lines so)
-  room_made old new memory_old memory_new withheld lines WriteFault empty so = so
-  room_made old new memory_old memory_new withheld lines (Unkept fault) empty so = so
-  room_made old new memory_old memory_new withheld lines Spent empty so = absurd so
-  room_made old new memory_old memory_new withheld lines ReadFault empty so = absurd so
-  room_made old new memory_old memory_new withheld lines Memory empty so = absurd so
-
-  -- a fault before a line is one among the lines with it
-  pub fault_before_line : (old new : W) (memory_old memory_new : M) (withheld : Withheld)
-      (desk : Desk) (line : List ℕ) (lines : List (List ℕ)) (served : Served)
-      → (served ≡ Done → ⊥)
-      → ServesLines m w first old new memory_old memory_new withheld fields lines served
-      → AnswersLine m w first old new memory_old memory_new withheld fields desk (line ∷ lines)
-      served
-  fault_before_line old new memory_old memory_new withheld desk line lines Done other so =
-      absurd (other refl)
-  fault_before_line old new memory_old memory_new withheld desk line lines WriteFault other so = (
-    put_of_more m w first new memory_new fields (line ∷ []) lines so.0,
-    so.1,
-  )
-  fault_before_line old new memory_old memory_new withheld desk line lines (Unkept fault) other
-      so = (
-        put_whole_of_more m w first new memory_new fields (line ∷ []) lines so.0,
-        so.1,
-      )
-  fault_before_line old new memory_old memory_new withheld desk line lines Memory other
-      (later, gives_line, earlier, parts, gives, told) = (
-        line ∷ later,
-        gives_line,
-        earlier,
-        ap (λ (all : List (List ℕ)). line ∷ all) parts,
-        gives,
-        told,
-      )
-  fault_before_line old new memory_old memory_new withheld desk line lines Spent other so =
-      absurd so
-  fault_before_line old new memory_old memory_new withheld desk line lines ReadFault other so =
-      absurd so
 
   neither : (one two : Bool) → one || two ≡ false → (one ≡ false) × (two ≡ false)
   neither true two is = absurd (cc is)
   neither false two is = (refl, is)
 
   -- the reply to a line is held back
-  pub reply_told : (now : W) (old new : M) (before withheld : Withheld) (earlier : List (List ℕ))
-      (bytes : List ℕ) (desk : Desk) (said : DeskLine) (answer : ReplyFields)
+  pub reply_told : (old : Outside M W) (new : M) (before withheld : Withheld)
+      (earlier : List (List ℕ)) (bytes : List ℕ) (desk : Desk) (said : DeskLine)
+      (answer : ReplyFields)
       → desk_line_of fields.devices bytes ≡ said
-      → Told m w first now old before fields earlier
-      → OnlyNotes m old new
-      → Answers m old new desk fields (lines_said fields earlier) said (Ok answer)
+      → Told m w first old before fields earlier
+      → OnlyNotes m old.memory new
+      → Answers m old.memory new desk fields (lines_said fields earlier) said (Ok answer)
       → withheld ≡ record {
         replies = before.replies ++ answer.text;
         is_noted = before.is_noted || answer.is_noted;
       }
-      → Told m w first now new withheld fields (bytes ∷ earlier)
-      × DeskStandsFor desk fields (lines_said fields (bytes ∷ earlier))
-  reply_told now old new before withheld earlier bytes desk said answer says told only answers
-      holds = (
-        line_told now old new before withheld earlier bytes told only
+      → TellsLines m w first (record old { memory = new }) withheld fields desk (bytes ∷ earlier)
+  reply_told old new before withheld earlier bytes desk said answer says told only answers holds =
+      record {
+        told = line_told old new before withheld earlier bytes told only
             (ap (λ (one : Withheld). one.replies) holds
             ∙ ap (λ (text : List ℕ). before.replies ++ text)
             (answers.0 ∙ ap (reply_to fields (lines_said fields earlier)) (sym says)))
-            (subst (λ (one : DeskLine). (entries : List Entry) → m.stands old entries
+            (subst (λ (one : DeskLine). (entries : List Entry) → m.stands old.memory entries
             → m.stands new (with_noted (noted_of fields (lines_said fields earlier) one) entries))
             (sym says) answers.2)
             (λ none.
@@ -299,23 +240,30 @@ module _ {M W : Type 0} (m : memory.Ghosts M) (w : sink.Ghosts W) (first : W)
               both.0,
               same.0,
               ap (noted_of fields (lines_said fields earlier)) says ∙ same.1,
-            )),
-        subst (λ (one : DeskLine). DeskStandsFor desk fields
-            (with_said one (lines_said fields earlier))) (sym says) answers.1,
-      )
+            ));
+        stands = subst (λ (one : DeskLine). DeskStandsFor desk fields
+            (with_said one (lines_said fields earlier))) (sym says) answers.1;
+      }
 
   -- the memory failed at a line
-  pub whole_noted : (now : W) (old new : M) (lines : List (List ℕ)) → OnlyNotes m old new
-      → HasPutWhole m w first now old fields lines → HasPutWhole m w first now new fields lines
-  whole_noted now old new lines only so =
-      record {
-        later = so.later;
-        done = so.done;
-        parts = so.parts;
-        put = so.put;
-        answered = λ honest found may.
-            so.answered (only.honest honest) found (only.crash found may);
-      }
+  pub unkept_at_line : (old : Outside M W) (new : M) (withheld : Withheld)
+      (earlier : List (List ℕ)) (bytes : List ℕ) (fault : MemoryFault)
+      → Told m w first old withheld fields earlier
+      → OnlyNotes m old.memory new
+      → HasFailed m old.memory new fault
+      → StopsAt m w first (record old { memory = new }) fields (bytes ∷ earlier)
+      (Own (Unkept fault))
+  unkept_at_line old new withheld earlier bytes fault told only failed =
+      fails_more m w first (record old { memory = new }) fields (bytes ∷ []) earlier
+      (Own (Unkept fault)) (
+        failed_since m w first.memory old.memory new fault told.grows.memory_rises failed,
+        (
+          told.later,
+          told.done,
+          told.parts,
+          put_noted old new earlier (replies fields told.done) only told.has_put,
+        ),
+      )
 
 -- what is said by a line that is too long, and by one that is not
 long_says : (long : Bool) (line : List ℕ) (says : DeskLine)

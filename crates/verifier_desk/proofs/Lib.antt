@@ -2,7 +2,6 @@ pub mod ServedAlone
 pub mod AcceptedOnce
 pub mod Repeated
 pub mod Answered
-pub mod Pieces
 pub mod Standing
 pub mod HeldReplies
 pub mod Remembered
@@ -17,7 +16,5 @@ pub mod SilentLine
 pub mod DeskError
 pub mod NotedReply
 pub mod MoreLines
-pub mod SessionPiece
-pub mod SessionLast
-pub mod SessionSource
 pub mod KeyMessages
+pub mod DeskServed

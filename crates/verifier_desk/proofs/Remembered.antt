@@ -13,7 +13,8 @@ use Rattle.desk_memory.specs.DeviceState.{is_new, with_answer}
 use Rattle.desk_memory.specs.Entry.{Entry, Home, Note, entry_at, home_of, last_in, state_under, with_entry, with_note}
 use Rattle.desk_memory.specs.KeyMark.{key_mark}
 use Rattle.desk_memory.proofs.Noted.{entry_is_last}
-use Rattle.verifier_desk.specs.DeskLine.{DeskLine, TooLong, Silent, Foreign, Own, LONGEST_LINE, is_verb, own_or_foreign, desk_line_of_words, desk_line_of}
+use Rattle.source_server.specs.HeldLine.{LONGEST_LINE}
+use Rattle.verifier_desk.specs.DeskLine.{DeskLine, TooLong, Silent, Foreign, Own, is_verb, own_or_foreign, desk_line_of_words, desk_line_of}
 use Rattle.verifier_desk.specs.DeviceKey.{DeviceKey, key_named}
 use Rattle.verifier_desk.specs.DeviceLine.{DeviceLine}
 use Rattle.verifier_desk.specs.DeviceReply.{new_answer, state_after, state_from}

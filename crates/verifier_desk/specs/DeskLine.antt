@@ -4,12 +4,9 @@ use Rattle.std.specs.Str.{bytes_eq}
 use Rattle.text_scan.specs.declared.fault_kind.FaultKind.{FaultKind}
 use Rattle.text_scan.specs.Decimal.{decimal_of}
 use Rattle.text_scan.specs.Word.{words_of}
+use Rattle.source_server.specs.HeldLine.{LONGEST_LINE}
 use Rattle.verifier_desk.specs.DeviceKey.{DeviceKey, key_named}
 use Rattle.verifier_desk.specs.DeviceLine.{DeviceLine}
-
--- the longest line that is read, without its end
-abbrev pub LONGEST_LINE : ℕ
-LONGEST_LINE = 65536
 
 pub data DeskLine : Type 0 where
   TooLong : DeskLine

@@ -5,12 +5,10 @@ pub mod DeviceKey
 pub mod DeviceLine
 pub mod DeviceReply
 pub mod Gone
-pub mod HeldLine
 pub mod Judged
 pub mod KeyMessage
 pub mod KeyOwner
 pub mod Law
-pub mod LineCut
 pub mod Noted
 pub mod OwnLine
 pub mod Places
@@ -19,3 +17,5 @@ pub mod Reply
 pub mod Run
 pub mod Serving
 pub mod Standing
+pub mod Telling
+pub mod Withheld

@@ -1,4 +1,3 @@
-ghost use Rattle.verifier_desk.specs.HeldLine.{IsCutAnywhere, IsHeld, IsPlain};
 ghost use Rattle.verifier_desk.specs.KeyMessage.{MessagesStandApart};
 ghost use Rattle.verifier_desk.specs.KeyOwner.{IsKeyBound, IsKeyKept, IsUnderOneName};
 ghost use Rattle.verifier_desk.specs.Law.{IsServedAlone, IsAcceptedOnce, IsAnswered, IsGoneOn, IsRemembered, IsRepeated};
@@ -25,21 +24,6 @@ pub fn answer_is_repeated()
 /// A report that is accepted answers the outstanding request: its counter and its challenge.
 pub fn accept_answers_request()
     ensures { IsAnswered }
-{}
-
-/// What is held of a line gives the line, and goes on to stand for what comes.
-pub fn line_is_held_whole()
-    ensures { IsHeld }
-{}
-
-/// Where bytes are cut into pieces changes nothing.
-pub fn bytes_are_cut_anywhere()
-    ensures { IsCutAnywhere }
-{}
-
-/// A piece without LF only lengthens the line that comes.
-pub fn plain_piece_lengthens_line()
-    ensures { IsPlain }
 {}
 
 /// A line of the device at a place changes the state there alone.

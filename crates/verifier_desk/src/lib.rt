@@ -19,17 +19,16 @@ mod answer_text;
 mod challenge;
 mod desk;
 mod desk_line;
+mod desk_responder;
 mod device_answer;
 mod device_key;
 mod gone;
-mod held_line;
 mod key_list;
 mod key_owner;
 mod law;
 mod noting;
 mod places;
 mod reply;
-mod served;
 mod session;
 mod telling;
 mod withheld;
@@ -41,11 +40,9 @@ pub use gone::first_gone;
 pub use key_list::{KeyList, read_keys};
 pub use key_owner::first_taken;
 pub use law::{
-    accept_answers_request, answer_is_repeated, bytes_are_cut_anywhere, desk_goes_on,
-    device_is_served_alone, key_is_under_one_name, keys_are_kept, line_is_held_whole,
-    memory_has_all_runs, memory_has_states, messages_stand_apart, plain_piece_lengthens_line,
-    report_is_accepted_once, state_is_kept_at_its_place, told_key_is_bound,
+    accept_answers_request, answer_is_repeated, desk_goes_on, device_is_served_alone,
+    key_is_under_one_name, keys_are_kept, memory_has_all_runs, memory_has_states,
+    messages_stand_apart, report_is_accepted_once, state_is_kept_at_its_place, told_key_is_bound,
 };
 pub use reply::Reply;
-pub use served::Served;
-pub use session::{MOST_INPUT, serve};
+pub use session::serve;

@@ -1,19 +1,20 @@
-ghost use Rattle.std.specs.Prelude.{◌≡◌, ◌≤◌, ◌+◌, ◌++◌, ◌∷◌, ◌||◌, false, ℕ, List, length, option_map, OnOk, IfErr};
+ghost use Rattle.std.specs.Prelude.{◌≡◌, ◌≤◌, ◌+◌, ◌++◌, ◌∷◌, ◌||◌, false, ℕ, List, length, option_map, IsTrue, OnOk, IfErr};
 ghost use Rattle.desk_memory.specs.Entry.{Entry};
 ghost use Rattle.desk_memory.specs.Kept.{IsKept, LeavesOr};
-ghost use Rattle.verifier_desk.specs.declared.served.Served.TheVariants.{Done};
-ghost use Rattle.verifier_desk.specs.Desk.{DeskStandsFor};
-ghost use Rattle.verifier_desk.specs.HeldLine.{short_line};
-ghost use Rattle.verifier_desk.specs.Replies.{DeskFields, lines_said};
-ghost use Rattle.verifier_desk.specs.Serving.{AnswersLine, HasFailed, Keeps, PutsHeld, PutsLines, ServesLines, Told, nothing_withheld};
+ghost use Rattle.source_server.specs.HeldLine.{short_line};
+ghost use Rattle.verifier_desk.specs.DeskLine.{desk_line_of};
+ghost use Rattle.verifier_desk.specs.Replies.{DeskFields, gives_report, lines_said};
+ghost use Rattle.verifier_desk.specs.Serving.{HasFailed, Keeps, Outside, StopsAt};
+ghost use Rattle.verifier_desk.specs.Telling.{FailsAt, Grows, PutsHeld, TellsLines, Told};
+ghost use Rattle.verifier_desk.specs.Withheld.{nothing_withheld};
 
 use crate::answer_fault::AnswerFault;
 use crate::desk::Desk;
 use crate::reply::Reply;
-use crate::served::Served;
 use crate::withheld::Withheld;
 use desk_memory::{Memory, MemoryFault};
 use outside_edge::{Failed, Sink, put_all};
+use source_server::Halt;
 
 // Has the memory keep what was noted.
 fn settle_noted<M: Memory>(withheld: &Withheld, memory: &mut M) -> Result<(), MemoryFault>
@@ -33,73 +34,78 @@ fn settle_noted<M: Memory>(withheld: &Withheld, memory: &mut M) -> Result<(), Me
     Ok(())
 }
 
-// Puts what was held back, once the memory keeps what it says.
-fn put_withheld<M: Memory, W: Sink>(withheld: &mut Withheld, memory: &mut M, sink: &mut W) -> Served
-    ensures puts { (fields : DeskFields) (lines : List (List ℕ)) (first : W)
-        → Told M.Memory W.Sink first sink.old memory.old withheld.old fields lines
-        → PutsHeld M.Memory W.Sink first sink.old sink.new memory.old memory.new fields lines
-        result }
-    ensures empty { result ≡ Done → withheld.new ≡ nothing_withheld }
-    ensures honest { M.is_honest memory.new → M.is_honest memory.old }
-    ensures memory_faults { M.faults memory.old ≤ M.faults memory.new }
-    ensures sink_faults { W.faults sink.old ≤ W.faults sink.new }
+/// Puts what was held back, once the memory keeps what it says.
+pub fn put_withheld<M: Memory, W: Sink>(
+    withheld: &mut Withheld,
+    memory: &mut M,
+    sink: &mut W,
+) -> Result<(), Halt<AnswerFault>>
+    ensures puts { (fields : DeskFields) (lines : List (List ℕ)) (first : Outside M W)
+        → Told M.Memory W.Sink first (record { memory = memory.old; sink = sink.old }) withheld.old
+        fields lines
+        → PutsHeld M.Memory W.Sink first (record { memory = memory.new; sink = sink.new }) fields
+        lines result }
+    ensures empty { OnOk result (withheld.new ≡ nothing_withheld) }
+    ensures grows { Grows M.Memory W.Sink (record { memory = memory.old; sink = sink.old })
+        (record { memory = memory.new; sink = sink.new }) }
 {
     if let Err(fault) = settle_noted(withheld, memory) {
-        return Served::Unkept(fault);
+        return Err(Halt::Own(AnswerFault::Unkept(fault)));
     }
     match put_all(sink, withheld.as_slice()) {
         Ok(()) => {
             withheld.clear();
-            Served::Done
+            Ok(())
         }
-        Err(Failed) => Served::WriteFault,
+        Err(Failed) => Err(Halt::Write),
     }
 }
 
-/// Puts what was held back, where lines were answered so far, all or those before a report for
-/// which there was no memory.
-pub fn put_after<M: Memory, W: Sink>(
-    answered: Served,
+// Puts what was held back before a report for which there was no memory.
+fn stop_before_report<M: Memory, W: Sink>(
     withheld: &mut Withheld,
     memory: &mut M,
     sink: &mut W,
-) -> Served
-    ensures puts { (fields : DeskFields) (lines : List (List ℕ)) (first before : W)
-        (memory_before : M)
-        → ServesLines M.Memory W.Sink first before sink.old memory_before memory.old withheld.old
-        fields lines answered
-        → M.faults memory_before ≤ M.faults memory.old
-        → W.faults before ≤ W.faults sink.old
-        → PutsLines M.Memory W.Sink first before sink.new memory_before memory.new fields lines
-        result }
-    ensures done { result ≡ Done → answered ≡ Done }
-    ensures empty { result ≡ Done → withheld.new ≡ nothing_withheld }
-    ensures honest { M.is_honest memory.new → M.is_honest memory.old }
-    ensures memory_faults { M.faults memory.old ≤ M.faults memory.new }
-    ensures sink_faults { W.faults sink.old ≤ W.faults sink.new }
+) -> Halt<AnswerFault>
+    ensures stops { (fields : DeskFields) (earlier : List (List ℕ)) (line : List ℕ)
+        (first : Outside M W)
+        → Told M.Memory W.Sink first (record { memory = memory.old; sink = sink.old }) withheld.old
+        fields earlier
+        → IsTrue (gives_report fields (lines_said fields earlier)
+        (desk_line_of fields.devices line))
+        → StopsAt M.Memory W.Sink first (record { memory = memory.new; sink = sink.new }) fields
+        (line ∷ earlier) result }
+    ensures grows { Grows M.Memory W.Sink (record { memory = memory.old; sink = sink.old })
+        (record { memory = memory.new; sink = sink.new }) }
 {
-    match answered {
-        Served::Done | Served::Memory => match put_withheld(withheld, memory, sink) {
-            Served::Done => answered,
-            ended => ended,
-        },
-        ended => ended,
+    match put_withheld(withheld, memory, sink) {
+        Ok(()) => Halt::Own(AnswerFault::Memory),
+        Err(halt) => halt,
     }
 }
 
 // Sees that there is room for a reply.
-fn make_room<M: Memory, W: Sink>(withheld: &mut Withheld, memory: &mut M, sink: &mut W) -> Served
-    ensures tells { (fields : DeskFields) (lines : List (List ℕ)) (first : W)
-        → Told M.Memory W.Sink first sink.old memory.old withheld.old fields lines
-        → ServesLines M.Memory W.Sink first sink.old sink.new memory.old memory.new withheld.new
-        fields lines result }
-    ensures room { result ≡ Done → length withheld.new.replies + 256 ≤ 65536 }
-    ensures honest { M.is_honest memory.new → M.is_honest memory.old }
-    ensures memory_faults { M.faults memory.old ≤ M.faults memory.new }
-    ensures sink_faults { W.faults sink.old ≤ W.faults sink.new }
+fn make_room<M: Memory, W: Sink>(
+    withheld: &mut Withheld,
+    memory: &mut M,
+    sink: &mut W,
+) -> Result<(), Halt<AnswerFault>>
+    ensures goes_on { (fields : DeskFields) (lines : List (List ℕ)) (first : Outside M W)
+        → Told M.Memory W.Sink first (record { memory = memory.old; sink = sink.old }) withheld.old
+        fields lines
+        → OnOk result (Told M.Memory W.Sink first
+        (record { memory = memory.new; sink = sink.new }) withheld.new fields lines) }
+    ensures fails { (fields : DeskFields) (lines : List (List ℕ)) (first : Outside M W)
+        → Told M.Memory W.Sink first (record { memory = memory.old; sink = sink.old }) withheld.old
+        fields lines
+        → IfErr result (λ why. FailsAt M.Memory W.Sink first
+        (record { memory = memory.new; sink = sink.new }) fields lines why) }
+    ensures room { OnOk result (length withheld.new.replies + 256 ≤ 65536) }
+    ensures grows { Grows M.Memory W.Sink (record { memory = memory.old; sink = sink.old })
+        (record { memory = memory.new; sink = sink.new }) }
 {
     if withheld.has_room() {
-        return Served::Done;
+        return Ok(());
     }
     put_withheld(withheld, memory, sink)
 }
@@ -125,32 +131,40 @@ pub fn serve_line<M: Memory, W: Sink>(
     withheld: &mut Withheld,
     memory: &mut M,
     sink: &mut W,
-) -> Served
-    ensures reply { (fields : DeskFields) (earlier : List (List ℕ)) (bytes : List ℕ) (first : W)
-        → DeskStandsFor desk.old fields (lines_said fields earlier)
-        → Told M.Memory W.Sink first sink.old memory.old withheld.old fields earlier
+) -> Result<(), Halt<AnswerFault>>
+    ensures goes_on { (fields : DeskFields) (earlier : List (List ℕ)) (bytes : List ℕ)
+        (first : Outside M W)
+        → TellsLines M.Memory W.Sink first (record { memory = memory.old; sink = sink.old })
+        withheld.old fields desk.old earlier
         → option_map (λ line. line.now) line.entry ≡ short_line bytes
-        → AnswersLine M.Memory W.Sink first sink.old sink.new memory.old memory.new withheld.new
-        fields desk.new (bytes ∷ earlier) result }
-    ensures honest { M.is_honest memory.new → M.is_honest memory.old }
-    ensures memory_faults { M.faults memory.old ≤ M.faults memory.new }
-    ensures sink_faults { W.faults sink.old ≤ W.faults sink.new }
+        → OnOk result (TellsLines M.Memory W.Sink first
+        (record { memory = memory.new; sink = sink.new }) withheld.new fields desk.new
+        (bytes ∷ earlier)) }
+    ensures stops { (fields : DeskFields) (earlier : List (List ℕ)) (bytes : List ℕ)
+        (first : Outside M W)
+        → TellsLines M.Memory W.Sink first (record { memory = memory.old; sink = sink.old })
+        withheld.old fields desk.old earlier
+        → option_map (λ line. line.now) line.entry ≡ short_line bytes
+        → IfErr result (λ why. StopsAt M.Memory W.Sink first
+        (record { memory = memory.new; sink = sink.new }) fields (bytes ∷ earlier) why) }
+    ensures grows { Grows M.Memory W.Sink (record { memory = memory.old; sink = sink.old })
+        (record { memory = memory.new; sink = sink.new }) }
 {
     match make_room(withheld, memory, sink) {
-        Served::Done => {}
-        ended => return ended,
+        Ok(()) => {}
+        Err(halt) => return Err(halt),
     }
     let Some(line) = line else {
         withheld.push(b"too-long\n");
-        return Served::Done;
+        return Ok(());
     };
     match desk.answer(line, memory) {
-        Ok(None) => Served::Done,
+        Ok(None) => Ok(()),
         Ok(Some(reply)) => {
             hold(withheld, &reply);
-            Served::Done
+            Ok(())
         }
-        Err(AnswerFault::Memory) => Served::Memory,
-        Err(AnswerFault::Unkept(fault)) => Served::Unkept(fault),
+        Err(AnswerFault::Memory) => Err(stop_before_report(withheld, memory, sink)),
+        Err(AnswerFault::Unkept(fault)) => Err(Halt::Own(AnswerFault::Unkept(fault))),
     }
 }

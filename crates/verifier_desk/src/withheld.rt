@@ -1,5 +1,5 @@
 ghost use Rattle.std.specs.Prelude.{◌≡◌, ◌≤◌, ◌+◌, ◌++◌, true, length, IfOk, IsTrue};
-ghost use Rattle.verifier_desk.specs.Serving.{nothing_withheld};
+ghost use Rattle.verifier_desk.specs.Withheld.{nothing_withheld};
 
 use std::alloc::{AllocError, Global};
 use std::marker::Model;
@@ -19,7 +19,7 @@ pub struct Withheld {
 
 impl Model for Withheld {
     ghost use Rattle.std.specs.Prelude.{◌≤◌, vec_len, vec_capacity};
-    ghost use Rattle.verifier_desk.specs.Serving.{Withheld as WithheldFields};
+    ghost use Rattle.verifier_desk.specs.Withheld.{Withheld as WithheldFields};
 
     ghost Value = { WithheldFields };
 

@@ -1,12 +1,13 @@
 use Rattle.std.proofs.Common.{refl}
-use Rattle.debug_link.specs.declared.served.Served.TheVariants.{Memory}
+use Rattle.source_server.specs.declared.served.Served.TheVariants.{Own}
+use Rattle.debug_link.specs.declared.talk_end.TalkEnd.TheVariants.{Memory}
 use Rattle.debug_cli.proofs.DebugRun.{none-served, stands-first}
 use Rattle.debug_cli.proofs.run.serve_run.Goals as goal
 
 pub returns-in_default-clause-served : goal.returns-in_default-clause-served
 returns-in_default-clause-served g c =
     record {
-      ended = Memory;
+      ended = Own Memory;
       answer = refl;
       serves = none-served g.R.Source g.W.Sink _ c.args.source.now c.args.sink;
     }

@@ -1,0 +1,86 @@
+-- What comes of a piece of packets, for whoever serves the source.
+use Rattle.std.proofs.Common.{◌≡◌, ◌≤◌, ◌++◌, ℕ, List, [], Ok, Err, refl, sym, arith}
+use Rattle.std.specs.Prelude.{Result}
+use Rattle.std.proofs.lemmas.List.{append-nil}
+use Rattle.outside_edge.specs.declared.sink.Sink as sink
+use Rattle.source_server.specs.Responder.{Answers, Moment}
+use Rattle.debug_link.specs.Conversation.{Answer, conversation, first_talk, with_bytes}
+use Rattle.debug_link.specs.Link.{Between}
+use Rattle.debug_link.specs.Reading.{ReaderStandsFor}
+use Rattle.debug_link.specs.Serving.{GoesOnTo, StandsBehind, TalkStart, came_of, parties_at, parties_promise}
+use Rattle.debug_link.specs.Writing.{CountsWriteFaults, PacketSink}
+use Rattle.debug_link.specs.declared.answer_fault.AnswerFault.{AnswerFault}
+use Rattle.debug_link.specs.declared.answer_fault.AnswerFault.TheVariants as fault
+use Rattle.debug_link.specs.declared.connection.Connection.{Connection}
+use Rattle.debug_link.specs.declared.connection.Connection.TheVariants.{Open, Closed}
+use Rattle.debug_link.specs.declared.packet_responder.PacketResponder.{PacketResponder}
+use Rattle.debug_link.proofs.Faults.{rose_since}
+use Rattle.debug_link.proofs.Parties.{GoesOnBy}
+use Rattle.debug_link.proofs.Talks.{bytes_both}
+
+module _ {T Session W : Type 0} (stands : T → Session → Type 0) (w : sink.Ghosts W)
+    (reply : Session → List ℕ → Answer Session) where
+  -- before the first byte
+  pub first_stands : (session : Session) (first : Moment (PacketResponder T) (PacketSink W))
+      → ReaderStandsFor first.responder.reader Between
+      → stands first.responder.answerer session → first.edge.last ≡ []
+      → StandsBehind stands w first.edge.sink (parties_at first) (conversation reply session [])
+  first_stands session first reads stood last =
+      record {
+        talks = record {
+          reads = reads;
+          session = stood;
+          last = last;
+          put = λ before holds. rw (append-nil before) holds;
+        };
+        goes_on = refl;
+        rises = omega arith;
+      }
+
+  -- the conversation up to the end of a piece
+  came_behind : (start : TalkStart Session W)
+      (old new : Moment (PacketResponder T) (PacketSink W)) (before piece : List ℕ)
+      (result : Result Connection AnswerFault)
+      → StandsBehind stands w start.sink (parties_at old)
+      (conversation reply start.session before)
+      → GoesOnBy stands w reply (parties_at old) (parties_at new) piece result
+      → GoesOnTo stands w start.sink (parties_at new)
+      (with_bytes reply (first_talk start.session) (before ++ piece)) result
+  came_behind start old new before piece result so goes =
+      rw (bytes_both reply (first_talk start.session) before piece)
+      (goes (conversation reply start.session before) start.sink so.goes_on so.talks)
+
+  pub piece_came : (start : TalkStart Session W)
+      (old new : Moment (PacketResponder T) (PacketSink W)) (before piece : List ℕ)
+      (result : Result Connection AnswerFault)
+      → StandsBehind stands w start.sink (parties_at old)
+      (conversation reply start.session before)
+      → GoesOnBy stands w reply (parties_at old) (parties_at new) piece result
+      → CountsWriteFaults w.faults old.edge.sink new.edge.sink result
+      → Answers (parties_promise stands w reply start) new before piece (came_of result)
+  piece_came start old new before piece (Ok Open) so goes counts =
+      let end = came_behind start old new before piece (Ok Open) so goes in
+      record {
+        goes_on = record {
+          talks = end.all.1;
+          goes_on = sym end.all.0;
+          rises = omega (arith, so.rises, counts.counted);
+        };
+        stops = tt;
+      }
+  piece_came start old new before piece (Ok Closed) so goes counts =
+      let end = came_behind start old new before piece (Ok Closed) so goes in
+      record { goes_on = tt; stops = (end.all.1.put, sym end.all.0) }
+  piece_came start old new before piece (Err fault.Write) so goes counts =
+      let end = came_behind start old new before piece (Err fault.Write) so goes in
+      record {
+        goes_on = tt;
+        stops = (
+          end.prefix,
+          rose_since (w.faults start.sink) (w.faults old.edge.sink) (w.faults new.edge.sink)
+              so.rises (counts.failed refl),
+        );
+      }
+  piece_came start old new before piece (Err fault.Memory) so goes counts =
+      let end = came_behind start old new before piece (Err fault.Memory) so goes in
+      record { goes_on = tt; stops = end.prefix }
