@@ -8,6 +8,7 @@ forgets =
       stands = λ memory entries. Unit {0};
       may_leave = λ memory found. ⊥;
       is_honest = λ memory. Unit {0};
+      is_whole = λ memory. Unit {0};
       faults = λ memory. 0;
       lacks = ⊥;
     }

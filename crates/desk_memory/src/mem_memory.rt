@@ -123,6 +123,8 @@ impl Memory for MemMemory {
 
     ghost is_honest = { λ memory. Unit {0} };
 
+    ghost is_whole = { λ memory. Unit {0} };
+
     ghost faults = { λ memory. memory.counts.faults };
 
     ghost lacks = { Unit {0} };

@@ -18,6 +18,9 @@ pub trait Memory {
     /// What was read of it so far is what was written.
     ghost is_honest: { Self → Type 0 };
 
+    /// Its file alone has what it keeps: whoever reads that finds all of it.
+    ghost is_whole: { Self → Type 0 };
+
     /// How often it failed.
     ghost faults: { Self → ℕ };
 
@@ -42,6 +45,7 @@ pub trait Memory {
             → stands self.new entries) }
         ensures kept { OnOk result ((entries : List Entry) → stands self.old entries
             → is_honest self.new → IsKept may_leave self.new entries) }
+        ensures whole { OnOk result (is_whole self.new) }
         ensures crash { (entries : List Entry) → stands self.old entries
             → is_honest self.new → LeavesOr may_leave self.old self.new entries }
         ensures counts { CountsOrLacks faults lacks self.old self.new result };

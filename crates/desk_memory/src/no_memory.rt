@@ -16,6 +16,8 @@ impl Memory for NoMemory {
 
     ghost is_honest = { λ memory. Unit {0} };
 
+    ghost is_whole = { λ memory. Unit {0} };
+
     ghost faults = { λ memory. 0 };
 
     ghost lacks = { ⊥ };

@@ -339,6 +339,8 @@ impl<S: Logged + Drop> Memory for StoreMemory<S> {
 
     ghost is_honest = { λ memory. IsClean (S.Store.view memory.store) };
 
+    ghost is_whole = { λ memory. S.is_copied memory.store };
+
     ghost faults = { λ memory. memory.failures };
 
     ghost lacks = { Unit {0} };
