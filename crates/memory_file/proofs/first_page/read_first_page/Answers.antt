@@ -19,7 +19,8 @@ returns-then-ends_with_sum-clause-page g c clean =
     let long : 4096 ≤ length file = omega (arith, holds.within, c.read_at.auto.buf) in (
       (
         long,
-        subst (EndsWithSum page_size) (sym page) (c.ends_with_sum.ensures.0 c.if-ends_with_sum.true),
+        subst (EndsWithSum page_size) (sym page)
+            (c.ends_with_sum.ensures.0 c.if-ends_with_sum.true),
       ),
       c.get_u32.ensures ∙ ap (λ (p : List ℕ). u32_at p 60) (sym page) ∙ version_in_file file,
     )

@@ -42,7 +42,8 @@ returns-in-Err-make-clause-refused g c =
           c.in-Err-make.fault counts (given.ready.is_open early)
           (λ foreign. is_foreign image (view store).trees finds
           (foreign (has_tables store given.schema)))
-          (λ unfounded. unfounded) (has_entries image (view store).trees finds) (c.in-Err-make.ensures.reason now));
+          (λ unfounded. unfounded) (has_entries image (view store).trees finds)
+          (c.in-Err-make.ensures.reason now));
       spared = λ clean db may.
           let now : IsClean (view c.in-Err-make.store) = no_doubt _ clean in
           let early : IsClean (view store) = omega (arith, kept.clean, now) in
