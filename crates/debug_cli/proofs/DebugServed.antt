@@ -1,5 +1,5 @@
 -- What is answered once a debugger served its source.
-use Rattle.std.proofs.Common.{◌≡◌, ◌<◌, ◌≤◌, ◌⊎◌, ℕ, List, length, Option, Some, None, IfSome, refl, inl, inr, rules}
+use Rattle.std.proofs.Common.{◌≡◌, ◌<◌, ◌⊎◌, ℕ, List, length, Some, refl, inl, inr, rules}
 use Rattle.outside_edge.specs.Count.{Rose}
 use Rattle.outside_edge.specs.declared.sink.Sink as sink
 use Rattle.outside_edge.specs.declared.source.Source as source
@@ -9,13 +9,13 @@ use Rattle.source_server.specs.declared.served.Served.{Served}
 use Rattle.source_server.specs.declared.served.Served.TheVariants as served
 use Rattle.source_server.specs.Serving.{served_of}
 use Rattle.source_server.specs.Taken.{KeepsLimit, most_input}
-use Rattle.source_server.proofs.ServedEnds.{StopsSomewhere, keeps_limit, whole_or_stopped}
+use Rattle.source_server.proofs.ServedEnds.{keeps_limit, whole_or_stopped}
 use Rattle.debug_link.specs.Conversation.{Answer}
 use Rattle.debug_link.specs.Serving.{talk_promise}
 use Rattle.debug_link.specs.declared.talk_end.TalkEnd.{TalkEnd}
 use Rattle.debug_link.specs.declared.talk_end.TalkEnd.TheVariants as talk
 use Rattle.debug_session.specs.Place.{Run}
-use Rattle.device_debug.specs.Session.{run_reply}
+use Rattle.device_debug.specs.Session.{RunSession, run_reply}
 use Rattle.input_files.specs.declared.status.Status.{Status}
 use Rattle.input_files.specs.declared.status.Status.TheVariants.{Done, Words, Memory, Spent}
 use Rattle.debug_cli.specs.Debug.{HasServed, first_of}
@@ -54,17 +54,6 @@ module _ {R W : Type 0} (r : source.Ghosts R) (w : sink.Ghosts W) where
   stopped-whole reply session old new before last (halt.Own talk.Closed) so no_sink = inl refl
   stopped-whole reply session old new before last (halt.Own talk.Memory) so no_sink = inr refl
 
-  ended-whole : (run : Run) (old new : Ports R W) (ended : Served TalkEnd)
-      → ¬ Rose (w.faults old.sink) (w.faults new.sink)
-      → (ended ≡ served.Done)
-      ⊎ ((why : Halt TalkEnd) × (ended ≡ served_of why)
-      × StopsSomewhere r (talk_promise w run_reply (first_of run) old.sink) old.source new.source
-      new.sink why)
-      → (status_of_served ended ≡ Done) ⊎ (status_of_served ended ≡ Memory)
-  ended-whole run old new ended no_sink (inl is) = rw is (inl refl)
-  ended-whole run old new ended no_sink (inr (why, is, (before, last, so))) =
-      rw is (stopped-whole run_reply (first_of run) old.sink new.sink before last why so no_sink)
-
   pub served-whole : (run : Run) (old new : Ports R W) (status : Status) (bytes : List ℕ)
       → HasServed r w run old new status
       → r.left old.source ≡ Some bytes → length bytes < most_input
@@ -72,7 +61,10 @@ module _ {R W : Type 0} (r : source.Ghosts R) (w : sink.Ghosts W) where
       → ¬ Rose (w.faults old.sink) (w.faults new.sink)
       → (status ≡ Done) ⊎ (status ≡ Memory)
   served-whole run old new status bytes has is few no_source no_sink =
-      rw has.answer
-      (ended-whole run old new has.ended no_sink
-      (whole_or_stopped r (talk_promise w run_reply (first_of run) old.sink) old.source new.source
-      new.sink bytes has.ended has.serves is few no_source))
+      let first : RunSession = first_of run in
+      rw has.answer (elim (whole_or_stopped r (talk_promise w run_reply first old.sink) old.source
+      new.source new.sink bytes has.ended has.serves is few no_source) [
+        | inl done ↦ rw done (inl refl)
+        | inr (why, is, (before, last, so)) ↦
+            rw is (stopped-whole run_reply first old.sink new.sink before last why so no_sink)
+      ])

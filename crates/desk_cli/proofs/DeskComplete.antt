@@ -1,5 +1,5 @@
 -- Where nothing failed or hindered its memory, a desk answers all lines, or memory runs out.
-use Rattle.std.proofs.Common.{◌≡◌, ◌<◌, ◌+◌, ◌⊎◌, ℕ, List, [], ◌∷◌, length, Option, Some, None, Ok, IfSome, refl, inl, inr, subst, arith}
+use Rattle.std.proofs.Common.{◌≡◌, ◌<◌, ◌+◌, ◌⊎◌, ℕ, List, [], ◌∷◌, length, Option, Some, None, IfSome, refl, inl, inr, subst, arith}
 use Rattle.std.proofs.lemmas.Bool.{cases_Bool}
 use Rattle.sha2.specs.Sha256.{sha256}
 use Rattle.outside_edge.specs.Count.{Rose}
@@ -71,7 +71,7 @@ served-whole {M = M} {W = W} r m w desk opened left old new status lines has is 
     rw has.answer (elim (whole_or_stopped r (desk_promise m w desk first) old.source new.source now
     lines has.ended has.serves is few no_source) [
       | inl done ↦ rw done (inl refl)
-      | inr (why, is, before, last, so) ↦
+      | inr (why, is, (before, last, so)) ↦
           rw is (stopped-whole m w desk first now before last why so no_sink)
     ])
 

@@ -4,8 +4,8 @@ use Rattle.verifier_desk.specs.declared.answer_fault.AnswerFault.TheVariants.{Me
 use Rattle.verifier_desk.proofs.DeskServed.{lacks_served}
 use Rattle.desk_cli.proofs.desk.serve_from.Goals as goal
 
-pub returns-in_default-clause-served : goal.returns-in_default-clause-served
-returns-in_default-clause-served g c = λ fields stands keeps.
+pub returns-in-Err-clause-served : goal.returns-in-Err-clause-served
+returns-in-Err-clause-served g c = λ fields stands keeps.
     record {
       ended = Own Memory;
       answer = refl;
@@ -18,8 +18,8 @@ returns-in_default-clause-served g c = λ fields stands keeps.
 pub returns-in-Ok-clause-served : goal.returns-in-Ok-clause-served
 returns-in-Ok-clause-served g c = λ fields stands keeps.
     record {
-      ended = c.serve.result.0;
+      ended = c.serve-served.result.0;
       answer = c.served_status.ensures;
-      honest = c.serve.ensures.grows.honest;
-      serves = c.serve.ensures.serves fields stands keeps;
+      honest = c.serve-served.ensures.grows.honest;
+      serves = c.serve-served.ensures.serves fields (rw c.in-Ok.is at stands) keeps;
     }
