@@ -99,24 +99,26 @@ pub notes-settled : {M V : Type 0} (m : memory.Ghosts M) (opened mid now : M)
     → OnOk result ((all : List Entry) → m.stands mid all → m.stands now all)
     → OnOk result ((all : List Entry) → m.stands mid all → m.is_honest now
     → IsKept m.may_leave now all)
+    → OnOk result (m.is_whole now)
     → ((all : List Entry) → m.stands mid all → m.is_honest now → LeavesOr m.may_leave mid now all)
     → IfErr result (λ fault. HasFailed m mid now fault)
     → m.stands opened had
     → HasNoted m opened now (with_entries had entries) (result_err result)
-notes-settled m opened mid now entries had (Ok value) notes honest same kept crash failed has =
+notes-settled m opened mid now entries had (Ok value) notes honest same kept alone crash failed has =
     let stands = notes.has had has in
     record {
       honest = λ now_honest. notes.honest (honest now_honest);
       keeps = λ none. record {
         has = same (with_entries had entries) stands;
         keeps = kept (with_entries had entries) stands;
+        whole = λ now_honest. alone;
       };
       cause = tt;
       whole = λ now_honest found leaves. whole-where m opened mid entries
           (with_entries had entries) found notes
           (crash (with_entries had entries) stands now_honest found leaves);
     }
-notes-settled m opened mid now entries had (Err fault) notes honest same kept crash failed has =
+notes-settled m opened mid now entries had (Err fault) notes honest same kept alone crash failed has =
     let stands = notes.has had has in
     record {
       honest = λ now_honest. notes.honest (honest now_honest);

@@ -64,7 +64,7 @@ module _ {M W : Type 0} (m : memory.Ghosts M) (w : sink.Ghosts W) (first : Outsi
         has_put = kept_put now lines (replies fields lines) [] so.keeps all so.put;
         held = all;
         has = so.keeps.has;
-        settled = λ none. so.keeps.keeps;
+        settled = λ none. so.keeps;
         grows = grows;
       }
 
@@ -74,7 +74,7 @@ module _ {M W : Type 0} (m : memory.Ghosts M) (w : sink.Ghosts W) (first : Outsi
       record {
         put = subst (Takes w.stands first.sink now.sink)
             (sym (so.held ∙ append-nil (replies fields so.done))) so.has_put.put;
-        keeps = record { has = so.has; keeps = so.settled refl };
+        keeps = so.settled refl;
       }
 
   -- the memory failed before what was held back was put
@@ -135,6 +135,7 @@ module _ {M W : Type 0} (m : memory.Ghosts M) (w : sink.Ghosts W) (first : Outsi
       ∙ sym (append_assoc done (take n withheld.replies) (drop n withheld.replies)) in (
         rose_more (w.faults first.sink) (w.faults old.sink) (w.faults new.sink)
             so.grows.sink_rises rose,
+        keeps.whole,
         (
           text,
           drop n withheld.replies,
@@ -197,9 +198,9 @@ module _ {M W : Type 0} (m : memory.Ghosts M) (w : sink.Ghosts W) (first : Outsi
             ∙ append_assoc put before.replies (reply fields earlier bytes)
             ∙ ap (λ (text : List ℕ). put ++ text) (sym holds);
         has = notes (entries_after fields earlier) so.has;
-        settled = λ none honest.
+        settled = λ none.
             let still = quiet none in
-            rw (still.1, still.2) (so.settled still.0 (only.honest honest));
+            rw (still.1, still.2) (so.settled still.0);
         grows = record {
           honest = λ sound. so.grows.honest (only.honest sound);
           memory_rises = omega (arith, so.grows.memory_rises, only.counted);

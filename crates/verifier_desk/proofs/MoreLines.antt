@@ -81,9 +81,10 @@ module _ {M W : Type 0} (m : memory.Ghosts M) (w : sink.Ghosts W) where
   pub fails_more : (first now : Outside M W) (fields : DeskFields) (more lines : List (List ℕ))
       (why : Halt AnswerFault) → FailsAt m w first now fields lines why
       → StopsAt m w first now fields (more ++ lines) why
-  fails_more first now fields more lines Write (rose, (text, rest, prefix, put)) =
+  fails_more first now fields more lines Write (rose, whole, (text, rest, prefix, put)) =
       let behind = more_replies fields more lines in (
         rose,
+        whole,
         (
           text,
           rest ++ behind.0,

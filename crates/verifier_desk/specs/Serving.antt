@@ -19,11 +19,12 @@ use Rattle.verifier_desk.specs.DeskLine.{desk_line_of}
 use Rattle.verifier_desk.specs.Noted.{entries_after}
 use Rattle.verifier_desk.specs.Replies.{DeskFields, gives_report, lines_said, replies}
 
--- a memory has these entries, and whatever crash leaves them and no others
+-- a memory has these entries, whatever crash leaves them and no others, and its file alone has them
 pub record Keeps {M : Type 0} (m : memory.Ghosts M) (now : M) (entries : List Entry)
     : Type 0 where
   pub has : m.stands now entries
   pub keeps : m.is_honest now → IsKept m.may_leave now entries
+  pub whole : m.is_honest now → m.is_whole now
 
 -- a call of the memory has failed, or was refused memory
 abbrev pub HasFailed : {M : Type 0} → memory.Ghosts M → M → M → MemoryFault → Type 0
@@ -60,13 +61,15 @@ pub record HasAnswered {M W : Type 0} (m : memory.Ghosts M) (w : sink.Ghosts W)
   pub put : Takes w.stands first.sink now.sink (replies fields lines)
   pub keeps : Keeps m now.memory (entries_after fields lines)
 
--- It stopped at the newest of these lines: the sink failed, and the replies begin with what was
--- put; the memory failed, and the replies to a beginning of the lines were put, none in part; or
--- there was no memory for that line, which gives a report, and those before it were answered.
+-- It stopped at the newest of these lines: the sink failed, the memory's file is whole, and the
+-- replies begin with what was put; the memory failed, and the replies to a beginning of the lines
+-- were put, none in part; or there was no memory for that line, which gives a report, and those
+-- before it were answered.
 abbrev pub StopsAt : {M W : Type 0} → memory.Ghosts M → sink.Ghosts W → Outside M W → Outside M W
     → DeskFields → List (List ℕ) → Halt AnswerFault → Type 0
 StopsAt m w first now fields lines Write =
     Rose (w.faults first.sink) (w.faults now.sink)
+    × (m.is_honest now.memory → m.is_whole now.memory)
     × ((text : List ℕ) × (more : List ℕ) × (replies fields lines ≡ text ++ more)
     × HasPut m w first now fields lines text)
 StopsAt m w first now fields lines (Own (Unkept fault)) =

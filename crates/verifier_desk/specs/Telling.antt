@@ -6,7 +6,6 @@ use Rattle.source_server.specs.declared.halt.Halt.TheVariants.{Own}
 use Rattle.source_server.specs.LineResponder.{LinePromise}
 use Rattle.source_server.specs.Responder.{Moment}
 use Rattle.desk_memory.specs.declared.memory.Memory as memory
-use Rattle.desk_memory.specs.Kept.{IsKept}
 use Rattle.verifier_desk.specs.declared.answer_fault.AnswerFault.{AnswerFault}
 use Rattle.verifier_desk.specs.declared.answer_fault.AnswerFault.TheVariants.{Memory}
 use Rattle.verifier_desk.specs.declared.desk.Desk.{Desk}
@@ -14,7 +13,7 @@ use Rattle.verifier_desk.specs.declared.desk_responder.DeskResponder.{DeskRespon
 use Rattle.verifier_desk.specs.Desk.{DeskStandsFor}
 use Rattle.verifier_desk.specs.Noted.{entries_after}
 use Rattle.verifier_desk.specs.Replies.{DeskFields, lines_said, replies}
-use Rattle.verifier_desk.specs.Serving.{HasAnswered, HasPut, Outside, StopsAt}
+use Rattle.verifier_desk.specs.Serving.{HasAnswered, HasPut, Keeps, Outside, StopsAt}
 use Rattle.verifier_desk.specs.Withheld.{Withheld, nothing_withheld}
 
 -- whatever came between: the memory is no more honest, and no count has fallen
@@ -33,8 +32,7 @@ pub record Told {M W : Type 0} (m : memory.Ghosts M) (w : sink.Ghosts W) (first 
   pub has_put : HasPut m w first now fields lines (replies fields done)
   pub held : replies fields lines ≡ replies fields done ++ withheld.replies
   pub has : m.stands now.memory (entries_after fields lines)
-  pub settled : withheld.is_noted ≡ false → m.is_honest now.memory
-      → IsKept m.may_leave now.memory (entries_after fields lines)
+  pub settled : withheld.is_noted ≡ false → Keeps m now.memory (entries_after fields lines)
   pub grows : Grows m w first now
 
 -- the sink or the memory failed

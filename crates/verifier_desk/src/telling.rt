@@ -1,6 +1,6 @@
 ghost use Rattle.std.specs.Prelude.{◌≡◌, ◌≤◌, ◌+◌, ◌++◌, ◌∷◌, ◌||◌, false, ℕ, List, length, option_map, IsTrue, OnOk, IfErr};
 ghost use Rattle.desk_memory.specs.Entry.{Entry};
-ghost use Rattle.desk_memory.specs.Kept.{IsKept, LeavesOr};
+ghost use Rattle.desk_memory.specs.Kept.{LeavesOr};
 ghost use Rattle.source_server.specs.HeldLine.{short_line};
 ghost use Rattle.verifier_desk.specs.DeskLine.{desk_line_of};
 ghost use Rattle.verifier_desk.specs.Replies.{DeskFields, gives_report, lines_said};
@@ -19,8 +19,7 @@ use source_server::Halt;
 // Has the memory keep what was noted.
 fn settle_noted<M: Memory>(withheld: &Withheld, memory: &mut M) -> Result<(), MemoryFault>
     ensures keeps { (entries : List Entry) → M.stands memory.old entries
-        → (withheld.now.is_noted ≡ false → M.is_honest memory.old
-        → IsKept M.may_leave memory.old entries)
+        → (withheld.now.is_noted ≡ false → Keeps M.Memory memory.old entries)
         → OnOk result (Keeps M.Memory memory.new entries) }
     ensures crash { (entries : List Entry) → M.stands memory.old entries
         → M.is_honest memory.new → LeavesOr M.may_leave memory.old memory.new entries }

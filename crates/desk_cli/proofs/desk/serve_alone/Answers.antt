@@ -10,5 +10,5 @@ returns-clause-served g c =
       _,
       c.serve_from.ensures.served (desk_with values.0 (byte_in values.1.0) values.1.1 [])
           c.new-desk.ensures
-          (record { has = tt; keeps = λ honest found may. absurd may }),
+          (record { has = tt; keeps = λ honest found may. absurd may; whole = λ honest. tt }),
     )

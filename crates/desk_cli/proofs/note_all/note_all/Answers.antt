@@ -35,4 +35,5 @@ returns g c = λ had has.
     let settled = c.settle.ensures in
     notes-settled g.M.Memory c.args.memory.now at.memory c.settle.new.self entries had
     c.settle.result (subst (Notes g.M.Memory c.args.memory.now at.memory) whole at.invariant)
-    settled.honest settled.same settled.kept settled.crash settled.counts.cause has
+    settled.honest settled.same settled.kept settled.whole settled.crash
+    settled.counts.cause has

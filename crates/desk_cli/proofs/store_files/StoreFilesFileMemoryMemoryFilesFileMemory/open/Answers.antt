@@ -17,6 +17,7 @@ returns-in-Ok-clause-opened g c entries stands =
             found_same (finds.0 0) memory.entries.items found memory.sized
             ((c.in-Ok.ensures.opened clean).settled finds.0 finds.1).0 finds.2.0 finds.3
             ∙ sym stands;
+        whole = λ clean. (c.in-Ok.ensures.opened clean).copied;
       };
       fit = λ clean. opened_fit image memory.store memory.desk.items memory.entries.items
           (c.in-Ok.ensures.opened clean);
