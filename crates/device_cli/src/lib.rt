@@ -15,6 +15,7 @@ mod example;
 mod kind;
 mod law;
 mod load;
+mod power;
 mod put_status;
 pub mod run;
 mod task;

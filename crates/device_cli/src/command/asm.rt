@@ -1,6 +1,7 @@
 use crate::command_end::CommandEnd;
 use crate::ending::Ending;
 use crate::kind::source::Source;
+use crate::power::Power;
 use crate::task::Task;
 use device_play::PutFault;
 use hex_loader::write_hex;
@@ -46,7 +47,11 @@ impl<'a> Task<'a> for Asm<'a> {
         self.source.read::<CommandEnd, S>(alloc, shelf)
     }
 
-    fn prepare(&self, _alloc: Global, _values: &mem_map::Image) -> Result<(), AllocError> {
+    fn prepare<P: Power>(
+        &self,
+        _alloc: Global,
+        _values: &mem_map::Image,
+    ) -> Result<(), AllocError> {
         Ok(())
     }
 

@@ -1,6 +1,7 @@
 use crate::command_end::CommandEnd;
 use crate::ending::Ending;
 use crate::kind::trace::Trace;
+use crate::power::Power;
 use crate::task::Task;
 use device_play::PutFault;
 use input_files::{File, Inputs, Refusal};
@@ -43,7 +44,7 @@ impl<'a> Task<'a> for Audit<'a> {
         self.trace.read::<CommandEnd, S>(alloc, shelf)
     }
 
-    fn prepare(&self, _alloc: Global, _values: &Audited) -> Result<(), AllocError> {
+    fn prepare<P: Power>(&self, _alloc: Global, _values: &Audited) -> Result<(), AllocError> {
         Ok(())
     }
 

@@ -1,5 +1,6 @@
 use crate::command_end::CommandEnd;
 use crate::ending::Ending;
+use crate::power::Power;
 use crate::task::Task;
 use device_play::PutFault;
 use input_files::{File, Image, Inputs, Refusal};
@@ -45,7 +46,11 @@ impl<'a> Task<'a> for List<'a> {
         self.image.read::<CommandEnd, S>(alloc, shelf)
     }
 
-    fn prepare(&self, _alloc: Global, _values: &mem_map::Image) -> Result<(), AllocError> {
+    fn prepare<P: Power>(
+        &self,
+        _alloc: Global,
+        _values: &mem_map::Image,
+    ) -> Result<(), AllocError> {
         Ok(())
     }
 

@@ -1,11 +1,11 @@
 use crate::command::play_arguments::PlayArguments;
-use crate::command::play_files::{PlayValues, PoweredDevice};
+use crate::command::play_files::PlayValues;
 use crate::command::telling::{Telling, tell};
 use crate::command_end::CommandEnd;
 use crate::ending::Ending;
+use crate::power::{Power, PoweredDevice};
 use crate::task::Task;
 use bus_signals::TraceFlag;
-use device_core::power_on;
 use device_play::PutFault;
 use hmac_core::{Digest32, Sha256Digest};
 use input_files::{Inputs, Refusal};
@@ -58,9 +58,13 @@ impl<'a, T: Telling> Task<'a> for PlayCommand<'a, T> {
         self.arguments.files.read::<CommandEnd, S>(alloc, shelf)
     }
 
-    fn prepare(&self, alloc: Global, values: &PlayValues) -> Result<PoweredDevice, AllocError> {
+    fn prepare<P: Power>(
+        &self,
+        alloc: Global,
+        values: &PlayValues,
+    ) -> Result<PoweredDevice, AllocError> {
         let ((key, image), _) = values;
-        power_on::<Sha256Digest, IsrFlag>(alloc, key, image, IsrFlag::new())
+        P::power_on(alloc, key, image)
     }
 
     fn put<W: Sink>(

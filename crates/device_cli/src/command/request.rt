@@ -1,5 +1,6 @@
 use crate::command_end::CommandEnd;
 use crate::ending::Ending;
+use crate::power::Power;
 use crate::task::Task;
 use device_play::PutFault;
 use input_files::{File, Inputs, Key, Refusal};
@@ -58,7 +59,7 @@ impl<'a> Task<'a> for Request<'a> {
         self.key.read::<CommandEnd, S>(alloc, shelf)
     }
 
-    fn prepare(&self, _alloc: Global, _values: &[u8; 64]) -> Result<(), AllocError> {
+    fn prepare<P: Power>(&self, _alloc: Global, _values: &[u8; 64]) -> Result<(), AllocError> {
         Ok(())
     }
 

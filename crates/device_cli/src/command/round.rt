@@ -3,14 +3,14 @@ ghost use Rattle.device_play.specs.Limit.{most_steps};
 
 use crate::command::all_word::split_all;
 use crate::command::play_arguments::MOST_STEPS;
-use crate::command::play_files::{PlayFiles, PlayValues, PoweredDevice, play_files};
+use crate::command::play_files::{PlayFiles, PlayValues, play_files};
 use crate::command_end::CommandEnd;
 use crate::ending::Ending;
+use crate::power::{Power, PoweredDevice};
 use crate::task::Task;
 use crate::verdict::judging::Judging;
 use crate::verdict::unanswered::end_verdicts;
 use bus_signals::TraceFlag;
-use device_core::power_on;
 use device_play::{PutFault, play_before};
 use hmac_core::{Digest32, Sha256Digest};
 use input_files::{File, Inputs, Policy, Refusal};
@@ -95,9 +95,13 @@ impl<'a> Task<'a> for Round<'a> {
         self.files.read::<CommandEnd, S>(alloc, shelf)
     }
 
-    fn prepare(&self, alloc: Global, values: &RoundValues) -> Result<PoweredDevice, AllocError> {
+    fn prepare<P: Power>(
+        &self,
+        alloc: Global,
+        values: &RoundValues,
+    ) -> Result<PoweredDevice, AllocError> {
         let (((key, image), _), _) = values;
-        power_on::<Sha256Digest, IsrFlag>(alloc, key, image, IsrFlag::new())
+        P::power_on(alloc, key, image)
     }
 
     fn put<W: Sink>(

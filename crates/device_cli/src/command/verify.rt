@@ -2,6 +2,7 @@ use crate::command::all_word::split_all;
 use crate::command_end::CommandEnd;
 use crate::ending::Ending;
 use crate::kind::reports::Reports;
+use crate::power::Power;
 use crate::task::Task;
 use crate::verdict::unanswered::end_verdicts;
 use crate::verdict::verdict_text::print_verdicts;
@@ -70,7 +71,7 @@ impl<'a> Task<'a> for Verify<'a> {
         (self.device, self.evidence).read::<CommandEnd, S>(alloc, shelf)
     }
 
-    fn prepare(&self, _alloc: Global, _values: &VerifyValues) -> Result<(), AllocError> {
+    fn prepare<P: Power>(&self, _alloc: Global, _values: &VerifyValues) -> Result<(), AllocError> {
         Ok(())
     }
 

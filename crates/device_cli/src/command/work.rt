@@ -1,19 +1,15 @@
-ghost use Rattle.std.specs.Prelude.{IfOk};
 ghost use Rattle.device_cli.specs.Load.{load_text};
 ghost use Rattle.device_cli.specs.TextSummary.{IsSummaryOf};
 
-use crate::command_end::CommandEnd;
 use crate::ending::Ending;
 use crate::load::line_tally::LineCounts;
 use crate::load::text_summary::TextSummary;
 use crate::load::work_line::print_work_line;
-use crate::load::{LOAD_STEPS, load_of};
+use crate::load::{LOAD_STEPS, Load, load_of};
+use crate::power::Power;
 use crate::task::Task;
-use device_core::power_on;
 use device_play::{LineWatcher, PutFault, play_before};
-use hmac_core::Sha256Digest;
-use input_files::{Inputs, Refusal};
-use isr_flag::IsrFlag;
+use input_files::Refusal;
 use outside_edge::{Shelf, Sink};
 use std::alloc::{AllocError, Global};
 use text_scan::decimal;
@@ -31,7 +27,7 @@ impl<'a> Task<'a> for Work {
     ghost use Rattle.device_cli.specs.Play.{plain_of};
     ghost use Rattle.device_cli.specs.Work.{load_play, work_line, work_row, work_row_of};
 
-    type Values = ();
+    type Values = Load;
 
     type Prepared = (LineCounts, [u8; 32]);
 
@@ -39,9 +35,9 @@ impl<'a> Task<'a> for Work {
 
     ghost command_row = { λ work. work_row work.seed };
 
-    ghost outcome = { λ work values. plain_of (load_play work.seed) (work_line work.seed) };
+    ghost outcome = { λ work load. plain_of (load_play load.seed) (work_line load.seed) };
 
-    ghost is_prepared = { λ work values summary. IsSummaryOf (load_text work.seed) summary };
+    ghost is_prepared = { λ work load summary. IsSummaryOf (load_text load.seed) summary };
 
     ghost once_put = { λ outcome. Unit {0} };
 
@@ -54,36 +50,38 @@ impl<'a> Task<'a> for Work {
         Some(Work { seed })
     }
 
-    fn read<S: Shelf>(&self, alloc: Global, shelf: &mut S) -> Result<(), Refusal> {
-        ().read::<CommandEnd, S>(alloc, shelf)
+    // It reads no file. What it goes on with is drawn.
+    fn read<S: Shelf>(&self, alloc: Global, _shelf: &mut S) -> Result<Load, Refusal> {
+        match load_of(alloc, self.seed) {
+            Ok(load) => Ok(load),
+            Err(AllocError) => Err(Refusal::Memory),
+        }
     }
 
-    fn prepare(&self, alloc: Global, _none: &()) -> Result<(LineCounts, [u8; 32]), AllocError> {
-        play_load(alloc, self.seed)
+    // The load is played before the first byte. What is kept of its text are the counts of its
+    // lines, and its SHA-256.
+    fn prepare<P: Power>(
+        &self,
+        alloc: Global,
+        load: &Load,
+    ) -> Result<(LineCounts, [u8; 32]), AllocError> {
+        let device = P::power_on(alloc, &load.key, &load.image)?;
+        let mut summary = TextSummary::new();
+        match play_before(device, &load.script, LOAD_STEPS, &LineWatcher, &mut summary) {
+            Ok(_) => Ok(summary.finish()),
+            Err(_) => unreachable!(),
+        }
     }
 
     fn put<W: Sink>(
         &self,
         _alloc: Global,
-        _none: &(),
+        load: &Load,
         summary: (LineCounts, [u8; 32]),
         sink: &mut W,
     ) -> Result<Ending, PutFault> {
         let (counts, digest) = summary;
-        print_work_line(self.seed, counts, &digest, sink)?;
+        print_work_line(load.seed, counts, &digest, sink)?;
         Ok(Ending::Done)
     }
-}
-
-// Plays the load of a seed. What is kept of its text are the counts of its lines, and its SHA-256.
-fn play_load(alloc: Global, seed: u64) -> Result<(LineCounts, [u8; 32]), AllocError>
-    ensures { IfOk result (IsSummaryOf (load_text seed)) }
-{
-    let load = load_of(alloc, seed)?;
-    let device = power_on::<Sha256Digest, IsrFlag>(alloc, &load.key, &load.image, IsrFlag::new())?;
-    let mut summary = TextSummary::new();
-    let Ok(_) = play_before(device, &load.script, LOAD_STEPS, &LineWatcher, &mut summary) else {
-        unreachable!()
-    };
-    Ok(summary.finish())
 }

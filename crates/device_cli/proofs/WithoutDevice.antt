@@ -1,0 +1,17 @@
+-- A device that gets no memory.
+use Rattle.std.proofs.Common.{◌≡◌, Some, Result, Ok, Err}
+use Rattle.std.specs.Prelude.{IfErr}
+use Rattle.std.specs.declared.alloc.AllocError.{AllocError}
+use Rattle.bus_signals.specs.Address.{Bytes, Contents}
+use Rattle.device_cli.specs.Power.{IsWithoutDevice}
+use Rattle.device_cli.specs.Row.{DevicePlay, Outcome}
+
+-- it is the one that a text is put of
+pub without-device : {V : Type 0} (is_refused : Bytes → Contents → Type 0) (outcome : Outcome)
+    (device_play : DevicePlay) (result : Result V AllocError)
+    → outcome.device_play ≡ Some device_play
+    → IfErr result (λ error. is_refused device_play.key device_play.image)
+    → IfErr result (λ error. IsWithoutDevice is_refused outcome)
+without-device is_refused outcome device_play (Ok value) of_play refused = tt
+without-device is_refused outcome device_play (Err error) of_play refused =
+    (device_play, of_play, refused)

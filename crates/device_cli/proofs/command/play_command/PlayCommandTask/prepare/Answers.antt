@@ -1,0 +1,13 @@
+use Rattle.mem_map.specs.Image.{byte_in}
+use Rattle.device_cli.specs.Play.{play_with}
+use Rattle.device_cli.specs.Row.{DevicePlay}
+use Rattle.device_cli.proofs.WithoutDevice.{without-device}
+use Rattle.device_cli.proofs.command.play_command.PlayCommandTask.prepare.Goals as goal
+
+pub returns-clause-refused : goal.returns-clause-refused
+returns-clause-refused g c =
+    let values = c.args.values.now in
+    let device_play : DevicePlay =
+    play_with c.args.self.now.arguments.steps values.0.0 (byte_in values.0.1) values.1 in
+    without-device g.P.Power.is_refused (g.T.Telling.outcome device_play) device_play
+    c.power_on.result (g.met.T.Telling.of_play device_play) c.power_on.ensures.refused
