@@ -8,30 +8,49 @@ mod version;
 use crate::help_text::HELP;
 use crate::version::VERSION;
 use debug_cli::run::run;
-use input_files::{Status, exit_with, given_arguments, own_text, print_text};
+use input_files::{OwnTexts, Program, Status, run_program};
 use outside_edge::{FileShelf, StdSink, StdSource, SystemFiles};
 use std::process::ExitCode;
-use std::{fs, io};
+use std::{env, fs, io};
 
 fn main(rt: HostRuntime) -> ExitCode {
-    let status = match given_arguments(&rt) {
-        Ok(arguments) => answer(&rt, arguments.as_slice()),
-        Err(status) => status,
+    let texts = OwnTexts {
+        help: HELP,
+        version: VERSION,
     };
-    exit_with(&rt, status)
+    let mut output = StdSink::new(io::writer(&rt));
+    run_program(
+        &rt,
+        env::args(&rt),
+        &Debugger { rt: &rt },
+        &texts,
+        &mut output,
+    )
 }
 
-// Answers `--help` and `--version` where they stand alone, and runs all other arguments. Where
-// standard input is closed, the first file that is opened takes its descriptor: let it be a folder,
-// which no read of standard input can take for its bytes.
-fn answer(rt: &HostRuntime, arguments: &[String]) -> Status {
-    if let Some(text) = own_text(arguments, HELP, VERSION) {
-        return print_text(rt, text);
+// The program over the file system, standard input and standard output.
+#[derive(Clone, Copy)]
+struct Debugger<'a> {
+    rt: &'a HostRuntime,
+}
+
+impl Program for Debugger<'_> {
+    ghost use Rattle.std.specs.Prelude.{◌≡◌, ◌↔◌, None};
+    ghost use Rattle.input_files.specs.declared.status.Status.TheVariants.{Words};
+    ghost use Rattle.debug_cli.specs.Debug.{debug_names_of};
+
+    // Words that spell no command are refused, and no others are.
+    ghost may_answer = { λ debugger arguments status.
+        (status ≡ Words) ↔ (debug_names_of arguments ≡ None) };
+
+    // Where standard input is closed, the first file that is opened takes its descriptor: let it be
+    // a folder, which no read of standard input can take for its bytes.
+    fn run(&self, arguments: &[String]) -> Status {
+        let _folder = fs::open(self.rt, "/");
+        let mut shelf = FileShelf::new(SystemFiles::new(self.rt));
+        let mut source = StdSource::new(self.rt.reader());
+        let sink = StdSink::new(io::writer(self.rt));
+        let (status, _) = run(self.rt.alloc(), arguments, &mut shelf, &mut source, sink);
+        status
     }
-    let _folder = fs::open(rt, "/");
-    let mut shelf = FileShelf::new(SystemFiles::new(rt));
-    let mut source = StdSource::new(rt.reader());
-    let sink = StdSink::new(io::writer(rt));
-    let (status, _) = run(rt.alloc(), arguments, &mut shelf, &mut source, sink);
-    status
 }

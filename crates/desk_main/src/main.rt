@@ -2,6 +2,11 @@
 //! output.
 #![tactic(auto)]
 
+ghost use Rattle.std.specs.Prelude.{◌≡◌};
+ghost use Rattle.input_files.specs.Argument.{texts};
+ghost use Rattle.input_files.specs.declared.status.Status.TheVariants.{Words};
+ghost use Rattle.desk_cli.specs.Run.{HasNoCommand};
+
 mod help_text;
 mod version;
 
@@ -9,39 +14,57 @@ use crate::help_text::HELP;
 use crate::version::VERSION;
 use desk_cli::StoreFiles;
 use desk_cli::run::run;
-use input_files::{Status, exit_with, given_arguments, own_text, print_text};
+use input_files::{OwnTexts, Program, Status, run_program};
 use memory_file::SystemPlaces;
 use outside_edge::{BufferedSink, Failed, FileShelf, Sink, StdSink, StdSource, SystemFiles};
 use sqlite_std_file::{Start, Wary};
 use std::process::ExitCode;
-use std::{fs, io};
+use std::{env, fs, io};
 
 fn main(rt: HostRuntime) -> ExitCode {
-    let status = match given_arguments(&rt) {
-        Ok(arguments) => answer(&rt, arguments.as_slice()),
-        Err(status) => status,
+    let texts = OwnTexts {
+        help: HELP,
+        version: VERSION,
     };
-    exit_with(&rt, status)
+    let mut output = StdSink::new(io::writer(&rt));
+    run_program(&rt, env::args(&rt), &Desk { rt: &rt }, &texts, &mut output)
 }
 
-// Answers `--help` and `--version` where they stand alone, and runs all other arguments. A desk's
-// replies are out at once. Of all other text some KiB may be left in the buffer; where they can't
-// be written, nothing else is answered.
-fn answer(rt: &HostRuntime, arguments: &[String]) -> Status {
-    if let Some(text) = own_text(arguments, HELP, VERSION) {
-        return print_text(rt, text);
-    }
-    match arguments {
-        [name, ..] if name.as_str() == "desk" => {
-            run_into(rt, arguments, Wary, &mut StdSink::new(io::writer(rt)))
-        }
-        _ => {
-            let mut output = BufferedSink::new(StdSink::new(io::writer(rt)));
-            let status = run_into(rt, arguments, Wary, &mut output);
-            let (_, end) = output.finish();
-            match end {
-                Ok(()) => status,
-                Err(Failed) => Status::WriteFault,
+// The program over the file system, standard input and standard output.
+#[derive(Clone, Copy)]
+struct Desk<'a> {
+    rt: &'a HostRuntime,
+}
+
+impl Program for Desk<'_> {
+    ghost use Rattle.std.specs.Prelude.{◌≡◌, ◌⊎◌};
+    ghost use Rattle.input_files.specs.declared.status.Status.TheVariants.{Words, WriteFault};
+    ghost use Rattle.desk_cli.specs.Run.{HasNoCommand};
+
+    // Words that name no command are refused.
+    ghost may_answer = { λ desk arguments status.
+        HasNoCommand arguments → (status ≡ WriteFault) ⊎ (status ≡ Words) };
+
+    // A desk's replies are out at once. Of all other text some KiB may be left in the buffer; where
+    // they can't be written, nothing else is answered.
+    fn run(&self, arguments: &[String]) -> Status {
+        match arguments {
+            [name, ..] if name.as_str() == "desk" => {
+                run_into(
+                    self.rt,
+                    arguments,
+                    Wary,
+                    &mut StdSink::new(io::writer(self.rt)),
+                )
+            }
+            _ => {
+                let mut output = BufferedSink::new(StdSink::new(io::writer(self.rt)));
+                let status = run_into(self.rt, arguments, Wary, &mut output);
+                let (_, end) = output.finish();
+                match end {
+                    Ok(()) => status,
+                    Err(Failed) => Status::WriteFault,
+                }
             }
         }
     }
@@ -56,7 +79,9 @@ fn run_into<S: Start, W: Sink>(
     arguments: &[String],
     start: S,
     output: &mut W,
-) -> Status {
+) -> Status
+    ensures { HasNoCommand (texts arguments.now) → result ≡ Words }
+{
     let _folder = fs::open(rt, "/");
     let mut shelf = FileShelf::new(SystemFiles::new(rt));
     let mut memories = StoreFiles::new(rt.alloc(), SystemPlaces::new(rt, start));

@@ -1,7 +1,6 @@
 -- What a call of the library is given, and what it gives back.
 use Rattle.std.specs.Prelude.{◌≡◌, ◌⊎◌, ℕ, List, [], ◌∷◌, codes, Option, Some, None, Ok}
 use Rattle.input_files.specs.Reading.{first_refusal}
-use Rattle.input_files.specs.Status.{code_of}
 use Rattle.input_files.specs.declared.status.Status.{Status}
 use Rattle.input_files.specs.declared.status.Status.TheVariants.{Words, Memory}
 use Rattle.device_cli.specs.Answer.{HasOutcome, OnPut, OnWriteFault, UnlessPut}
@@ -35,7 +34,3 @@ abbrev pub IsCall :
     List (List ℕ × List ℕ) → Option Row → List ℕ → ℕ → Status → Type 0
 IsCall files None piece count status = (status ≡ Words) ⊎ (status ≡ Memory)
 IsCall files (Some row) piece count status = IsAnswer files row piece count status
-
--- it is the exit code of an answer of which this holds
-abbrev pub EndsAs : ℕ → (Status → Type 0) → Type 0
-EndsAs code holds = (status : Status) × (code ≡ code_of status) × holds status

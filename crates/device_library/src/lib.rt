@@ -7,8 +7,9 @@
 ghost use Rattle.std.specs.Prelude.{◌≡◌, ◌≤◌, length};
 ghost use Rattle.std.specs.Str.{IsUtf8};
 ghost use Rattle.std.specs.Str.Lines.{lines};
+ghost use Rattle.input_files.specs.Status.{EndsAs};
 ghost use Rattle.device_cli.specs.Command.{row_of};
-ghost use Rattle.device_library.specs.Call.{EndsAs, IsCall, files_named};
+ghost use Rattle.device_library.specs.Call.{IsCall, files_named};
 
 mod call;
 mod given_files;

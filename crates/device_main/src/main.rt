@@ -7,31 +7,51 @@ mod version;
 use crate::help_text::HELP;
 use crate::version::VERSION;
 use device_cli::run::run;
-use input_files::{Status, exit_with, given_arguments, own_text, print_text};
+use input_files::{OwnTexts, Program, Status, run_program};
 use outside_edge::{BufferedSink, Failed, FileShelf, StdSink, SystemFiles};
-use std::io;
 use std::process::ExitCode;
+use std::{env, io};
 
 fn main(rt: HostRuntime) -> ExitCode {
-    let status = match given_arguments(&rt) {
-        Ok(arguments) => answer(&rt, arguments.as_slice()),
-        Err(status) => status,
+    let texts = OwnTexts {
+        help: HELP,
+        version: VERSION,
     };
-    exit_with(&rt, status)
+    let mut output = StdSink::new(io::writer(&rt));
+    run_program(
+        &rt,
+        env::args(&rt),
+        &Device { rt: &rt },
+        &texts,
+        &mut output,
+    )
 }
 
-// Answers `--help` and `--version` where they stand alone, and runs all other arguments. Some KiB
-// of the text may be left in the buffer; where they can't be written, nothing else is answered.
-fn answer(rt: &HostRuntime, arguments: &[String]) -> Status {
-    if let Some(text) = own_text(arguments, HELP, VERSION) {
-        return print_text(rt, text);
-    }
-    let mut shelf = FileShelf::new(SystemFiles::new(rt));
-    let mut output = BufferedSink::new(StdSink::new(io::writer(rt)));
-    let status = run(rt.alloc(), arguments, &mut shelf, &mut output);
-    let (_, end) = output.finish();
-    match end {
-        Ok(()) => status,
-        Err(Failed) => Status::WriteFault,
+// The program over the file system and standard output.
+#[derive(Clone, Copy)]
+struct Device<'a> {
+    rt: &'a HostRuntime,
+}
+
+impl Program for Device<'_> {
+    ghost use Rattle.std.specs.Prelude.{◌≡◌, ◌⊎◌, ◌↔◌, None};
+    ghost use Rattle.input_files.specs.declared.status.Status.TheVariants.{Words, WriteFault};
+    ghost use Rattle.device_cli.specs.Command.{row_of};
+
+    // Words that spell no command are refused, and no others are.
+    ghost may_answer = { λ device arguments status.
+        (status ≡ WriteFault) ⊎ ((status ≡ Words) ↔ (row_of arguments ≡ None)) };
+
+    // Some KiB of the text may be left in the buffer; where they can't be written, nothing else is
+    // answered.
+    fn run(&self, arguments: &[String]) -> Status {
+        let mut shelf = FileShelf::new(SystemFiles::new(self.rt));
+        let mut output = BufferedSink::new(StdSink::new(io::writer(self.rt)));
+        let status = run(self.rt.alloc(), arguments, &mut shelf, &mut output);
+        let (_, end) = output.finish();
+        match end {
+            Ok(()) => status,
+            Err(Failed) => Status::WriteFault,
+        }
     }
 }

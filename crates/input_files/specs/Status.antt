@@ -1,5 +1,5 @@
 -- How a run can end: its exit status, and what it answers to files that have no values.
-use Rattle.std.specs.Prelude.{ℕ}
+use Rattle.std.specs.Prelude.{◌≡◌, ℕ}
 use Rattle.input_files.specs.declared.bad_file.BadFile.{BadFile}
 use Rattle.input_files.specs.declared.bad_file.BadFile.TheVariants as bad
 use Rattle.input_files.specs.declared.refusal.Refusal.{Refusal}
@@ -32,6 +32,10 @@ code_of Spent = 15
 code_of (BadMemory unfit) = 16
 code_of InUse = 17
 code_of Unwritten = 18
+
+-- it is the exit code of an answer of which this holds
+abbrev pub EndsAs : ℕ → (Status → Type 0) → Type 0
+EndsAs code holds = (status : Status) × (code ≡ code_of status) × holds status
 
 -- the answer to files that have no values
 abbrev pub status_of_refusal : Refusal → Status

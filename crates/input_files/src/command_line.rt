@@ -1,18 +1,38 @@
-use crate::status::Status;
-use std::rt::Env;
-use std::{env, io};
+ghost use Rattle.std.specs.Prelude.{◌≡◌, Ok};
+ghost use Rattle.input_files.specs.CommandLine.{Gives, refused_words};
 
-/// The arguments of the command line, without the program's name. One that is not UTF-8 is no
+use crate::status::Status;
+use std::alloc::{AllocError, Global};
+use std::env::Args;
+use std::io;
+
+/// The arguments of a command line, without the program's name. One that is not UTF-8 is no
 /// argument of a command.
-pub fn given_arguments<R: Env + AllocGlobal>(rt: &R) -> Result<Vec<String>, Status> {
-    let all = match env::args(rt) {
-        Ok(all) => all,
-        Err(error) if error.kind() == io::ErrorKind::InvalidData => return Err(Status::Words),
-        Err(_) => return Err(Status::Memory),
-    };
-    let mut arguments = Vec::new(rt.alloc());
-    for argument in all.skip(1) {
-        arguments.push(argument).map_err(|_| Status::Memory)?;
+pub fn arguments_of(alloc: Global, words: io::Result<Args>) -> Result<Vec<String>, Status>
+    ensures { Gives words result }
+{
+    match words {
+        Ok(words) => behind_name(alloc, words),
+        Err(error) => Err(refused_words(error.kind())),
     }
-    Ok(arguments)
+}
+
+// The words behind the first.
+fn behind_name(alloc: Global, mut words: Args) -> Result<Vec<String>, Status>
+    ensures { Gives (Ok words) result }
+{
+    let _name = words.next();
+    match words.collect(alloc) {
+        Ok(arguments) => Ok(arguments),
+        Err(AllocError) => Err(Status::Memory),
+    }
+}
+
+fn refused_words(kind: io::ErrorKind) -> Status
+    ensures { result ≡ refused_words kind }
+{
+    match kind {
+        io::ErrorKind::InvalidData => Status::Words,
+        _ => Status::Memory,
+    }
 }

@@ -4,7 +4,7 @@
 //! one of a kind by its name. [`Inputs`] are files that are read one after the other, up to the
 //! first [`Refusal`]. Of what is read a row is the definition (`Row.antt`): whatever rows of a
 //! program end with, a [`RowEnd`], the files that come first in one are read. A [`Status`] is the
-//! answer of a run, with which [`exit_with`] ends the program.
+//! answer of a run, with which [`run_program`] ends a [`Program`] on its command line.
 #![tactic(auto)]
 
 mod bad_file;
@@ -12,15 +12,15 @@ mod command_line;
 mod file;
 mod inputs;
 mod kind;
+mod own_texts;
+mod program;
 mod program_end;
-mod program_text;
 mod refusal;
 mod row_end;
 mod status;
 mod unfit;
 
 pub use bad_file::BadFile;
-pub use command_line::given_arguments;
 pub use file::File;
 pub use inputs::Inputs;
 pub use kind::image::Image;
@@ -28,8 +28,8 @@ pub use kind::key::Key;
 pub use kind::policy::{POLICY_LIMIT, Policy};
 pub use kind::script::Script;
 pub use kind::{Kind, TEXT_LIMIT};
-pub use program_end::exit_with;
-pub use program_text::{own_text, print_text};
+pub use own_texts::OwnTexts;
+pub use program::{Program, run_program};
 pub use refusal::Refusal;
 pub use row_end::RowEnd;
 pub use status::Status;
