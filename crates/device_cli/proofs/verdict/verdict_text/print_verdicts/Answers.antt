@@ -106,4 +106,5 @@ pub returns-clause-tally : goal.returns-clause-tally
 returns-clause-tally g c =
     let at = c.loop-i in
     rw (verdicts-all (judge_of g.D.Digest32.hash.digest_of c.args.verifier.now)
-    c.args.reports.now at.i (omega (arith, c.loop-i-test.false, c.count_of-i-end.ensures.count))) at at.invariant.tally
+    c.args.reports.now at.i (omega (arith, c.loop-i-test.false, c.count_of-i-end.ensures.count)))
+    at at.invariant.tally

@@ -25,7 +25,8 @@ returns-in_err-tally-clause-puts g c =
     let judge : Judge = judge_with values.0.0 (byte_in values.0.1) values.1.0 in
     let reports = c.deref.result.now in
     let decisions = verdicts judge reports in
-    rw (← c.deref.ensures.value) (fails g.W.Sink.stands g.W.Sink.faults c.args.sink.now c.print_verdicts.new.sink
+    rw (← c.deref.ensures.value)
+    (fails g.W.Sink.stands g.W.Sink.faults c.args.sink.now c.print_verdicts.new.sink
     (verify_outcome all judge reports) c.from_residual.result c.from_residual.ensures.1
     (prefix_of_more g.W.Sink.stands c.args.sink.now c.print_verdicts.new.sink
     (lines_from 1 decisions)
@@ -40,7 +41,8 @@ returns-in_err-end_verdicts-clause-puts g c =
     let judge : Judge = judge_with values.0.0 (byte_in values.0.1) values.1.0 in
     let reports = c.deref.result.now in
     let decisions = verdicts judge reports in
-    rw (← c.deref.ensures.value) (end-failed g.W.Sink.stands g.W.Sink.faults c.args.sink.now c.print_verdicts.new.sink
+    rw (← c.deref.ensures.value)
+    (end-failed g.W.Sink.stands g.W.Sink.faults c.args.sink.now c.print_verdicts.new.sink
     c.end_verdicts.new.sink (verdicts_outcome decisions)
     (unanswered_if all judge.policy.requests decisions)
     c.from_residual-in_err-end_verdicts.result c.from_residual-in_err-end_verdicts.ensures.1
@@ -55,7 +57,8 @@ returns-clause-puts g c =
     let judge : Judge = judge_with values.0.0 (byte_in values.0.1) values.1.0 in
     let reports = c.deref.result.now in
     let decisions = verdicts judge reports in
-    rw (← c.deref.ensures.value) (ended g.W.Sink.stands g.W.Sink.faults c.args.sink.now c.print_verdicts.new.sink
+    rw (← c.deref.ensures.value)
+    (ended g.W.Sink.stands g.W.Sink.faults c.args.sink.now c.print_verdicts.new.sink
     c.end_verdicts.new.sink (verdicts_outcome decisions)
     (unanswered_if all judge.policy.requests decisions) _
     (c.in_ok-end_verdicts.ensures.ending decisions c.in_ok-tally.ensures.tally)
