@@ -3,7 +3,7 @@ use Rattle.std.proofs.Common.{rules, ◌≡◌, [], ℕ, List, Option, Some, Non
 use Rattle.outside_edge.specs.Count.{Rose}
 use Rattle.outside_edge.specs.Shelf.{SureShelf}
 use Rattle.input_files.specs.declared.status.Status.{Status}
-use Rattle.input_files.specs.declared.status.Status.TheVariants.{Done, Rejected, Words, Absent, ReadFault, WriteFault, Memory, Bad, Spent, BadMemory, InUse, Unwritten}
+use Rattle.input_files.specs.declared.status.Status.TheVariants.{Done, Rejected, ReadFault, WriteFault, Memory}
 use Rattle.input_files.specs.Reading.{Files, IsRefusal, first_refusal}
 use Rattle.device_cli.specs.Answer.{Answers, Follows, HasOutcome, PutsAll}
 use Rattle.device_cli.specs.Row.{Row, ending_of}
@@ -127,49 +127,11 @@ told-row shelf shelf_after before after row Memory told piece count empty ran is
     rw is (record { text = tt; longer = tt; refusal = tt })
 told-row shelf shelf_after before after row ReadFault told piece count empty ran is =
     absurd (never-failed (Some shelf.files) row ran.refusal)
-told-row shelf shelf_after before after row Words told piece count empty ran is =
+told-row shelf shelf_after before after row refusal told piece count empty ran is =
     rw is (record {
       text = tt;
       longer = tt;
-      refusal = refused shelf shelf_after before after row Words piece count (search rules) ran;
-    })
-told-row shelf shelf_after before after row Absent told piece count empty ran is =
-    rw is (record {
-      text = tt;
-      longer = tt;
-      refusal = refused shelf shelf_after before after row Absent piece count (search rules) ran;
-    })
-told-row shelf shelf_after before after row (Bad fault) told piece count empty ran is =
-    rw is (record {
-      text = tt;
-      longer = tt;
-      refusal = refused shelf shelf_after before after row (Bad fault) piece count (search rules)
-          ran;
-    })
-told-row shelf shelf_after before after row Spent told piece count empty ran is =
-    rw is (record {
-      text = tt;
-      longer = tt;
-      refusal = refused shelf shelf_after before after row Spent piece count (search rules) ran;
-    })
-told-row shelf shelf_after before after row (BadMemory unfit) told piece count empty ran is =
-    rw is (record {
-      text = tt;
-      longer = tt;
-      refusal = refused shelf shelf_after before after row (BadMemory unfit) piece count
-          (search rules) ran;
-    })
-told-row shelf shelf_after before after row InUse told piece count empty ran is =
-    rw is (record {
-      text = tt;
-      longer = tt;
-      refusal = refused shelf shelf_after before after row InUse piece count (search rules) ran;
-    })
-told-row shelf shelf_after before after row Unwritten told piece count empty ran is =
-    rw is (record {
-      text = tt;
-      longer = tt;
-      refusal = refused shelf shelf_after before after row Unwritten piece count (search rules) ran;
+      refusal = refused shelf shelf_after before after row refusal piece count (search rules) ran;
     })
 
 told-words : (shelf shelf_after : SureShelf) (before after : KeptBytes) (row : Option Row)
