@@ -8,7 +8,8 @@ import subprocess
 import sys
 
 from dwarf import Dwarf
-from where_elf import answer, fail, refuse, symbols_in
+from elf_file import named_symbols, read_elf
+from where_elf import answer, fail, refuse
 
 REPORT = re.compile(r"^(report2 \d+ exec \d aux \d count \d+) .* er (\w{4}) (\w{4}) "
                     r"or (\w{4}) (\w{4}) data (\w+) mac ", re.M)
@@ -21,16 +22,16 @@ class Output:
     """
 
     def __init__(self, elf):
-        symbols = symbols_in(answer("llvm-readelf", "-sW", elf))
-        places = {name: address for address, _, _, _, name in symbols}
+        symbols = named_symbols(read_elf(elf))
+        places = {symbol.name: symbol.place for symbol in symbols}
         if not all(name in places for name in BOUNDS) or places["or_max"] < places["or_min"]:
             fail(f"{elf} has no region that attest runs, or no OUTPUT variable")
         self.bounds = [places[name] for name in BOUNDS]
         # (It tells errors of places in .debug_loc, which no variable with one address has.)
         self.dwarf = Dwarf(answer("llvm-dwarfdump", "--debug-info", elf, check=False,
                                   stderr=subprocess.DEVNULL))
-        found = {address: (name, None) for address, _, kind, _, name in symbols
-                 if kind != "ABS" and name not in BOUNDS}
+        found = {symbol.place: (symbol.name, None) for symbol in symbols
+                 if symbol.section != "ABS" and symbol.name not in BOUNDS}
         found.update((address, (name, kind)) for address, name, kind in self.dwarf.variables())
         first, last = self.bounds[2:]
         self.variables = [(address, *found[address]) for address in sorted(found)
@@ -53,7 +54,7 @@ def main():
             if [int(place, 16) for place in bounds] != output.bounds:
                 fail(f"{heading}: its regions are not those of {elf}")
             print(heading, *output.lines(bytes.fromhex(data)), sep="\n")
-    except (LookupError, ValueError):  # (a type that is not told as it should be)
+    except (LookupError, ValueError):  # (a type that is not told as it should be, or no ELF)
         refuse(elf)
     if not reports:
         print("there is no report")

@@ -10,8 +10,8 @@ import os
 import re
 import subprocess
 import sys
-from typing import NamedTuple
 
+from elf_file import read_elf
 from region_code import Place
 from region_flow import Flow
 from region_rules import (ENTRY, FOREIGN, GUARD, KIT, OUTPUT, OWN, REGION, STACK, is_region,
@@ -34,35 +34,8 @@ HINTS = (
 # That clang gives outputs a first value, 0, which link.py sees: told by LLVM 16.
 NO_FAULT = re.compile(r"^ld\.lld: warning: section type mismatch for \.or\n(?:>>> .*\n)*\n?", re.M)
 
-COUNT = re.compile(r"(?:There are|contains) (\d+)")
-SECTION_ROW = re.compile(
-    r"^ *\[ *(\d+)\] (\S+) +([A-Z]\S*) +[0-9a-f]+ (\w+) (\w+) \w+ +([A-Za-z]*)(?: +\d+){3}$", re.M)
-SYMBOL_ROW = re.compile(r"^ +\d+: (\w+) +\d+ (\w+) +(\w+) +\w+ +(\w+) (.*)$", re.M)
-RELOCATION_ROW = re.compile(r"^([0-9a-f]+) +([0-9a-f]+) R_\S+ .* ([+-]) ([0-9a-f]+)$", re.M)
 MAP_ROW = re.compile(r"^ *([0-9a-f]+) +[0-9a-f]+ +[0-9a-f]+ +\d+ +(\S.*):\((\S+)\)$", re.M)
 DECLARED = re.compile(r'decl_file\s+\("(.*)"\)\s+DW_AT_decl_line\s+\((\d+)\)')
-
-
-class Section(NamedTuple):
-    kind: str
-    file_place: int
-    size: int
-    flags: str
-
-
-class Symbol(NamedTuple):
-    name: str
-    kind: str
-    section: str  # "" where it is defined nowhere, "ABS" where it is a number
-    place: int
-    is_global: bool
-
-
-class Relocation(NamedTuple):
-    section: str
-    place: int
-    symbol: Symbol
-    addend: int
 
 
 def tool(*words):
@@ -82,28 +55,15 @@ class Program:
     """An object file: its sections, symbols, and the relocations of what is in memory."""
 
     def __init__(self, path):
-        self.path = path
-        text = tool("llvm-readelf", "--wide", "--sections", "--symbols", "--relocations", path)
-        count, *counts = map(int, COUNT.findall(text))
-        names = {"ABS": "ABS"}
-        self.sections, self.relocations, self.doubled = {}, [], []
-        for number, name, kind, place, size, flags in rows(SECTION_ROW, text, count - 1):
-            names[number] = name
-            self.doubled += [name] * (name in self.sections)
+        elf = read_elf(path)
+        self.sections, self.doubled = {}, []
+        for section in elf.sections:
+            self.doubled += [section.name] * (section.name in self.sections)
             # (Two of one name can differ in their flags.)
-            self.sections[name] = Section(kind, int(place, 16), int(size, 16),
-                                          flags + self.flags(name))
-        self.symbols = [
-            Symbol(name, kind, names.get(number, ""), int(place, 16), binding != "LOCAL")
-            for place, kind, binding, number, name in rows(SYMBOL_ROW, text, counts.pop())]
-        for part in text.split("\nRelocation section '.rela")[1:]:
-            section = part[:part.index("'")]
-            if "A" in self.flags(section):
-                self.relocations += [
-                    Relocation(section, int(place, 16), self.symbols[int(info, 16) >> 8],
-                               int(sign + addend, 16))
-                    for place, info, sign, addend in rows(
-                        RELOCATION_ROW, part, int(COUNT.search(part)[1]))]
+            flags = section.flags + self.flags(section.name)
+            self.sections[section.name] = section._replace(flags=flags)
+        self.symbols, self.relocations = elf.symbols[1:], elf.relocations
+        self.bytes = elf.content
 
     def flags(self, section):
         return self.sections[section].flags if section in self.sections else ""
@@ -128,7 +88,7 @@ class Program:
         """The relocations of a function, up to the next one."""
         end = min((symbol.place for symbol in self.symbols
                    if symbol.section == function.section and symbol.place > function.place
-                   and (symbol.is_global or symbol.kind == "FUNC")),
+                   and (symbol.binding != "LOCAL" or symbol.kind == "FUNC")),
                   default=self.sections[function.section].size)
         return [relocation for relocation in self.relocations
                 if relocation.section == function.section
@@ -136,12 +96,9 @@ class Program:
 
     def content(self, section):
         """The bytes of a section."""
-        size = self.sections[section].size
-        if self.sections[section].kind == "NOBITS":
-            return bytes(size)
-        with open(self.path, "rb") as file:
-            file.seek(self.sections[section].file_place)
-            return file.read(size)
+        found = self.sections[section]
+        return (self.bytes[found.at:found.at + found.size] if found.has_bytes
+                else bytes(found.size))
 
 
 class Lines:
@@ -261,12 +218,9 @@ def code_faults(program, lines):
 
 def output_faults(program, lines):
     """Outputs that have a first value, which nothing lays there."""
-    section = program.sections.get(OUTPUT)
-    if not section or section.kind == "NOBITS":
+    if OUTPUT not in program.sections or not program.sections[OUTPUT].has_bytes:
         return
-    with open(program.path, "rb") as file:
-        file.seek(section.file_place)
-        places = [place for place, byte in enumerate(file.read(section.size)) if byte]
+    places = [place for place, byte in enumerate(program.content(OUTPUT)) if byte]
     places += [relocation.place for relocation in program.relocations
                if relocation.section == OUTPUT]
     for place in places:

@@ -146,7 +146,7 @@ class Names:
         with open(HEADER, encoding="utf-8") as file:
             header = file.read()
         self.firmware = firmware
-        places = {name: address for address, _, _, _, name in firmware.symbols}
+        places = {symbol.name: symbol.place for symbol in firmware.symbols}
         self.words = {METADATA.start: "metadata"}
         self.words.update((int(place, 16), name) for name, place in
                           re.findall(r"^#define (\w+) .*?(0x[0-9A-F]{4})\b", header, re.M))
@@ -169,12 +169,13 @@ class Names:
 
     def symbol(self, place):
         """The name of the variable that has this byte, or of its section."""
-        section, start = next(((name, first) for name, first, size, _ in self.firmware.sections
-                               if first <= place < first + size), ("a place", place))
+        section, start = next(((section.name, section.place) for section in self.firmware.sections
+                               if section.place <= place < section.place + section.size),
+                              ("a place", place))
         # (A label of assembler code has no size. Those of the linker script are global.)
-        found = [(bool(size), address, binding == "LOCAL", name)
-                 for address, size, kind, binding, name in self.firmware.symbols
-                 if kind != "ABS" and start <= address <= place < address + (size or place)]
+        found = [(bool(symbol.size), symbol.place, symbol.binding == "LOCAL", symbol.name)
+                 for symbol in self.firmware.symbols if symbol.section != "ABS"
+                 and start <= symbol.place <= place < symbol.place + (symbol.size or place)]
         return max(found)[-1] if found else section
 
 

@@ -10,6 +10,7 @@ import subprocess
 import sys
 from collections import namedtuple
 
+from elf_file import ElfFault, named_symbols, read_elf
 from memory_map import RAM, VECTORS
 
 # What llvm-symbolizer says of an address: a function with its first line, and the line in it.
@@ -18,7 +19,6 @@ Frame = namedtuple("Frame", "name first_file first_line file line column")
 Inlined = namedtuple("Inlined", "name file line call_file call_line call_column")
 NO_FRAME = Frame("", "", 0, "", 0, 0)
 CALL_IMMEDIATE = b"\xb0\x12"
-MACHINE = b"\x69\0"  # of an MSP430, in the header of an ELF
 
 
 class Function:
@@ -79,22 +79,6 @@ def refuse(elf):
     fail(f"{elf} is damaged, or no firmware of the kit")
 
 
-def sections_in(table):
-    """Name, first address, size and flags of each section that is in memory."""
-    found = re.findall(r"^ *\[ *\d+\] (\S+) +\S+ +([0-9a-f]+) [0-9a-f]+ ([0-9a-f]+) \w+ +"
-                       r"(\w*A\w*) ", table, re.M)
-    return [(name, int(first, 16), int(size, 16), flags) for name, first, size, flags in found]
-
-
-def symbols_in(table):
-    """Address, size, type, binding and name of each symbol; the type is ABS where it is a number.
-    """
-    found = re.findall(r"^ *\d+: ([0-9a-f]+) +(\d+) (NOTYPE|FUNC|OBJECT) +(\w+) +\w+ +(\w+) (\S+)$",
-                       table, re.M)
-    return [(int(address, 16), int(size), "ABS" if section == "ABS" else kind, binding, name)
-            for address, size, kind, binding, section, name in found]
-
-
 def instructions_of(elf):
     """Bytes and text of the instruction at each address."""
     form = re.compile(r"^ *([0-9a-f]+): ((?:[0-9a-f]{2} )+)\s*(.*)")
@@ -126,24 +110,25 @@ class Firmware:
     """The ELF: its places, functions and data."""
 
     def __init__(self, elf):
-        with open(elf, "rb") as file:
-            header = file.read(20)
-        if header[18:] != MACHINE:
+        try:
+            told = read_elf(elf)
+        except ElfFault:
             refuse(elf)
-        table = answer("llvm-readelf", "-SsW", elf)
-        self.sections, self.symbols = sections_in(table), symbols_in(table)
-        if any(first + size > 0x10000 for _, first, size, _ in self.sections):
+        self.sections = [section for section in told.sections if "A" in section.flags]
+        self.symbols = named_symbols(told)
+        if any(section.place + section.size > 0x10000 for section in self.sections):
             refuse(elf)
         self.nowhere = Function("(no function)")
-        self.text = [range(first, first + size) for _, first, size, flags in self.sections
-                     if "X" in flags and first not in VECTORS]
+        self.text = [range(section.place, section.place + section.size)
+                     for section in self.sections
+                     if "X" in section.flags and section.place not in VECTORS]
         code = instructions_of(elf)
         self.frames = frames_of(elf, [address for part in self.text for address in part[::2]])
         starts = self.find_starts(code)
         self.functions = [self.function_at(start, name) for start, name in starts]
         self.first = [start for start, _ in starts]
-        self.ends = {address: address + size for address, size, kind, _, _ in self.symbols
-                     if kind == "FUNC" and size}
+        self.ends = {symbol.place: symbol.place + symbol.size for symbol in self.symbols
+                     if symbol.kind == "FUNC" and symbol.size}
         self.places = {b"%04x" % address: self.place_of(address, b"%02x%02x" % (word[1], word[0]),
                                                         text)
                        for address, (word, text) in code.items() if address not in VECTORS}
@@ -157,17 +142,17 @@ class Firmware:
         called |= {int.from_bytes(word[:2], "little") for address, (word, _) in code.items()
                    if address in VECTORS}
         starts, ends = {}, [part.start for part in self.text]
-        for address, size, kind, binding, name in sorted(
-                self.symbols, key=lambda symbol: (symbol[0], symbol[2] != "FUNC",
-                                                  symbol[3] != "GLOBAL", symbol[4])):
-            if address in starts or kind == "ABS" or not self.has_code(address):
+        for symbol in sorted(self.symbols, key=lambda symbol: (
+                symbol.place, symbol.kind != "FUNC", symbol.binding != "GLOBAL", symbol.name)):
+            place, is_function = symbol.place, symbol.kind == "FUNC"
+            if place in starts or symbol.section == "ABS" or not self.has_code(place):
                 continue
-            behind = any(end <= address for end in ends)
-            if kind == "FUNC" or address in called or behind:
-                starts[address] = name
-                ends = [end for end in ends if end > address]
-            if kind == "FUNC" and size:
-                ends.append(address + size)
+            behind = any(end <= place for end in ends)
+            if is_function or place in called or behind:
+                starts[place] = symbol.name
+                ends = [end for end in ends if end > place]
+            if is_function and symbol.size:
+                ends.append(place + symbol.size)
         return sorted(starts.items())
 
     def has_code(self, address):
@@ -198,13 +183,14 @@ class Firmware:
         the beginning of its section.
         """
         ends = [(RAM.start, "where RAM begins")]
-        for name, first, size, _ in self.sections:
-            end = first + size
-            if size and first in RAM and first < top:
-                ends.append((end, f"the end of {name}") if end <= top
-                            else (first, f"where {name} begins"))
-        for first, size, kind, _, name in self.symbols:
-            end = first + (2 if name.endswith("_guard") else size)
-            if first in RAM and kind != "ABS" and first < end <= top:
-                ends.append((end, f"the end of {name}"))
+        for section in self.sections:
+            first, end = section.place, section.place + section.size
+            if section.size and first in RAM and first < top:
+                ends.append((end, f"the end of {section.name}") if end <= top
+                            else (first, f"where {section.name} begins"))
+        for symbol in self.symbols:
+            first = symbol.place
+            end = first + (2 if symbol.name.endswith("_guard") else symbol.size)
+            if first in RAM and symbol.section != "ABS" and first < end <= top:
+                ends.append((end, f"the end of {symbol.name}"))
         return max(ends)

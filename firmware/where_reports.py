@@ -240,7 +240,7 @@ def coverage_of(walk):
 
 def stack_name(walk, top):
     """The symbol at which a stack begins."""
-    names = sorted(name for address, _, _, _, name in walk.firmware.symbols if address == top)
+    names = sorted(symbol.name for symbol in walk.firmware.symbols if symbol.place == top)
     return names[-1] if names else f"{top:04x}"
 
 

@@ -12,7 +12,7 @@ EDGES = [place for region in (KEY, MAC, METADATA, PROGRAM, RAM, ROM, STACK, VECT
          for place in region.edges] + [ROM.last - 1, ROM.first + 2]
 BOUNDS = ([0xC040, 0xC048, 0x0300, 0x0310], [0x0400, 0x0408, 0xD000, 0xD000],
           [0x0290, 0x0294, 0xC000, 0xC010], [0xFFD8, 0xFFDE, 0x0220, 0x023E])
-KINDS = [b"cpu"] * 5 + [b"boot", b"idle", b"irq", b"rom"]
+KINDS = ["cpu"] * 5 + ["boot", "idle", "irq", "rom"]
 
 
 class Draw:
@@ -37,9 +37,9 @@ class Draw:
     def access(self, likely):
         if self.rng.random() > likely:
             return None
-        letter = self.rng.choice((b"f", b"r", b"b", b"w", b"c"))
-        number = 0 if letter in b"wc" else None
-        return Access(letter, self.place(letter in b"frw"), number)
+        letter = self.rng.choice(("f", "r", "b", "w", "c"))
+        number = 0 if letter in "wc" else None
+        return Access(letter, self.place(letter in "frw"), number)
 
     def move_bounds(self):
         if self.rng.random() < 0.7:
@@ -59,12 +59,12 @@ class Draw:
             first, end = self.bounds[:2]
             pc = self.rng.choice((first, first, first + 2, end, end, end + 2)) & 0xFFFF
         cpu, dma = self.access(0.8), self.access(self.dma)
-        if kind == b"cpu" and self.rng.random() < 0.6:
-            cpu = Access(b"f", pc & 0xFFFE, None)
+        if kind == "cpu" and self.rng.random() < 0.6:
+            cpu = Access("f", pc & 0xFFFE, None)
         word = self.rng.choice((0x4303, 0x4303, 0x1300, self.rng.randrange(0x2400)))
         value = self.rng.choice((self.place(False), *self.bounds[:2]))
         return TraceLine(kind, pc, cpu, dma, int(self.rng.random() < 0.08),
-                         int(self.rng.random() < 0.02), word, value, 0, self.bounds, 0, b"-")
+                         int(self.rng.random() < 0.02), word, value, 0, self.bounds, 0, "-")
 
 
 def foreign_trace(seed, steady, lines=1000, dma=0.1):

@@ -16,9 +16,9 @@ FROM_SMV = (("->", "→"), ("|", "∨"), ("&", "∧"), (">=", "≥"), ("<=", "�
 
 def wires(line, rng):
     """Those of a line; reset and both flags are drawn."""
-    letter, dma = (access.letter if access else b"" for access in (line.cpu, line.dma))
-    found = {"PC": line.pc, "Fen": letter == b"f", "Ren": letter in (b"r", b"b"),
-             "Wen": letter in (b"w", b"c"), "DMAen": dma != b"", "DMAwen": dma in (b"w", b"c"),
+    letter, dma = (access.letter if access else "" for access in (line.cpu, line.dma))
+    found = {"PC": line.pc, "Fen": letter == "f", "Ren": letter in ("r", "b"),
+             "Wen": letter in ("w", "c"), "DMAen": dma != "", "DMAwen": dma in ("w", "c"),
              "Daddr": line.cpu.place if line.cpu else 0,
              "DMAaddr": line.dma.place if line.dma else 0, "irq": bool(line.irq),
              **dict(zip(BOUNDS, line.bounds))}

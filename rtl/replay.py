@@ -6,11 +6,11 @@ from typing import NamedTuple
 
 sys.path.insert(0, os.path.join(os.path.dirname(os.path.realpath(__file__)), "../tools"))
 import trace_model  # noqa: E402
+from file_readers import KINDS  # noqa: E402
 from reference import METADATA, RULES  # noqa: E402
 
 FOLDER = os.path.dirname(os.path.realpath(__file__))
-KINDS = (b"boot", b"cpu", b"idle", b"irq", b"rom")
-OPERATIONS = {b"f": (1, 0), b"r": (2, 0), b"b": (2, 1), b"w": (3, 0), b"c": (3, 1)}
+OPERATIONS = {"f": (1, 0), "r": (2, 0), "b": (2, 1), "w": (3, 0), "c": (3, 1)}
 POWER_ON = "1" + 16 * " 0"
 
 
@@ -47,9 +47,9 @@ def wanted(trace):
     answers, last = [], None
     for line in trace:
         rule = trace_model.right_rule(last, line)
-        answers.append(line._replace(rule=rule.encode()))
+        answers.append(line._replace(rule=rule))
         last = line.pc
-    return [Answer(line.rule.decode(), int(exec_flag), int(aux)) for line, (exec_flag, aux) in zip(
+    return [Answer(line.rule, int(exec_flag), int(aux)) for line, (exec_flag, aux) in zip(
         answers, trace_model.flags_of(answers))]
 
 

@@ -2,12 +2,12 @@
 and apart from the program's own.
 
 `assemble` gives the image of a source by its places, or raises Fault with the first fault's line
-and kind; `listing` and `hex_text` give the printed texts of an image.
+and kind; `listing` gives the printed text of an image.
 """
 import re
 
-from file_readers import Fault, is_place, within_limit, lines_of
-from reference import PROGRAM, VECTORS
+from file_readers import Fault, is_place, lines_of, within_limit
+from reference import FILES, PROGRAM, VECTORS
 
 REGISTERS = {"pc": 0, "sp": 1, "sr": 2, **{f"r{number}": number for number in range(16)}}
 TWO = "mov add addc subc sub cmp dadd bit bic bis xor and".split()
@@ -362,7 +362,7 @@ def placement_of(statements):
 
 def assemble(text):
     """The bytes of the image by their places."""
-    lines = lines_of(within_limit(text, "source"))
+    lines = lines_of(within_limit(text, FILES["source"].limit))
     for number, line in lines:
         try:
             line.decode()
@@ -374,25 +374,6 @@ def assemble(text):
     for number, statement, place in bodies:
         image.update(enumerate(Scope(number, names, place).bytes_of(statement), place))
     return image
-
-
-def hex_record(place, data):
-    """A data record of Intel HEX, without a line end."""
-    record = bytes([len(data), place >> 8, place & 255, 0, *data])
-    return b":" + (record + bytes([-sum(record) % 256])).hex().upper().encode()
-
-
-def hex_text(image):
-    """The image as it is printed."""
-    lines, places = [], sorted(image)
-    while places:
-        first = last = places[0]
-        while last + 1 in image and (last + 1) % 16:
-            last += 1
-        data = [image[place] for place in range(first, last + 1)]
-        lines.append(hex_record(first, data))
-        del places[:len(data)]
-    return b"\n".join([*lines, b":00000001FF", b""])
 
 
 def is_illegal(word):

@@ -19,10 +19,6 @@ def bytes_of(memory, first, last):
     return bytes(memory.get(place, 0) for place in range(first, last + 1))
 
 
-def bounds_words(bounds):
-    return "er {:04x} {:04x} or {:04x} {:04x}".format(*bounds)
-
-
 def token(key, challenge, count):
     """The token that lets a request with this counter be attested."""
     return hmac_of(key, b"\x01" + challenge + count.to_bytes(4, "little"))
@@ -47,12 +43,7 @@ def request_line(key, challenge, count):
 
 def report_line(report):
     """What `play` prints of a report, which may be of version 1."""
-    name, of_request = "report", ""
-    if report.version == 2:
-        name, of_request = "report2", f" aux {report.aux} count {report.count}"
-    output = "-" if report.output is None else report.output.hex()
-    return (f"{name} {report.step} exec {report.exec}{of_request} chal {report.challenge.hex()} "
-            f"{bounds_words(report.bounds)} data {output} mac {report.mac.hex()}\n").encode()
+    return f"{report}\n".encode()
 
 
 class Call:

@@ -160,7 +160,7 @@ class Desk:
     def give(self, key, state, rest):
         words = Words(0, b" ".join(rest))
         try:
-            words.keyword(b"report2")
+            words.keyword("report2")
             report = read_report(words, 2)
         except Fault as fault:
             return state, b"bad " + fault.kind.encode()

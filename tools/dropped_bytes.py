@@ -22,7 +22,7 @@ def arrivals(events, steps):
 
 def last_full(events, steps):
     """The last step in which a byte finds the queue full if none is taken before; None if none."""
-    resets = ((event.step, RESET, 0) for event in events if event.kind == b"reset")
+    resets = ((event.step, RESET, 0) for event in events if event.kind == "reset")
     full = [step for step, _ in dropped(heapq.merge(arrivals(events, steps), resets))]
     return full[-1] if full else None
 

@@ -208,7 +208,8 @@ def paths(trial):
     include the kit's.
     """
     with tempfile.TemporaryDirectory(prefix="fold gneiss ") as folder:
-        shutil.copytree(f"{ROOT}/firmware", f"{folder}/the kit's/firmware")
+        for part in ("firmware", "python"):
+            shutil.copytree(f"{ROOT}/{part}", f"{folder}/the kit's/{part}")
         own = f"{folder}/my own"
         os.mkdir(own)
         write(f"{own}/Makefile", f"include {ROOT}/firmware/Makefile\n".encode())

@@ -1,7 +1,7 @@
 """Trials of the tables of instructions in docs/: the assembler and the listing have the same."""
 import re
 
-from assembler_model import hex_text
+from file_readers import image_text
 from reference import PROGRAM
 from sample_files import read
 from trial import ROOT
@@ -91,9 +91,9 @@ def opcodes(trial, files):
             image.update(enumerate(part.to_bytes(2, "little"), place))
             place += 2
     asm = files.add("opcodes.asm", "".join(f"{text}\n" for _, text in lines).encode())
-    trial.prints(hex_text(image), "asm", asm)
+    trial.prints(image_text(image), "asm", asm)
     listed = "".join(f"{place:04x}: {text}\n" for place, text in lines)
-    trial.prints(listed.encode(), "list", files.add("opcodes.hex", hex_text(image)))
+    trial.prints(listed.encode(), "list", files.add("opcodes.hex", image_text(image)))
 
 
 def emulated(trial, files):

@@ -5,7 +5,7 @@ import os
 import shutil
 
 import desk_model
-import verifier_model
+from file_readers import policy_text
 from memory_log import frames, has_pages, is_of_another
 from memory_trial import (PARTS, contents, is_untouched, lost_endings, none_ending, put,
                           with_file)
@@ -36,7 +36,7 @@ class Place:
         lines = b"".join(b"device %s %s\n" % (name, key.hex().encode())
                          for name, key in (self.keys if keys is None else keys).items())
         return ("desk", write(self.path("keys"), lines), self.files.file("image"),
-                write(self.path("policy"), verifier_model.policy_text(self.policy)), memory)
+                write(self.path("policy"), policy_text(self.policy)), memory)
 
     def text(self, name, text):
         return write(self.path(name), text)

@@ -6,7 +6,7 @@ from typing import NamedTuple
 import attestation_model
 import desk_model
 import verifier_model
-from file_readers import MOST, Fault, Policy, Report, read_states
+from file_readers import MOST, Fault, Policy, Report, policy_text, read_states
 from reference import FOUNDED, fault_ending
 from sample_files import Example, remove_memory, write
 from trial import random_bytes
@@ -117,7 +117,7 @@ class World:
         policy = example.value("policy")
         self.image, self.policy = example.value("image"), Policy(2, policy.bounds, "exec", [])
         self.files = (example.file("image"), write(
-            f"{folder}/policy", verifier_model.policy_text(self.policy)))
+            f"{folder}/policy", policy_text(self.policy)))
         self.keys = {b"pump_%d" % number: [random_bytes(rng, 64)] for number in range(DEVICES)}
         self.current = {name: keys[0] for name, keys in self.keys.items()}
         self.seats = [Seat(name, f"{folder}/{name}.0") for name in DESKS]

@@ -25,8 +25,8 @@ NAME = re.compile(rf"(?![0-9a-f]{{8,}}$)[A-Za-z_◌]{PART}{{2,}}[\w'◌](?:(?:::
                   rf"|\w+(?:::{PART}+)+")
 PATH = re.compile(r"(?:\./|\.\./)*[\w.*-]+(?:/[\w.*-]+)*/?")
 SOURCES = tuple(".antt .c .css .edit .h .js .ld .md .mjs .py .rt .s .service .svg .v".split())
-FOLDERS = ("bench/", "conformance/", "crates/", "docs/", "examples/", "firmware/", "page/", "rtl/",
-           "specs/", "src/", "proofs/", "tools/")
+FOLDERS = ("bench/", "conformance/", "crates/", "docs/", "examples/", "firmware/", "page/", "python/",
+           "rtl/", "specs/", "src/", "proofs/", "tools/")
 SCRIPT_WORDS = {*SCRIPT_COMMANDS, "build", "folder", "help", "COMMAND", "..", "--help", "--version"}
 ROW = re.compile(r"^\| (.*) \|$", re.M)
 

@@ -12,11 +12,11 @@ def covers(access, letters, place):
 
 
 def sent_by(line):
-    return line.cpu.number & 255 if line.rule == b"-" and covers(line.cpu, b"wc", STXD) else None
+    return line.cpu.number & 255 if line.rule == "-" and covers(line.cpu, "wc", STXD) else None
 
 
 def received_by(line):
-    return line.value & 255 if line.rule == b"-" and covers(line.cpu, b"frb", SRXD) else None
+    return line.value & 255 if line.rule == "-" and covers(line.cpu, "frb", SRXD) else None
 
 
 def pins_in(script, steps):
@@ -34,11 +34,11 @@ def entries(trace):
     """The vectors of the interrupt entries, by the step in which each begins."""
     begun, vectors = None, {}
     for step, line in enumerate(trace):
-        if line.kind == b"irq" and begun is None:
+        if line.kind == "irq" and begun is None:
             begun = step
-        if line.kind != b"irq" or line.rule != b"-":
+        if line.kind != "irq" or line.rule != "-":
             begun = None
-        elif line.cpu.letter == b"r":
+        elif line.cpu.letter == "r":
             vectors[begun], begun = line.cpu.place, None
     return vectors
 
@@ -65,11 +65,11 @@ def timer_flags(trace):
     """The timer's flag after each line."""
     timer, vectors = Timer(), entries(trace)
     for step, line in enumerate(trace):
-        if line.rule != b"-":
+        if line.rule != "-":
             timer = Timer()
         else:
-            if line.cpu is not None and line.cpu.letter in b"wc":
-                timer.write(line.cpu.place, 2 if line.cpu.letter == b"w" else 1, line.cpu.number)
+            if line.cpu is not None and line.cpu.letter in "wc":
+                timer.write(line.cpu.place, 2 if line.cpu.letter == "w" else 1, line.cpu.number)
             if vectors.get(step) == TIMER_VECTOR:
                 timer.flag = False
             timer.tick()

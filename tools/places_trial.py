@@ -1,12 +1,11 @@
-"""Trials of the places in the table of reference.py: the documents, the kit in firmware/ and the
+"""Trials of the places that the package in python/ has: the documents, the kit in firmware/ and the
 programs have the same.
 """
 import re
 import sys
 
 import trace_model
-from assembler_model import hex_text
-from file_readers import Access, TraceLine
+from file_readers import Access, TraceLine, image_text
 from readers import first_fault
 from reference import (EDGES, IMAGE_PLACES, METADATA, PERIPHERALS, PROGRAM, RAM, REGIONS,
                        RESET_VECTOR, ROM, SERIAL_VECTOR, TIMER_VECTOR, VECTORS, Region)
@@ -22,7 +21,7 @@ def documents(trial):
     rows = re.findall(r"^\| (\w{4})\.\.(\w{4}) \| (\w+) \|", read(
         f"{ROOT}/docs/memory-map.md").decode(), re.M)
     if {name: Region(int(first, 16), int(last, 16)) for first, last, name in rows} != REGIONS:
-        trial.fault("docs/memory-map.md: other regions than those of tools/reference.py")
+        trial.fault("docs/memory-map.md: other regions than python/foldgneiss/memory_map.py")
 
 
 def firmware(trial):
@@ -42,13 +41,13 @@ def firmware(trial):
     # (RAM without MAC and metadata)
     if told != {"ram": RAM.places[0x100:], "program": PROGRAM.places, "vectors": VECTORS.places,
                 "timer": TIMER_VECTOR, "serial": SERIAL_VECTOR, "reset": RESET_VECTOR}:
-        trial.fault(f"firmware/firmware.ld: other places than those of tools/reference.py: {told}")
+        trial.fault(f"firmware/firmware.ld: other places than python/foldgneiss/memory_map.py: {told}")
 
 
 def images(trial, files):
     """An image may have a byte at the places that the table says, and no others."""
     for place in EDGES:
-        image = files.add("edge.hex", hex_text({place: 0x5A}))
+        image = files.add("edge.hex", image_text({place: 0x5A}))
         if place in IMAGE_PLACES:
             trial.prints(b"%04x: .byte 0x5a\n" % place, "list", image)
         else:
@@ -71,11 +70,11 @@ def policies(trial, files):
 
 def steps():
     """Each access of the processor and of the DMA engine to each edge, from each edge."""
-    blank = TraceLine(b"cpu", 0, None, None, 0, 0, 0x4303, 0, 0, [0, 0, 0, 0], 0, b"-")
+    blank = TraceLine("cpu", 0, None, None, 0, 0, 0x4303, 0, 0, [0, 0, 0, 0], 0, "-")
     for pc in EDGES:
-        for letter, number in ((b"f", None), (b"r", None), (b"b", None), (b"w", 0), (b"c", 0)):
+        for letter, number in (("f", None), ("r", None), ("b", None), ("w", 0), ("c", 0)):
             for place in EDGES:
-                access = Access(letter, place if letter in b"bc" else place & 0xFFFE, number)
+                access = Access(letter, place if letter in "bc" else place & 0xFFFE, number)
                 yield blank._replace(pc=pc, cpu=access)
                 yield blank._replace(pc=pc, dma=access)
 
@@ -84,7 +83,7 @@ def rules(trial, files):
     """The program's audit names the rules of tools/trace_model.py at each of these steps."""
     last, lines = None, []
     for number, line in enumerate(steps()):
-        line = line._replace(rule=trace_model.right_rule(last, line).encode())
+        line = line._replace(rule=trace_model.right_rule(last, line))
         lines.append(trace_model.trace_line(number, line))
         last = line.pc
     trial.prints(b"clean %d\n" % len(lines), "audit", files.add("edges.trace", b"".join(lines)))

@@ -1,7 +1,7 @@
 """Programs that lie, around the region of examples/pump: no report may tell what was not so."""
 import re
 
-from assembler_model import hex_text
+from file_readers import image_text
 from readers import READERS
 from reference import SERIAL_VECTOR
 from sample_files import EXAMPLES, read, sent_bytes
@@ -104,7 +104,7 @@ def played(trial, files, region, handlers, periods, allow, waits):
                            least=periods.start, most=periods.stop, serial=region.handler,
                            allow=allow, wait=WAIT if waits else "")
     image = trial.expect(0, "", "asm", files.add("pump.asm", source.encode()))
-    image = files.add("pump.hex", hex_text({**READERS["image"](image), **region.code}))
+    image = files.add("pump.hex", image_text({**READERS["image"](image), **region.code}))
     events = [b"at 0 p1 %04x\n" % DOSE]
     events += [b"at %d rx 00\n" % (1000 * number) for number in range(1, 540)] * waits
     text = trial.expect(0, "", "play", image, files.add("pump.txt", b"".join(events)), files.key,

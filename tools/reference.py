@@ -1,12 +1,25 @@
-"""The one table of commands, files, faults, rules, exit codes and places.
+"""The one table of commands, files, faults and exit codes, with the rules, verdicts, limits and
+places of the package in python/, which this has on its path.
 
 The program's --help, the messages of ./foldgneiss, the tables of README.md, docs/foldgneiss.1 and
 docs/foldgneiss.bash are written from it by tools/write-reference; tools/check-program compares them
 with it, and tries the commands that are named here.
 """
+import os
 import re
+import sys
 from typing import NamedTuple
 
+ROOT = os.path.dirname(os.path.dirname(os.path.realpath(__file__)))
+sys.path.append(f"{ROOT}/python")
+from foldgneiss.limits import (IMAGE_BYTES, KEY_BYTES, MOST_COUNTER, MOST_STEPS,  # noqa: E402
+                               POLICY_BYTES, REPORTS_BYTES, SCRIPT_BYTES, TRACE_BYTES)
+from foldgneiss.memory_map import (IMAGE_PLACES, KEY, MAC, METADATA,  # noqa: E402, F401
+                                   PERIPHERALS, PROGRAM, RAM, REGIONS, RESET_VECTOR, ROM,
+                                   SERIAL_VECTOR, STACK, TIMER_VECTOR, UPPER, VECTORS, Region)
+from foldgneiss.names import FLAGS, RULES, VERDICTS  # noqa: E402, F401
+
+VERSION = "0.2.0"  # its one place: what repeats it is written from here
 
 class Command(NamedTuple):
     name: str
@@ -225,14 +238,14 @@ def named_by_program():
 
 # In the order in which they are read.
 FILES = {
-    "key": File(7, 256, "the device's key: 128 hexadecimal digits"),
+    "key": File(7, KEY_BYTES, "the device's key: 128 hexadecimal digits"),
     "keys": File(14, 262144, "a desk's devices, each by its name and its key"),
-    "image": File(8, 1048576, "firmware, as Intel HEX"),
-    "script": File(9, 1048576, "events from outside, each with its step; may be empty"),
-    "policy": File(10, 65536, "the regions, flag and requests that reports have to answer"),
-    "reports": File(11, 1048576, "lines as play prints them, and reports of version 1"),
+    "image": File(8, IMAGE_BYTES, "firmware, as Intel HEX"),
+    "script": File(9, SCRIPT_BYTES, "events from outside, each with its step; may be empty"),
+    "policy": File(10, POLICY_BYTES, "the regions, flag and requests that reports have to answer"),
+    "reports": File(11, REPORTS_BYTES, "lines as play prints them, and reports of version 1"),
     "source": File(12, 1048576, "an assembler source"),
-    "trace": File(13, 67108864, "lines as trace prints them"),
+    "trace": File(13, TRACE_BYTES, "lines as trace prints them"),
     "states": File(19, 4194304, "lines as states prints them"),
     "moved": File(19, 4194304, "lines as move prints them, of any number of devices"),
 }
@@ -240,8 +253,8 @@ FILES = {
 # The arguments that are no files.
 VALUES = {
     "chal": Digits(64),
-    "counter": Decimal(1, 4294967295),
-    "steps": Decimal(1, 10000000),
+    "counter": Decimal(1, MOST_COUNTER),
+    "steps": Decimal(1, MOST_STEPS),
     "seed": Decimal(0, 4294967295),
     "memory": Memory("a file that keeps the states of a desk's devices, made by found"),
     "name": Name("a device, by its name: 1 to 32 letters, digits and _"),
@@ -249,44 +262,6 @@ VALUES = {
 }
 
 
-class Region(NamedTuple):
-    """Its first and its last place."""
-    first: int
-    last: int
-
-    @property
-    def places(self):
-        return range(self.first, self.last + 1)
-
-    @property
-    def edges(self):
-        """The first and the last place, and those beside them."""
-        return self.first - 1 & 0xFFFF, self.first, self.last, self.last + 1 & 0xFFFF
-
-    def has(self, place):
-        return self.first <= place <= self.last
-
-    def __str__(self):
-        return f"{self.first:04X}..{self.last:04X}"
-
-
-# By the names of docs/memory-map.md.
-REGIONS = {
-    "peripherals": Region(0x0000, 0x01FF),
-    "RAM": Region(0x0200, 0x21FF),
-    "MR": Region(0x0200, 0x021F),
-    "META": Region(0x0240, 0x028F),
-    "XS": Region(0x4000, 0x43FF),
-    "KR": Region(0x6A00, 0x6A3F),
-    "CR": Region(0xA000, 0xBFFF),
-    "program": Region(0xC000, 0xFFDF),
-    "vectors": Region(0xFFE0, 0xFFFF),
-}
-PERIPHERALS, RAM, MAC, METADATA, STACK, KEY, ROM, PROGRAM, VECTORS = REGIONS.values()
-METADATA_ONE = Region(METADATA.first, 0x0269)  # those of version 1
-TIMER_VECTOR, SERIAL_VECTOR, RESET_VECTOR = 0xFFF2, 0xFFF4, 0xFFFE
-UPPER = Region(PROGRAM.first, VECTORS.last)
-IMAGE_PLACES = frozenset((*RAM.places, *UPPER.places))
 EDGES = sorted({place for region in REGIONS.values() for place in region.edges})
 
 
@@ -505,24 +480,3 @@ FAULTS = {
         "Place": "the line is of no move to the desk of MEMORY",
     },
 }
-
-# The rules in the order in which they are tried; docs/monitors.md defines them.
-RULES = {
-    "X0": "the script asked for a reset",
-    "A3": "an interrupt could be accepted in the attestation ROM",
-    "A2": "the attestation ROM was entered past its beginning",
-    "A1": "the attestation ROM was left before its end (the device never does)",
-    "A4": "the ROM's return address lay in the key or in the exclusive stack",
-    "K1": "the processor read the key",
-    "K2": "the processor touched the exclusive stack",
-    "K3": "the ROM wrote elsewhere (the device never does)",
-    "K4": "the DMA touched the key",
-    "K5": "the DMA touched the exclusive stack",
-    "K6": "the DMA was active in the attestation ROM",
-    "I1": "an illegal instruction word was fetched",
-}
-VERSION = "0.2.0"  # its one place: what repeats it is written from here
-FLAGS = ("exec", "aux", "plain")  # that a policy may ask for
-# In the order in which they are tried, but for the first.
-VERDICTS = ("accept", "no-challenge", "version-differs", "chal-differs", "count-differs",
-            "bounds-differ", "exec-zero", "aux-zero", "mac-differs")

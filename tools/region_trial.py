@@ -3,8 +3,7 @@ import re
 import tempfile
 
 import attestation_model
-from assembler_model import hex_text
-from file_readers import read_image, read_reports
+from file_readers import image_text, read_image, read_reports
 from firmware_trial import MAKE, PLACE, folder_of, is_compiler_there, made_image
 from reference import VECTORS
 from runtime_trial import LEVELS
@@ -336,7 +335,7 @@ class Device:
         for place in places:
             for change in (0x01, 0xFF):
                 memory = {**self.memory, place: self.memory[place] ^ change}
-                text = self.played("play", self.files.add("changed.hex", hex_text(memory)))
+                text = self.played("play", self.files.add("changed.hex", image_text(memory)))
                 if self.data(text) not in (None, data) and self.accepts(text):
                     lies.add(place)
         return lies

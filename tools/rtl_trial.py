@@ -68,7 +68,7 @@ def audited(trial, results, lists):
     """The program's audit finds the answers right that the module and the reference gave."""
     for number, trace in enumerate(lists):
         text = b"".join(
-            trace_model.trace_line(step, line._replace(rule=right.rule.encode(), exec=right.exec))
+            trace_model.trace_line(step, line._replace(rule=right.rule, exec=right.exec))
             for step, (line, right) in enumerate(zip(trace, wanted(trace))))
         name = f"{results}/foreign-{number}"
         with open(name, "wb") as file:

@@ -10,9 +10,9 @@ from typing import NamedTuple
 import attestation_model
 import desk_model
 import verifier_model
-from assembler_model import hex_record, hex_text
 from desk_model import Desk
-from file_readers import Policy, read_reports
+from file_readers import (Policy, SentByte, hex_record, image_text, policy_text, read_lines,
+                          read_reports)
 from readers import READERS, first_fault
 from reference import ALL, COMMANDS, FILES, IMAGE_PLACES, PROGRAM, RESET_VECTOR
 from sqlite_rows import sqlite3
@@ -104,7 +104,7 @@ def steps_of(text):
 
 def sent_bytes(text):
     """The bytes that were sent in the play that printed this text."""
-    return bytes.fromhex(b"".join(re.findall(rb"^tx \d+ (..)", text, re.M)).decode())
+    return bytes(line.byte for line in read_lines(text) if isinstance(line, SentByte))
 
 
 class Example:
@@ -258,7 +258,7 @@ class SampleFiles:
         memory = dict.fromkeys(IMAGE_PLACES, 0)
         memory.update(enumerate(bytes.fromhex("B24041007600FF3F"), PROGRAM.first))
         memory[RESET_VECTOR + 1] = 0xC0
-        return hex_text(memory)
+        return image_text(memory)
 
     def add_sources(self):
         self.add("letter.asm", b".org 0xC000\nstart: mov #0x41,&0x76\nstop: jmp stop\n"
@@ -287,7 +287,7 @@ class SampleFiles:
 
     def policy_with(self, **changes):
         """A file with the policy that the example's report meets, in some of its values another."""
-        return self.add("policy-with", verifier_model.policy_text(self.policy._replace(**changes)))
+        return self.add("policy-with", policy_text(self.policy._replace(**changes)))
 
     def report_with(self, **changes):
         """A report line that says what the example's report says, but for some of its values, and
@@ -304,7 +304,7 @@ class SampleFiles:
         self.report = read_reports(self.round.text)[0]
         self.policy = Policy(self.report.version, self.report.bounds, "exec",
                              [(self.report.challenge, self.report.count)])
-        reports, policy = self.report_with(), verifier_model.policy_text(self.policy)
+        reports, policy = self.report_with(), policy_text(self.policy)
         self.add("reports", reports)
         self.add("reports-among", b"tx 4 41\nreset 5 K4\ndenied 84 3\nverdict 1 aux-zero\n"
                                   b"collision 00 0102\n" + reports + b"end 6 pc c000 exec 0\n")
@@ -320,7 +320,7 @@ class SampleFiles:
         self.add("policy-ask", lines[1] + lines[2] + lines[4])
         self.add("policy-chal", policy + b"chal " + b"f" * 64 + b"\n")
         self.add("policy-flag", policy.replace(b"flag exec", b"flag exe"))
-        self.add("policy-counter", verifier_model.policy_text(
+        self.add("policy-counter", policy_text(
             self.policy._replace(requests=[(self.report.challenge, 0)])))
         self.add("policy-twice", policy + b"ask " + b"f" * 64 + b" 1\n" + lines[4].upper().replace(
             b"ASK", b"ask"))
@@ -458,7 +458,7 @@ class SampleFiles:
         lines = read(self.image).splitlines(keepends=True)
         counts = range(1, FILES["policy"].limit // (len("ask  9999\n") + 64))
         reports = b"".join(self.report_with(count=count) for count in counts)
-        policy = verifier_model.policy_text(self.policy._replace(
+        policy = policy_text(self.policy._replace(
             requests=[(self.report.challenge, count) for count in counts]))
         names = [letter + other for other in ("", *ascii_letters) for letter in ascii_letters]
         self.add("states-many", b"".join(
@@ -500,5 +500,5 @@ class SampleFiles:
     def add_scattered_image(self):
         """A byte at each odd place, so that each stands alone."""
         places = [place for place in IMAGE_PLACES if place % 2]
-        self.add("image-odd", hex_text(dict.fromkeys(places, 90)))
+        self.add("image-odd", image_text(dict.fromkeys(places, 90)))
         return len(places)

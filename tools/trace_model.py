@@ -11,7 +11,7 @@ ENTRY, EXIT = ROM.first, ROM.last - 1
 def places(access):
     if access is None:
         return []
-    return [access.place, access.place + 1][:1 if access.letter in b"bc" else 2]
+    return [access.place, access.place + 1][:1 if access.letter in "bc" else 2]
 
 
 def touches(access, *regions):
@@ -19,11 +19,11 @@ def touches(access, *regions):
 
 
 def is_write(access):
-    return access is not None and access.letter in b"wc"
+    return access is not None and access.letter in "wc"
 
 
 def is_read(access):
-    return access is not None and access.letter in b"rb"
+    return access is not None and access.letter in "rb"
 
 
 def writes(line):
@@ -36,7 +36,7 @@ def was_inside(last):
 
 
 def fetches_opcode(line):
-    return (line.kind == b"cpu" and line.cpu is not None and line.cpu.letter == b"f"
+    return (line.kind == "cpu" and line.cpu is not None and line.cpu.letter == "f"
             and line.cpu.place == line.pc)
 
 
@@ -47,7 +47,7 @@ def conditions(last, line):
     yield "X0", line.asked
     yield "A3", line.irq and inside
     yield "A2", inside and line.pc != ENTRY and not was_inside(last)
-    yield "A1", was_inside(last) and not inside and line.kind != b"boot"
+    yield "A1", was_inside(last) and not inside and line.kind != "boot"
     yield "A4", line.pc == EXIT and is_read(cpu) and touches(cpu, KEY, STACK)
     yield "K1", touches(cpu, KEY) and not write and not inside
     yield "K2", touches(cpu, STACK) and not inside
@@ -87,7 +87,7 @@ def clears_both(last, line):
     """Whether one of E1, E2 and E5 to E9 describes the step, which clear both flags."""
     er_max, or_min, or_max = line.bounds[1:]
     er, output, here = code_of(line), Region(or_min, (or_max + 1) % 65536), is_inside(line)
-    fetch = line.cpu is not None and line.cpu.letter == b"f"
+    fetch = line.cpu is not None and line.cpu.letter == "f"
     return any((
         any(touches(access, er) for access in writes(line)),
         not here and was_in_code(last, line) and last != er_max,
@@ -95,7 +95,7 @@ def clears_both(last, line):
         touches(line.dma, er, output),
         here and line.dma is not None,
         here and fetch and not all(map(er.has, places(line.cpu))),
-        line.rule != b"-" or any(touches(access, METADATA) for access in writes(line)),
+        line.rule != "-" or any(touches(access, METADATA) for access in writes(line)),
     ))
 
 
@@ -109,7 +109,7 @@ def clears_exec(last, line):
 def clears_aux(last, line):
     """These, F3, F4 or F10."""
     first = fetches_opcode(line) and line.pc == line.bounds[0]
-    elsewhere = (line.kind == b"irq" and is_read(line.cpu)
+    elsewhere = (line.kind == "irq" and is_read(line.cpu)
                  and not code_of(line).has(line.value & 0xFFFE))
     return (clears_both(last, line)
             or enters_code(last, line) and not first
@@ -142,18 +142,18 @@ def wrong_report(trace, play):
 def access_word(access):
     if access is None:
         return "-"
-    digits = 2 if access.letter == b"c" else 4
+    digits = 2 if access.letter == "c" else 4
     number = "" if access.number is None else "=%0*x" % (digits, access.number)
-    return f"{access.letter.decode()}{access.place:04x}{number}"
+    return f"{access.letter}{access.place:04x}{number}"
 
 
 def trace_line(step, line):
     """The text of a line."""
     numbers = " ".join("%04x" % number
                        for number in (line.word, line.value, line.dma_value, *line.bounds))
-    return (f"t {step} {line.kind.decode()} {line.pc:04x} {access_word(line.cpu)} "
+    return (f"t {step} {line.kind} {line.pc:04x} {access_word(line.cpu)} "
             f"{access_word(line.dma)} {line.irq:d} {line.asked:d} {numbers} {line.exec:d} "
-            f"{line.rule.decode()}\n").encode()
+            f"{line.rule}\n").encode()
 
 
 def audit_line(trace):
@@ -161,7 +161,7 @@ def audit_line(trace):
     last = None
     for step, (line, (flag, _)) in enumerate(zip(trace, flags_of(trace))):
         rule = right_rule(last, line)
-        if line.rule != rule.encode():
+        if line.rule != rule:
             return b"offence %d rule %s\n" % (step, rule.encode())
         if line.exec != flag:
             return b"offence %d exec %d\n" % (step, flag)

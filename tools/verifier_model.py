@@ -1,7 +1,7 @@
 """What the verifier says of reports of both versions, apart from the program's own code."""
 import re
 
-from attestation_model import bounds_words, bytes_of, in_words, mac, request
+from attestation_model import bytes_of, in_words, mac, request
 from file_readers import read_reports
 from reference import ending
 
@@ -21,17 +21,6 @@ def right_mac(image, key, report):
 
 def with_right_mac(image, key, report):
     return report._replace(mac=right_mac(image, key, report))
-
-
-def policy_text(policy):
-    """A policy as its file has it."""
-    lines = bounds_words(policy.bounds).replace(" or", "\nor") + "\n"
-    if policy.version == 2:
-        lines = f"version 2\n{lines}flag {policy.flag}\n"
-    for challenge, count in policy.requests:
-        lines += (f"ask {challenge.hex()} {count}\n" if policy.version == 2
-                  else f"chal {challenge.hex()}\n")
-    return lines.encode()
 
 
 def verdict(image, policy, key, number, report):

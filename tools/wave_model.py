@@ -60,18 +60,23 @@ def samples(text):
     return sampled
 
 
+def number_of(text):
+    """What a wire has where it tells a text."""
+    return int.from_bytes(text.encode(), "big")
+
+
 def access(name, told, value):
     """The wires of an access of a trace line, and of the value that it read."""
     written = told and told.number
-    return {f"{name}_op": told and told.letter[0], f"{name}_address": told and told.place,
+    return {f"{name}_op": told and number_of(told.letter), f"{name}_address": told and told.place,
             f"{name}_data": told and (value if written is None else written)}
 
 
 def wires_of(line, pins, before):
     """The wires in a step with this trace line and these pins, and with the flags before it."""
-    rule = b"" if line.rule == b"-" else line.rule
+    rule = "" if line.rule == "-" else line.rule
     bounds = zip(("er_min", "er_max", "or_min", "or_max"), line.bounds)
-    return {"kind": int.from_bytes(line.kind, "big"), "rule": int.from_bytes(rule, "big"),
+    return {"kind": number_of(line.kind), "rule": number_of(rule),
             "pc": line.pc, "irq": line.irq, "asked": line.asked, "fetch_word": line.word,
             "pins": pins, "sent": sent_by(line), "received": received_by(line), **before,
             **dict(bounds), **access("cpu", line.cpu, line.value),
@@ -101,7 +106,7 @@ def wrong_entry(sampled):
     `sr`.
     """
     for time, sample in enumerate(sampled):
-        if sample["kind"] == int.from_bytes(b"irq", "big") and sample["cpu_op"] == ord("w"):
+        if sample["kind"] == number_of("irq") and sample["cpu_op"] == number_of("w"):
             below = (sample["sp"] - sample["cpu_address"]) % 65536
             if below not in (2, 4) or (below == 4 and sample["cpu_data"] != sample["sr"]):
                 return time
