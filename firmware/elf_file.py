@@ -3,7 +3,7 @@ import os
 import sys
 
 sys.path.append(os.path.join(os.path.dirname(os.path.realpath(__file__)), "../python"))
-from foldgneiss.elf import Elf, ElfFault, Symbol  # noqa: E402, F401
+from foldgneiss.elf import Elf, ElfFault  # noqa: E402, F401
 
 
 def read_elf(path):

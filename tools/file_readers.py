@@ -11,8 +11,8 @@ from typing import NamedTuple, Optional
 import reference
 from foldgneiss.image import hex_record, image_text, is_place, read_image  # noqa: F401
 from foldgneiss.key import read_key  # noqa: F401
-from foldgneiss.policy import Policy, bounds_words, is_valid, policy_text, read_policy  # noqa: F401
-from foldgneiss.printed_line import (Report, Reset, SentByte, read_lines, read_report,  # noqa: F401
+from foldgneiss.policy import Policy, is_valid, policy_text, read_policy  # noqa: F401
+from foldgneiss.printed_line import (Report, SentByte, read_lines, read_report,  # noqa: F401
                                      read_reports)
 from foldgneiss.script import read_script  # noqa: F401
 from foldgneiss.trace_line import KINDS, Access, TraceLine, read_trace  # noqa: F401

@@ -21,6 +21,7 @@ from foldgneiss.names import FLAGS, RULES, VERDICTS  # noqa: E402, F401
 
 VERSION = "0.2.0"  # its one place: what repeats it is written from here
 
+
 class Command(NamedTuple):
     name: str
     words: tuple  # what its arguments are, in order
@@ -355,7 +356,6 @@ STATUSES = {
     19: Status("bad states: line L: K", "the first fault of a text of states or of moves",
                "`--help` says what K means"),
 }
-
 
 
 def ending(status):
