@@ -170,14 +170,10 @@ dest-read (dest.Indexed register index) = indexed-read register index
 -- the forms that a legal source and a destination have
 pub source-form : (source : Source) → has_form (source_form source) ≡ true
     → is_source (source_operand source) ≡ true
-source-form (source.Reg register) form = refl
-source-form (source.Indexed R2 index) form = refl
 source-form (source.Indexed R3 index) form = absurd (false≢true form)
-source-form (source.Indexed register index) form = refl
 source-form (source.Indirect register) form = form
 source-form (source.IndirectInc register) form = form
-source-form (source.Immediate word) form = refl
-source-form (source.Constant constant) form = refl
+source-form source form = refl
 
 pub source-modified : (source : Source) → has_form (source_form source) ≡ true
     → takes_result (source_form source) ≡ true → is_modified (source_operand source) ≡ true

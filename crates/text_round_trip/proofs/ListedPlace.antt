@@ -24,21 +24,14 @@ use Rattle.text_round_trip.proofs.ListedOperand.{FitsSource, FitsDest}
 
 source-fits : (source : SourceForm) (word : ℕ) → word < 65536
     → FitsSource (source_completion source word)
-source-fits (sources.Register register) word below = tt
 source-fits (sources.Indexed register) word below = below
-source-fits (sources.Indirect register) word below = tt
-source-fits (sources.IndirectInc register) word below = tt
 source-fits sources.Immediate word below = below
-source-fits (sources.Constant constant) word below = tt
+source-fits source word below = tt
 
 source-same : (source : SourceForm) (word : ℕ)
     → source_form (source_completion source word) ≡ source
 source-same (sources.Register register) word = refl
-source-same (sources.Indexed register) word = refl
-source-same (sources.Indirect register) word = refl
-source-same (sources.IndirectInc register) word = refl
-source-same sources.Immediate word = refl
-source-same (sources.Constant constant) word = refl
+source-same source word = refl
 
 dest-fits : (dest : DestForm) (word : ℕ) → word < 65536 → FitsDest (dest_completion dest word)
 dest-fits (dests.Register register) word below = tt

@@ -2,7 +2,8 @@
 use Rattle.std.proofs.Common.{◌≡◌, ◌∙◌, ap, sym, refl, ◌<◌, arith, Bool, true, false, not, List, [], ◌∷◌, ◌++◌, append-nil, length, get_or, Result, Ok}
 use Rattle.std.specs.Prelude.{map, All}
 use Rattle.std.specs.List.{list_all, slice_split}
-use Rattle.std.proofs.lemmas.Bool.{and_parts, false≢true}
+use Rattle.std.proofs.lemmas.Bool.{and_parts}
+use borrow.Author.Tests.{not-true}
 use Rattle.std.proofs.lemmas.List.Sums.{AllPass-from_list_all}
 use Rattle.std.proofs.lemmas.List.Splits.{slice_split_none, slice_split_at}
 use Rattle.text_scan.specs.declared.fault_kind.FaultKind.{FaultKind}
@@ -22,14 +23,10 @@ unfoldable pub joint_tokens : List Token → List (List Token) → List Token
 joint_tokens first [] = first
 joint_tokens first (next ∷ rest) = first ++ Comma ∷ joint_tokens next rest
 
-pub not-false : (test : Bool) → not test ≡ true → test ≡ false
-not-false false is = refl
-not-false true is = absurd (false≢true is)
-
 none-comma : (tokens : List Token) → has_no_comma tokens ≡ true
     → All (λ token. is_comma token ≡ false) tokens
 none-comma tokens all k d below =
-    not-false (is_comma (get_or tokens k d))
+    not-true (is_comma (get_or tokens k d))
     (AllPass-from_list_all (λ token. not (is_comma token)) tokens all k d below)
 
 pub split-joint : (first : List Token) (rest : List (List Token)) → has_no_comma first ≡ true

@@ -43,11 +43,7 @@ plain-source size (source.Immediate word) is =
     let parts =
     and_parts (is_none (constant_of size (pos word))) (nat_le word (all_ones size)) is in
     plain-none size word (constant_of size (pos word)) parts.0 parts.1
-plain-source size (source.Reg register) is = refl
-plain-source size (source.Indexed register index) is = refl
-plain-source size (source.Indirect register) is = refl
-plain-source size (source.IndirectInc register) is = refl
-plain-source size (source.Constant constant) is = refl
+plain-source size source is = refl
 
 plain-instr : (place : ℕ) (instr : Instr) → is_plain_instr place instr ≡ true
     → instr_again place instr ≡ Ok instr
@@ -130,11 +126,7 @@ source-plain : (make : Source → Instr) (size : Size) (source : Source) (count 
     → length bytes ≡ 2 * length (words_of (make source)) → is_plain_source size source ≡ true
 source-plain make size (source.Immediate word) count bytes is_sized again long =
     immediate-plain make size word count bytes (constant_of size (pos word)) is_sized again long
-source-plain make size (source.Reg register) count bytes is_sized again long = refl
-source-plain make size (source.Indexed register index) count bytes is_sized again long = refl
-source-plain make size (source.Indirect register) count bytes is_sized again long = refl
-source-plain make size (source.IndirectInc register) count bytes is_sized again long = refl
-source-plain make size (source.Constant constant) count bytes is_sized again long = refl
+source-plain make size source count bytes is_sized again long = refl
 
 jump-plain : (place : ℕ) (condition : Cond) (offset : ℤ) (bytes : List ℕ) (within : Bool)
     → stays_within place offset ≡ within
@@ -171,8 +163,6 @@ one-made op size (Err kind) = refl
 
 again-plain : (image : ℕ → Option ℕ) (place : ℕ) (item : Item) → AreSameBytes image place item
     → is_plain place item ≡ true
-again-plain image place (items.Byte byte) same = refl
-again-plain image place (items.Word word) same = refl
 again-plain image place (items.Instruction (instrs.Two op size source dest)) same =
     source-plain (λ from. instrs.Two op size from dest) size source (length (dest_words dest))
     same.bytes (two-sized op size dest)
@@ -180,9 +170,9 @@ again-plain image place (items.Instruction (instrs.Two op size source dest)) sam
 again-plain image place (items.Instruction (instrs.One op size source)) same =
     source-plain (λ from. instrs.One op size from) size source 0 same.bytes (one-sized op size)
     (one-made op size (source_again size source) ∙ same.again) same.count
-again-plain image place (items.Instruction instrs.Reti) same = refl
 again-plain image place (items.Instruction (instrs.Jump condition offset)) same =
     jump-plain place condition offset same.bytes (stays_within place offset) refl same.again
+again-plain image place item same = refl
 
 pub same_bytes-plain : HeadsAreSpelled → WordsAreWritten → (image : ℕ → Option ℕ) (place : ℕ)
     (item : Item) → IsImage image → item_at image place ≡ Some item

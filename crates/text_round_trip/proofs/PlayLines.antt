@@ -3,7 +3,7 @@ use Rattle.std.proofs.Common.{◌∙◌, ℕ, ◌%◌, ◌<◌, Bool, true, fals
 use Rattle.std.specs.Prelude.{◌==◌, ◌^◌, if◌then◌else◌}
 use Rattle.std.specs.Option.{option_to_list}
 use Rattle.bus_signals.specs.declared.access.Access.{Access}
-use Rattle.bus_signals.specs.declared.access.Access.TheVariants.{Fetch, Read, Write}
+use Rattle.bus_signals.specs.declared.access.Access.TheVariants.{Write}
 use Rattle.bus_signals.specs.declared.bus_record.BusRecord.{BusRecord}
 use Rattle.bus_signals.specs.declared.rule.Rule.{Rule}
 use Rattle.bus_signals.specs.Report.{ReportFields}
@@ -40,10 +40,7 @@ sent_if false number = tt
 sent_byte : (rule : Option Rule) (access : Option Access)
     → IfSome (byte_sent_by rule access) (λ byte. byte < 256)
 sent_byte None (Some (Write place size number)) = sent_if (covers place size SERIAL_SEND) number
-sent_byte None (Some (Fetch place)) = tt
-sent_byte None (Some (Read place size)) = tt
-sent_byte None None = tt
-sent_byte (Some rule) access = tt
+sent_byte rule access = tt
 
 reads-sent_lines : (step : ℕ) (sent : Option ℕ) → step < 2 ^ 32
     → IfSome sent (λ byte. byte < 256) → ReadsAs (some_line (sent_line step) sent) []

@@ -114,9 +114,7 @@ without_label body = Ok (None, body)
 
 pub no_label : (token : Token) (rest : List Token) → begins_with_colon rest ≡ false
     → labelled_body (token ∷ rest) ≡ (statement_body (token ∷ rest) >>= without_label)
-no_label (Name name operation) [] other = refl
 no_label (Name name operation) (Colon ∷ rest) other = absurd (false≢true (sym other))
-no_label (Name name operation) (token ∷ rest) other = refl
 no_label token rest other = refl
 
 -- a statement with its operands

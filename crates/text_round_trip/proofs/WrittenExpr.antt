@@ -20,7 +20,7 @@ use Rattle.text_round_trip.specs.StatementText.{Numerals, term_text, sign_text, 
 use Rattle.text_round_trip.specs.Writable.{is_free_name, is_writable_term, is_writable_expr}
 use Rattle.text_round_trip.proofs.Falls.{ends, FallsInto, FallsAlways, falls-then, falls-apart, falls-into, falls-nothing, word-falls, plus-falls, minus-falls, here-falls}
 use Rattle.text_round_trip.proofs.Numerals.{number-falls}
-use Rattle.text_round_trip.proofs.Operands.{not-false}
+use borrow.Author.Tests.{not-true}
 
 abbrev pub token_of_name : List ℕ → Token
 token_of_name name = tokens.Name name (operation_of (lower_case name))
@@ -95,7 +95,7 @@ free-name name is =
       some = ltb-true 0 (length name)
           (and_parts (nat_lt 0 (length name)) (nat_le (length name) 64) middle.0).0;
       all = middle.1;
-      begins = not-false (is_ascii_digit (slice_index name 0)) prefix.1;
+      begins = not-true (is_ascii_digit (slice_index name 0)) prefix.1;
     }
 
 pub name-characters : (name : List ℕ) → is_free_name name ≡ true
@@ -160,8 +160,7 @@ expr-falls numerals are ((true, term) ∷ rest) all =
 
 term-read : (term : Term) → term_of (term_token term) ≡ Ok term
 term-read (Number number) = refl
-term-read (Name name) = refl
-term-read Here = refl
+term-read term = refl
 
 sign-read : (is_subtracted : Bool) → sign_of (sign_token is_subtracted) ≡ Ok is_subtracted
 sign-read false = refl
@@ -179,8 +178,7 @@ plain-read : (term : Term) (rest : List SignedTerm)
     → expr_of (term_token term ∷ more_tokens rest)
     ≡ terms_of false (term_token term ∷ more_tokens rest)
 plain-read (Number number) rest = refl
-plain-read (Name name) rest = refl
-plain-read Here rest = refl
+plain-read term rest = refl
 
 pub expr-read : (expr : List SignedTerm) → is_writable_expr expr ≡ true
     → expr_of (expr_tokens expr) ≡ Ok expr
@@ -202,8 +200,7 @@ are_expr_tokens all = list_all is_expr_token all
 
 term-are : (term : Term) → is_expr_token (term_token term) ≡ true
 term-are (Number number) = refl
-term-are (Name name) = refl
-term-are Here = refl
+term-are term = refl
 
 sign-are : (is_subtracted : Bool) → is_expr_token (sign_token is_subtracted) ≡ true
 sign-are false = refl
