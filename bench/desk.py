@@ -37,6 +37,10 @@ class Desk:
         self.process.communicate()
 
 
+def found(program, folder, memory):
+    subprocess.run([program, "found", f"{folder}/{memory}", "bench"], check=True)
+
+
 def asks(number, names):
     return [f"ask {name} {number}\n" for name in names]
 
@@ -61,6 +65,7 @@ def start_of(program, folder, memory):
 
 def served(program, folder, memory):
     """A new desk's seconds for lines that wait for each other, and for a thousand at once."""
+    found(program, folder, memory)
     desk = Desk(program, folder, memory)
     desk.answers(["x\n"])
     waited = seconds(lambda: [desk.answers(asks(number, NAMES[:1]))
@@ -78,7 +83,8 @@ def main(program):
         waited, at_once = map(min, zip(*rows))
         print(f"desk with a memory: {WAITS / waited:.0f} lines a second of a client that waits")
         print(f"                    {at_once:.3f} s for 1,000 requests in one piece")
-        first = min(start_of(program, folder, f"new-{run}") for run in range(3))
+        found(program, folder, "new")
+        first = min(start_of(program, folder, "new") for _ in range(3))
         desk = Desk(program, folder, "memory-0")
         for number in range(WAITS + 2, WAITS + 2 + REQUESTS // len(NAMES) + 1):
             desk.answers(asks(number, NAMES))
