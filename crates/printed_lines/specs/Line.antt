@@ -69,8 +69,11 @@ report_line report =
 abbrev pub denied_line : ℕ → ℕ → Bytes
 denied_line step decision = line_of (codes "denied") (decimal step ∷ decimal decision ∷ [])
 
--- after so many steps: the pc that the next step would have, and the EXEC flag
-abbrev pub end_line : ℕ → Address → Bool → Bytes
-end_line steps pc exec =
-    line_of (codes "end")
+-- after so many steps, by this keyword: the pc that the next step would have, and the EXEC flag
+abbrev pub place_line : Bytes → ℕ → Address → Bool → Bytes
+place_line keyword steps pc exec =
+    line_of keyword
     (decimal steps ∷ codes "pc" ∷ word_digits pc ∷ codes "exec" ∷ flag_digit exec ∷ [])
+
+abbrev pub end_line : ℕ → Address → Bool → Bytes
+end_line = place_line (codes "end")

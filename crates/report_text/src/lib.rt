@@ -23,7 +23,8 @@ mod verdict_line;
 
 pub use collision_line::print_collision;
 pub use law::{report_line_reads_back, verdict_lines_are_passed_over};
-pub use printed_line::{print_denied, print_end, print_reset, print_sent};
+pub use printed_digits::print_digits;
+pub use printed_line::{print_denied, print_end, print_place, print_reset, print_sent};
 pub use report::Report;
 pub use report_line::print_report;
 pub use report_list::read_reports;
