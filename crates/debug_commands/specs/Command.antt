@@ -26,19 +26,19 @@ abbrev pub watch_command : Bool → Watch → Command
 watch_command sets one =
     if one.size == 0 then Refused else if sets then SetWatch one else ClearWatch one
 
-abbrev pub kind_of : ℕ → WatchKind
-kind_of kind =
+abbrev pub watch_kind_of : ℕ → WatchKind
+watch_kind_of kind =
     if kind == 2 then watch.Write else if kind == 3 then watch.Read else watch.Either
 
-abbrev pub stop_of : Bool → ℕ → ℕ → ℕ → Command
-stop_of sets kind place size =
+abbrev pub stop_numbered : Bool → ℕ → ℕ → ℕ → Command
+stop_numbered sets kind place size =
     if nat_lt 4 kind then Unknown
     else if nat_lt 0xFFFF place then Refused
     else if nat_lt kind 2 then breakpoint_command sets place
-    else watch_command sets (record { kind = kind_of kind; first = place; size = size })
+    else watch_command sets (record { kind = watch_kind_of kind; first = place; size = size })
 
 abbrev pub stop_where : Bool → Option ℕ → Option (ℕ × ℕ) → Command
-stop_where sets (Some kind) (Some numbers) = stop_of sets kind numbers.0 numbers.1
+stop_where sets (Some kind) (Some numbers) = stop_numbered sets kind numbers.0 numbers.1
 stop_where sets kind numbers = Refused
 
 abbrev pub stop_command : Bool → List ℕ → Command

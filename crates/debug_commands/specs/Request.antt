@@ -4,7 +4,7 @@ use Rattle.std.specs.Str.{bytes_eq}
 use Rattle.hex.specs.Hex.{decode_of}
 use Rattle.hex.specs.declared.error.FromHexError.{FromHexError}
 use Rattle.text_scan.specs.Decimal.{decimal_of}
-use Rattle.text_scan.specs.Word.{end_of, word_of, words_of}
+use Rattle.text_scan.specs.Word.{end_of, next_word, words_of}
 use Rattle.text_scan.specs.declared.fault_kind.FaultKind.{FaultKind}
 use Rattle.debug_commands.specs.declared.request.Request.{Request}
 use Rattle.debug_commands.specs.declared.request.Request.TheVariants.{Steps, Flags, Play, Trace, Until, Help, Other}
@@ -45,11 +45,11 @@ with_name name (Ok number) = with_end (number_request name number.0) (end_of num
 with_name name (Err fault) = plain_request name
 
 abbrev pub with_first : Result (List ℕ × List (List ℕ)) FaultKind → Request
-with_first (Ok name) = with_name name.0 (word_of name.1)
+with_first (Ok name) = with_name name.0 (next_word name.1)
 with_first (Err fault) = Other
 
 abbrev pub request_of : List (List ℕ) → Request
-request_of words = with_first (word_of words)
+request_of words = with_first (next_word words)
 
 abbrev pub request_where : Result (List ℕ) FromHexError → Option Request
 request_where (Ok text) = Some (request_of (words_of text))

@@ -1,6 +1,6 @@
 ghost use Rattle.std.specs.Prelude.{◌≡◌, ◌≤◌, length};
 ghost use Rattle.debug_commands.specs.Command.{command_of, word_command, begun_command, begins_with_any, other_command};
-ghost use Rattle.debug_commands.specs.Command.{memory_command, monitor_command, stop_command, stop_of, kind_of, breakpoint_command, watch_command};
+ghost use Rattle.debug_commands.specs.Command.{memory_command, monitor_command, stop_command, stop_numbered, watch_kind_of, breakpoint_command, watch_command};
 ghost use Rattle.debug_commands.specs.Number.{two_numbers};
 ghost use Rattle.debug_commands.specs.Request.{request_in};
 
@@ -164,7 +164,7 @@ fn read_stop(sets: bool, text: &[u8]) -> Command
 }
 
 fn stop_of(sets: bool, kind: u32, place: u32, size: u32) -> Command
-    ensures { result ≡ stop_of sets kind place size }
+    ensures { result ≡ stop_numbered sets kind place size }
 {
     if kind > 4 {
         return Command::Unknown;
@@ -181,7 +181,7 @@ fn stop_of(sets: bool, kind: u32, place: u32, size: u32) -> Command
 }
 
 fn kind_of(kind: u32) -> WatchKind
-    ensures { result ≡ kind_of kind }
+    ensures { result ≡ watch_kind_of kind }
 {
     match kind {
         2 => WatchKind::Write,

@@ -2,7 +2,7 @@
 use Rattle.std.proofs.Common.{◌≡◌, ◌≤◌, ◌<◌, inl, inr, ⊎_elim, ℕ, zero, suc, Bool, true, false, List, [], ◌∷◌, Option, Some, None, length, nat_lt, ap, arith}
 use Rattle.std.specs.Prelude.{if◌then◌else◌}
 use Rattle.std.proofs.lemmas.Bool.{cases_lt}
-use Rattle.debug_link.specs.Conversation.{Answer, LONGEST_BODY, Talk, answered, first_talk, marked, with_byte, with_bytes}
+use Rattle.debug_link.specs.Conversation.{Answer, LONGEST_BODY, Talk, answered, first_talk, marked, talk_with_byte, talk_with_bytes}
 use Rattle.debug_link.specs.Link.{Message, Silence, Again, Damage, Whole, message_of}
 use Rattle.debug_link.specs.declared.connection.Connection.TheVariants.{Open}
 use Rattle.debug_commands.specs.Command.{command_of}
@@ -125,18 +125,18 @@ module _ {Session : Type 0} (Keeps : Session → Type 0) (replies : Session → 
         (replies talk.session body) kept (keeps talk.session body kept)
 
     byte-keeps : (talk : Talk Session) (byte : ℕ) → Keeps talk.session
-        → Keeps (with_byte replies talk byte).session
-    unfolding with_byte
+        → Keeps (talk_with_byte replies talk byte).session
+    unfolding talk_with_byte
     byte-keeps talk byte kept =
         talk-either talk.is_over talk
         (answered replies (marked talk byte) (message_of talk.link byte)) kept
         (answered-keeps (marked talk byte) (message_of talk.link byte) kept)
 
     pub bytes-keep : (bytes : List ℕ) (talk : Talk Session) → Keeps talk.session
-        → Keeps (with_bytes replies talk bytes).session
+        → Keeps (talk_with_bytes replies talk bytes).session
     bytes-keep [] talk kept = kept
     bytes-keep (byte ∷ bytes) talk kept =
-        bytes-keep bytes (with_byte replies talk byte) (byte-keeps talk byte kept)
+        bytes-keep bytes (talk_with_byte replies talk byte) (byte-keeps talk byte kept)
 
 pub session-stands : (run : Run) (bytes : List ℕ) → MayStandAt run (session_after run bytes).place
 session-stands run bytes =

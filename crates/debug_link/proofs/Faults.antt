@@ -4,14 +4,10 @@ use Rattle.std.specs.Prelude.{IsErrAnd}
 use Rattle.std.proofs.lemmas.Bool.{false≢true}
 use Rattle.outside_edge.specs.Count.{Rose}
 use Rattle.outside_edge.specs.Sink.{CountsFaults}
+use Rattle.outside_edge.proofs.Counts.{rose_since}
 use Rattle.debug_link.specs.Writing.{CountsWriteFaults}
 use Rattle.debug_link.specs.declared.answer_fault.AnswerFault.{AnswerFault}
 use Rattle.debug_link.specs.declared.answer_fault.AnswerFault.TheVariants.{Memory}
-
--- a count that rose since, rose from an earlier one too
-pub rose_since : (first mid last : ℕ) → first ≤ mid → Rose mid last → Rose first last
-rose_since first mid last rises (inl more) = inl (omega (arith, rises, more))
-rose_since first mid last rises (inr full) = inr full
 
 module _ {S : Type 0} (faults : S → ℕ) (old mid new : S) where
   -- a call that failed where another one did, before which none was counted

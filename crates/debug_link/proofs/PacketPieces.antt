@@ -1,10 +1,10 @@
 -- What comes of a piece of packets, for whoever serves the source.
-use Rattle.std.proofs.Common.{◌≡◌, ◌≤◌, ◌++◌, ℕ, List, [], Ok, Err, refl, sym, arith}
+use Rattle.std.proofs.Common.{◌≡◌, ◌++◌, ℕ, List, [], Ok, Err, refl, sym, arith}
 use Rattle.std.specs.Prelude.{Result}
 use Rattle.std.proofs.lemmas.List.{append-nil}
 use Rattle.outside_edge.specs.declared.sink.Sink as sink
 use Rattle.source_server.specs.Responder.{Answers, Moment}
-use Rattle.debug_link.specs.Conversation.{Answer, conversation, first_talk, with_bytes}
+use Rattle.debug_link.specs.Conversation.{Answer, conversation, first_talk, talk_with_bytes}
 use Rattle.debug_link.specs.Link.{Between}
 use Rattle.debug_link.specs.Reading.{ReaderStandsFor}
 use Rattle.debug_link.specs.Serving.{GoesOnTo, StandsBehind, TalkStart, came_of, parties_at, parties_promise}
@@ -14,7 +14,7 @@ use Rattle.debug_link.specs.declared.answer_fault.AnswerFault.TheVariants as fau
 use Rattle.debug_link.specs.declared.connection.Connection.{Connection}
 use Rattle.debug_link.specs.declared.connection.Connection.TheVariants.{Open, Closed}
 use Rattle.debug_link.specs.declared.packet_responder.PacketResponder.{PacketResponder}
-use Rattle.debug_link.proofs.Faults.{rose_since}
+use Rattle.outside_edge.proofs.Counts.{rose_since}
 use Rattle.debug_link.proofs.Parties.{GoesOnBy}
 use Rattle.debug_link.proofs.Talks.{bytes_both}
 
@@ -45,7 +45,7 @@ module _ {T Session W : Type 0} (stands : T → Session → Type 0) (w : sink.Gh
       (conversation reply start.session before)
       → GoesOnBy stands w reply (parties_at old) (parties_at new) piece result
       → GoesOnTo stands w start.sink (parties_at new)
-      (with_bytes reply (first_talk start.session) (before ++ piece)) result
+      (talk_with_bytes reply (first_talk start.session) (before ++ piece)) result
   came_behind start old new before piece result so goes =
       rw (bytes_both reply (first_talk start.session) before piece)
       (goes (conversation reply start.session before) start.sink so.goes_on so.talks)

@@ -6,7 +6,7 @@ use Rattle.std.proofs.lemmas.List.{append-nil, take_more}
 use Rattle.outside_edge.specs.Sink.{Takes, TakesPrefix}
 use Rattle.outside_edge.specs.declared.sink.Sink as sink
 use Rattle.outside_edge.proofs.SinkLemmas.{prefix_after, prefix_of_more, takes_both}
-use Rattle.debug_link.specs.Conversation.{LONGEST_BODY, Answer, Talk, answer_to, answered, mark_of, marked, with_answer, with_byte, with_bytes}
+use Rattle.debug_link.specs.Conversation.{LONGEST_BODY, Answer, Talk, answer_to, answered, mark_of, marked, with_answer, talk_with_byte, talk_with_bytes}
 use Rattle.debug_link.specs.HeldBody.{HeldBody, short_body}
 use Rattle.debug_link.specs.Link.{Message, Silence, Again, Damage, Whole, link_after, message_of}
 use Rattle.debug_link.specs.Packet.{packet_of, packets_of}
@@ -35,7 +35,7 @@ module _ {T Session W : Type 0} (stands : T → Session → Type 0) (w : sink.Gh
       → TakesPrefix w.stands old.packets.sink new.packets.sink
       (mark_of old.packets.last (message_of talk.link byte))
       → IsErr result
-      → GoesOnTo stands w first new (with_byte reply talk byte) result
+      → GoesOnTo stands w first new (talk_with_byte reply talk byte) result
   mark_failed first old new talk byte (Ok connection) still so prefix is = absurd (false≢true is)
   mark_failed first old new talk byte (Err fault) still so prefix is =
       let message : Message = message_of talk.link byte in
@@ -82,7 +82,7 @@ module _ {T Session W : Type 0} (stands : T → Session → Type 0) (w : sink.Gh
   pub byte_marked : (first : W) (new : Parties T W) (talk : Talk Session) (byte : ℕ)
       → talk.is_over ≡ false → TalkStandsFor stands w first new (marked talk byte)
       → (heard_of (message_of talk.link byte) ≡ heard.Whole → ⊥)
-      → GoesOnTo stands w first new (with_byte reply talk byte) (Ok Open)
+      → GoesOnTo stands w first new (talk_with_byte reply talk byte) (Ok Open)
   byte_marked first new talk byte still so other =
       let same = open_byte reply talk byte still
       ∙ nothing_due (marked talk byte) (message_of talk.link byte) other in
@@ -148,7 +148,7 @@ module _ {T Session W : Type 0} (stands : T → Session → Type 0) (w : sink.Gh
       → body ≡ short_body bytes
       → Answers stands w old.packets new.packets new.answerer (answer_to reply session bytes)
       result)
-      → GoesOnTo stands w first new (with_byte reply talk byte) result
+      → GoesOnTo stands w first new (talk_with_byte reply talk byte) result
   byte_answered first old new talk byte body result still so reads is kept held answers =
       rw (open_byte reply talk byte still)
       (whole_answered first old new (marked talk byte) (message_of talk.link byte) body result so
@@ -202,7 +202,7 @@ module _ {T Session W : Type 0} (stands : T → Session → Type 0) (w : sink.Gh
   GoesOnBy old new bytes result =
       (talk : Talk Session) (first : W) → talk.is_over ≡ false
       → TalkStandsFor stands w first old talk
-      → GoesOnTo stands w first new (with_bytes reply talk bytes) result
+      → GoesOnTo stands w first new (talk_with_bytes reply talk bytes) result
 
   pub by_none : (now : Parties T W) → GoesOnBy now now [] (Ok Open)
   by_none now talk first still so = record { all = (sym still, so); prefix = tt }
@@ -214,7 +214,7 @@ module _ {T Session W : Type 0} (stands : T → Session → Type 0) (w : sink.Gh
   by_more old mid new one two result before next talk first still so =
       let between = before talk first still so in
       rw (bytes_both reply talk one two)
-      (next (with_bytes reply talk one) first (sym between.all.0) between.all.1)
+      (next (talk_with_bytes reply talk one) first (sym between.all.0) between.all.1)
 
   -- behind the end no byte counts
   pub by_closed : (old new : Parties T W) (bytes rest : List ℕ)
@@ -223,7 +223,7 @@ module _ {T Session W : Type 0} (stands : T → Session → Type 0) (w : sink.Gh
       let end = by talk first still so in
       rw (
         bytes_both reply talk bytes rest,
-        closed_bytes reply (with_bytes reply talk bytes) rest (sym end.all.0),
+        closed_bytes reply (talk_with_bytes reply talk bytes) rest (sym end.all.0),
       ) end
 
   pub by_failed : (old new : Parties T W) (bytes rest : List ℕ) (fault : AnswerFault)
@@ -233,11 +233,11 @@ module _ {T Session W : Type 0} (stands : T → Session → Type 0) (w : sink.Gh
       absurd (false≢true is)
   by_failed old new bytes rest fault (Err other) is by talk first still so =
       let end = by talk first still so in
-      let more = bytes_more reply (with_bytes reply talk bytes) rest in
+      let more = bytes_more reply (talk_with_bytes reply talk bytes) rest in
       record {
         all = tt;
         prefix = rw (bytes_both reply talk bytes rest, more.1)
-            (prefix_of_more w.stands first new.packets.sink (with_bytes reply talk bytes).put
+            (prefix_of_more w.stands first new.packets.sink (talk_with_bytes reply talk bytes).put
             more.0 end.prefix);
       }
 

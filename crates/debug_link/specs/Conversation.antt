@@ -81,17 +81,17 @@ marked talk byte =
     }
 
 -- one byte more; behind the session's end none is looked at
-unfoldable pub with_byte : {Session : Type 0} → (Session → List ℕ → Answer Session)
+unfoldable pub talk_with_byte : {Session : Type 0} → (Session → List ℕ → Answer Session)
     → Talk Session → ℕ → Talk Session
-with_byte reply talk byte =
+talk_with_byte reply talk byte =
     if talk.is_over then talk else answered reply (marked talk byte) (message_of talk.link byte)
 
-abbrev pub with_bytes : {Session : Type 0} → (Session → List ℕ → Answer Session)
+abbrev pub talk_with_bytes : {Session : Type 0} → (Session → List ℕ → Answer Session)
     → Talk Session → List ℕ → Talk Session
-with_bytes reply talk [] = talk
-with_bytes reply talk (byte ∷ bytes) = with_bytes reply (with_byte reply talk byte) bytes
+talk_with_bytes reply talk [] = talk
+talk_with_bytes reply talk (byte ∷ bytes) = talk_with_bytes reply (talk_with_byte reply talk byte) bytes
 
 -- the conversation of these bytes, from a session's beginning
 abbrev pub conversation : {Session : Type 0} → (Session → List ℕ → Answer Session)
     → Session → List ℕ → Talk Session
-conversation reply session bytes = with_bytes reply (first_talk session) bytes
+conversation reply session bytes = talk_with_bytes reply (first_talk session) bytes

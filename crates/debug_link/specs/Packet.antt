@@ -4,12 +4,12 @@ use Rattle.std.specs.Prelude.{ℕ, ◌==◌, ◌&&◌, ◌||◌, ◌/◌, ◌%�
 use Rattle.hex.specs.Hex.{encode_lower, lower_digits, upper_digits}
 
 -- the bytes of a body, added
-abbrev pub sum_of : List ℕ → ℕ
-sum_of body = sum body % 256
+abbrev pub packet_sum : List ℕ → ℕ
+packet_sum body = sum body % 256
 
 -- as it is put, with digits of lower case
 abbrev pub packet_of : List ℕ → List ℕ
-packet_of body = codes "$" ++ body ++ codes "#" ++ encode_lower (sum_of body ∷ [])
+packet_of body = codes "$" ++ body ++ codes "#" ++ encode_lower (packet_sum body ∷ [])
 
 -- one after the other
 unfoldable pub packets_of : List (List ℕ) → List ℕ
@@ -24,4 +24,4 @@ is_digit_of number byte =
 -- whether these are the two digits of a body's sum
 abbrev pub are_check_digits : List ℕ → ℕ → ℕ → Bool
 are_check_digits body first second =
-    is_digit_of (sum_of body / 16) first && is_digit_of (sum_of body % 16) second
+    is_digit_of (packet_sum body / 16) first && is_digit_of (packet_sum body % 16) second

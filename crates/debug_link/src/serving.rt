@@ -1,7 +1,7 @@
 ghost use Rattle.std.specs.Prelude.{◌≡◌, ◌≤◌, ℕ, List, [], false, length, IfSome, option_map};
 ghost use Rattle.outside_edge.specs.Sink.{CountsFaults, Puts};
 ghost use Rattle.source_server.specs.Serving.{Serves};
-ghost use Rattle.debug_link.specs.Conversation.{LONGEST_BODY as longest, Talk, answer_to, mark_of, with_byte, with_bytes};
+ghost use Rattle.debug_link.specs.Conversation.{LONGEST_BODY as longest, Talk, answer_to, mark_of, talk_with_byte, talk_with_bytes};
 ghost use Rattle.debug_link.specs.Link.{Message};
 ghost use Rattle.debug_link.specs.HeldBody.{short_body};
 ghost use Rattle.debug_link.specs.Reading.{heard_of};
@@ -48,7 +48,7 @@ pub fn answer_piece<A: Answerer, W: Sink + Drop>(
         (record { reader = reader.old; answerer = answerer.old; packets = packets.old }) talk
         → GoesOnTo A.stands W.Sink first
         (record { reader = reader.new; answerer = answerer.new; packets = packets.new })
-        (with_bytes A.reply talk piece.now) result }
+        (talk_with_bytes A.reply talk piece.now) result }
     ensures counts { CountsWriteFaults W.faults packets.old.sink packets.new.sink result }
 {
     for byte in piece {
@@ -72,7 +72,7 @@ fn answer_byte<A: Answerer, W: Sink + Drop>(
         (record { reader = reader.old; answerer = answerer.old; packets = packets.old }) talk
         → GoesOnTo A.stands W.Sink first
         (record { reader = reader.new; answerer = answerer.new; packets = packets.new })
-        (with_byte A.reply talk byte) result }
+        (talk_with_byte A.reply talk byte) result }
     ensures counts { CountsWriteFaults W.faults packets.old.sink packets.new.sink result }
 {
     let heard = reader.take(byte);

@@ -7,7 +7,7 @@ use Rattle.device_trace.specs.Trace.{play_of, released_words}
 use Rattle.key_isolation.specs.Agreement.{ReleaseAlike, SameButKey}
 use Rattle.key_isolation.specs.Keyless.{keyless}
 use Rattle.key_isolation.proofs.TwoKeys.{one_keyless}
-use Rattle.debug_link.specs.Conversation.{Answer, LONGEST_BODY, Talk, answer_to, answered, conversation, first_talk, marked, with_answer, with_byte, with_bytes}
+use Rattle.debug_link.specs.Conversation.{Answer, LONGEST_BODY, Talk, answer_to, answered, conversation, first_talk, marked, with_answer, talk_with_byte, talk_with_bytes}
 use Rattle.debug_link.specs.Link.{Message, Silence, Again, Damage, Whole, message_of}
 use Rattle.debug_link.specs.declared.connection.Connection.TheVariants.{Open}
 use Rattle.debug_commands.specs.Request.{most_steps}
@@ -46,8 +46,8 @@ module _ {most : ℕ} (is_most : most ≡ most_steps) (run : Run) where
       answer_to-within talk.session body within
 
   pub byte-within : (talk : Talk Session) (byte : ℕ) → IsPlaced most talk.session
-      → IsPlaced most (with_byte (reply run) talk byte).session
-  unfolding with_byte
+      → IsPlaced most (talk_with_byte (reply run) talk byte).session
+  unfolding talk_with_byte
   byte-within talk byte within =
       talk-either talk.is_over talk
       (answered (reply run) (marked talk byte) (message_of talk.link byte)) within
@@ -74,18 +74,18 @@ module _ {left right : Run} {most : ℕ} (same : SameRuns left right most)
         (answer_to-same talk.session body within)
 
     byte-same : (talk : Talk Session) (byte : ℕ) → IsPlaced most talk.session
-        → with_byte (reply left) talk byte ≡ with_byte (reply right) talk byte
-    unfolding with_byte
+        → talk_with_byte (reply left) talk byte ≡ talk_with_byte (reply right) talk byte
+    unfolding talk_with_byte
     byte-same talk byte within =
         λ i. if talk.is_over then talk
         else answered-same (marked talk byte) (message_of talk.link byte) within i
 
     bytes-same : (bytes : List ℕ) (talk : Talk Session) → IsPlaced most talk.session
-        → with_bytes (reply left) talk bytes ≡ with_bytes (reply right) talk bytes
+        → talk_with_bytes (reply left) talk bytes ≡ talk_with_bytes (reply right) talk bytes
     bytes-same [] talk within = refl
     bytes-same (byte ∷ bytes) talk within =
-        ap (λ (now : Talk Session). with_bytes (reply left) now bytes) (byte-same talk byte within)
-        ∙ bytes-same bytes (with_byte (reply right) talk byte)
+        ap (λ (now : Talk Session). talk_with_bytes (reply left) now bytes) (byte-same talk byte within)
+        ∙ bytes-same bytes (talk_with_byte (reply right) talk byte)
         (byte-within is_most right talk byte within)
 
     pub tells_the_same : TellsTheSame left right

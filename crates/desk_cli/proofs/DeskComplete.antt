@@ -5,6 +5,7 @@ use Rattle.sha2.specs.Sha256.{sha256}
 use Rattle.outside_edge.specs.Count.{Rose}
 use Rattle.outside_edge.specs.declared.sink.Sink as sink
 use Rattle.outside_edge.specs.declared.source.Source as source
+use Rattle.outside_edge.proofs.Counts.{never_rises}
 use Rattle.desk_memory.specs.declared.memory.Memory as memory
 use Rattle.desk_memory.specs.declared.memory_fault.MemoryFault.{MemoryFault}
 use Rattle.desk_memory.specs.declared.no_memory.NoMemory.{NoMemory}
@@ -75,15 +76,11 @@ served-whole {M = M} {W = W} r m w desk opened left old new status lines has is 
           rw is (stopped-whole m w desk first now before last why so no_sink)
     ])
 
-pub never-rises : Rose 0 0 → ⊥
-never-rises (inl more) = omega (arith, more)
-never-rises (inr end) = cc end
-
 -- a memory that keeps nothing does not fail
 never-fails : (opened left : NoMemory) (status : Status)
     → FailsLater forgets opened left status → ⊥
 never-fails opened left status (fault, is, (inl lacks)) = lacks.1
-never-fails opened left status (fault, is, (inr rose)) = never-rises rose
+never-fails opened left status (fault, is, (inr rose)) = never_rises rose
 
 whole-alone : (opened left : NoMemory) (status : Status)
     → (status ≡ Done) ⊎ (status ≡ Memory) ⊎ FailsLater forgets opened left status

@@ -7,7 +7,7 @@ use Rattle.std.specs.List.{list_all}
 use Rattle.std.specs.Str.Lines.{lines}
 use Rattle.std.proofs.lemmas.Bool.{and_from, and_parts, eqb-true, leb-true, ltb-true, le-leb, lt-ltb}
 use Rattle.std.proofs.lemmas.Str.{IsUtf8-nil, IsUtf8-append}
-use Rattle.text_scan.specs.LineFold.{state_after, text_fold}
+use Rattle.text_scan.specs.LineFold.{lines_fold, text_fold}
 use Rattle.text_scan.specs.Line.{numbered_lines}
 use Rattle.text_scan.specs.Word.{is_passed_over, says_nothing}
 use Rattle.named_value.specs.PlainWord.{IsPlainWord, is_plain}
@@ -19,7 +19,7 @@ use Rattle.text_scan.proofs.TextUtf8.{utf8_of-whole}
 use Rattle.text_scan.specs.declared.fault_kind.FaultKind.{FaultKind}
 use Rattle.text_scan.specs.declared.fault_kind.FaultKind.TheVariants.{Digit}
 use Rattle.report_verifier.specs.VerdictName.{verdict_name}
-use Rattle.report_verifier.specs.declared.decision.Decision.{Decision}
+use Rattle.report_verifier.specs.declared.verdict.Verdict.{Verdict}
 use Rattle.desk_memory.specs.declared.answer.Answer.{Answer}
 use Rattle.desk_memory.specs.declared.answer.Answer.TheVariants.{Stale, Bad, Spent, Requested, Judged}
 use Rattle.desk_memory.specs.Entry.{Entry, first_home, last_in, with_entries}
@@ -50,7 +50,7 @@ number-plain (Some number) is = short-plain number is
 kind-plain : (kind : FaultKind) → IsPlainWord (fault_name kind)
 kind-plain = search rules
 
-verdict-plain : (verdict : Decision) → IsPlainWord (verdict_name verdict)
+verdict-plain : (verdict : Verdict) → IsPlainWord (verdict_name verdict)
 verdict-plain = search rules
 
 answer-are : (answer : Answer) → is_short_answer answer ≡ true → ArePieces (answer_pieces answer)
@@ -241,8 +241,8 @@ line-passed is = ap says_nothing (first is []).words ∙ form-says is.form is.pi
 next-state : (before next : List Entry) (number : ℕ) (line : List ℕ)
     (later : List (ℕ × List ℕ))
     → is_passed_over line ≡ false → with_line before line ≡ Ok next
-    → state_after with_line before ((number, line) ∷ later) ≡ state_after with_line next later
-unfolding state_after
+    → lines_fold with_line before ((number, line) ∷ later) ≡ lines_fold with_line next later
+unfolding lines_fold
 next-state before next number line later says answer = rw says (rw answer refl)
 
 abbrev AreLines : (Entry → List ℕ) → List Entry → Type 0
@@ -250,16 +250,16 @@ AreLines line entries = Each (λ entry. IsLineOf (line entry) entry) entries
 
 lines-read : (line : Entry → List ℕ) (before entries : List Entry) (number : ℕ)
     → AreLines line entries → are_in_order before entries ≡ true
-    → state_after with_line before (numbered_lines number (lines (text_by line entries)))
+    → lines_fold with_line before (numbered_lines number (lines (text_by line entries)))
     ≡ Ok (before ++ entries)
-unfolding state_after
+unfolding lines_fold
 lines-read line before [] number are order =
     ap (λ (entries : List Entry). Ok entries) (sym (append-nil before))
 lines-read line before (entry ∷ entries) number are order =
     let rest : List ℕ = text_by line entries in
     let parts = and_parts (is_in_order before entry)
     (are_in_order (before ++ entry ∷ []) entries) order in
-    ap (λ (all : List (List ℕ)). state_after with_line before (numbered_lines number all))
+    ap (λ (all : List (List ℕ)). lines_fold with_line before (numbered_lines number all))
     (ap (λ (text : List ℕ). lines (text ++ rest)) are.0.text ∙ (first are.0 rest).line)
     ∙ next-state before (before ++ entry ∷ []) number (line_text are.0)
     (numbered_lines (number + 1) (lines rest)) (line-passed are.0)

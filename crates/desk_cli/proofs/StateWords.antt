@@ -8,12 +8,12 @@ use Rattle.std.proofs.lemmas.Slice.Eq.{bytes_eq-Decides}
 use Rattle.printed_lines.specs.Line.{with_pieces}
 use Rattle.text_scan.specs.declared.fault_kind.FaultKind.{FaultKind}
 use Rattle.text_scan.specs.Decimal.{decimal_of}
-use Rattle.text_scan.specs.WordValue.{block_of, number_of}
+use Rattle.text_scan.specs.WordValue.{hex_block_of, number_of}
 use Rattle.named_value.specs.Names.{value_named}
 use Rattle.text_scan.proofs.NamedWord.{value_of-name}
 use Rattle.text_scan.proofs.PlainWords.{decimal_of-decimal, hex_bytes_of-digits}
 use Rattle.report_verifier.specs.VerdictName.{verdict_name, verdict_names}
-use Rattle.report_verifier.specs.declared.decision.Decision.{Decision}
+use Rattle.report_verifier.specs.declared.verdict.Verdict.{Verdict}
 use Rattle.desk_memory.specs.declared.answer.Answer.{Answer}
 use Rattle.desk_memory.specs.declared.answer.Answer.TheVariants.{Stale, Bad, Spent, Requested, Judged}
 use Rattle.desk_memory.specs.declared.device_state.DeviceState.{DeviceState}
@@ -82,7 +82,7 @@ kind-told : (kind : FaultKind) → value_named fault_names (fault_name kind) ≡
 kind-told = search rules
 
 verdict-told :
-    (verdict : Decision) → value_named verdict_names (verdict_name verdict) ≡ Some verdict
+    (verdict : Verdict) → value_named verdict_names (verdict_name verdict) ≡ Some verdict
 verdict-told = search rules
 
 answer-read : (answer : Answer) → is_short_answer answer ≡ true
@@ -193,7 +193,7 @@ home-read (Some desk) moves rest sound few =
 entry-read : (form : LineForm) (entry : Entry) (words : List (List ℕ)) → IsWritable entry
     → home_said form words ≡ Ok (entry.home, state_pieces entry)
     → entry_of (form_name form ∷ entry.name ∷ words) ≡ Ok entry
-unfolding entry_of block_of
+unfolding entry_of hex_block_of
 entry-read form entry words writable home =
     let sized = sizes entry writable.sized in
     rw (

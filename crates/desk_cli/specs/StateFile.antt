@@ -8,8 +8,8 @@ use Rattle.text_scan.specs.Decimal.{decimal_of}
 use Rattle.text_scan.specs.Line.{text_lines}
 use Rattle.text_scan.specs.LineFold.{text_fold}
 use Rattle.text_scan.specs.Reader.{◌>>=◌}
-use Rattle.text_scan.specs.Word.{words_of, word_of, keyword_of, end_of, is_passed_over}
-use Rattle.text_scan.specs.WordValue.{block_of, number_of, value_of}
+use Rattle.text_scan.specs.Word.{words_of, next_word, keyword_of, end_of, is_passed_over}
+use Rattle.text_scan.specs.WordValue.{hex_block_of, number_of, value_of}
 use Rattle.desk_memory.specs.declared.answer.Answer.{Answer}
 use Rattle.desk_memory.specs.declared.answer.Answer.TheVariants.{Requested}
 use Rattle.desk_memory.specs.declared.device_state.DeviceState.{DeviceState}
@@ -34,7 +34,7 @@ number_in most word =
 unfoldable pub outstanding_of : ℕ → List (List ℕ) → Result (Option ℕ × List (List ℕ)) FaultKind
 outstanding_of count words = do
   rest ← keyword_of (codes "outstanding") words
-  word ← word_of rest
+  word ← next_word rest
   number ← number_in count word.0
   Ok (number, word.1)
 
@@ -50,7 +50,7 @@ unfoldable pub last_of :
     List (List ℕ) → Result (Option (ℕ × Answer) × List (List ℕ)) FaultKind
 last_of words = do
   rest ← keyword_of (codes "last") words
-  word ← word_of rest
+  word ← next_word rest
   number ← number_in most_number word.0
   last_with number word.1
 
@@ -65,7 +65,7 @@ state_of words = do
 -- the name of a device or of a desk
 unfoldable pub name_of : List (List ℕ) → Result (List ℕ × List (List ℕ)) FaultKind
 name_of words = do
-  name ← word_of words
+  name ← next_word words
   sound ← name_fault name.0
   Ok name
 
@@ -93,7 +93,7 @@ entry_of words = do
   name ← name_of form.1
   home ← home_said form.0 name.1
   key ← keyword_of (codes "key") home.1
-  mark ← block_of 16 key
+  mark ← hex_block_of 16 key
   state ← state_of mark.1
   end ← end_of state.1
   Ok (record { name = name.0; mark = mark.0; state = state.0; home = home.0 })

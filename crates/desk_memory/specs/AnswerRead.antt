@@ -5,7 +5,7 @@ use Rattle.text_scan.specs.declared.fault_kind.FaultKind.{FaultKind}
 use Rattle.text_scan.specs.declared.fault_kind.FaultKind.TheVariants.{Word}
 use Rattle.text_scan.specs.FaultName.{fault_names}
 use Rattle.text_scan.specs.Reader.{◌>>=◌}
-use Rattle.text_scan.specs.Word.{word_of}
+use Rattle.text_scan.specs.Word.{next_word}
 use Rattle.text_scan.specs.WordValue.{number_of, value_of}
 use Rattle.report_verifier.specs.VerdictName.{verdict_names}
 use Rattle.desk_memory.specs.declared.answer.Answer.{Answer}
@@ -33,5 +33,5 @@ answer_with verb words =
 
 unfoldable pub answer_of : List (List ℕ) → Result (Answer × List (List ℕ)) FaultKind
 answer_of words = do
-  verb ← word_of words
+  verb ← next_word words
   answer_with verb.0 verb.1

@@ -1,7 +1,7 @@
 -- What a desk knows of a device, and what an answer does to it.
 use Rattle.std.specs.Prelude.{ℕ, ◌==◌, Bool, if◌then◌else◌, nat_lt, Option, Some, None, option_map, unwrap_or}
 use Rattle.std.specs.Option.{is_none}
-use Rattle.report_verifier.specs.declared.decision.Decision.TheVariants.{Accept}
+use Rattle.report_verifier.specs.declared.verdict.Verdict.TheVariants.{Accept}
 use Rattle.desk_memory.specs.declared.answer.Answer.{Answer}
 use Rattle.desk_memory.specs.declared.answer.Answer.TheVariants.{Stale, Requested, Judged}
 use Rattle.desk_memory.specs.declared.device_state.DeviceState.{DeviceState}

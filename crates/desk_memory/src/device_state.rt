@@ -2,7 +2,7 @@ ghost use Rattle.std.specs.Prelude.{◌≡◌};
 ghost use Rattle.desk_memory.specs.DeviceState.{new_device, earlier_answer, renewed, with_answer};
 
 use crate::answer::Answer;
-use report_verifier::Decision;
+use report_verifier::Verdict;
 
 /// What a desk knows of a device.
 #[derive(Clone, Copy, Debug, PartialEq, Eq)]
@@ -46,7 +46,7 @@ impl DeviceState {
                 self.count = next;
                 self.outstanding = Some(next);
             }
-            Answer::Judged(Decision::Accept) => self.outstanding = None,
+            Answer::Judged(Verdict::Accept) => self.outstanding = None,
             _ => {}
         }
         self.last = Some((number, answer));

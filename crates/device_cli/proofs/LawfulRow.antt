@@ -17,7 +17,7 @@ use Rattle.report_verifier.specs.Policy.{PolicyFields}
 use Rattle.report_verifier.specs.PolicyGrammar.{policy_of}
 use Rattle.report_verifier.specs.Validity.{are_valid_for}
 use Rattle.report_verifier.proofs.PolicyBounds.{policy_of-valid}
-use Rattle.input_files.specs.Row.{FileKind, RowOf, Ends, Reads, go_on, read_file, value_of}
+use Rattle.input_files.specs.Row.{FileKind, RowOf, Ends, Reads, go_on, read_file, file_value}
 use Rattle.device_cli.specs.Row.{Always, DevicePlay, start_in}
 use Rattle.input_files.specs.Reading.{Files, Reaches}
 use Rattle.input_files.specs.FileKind.{image_kind, key_kind, policy_kind, script_kind}
@@ -37,7 +37,7 @@ value-grammar true past read value is = absurd (cc is)
 value-grammar false past read value is = is
 
 is-value : {M : Type 0} (kind : FileKind M) (bytes : List ℕ) (value : M)
-    → value_of kind bytes ≡ Ok value → kind.grammar bytes ≡ Ok value
+    → file_value kind bytes ≡ Ok value → kind.grammar bytes ≡ Ok value
 is-value kind bytes value is =
     value-grammar (nat_lt kind.limit (length bytes)) _ (kind.grammar bytes) value is
 
@@ -54,7 +54,7 @@ pub read-always : {M End : Type 0} (is_so : End → Type 0) (kind : FileKind M) 
     → ((value : M) (bytes : List ℕ) → kind.grammar bytes ≡ Ok value → Always is_so (onward value))
     → Always is_so (read_file kind name onward)
 read-always is_so kind name onward always = λ bytes.
-    go_on-always is_so kind onward (value_of kind bytes)
+    go_on-always is_so kind onward (file_value kind bytes)
     (λ value is. always value bytes (is-value kind bytes value is))
 
 -- and so of the end that it comes to

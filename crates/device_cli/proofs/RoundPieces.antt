@@ -12,7 +12,7 @@ use Rattle.device_trace.specs.Start.{Start}
 use Rattle.device_trace.specs.Text.{last_report, lines_of, play_text, lines_of_step}
 use Rattle.device_trace.specs.Trace.{byte_after}
 use Rattle.report_text.specs.CollisionLine.{collision_line}
-use Rattle.report_verifier.specs.declared.decision.Decision.{Decision}
+use Rattle.report_verifier.specs.declared.verdict.Verdict.{Verdict}
 use Rattle.report_verifier.specs.declared.expect.Expect.{Expect}
 use Rattle.report_verifier.specs.Judge.{Judge, verdict_at}
 use Rattle.report_verifier.specs.Policy.{expect_at}
@@ -65,7 +65,7 @@ compared-where : (accepted : Bool) (text : Bytes) → IsPairLine text
 compared-where true text is = is
 compared-where false text is = inl refl
 
-evidence-is : (judge : Judge) (expect : Option Expect) (verdict : Decision) (report : ReportFields)
+evidence-is : (judge : Judge) (expect : Option Expect) (verdict : Verdict) (report : ReportFields)
     (bytes : ℕ → ℕ) → IsPairLine (evidence_lines judge expect verdict report bytes)
 evidence-is judge None verdict report bytes = inl refl
 evidence-is judge (Some expect) verdict report bytes =

@@ -10,8 +10,8 @@ use Rattle.outside_edge.specs.Count.{Rose}
 use Rattle.outside_edge.specs.Sink.{Takes, TakesPrefix}
 use Rattle.outside_edge.proofs.SinkLemmas.{prefix_after, prefix_of_more, takes_both}
 use Rattle.report_verifier.specs.declared.asked.Asked.{Asked}
-use Rattle.report_verifier.specs.declared.decision.Decision.{Decision}
-use Rattle.report_verifier.specs.declared.decision.Decision.TheVariants.{Accept}
+use Rattle.report_verifier.specs.declared.verdict.Verdict.{Verdict}
+use Rattle.report_verifier.specs.declared.verdict.Verdict.TheVariants.{Accept}
 use Rattle.report_verifier.specs.declared.expect.Expect.{Expect}
 use Rattle.report_verifier.specs.Policy.{PolicyFields, expect_at, expectation}
 use Rattle.device_play.specs.declared.put_fault.PutFault.{PutFault}
@@ -42,7 +42,7 @@ found-some p k fails passes a (suc n) from within = elim (cases_eq a k) [
 ]
 
 -- a report before the first that is not accepted
-leading-answered : (decisions : List Decision) (i : ℕ) → i < prefix_len is_accept decisions
+leading-answered : (decisions : List Verdict) (i : ℕ) → i < prefix_len is_accept decisions
     → not (is_answered decisions i) ≡ false
 leading-answered decisions i leads =
     let within : i < length decisions =
@@ -51,7 +51,7 @@ leading-answered decisions i leads =
     (rw (prefix_len_passes is_accept decisions i Accept leads) refl)
 
 -- and that one, or the first that is absent
-next-unanswered : (decisions : List Decision)
+next-unanswered : (decisions : List Verdict)
     → not (is_answered decisions (prefix_len is_accept decisions)) ≡ true
 next-unanswered decisions =
     let next : ℕ = prefix_len is_accept decisions in
@@ -62,14 +62,14 @@ next-unanswered decisions =
       | inr past ↦ rw (slice_get_past decisions next past) refl
     ]
 
-pub unanswered-none : (requests : List Asked) (decisions : List Decision) (next : ℕ)
+pub unanswered-none : (requests : List Asked) (decisions : List Verdict) (next : ℕ)
     → next ≡ prefix_len is_accept decisions → length requests ≤ next
     → first_unanswered requests decisions ≡ None
 unanswered-none requests decisions next is past =
     found-none (λ i. not (is_answered decisions i)) (prefix_len is_accept decisions)
     (leading-answered decisions) 0 (length requests) (omega (arith, is, past))
 
-pub unanswered-some : (requests : List Asked) (decisions : List Decision) (next : ℕ)
+pub unanswered-some : (requests : List Asked) (decisions : List Verdict) (next : ℕ)
     → next ≡ prefix_len is_accept decisions → next < length requests
     → first_unanswered requests decisions ≡ Some next
 unanswered-some requests decisions next is within =

@@ -8,7 +8,7 @@ use Rattle.device_trace.specs.Text.{play_text, lines_of_step}
 use Rattle.report_text.specs.CollisionLine.{collision_line}
 use Rattle.report_text.specs.VerdictLine.{verdict_line}
 use Rattle.report_verifier.specs.Judge.{Judge}
-use Rattle.report_verifier.specs.declared.decision.Decision.{Decision}
+use Rattle.report_verifier.specs.declared.verdict.Verdict.{Verdict}
 use Rattle.device_play.specs.Accounts.{end_line_of}
 use Rattle.device_cli.specs.RoundText.{remark_of_step, round_text}
 
@@ -42,7 +42,7 @@ IsPairLine bytes =
 abbrev pub IsRemark : Bytes → Type 0
 IsRemark bytes =
     (bytes ≡ [])
-    ⊎ ((number : ℕ) × (verdict : Decision) × (pair : Bytes) × IsPairLine pair
+    ⊎ ((number : ℕ) × (verdict : Verdict) × (pair : Bytes) × IsPairLine pair
     × (bytes ≡ verdict_line number verdict ++ pair))
 
 -- the text of a round without the remarks is that of the play, and they are remarks

@@ -6,21 +6,21 @@ use Rattle.std.specs.Option.{is_none, option_map_or}
 use Rattle.bus_signals.specs.Address.{Bytes}
 use Rattle.printed_lines.specs.Line.{line_of}
 use Rattle.report_verifier.specs.declared.asked.Asked.{Asked}
-use Rattle.report_verifier.specs.declared.decision.Decision.{Decision}
+use Rattle.report_verifier.specs.declared.verdict.Verdict.{Verdict}
 use Rattle.device_cli.specs.Row.{Outcome, Row}
 use Rattle.device_cli.specs.Verdicts.{is_accept}
 
 -- report i, from 0, is there and accepted
-abbrev pub is_answered : List Decision → ℕ → Bool
+abbrev pub is_answered : List Verdict → ℕ → Bool
 is_answered decisions i = option_map_or is_accept (slice_get decisions i) false
 
 -- the first of the requests that is not answered, from 0
-abbrev pub first_unanswered : List Asked → List Decision → Option ℕ
+abbrev pub first_unanswered : List Asked → List Verdict → Option ℕ
 first_unanswered requests decisions =
     find (λ i. not (is_answered decisions i)) (range_with_len 0 (length requests))
 
 -- where all have to be answered
-abbrev pub unanswered_if : Bool → List Asked → List Decision → Option ℕ
+abbrev pub unanswered_if : Bool → List Asked → List Verdict → Option ℕ
 unanswered_if all requests decisions =
     if all then first_unanswered requests decisions else None
 

@@ -2,30 +2,30 @@
 use Rattle.std.specs.Prelude.{◌+◌, ◌++◌, ◌&&◌, ℕ, Bool, true, false, List, [], ◌∷◌}
 use Rattle.bus_signals.specs.Report.{ReportFields}
 use Rattle.report_text.specs.VerdictLine.{verdict_line}
-use Rattle.report_verifier.specs.declared.decision.Decision.{Decision}
-use Rattle.report_verifier.specs.declared.decision.Decision.TheVariants.{Accept}
+use Rattle.report_verifier.specs.declared.verdict.Verdict.{Verdict}
+use Rattle.report_verifier.specs.declared.verdict.Verdict.TheVariants.{Accept}
 use Rattle.report_verifier.specs.Judge.{Judge, verdict_at}
 
 -- of which the first is expected to answer this request, counted from 0
-abbrev pub verdicts_from : Judge → ℕ → List ReportFields → List Decision
+abbrev pub verdicts_from : Judge → ℕ → List ReportFields → List Verdict
 verdicts_from judge i [] = []
 verdicts_from judge i (report ∷ reports) =
     verdict_at judge i report ∷ verdicts_from judge (i + 1) reports
 
 -- report i is expected to answer request i
-abbrev pub verdicts : Judge → List ReportFields → List Decision
+abbrev pub verdicts : Judge → List ReportFields → List Verdict
 verdicts judge reports = verdicts_from judge 0 reports
 
 -- their lines, of which the first has this number
-abbrev pub lines_from : ℕ → List Decision → List ℕ
+abbrev pub lines_from : ℕ → List Verdict → List ℕ
 lines_from number [] = []
 lines_from number (decision ∷ decisions) =
     verdict_line number decision ++ lines_from (number + 1) decisions
 
-abbrev pub is_accept : Decision → Bool
+abbrev pub is_accept : Verdict → Bool
 is_accept Accept = true
 is_accept decision = false
 
-abbrev pub all_accept : List Decision → Bool
+abbrev pub all_accept : List Verdict → Bool
 all_accept [] = true
 all_accept (decision ∷ decisions) = is_accept decision && all_accept decisions

@@ -4,7 +4,7 @@ use Rattle.std.specs.Prelude.{IsErrAnd}
 use Rattle.debug_link.specs.Writing.{CountsWriteFaults}
 use Rattle.debug_link.specs.declared.answer_fault.AnswerFault.{AnswerFault}
 use Rattle.debug_link.specs.declared.answer_fault.AnswerFault.TheVariants.{Memory}
-use Rattle.debug_link.proofs.Faults.{rose_since}
+use Rattle.outside_edge.proofs.Counts.{rose_since}
 
 module _ {W : Type 0} (faults : W → ℕ) where
   pub counts-since : {V : Type 0} (old mid new : W) (result : Result V AnswerFault)

@@ -2,6 +2,7 @@
 use Rattle.std.proofs.Common.{rules, ◌≡◌, [], ℕ, List, Option, Some, None, Ok, inl, inr, ap, refl, subst, sym, arith}
 use Rattle.outside_edge.specs.Count.{Rose}
 use Rattle.outside_edge.specs.Shelf.{SureShelf}
+use Rattle.outside_edge.proofs.Counts.{never_rises}
 use Rattle.input_files.specs.declared.status.Status.{Status}
 use Rattle.input_files.specs.declared.status.Status.TheVariants.{Done, Rejected, ReadFault, WriteFault, Memory}
 use Rattle.input_files.specs.Reading.{Files, IsRefusal, first_refusal}
@@ -35,15 +36,10 @@ first-is None status refusing (inr (inr (inl is))) = absurd (refusing.written is
 first-is None status refusing (inr (inr (inr (inl is)))) = absurd (refusing.read is)
 first-is None status refusing (inr (inr (inr (inr is)))) = absurd (refusing.memory is)
 
--- a shelf that counts no fault has none
-no-fault : Rose 0 0 → ⊥
-no-fault (inl rose) = omega (arith, rose)
-no-fault (inr last) = omega (arith, last)
-
 never-failed : {missed : Type 0} (files : Files) (row : Row)
     → IsRefusal files missed (Rose 0 0) row ReadFault → ⊥
 never-failed files row (inl (is, missed)) = cc is
-never-failed files row (inr (inl (is, rose))) = no-fault rose
+never-failed files row (inr (inl (is, rose))) = never_rises rose
 never-failed files row (inr (inr (inl is))) = cc is
 never-failed files row (inr (inr (inr (fault, is, reaches)))) = cc is
 

@@ -19,6 +19,7 @@ use Rattle.device_trace.specs.Start.{Start}
 use Rattle.device_trace.specs.Step.{access_recorded, asks_reset, next_record, next_signals, record_of}
 use Rattle.device_trace.specs.Trace.{last_bounds, last_record, last_signals, logs_after, next_logs, trace}
 use Rattle.device_core.specs.Refusal.{last_refused, where_refused}
+use Rattle.key_isolation.proofs.Bytes.{zero_either}
 use Rattle.trace_line.specs.declared.trace_line.TraceLine.{TraceLine}
 use Rattle.trace_line.specs.LineText.{trace_line}
 use Rattle.trace_line.specs.ReadBack.{ArePrintable, IsPrintable}
@@ -82,19 +83,15 @@ not-asked : (asked : Bool) (others : Option Rule)
 not-asked true others is = absurd (cc is)
 not-asked false others is = refl
 
-unblanked : (hides : Bool) → ◌≡◌ {A = ℕ} (if hides then 0 else 0) 0
-unblanked true = refl
-unblanked false = refl
-
 -- the word of a fetch is what it reads
 fetched-shown : (start : Start) (logs : Logs) (access : Option Access)
     → blank_value access (word_fetched start logs access)
     ≡ word_read access (blank_value access (value_read start logs access))
 fetched-shown start logs None = refl
 fetched-shown start logs (Some (Fetch place)) = refl
-fetched-shown start logs (Some (Read place size)) = unblanked (touches_secrets (Read place size))
+fetched-shown start logs (Some (Read place size)) = zero_either (touches_secrets (Read place size))
 fetched-shown start logs (Some (Write place size number)) =
-    unblanked (touches_secrets (Write place size number))
+    zero_either (touches_secrets (Write place size number))
 
 -- what a step from these logs that broke no rule shows
 made-shown : (start : Start) (logs : Logs) (reset : Bool)

@@ -13,22 +13,22 @@ use Rattle.text_scan.specs.declared.fault_kind.FaultKind.TheVariants.{TooLong}
 use Rattle.input_files.specs.declared.refusal.Refusal.{Refusal}
 use Rattle.input_files.specs.declared.status.Status.{Status}
 use Rattle.input_files.specs.declared.status.Status.TheVariants as status
-use Rattle.input_files.specs.Row.{FileKind, RowOf, read_file, value_of}
+use Rattle.input_files.specs.Row.{FileKind, RowOf, read_file, file_value}
 use Rattle.input_files.specs.Reading.{Files, Leaves, ParsesAs, Reaches, Reads, Refuses, first_refusal, refusal_of}
 
 -- past its limit a file has its fault at line 0
 longer-value : {M : Type 0} (kind : FileKind M) (bytes : List ℕ) → kind.limit < length bytes
-    → value_of kind bytes ≡ Err (record { line = 0; kind = TooLong })
+    → file_value kind bytes ≡ Err (record { line = 0; kind = TooLong })
 longer-value kind bytes longer = rw (lt-ltb kind.limit (length bytes) longer) refl
 
 short-value : {M : Type 0} (kind : FileKind M) (bytes : List ℕ) → length bytes ≤ kind.limit
-    → value_of kind bytes ≡ kind.grammar bytes
+    → file_value kind bytes ≡ kind.grammar bytes
 short-value kind bytes short = rw (le-ltb kind.limit (length bytes) short) refl
 
 -- a file with a value
 same-rest : {M Outcome : Type 0} (files : Files) (name bytes : List ℕ) (kind : FileKind M)
     (onward : M → RowOf Outcome) (value : M)
-    → Finds files name (Some bytes) → value_of kind bytes ≡ Ok value
+    → Finds files name (Some bytes) → file_value kind bytes ≡ Ok value
     → IfSome files (λ contents.
     first_refusal (read_file kind name onward) contents ≡ first_refusal (onward value) contents)
 same-rest None name bytes kind onward value finds is = tt
@@ -36,7 +36,7 @@ same-rest (Some contents) name bytes kind onward value finds is = rw (finds, is)
 
 read-leaves : {M Outcome : Type 0} (files : Files) (name bytes : List ℕ) (kind : FileKind M)
     (onward : M → RowOf Outcome) (value : M)
-    → Finds files name (Some bytes) → value_of kind bytes ≡ Ok value
+    → Finds files name (Some bytes) → file_value kind bytes ≡ Ok value
     → Leaves files (read_file kind name onward) (onward value)
 read-leaves files name bytes kind onward value finds is =
     record {
@@ -47,13 +47,13 @@ read-leaves files name bytes kind onward value finds is =
 -- a file with a fault
 bad-reaches : {M Outcome : Type 0} (files : Files) (name bytes : List ℕ) (kind : FileKind M)
     (onward : M → RowOf Outcome) (fault : FaultAt)
-    → Finds files name (Some bytes) → value_of kind bytes ≡ Err fault
+    → Finds files name (Some bytes) → file_value kind bytes ≡ Err fault
     → Reaches files (read_file kind name onward) (Err (kind.refusal fault))
 bad-reaches files name bytes kind onward fault finds is = (bytes, finds, rw is refl)
 
 bad-refuses : {M Outcome : Type 0} (files : Files) (name bytes : List ℕ) (kind : FileKind M)
     (onward : M → RowOf Outcome) (fault : FaultAt)
-    → Finds files name (Some bytes) → value_of kind bytes ≡ Err fault
+    → Finds files name (Some bytes) → file_value kind bytes ≡ Err fault
     → IfSome files (λ contents. Refuses (first_refusal (read_file kind name onward) contents)
     (status.Bad (kind.refusal fault)))
 bad-refuses None name bytes kind onward fault finds is = tt
@@ -120,7 +120,7 @@ parsed-Reads files faults misses old new name bytes kind meaning onward (Err ref
     })
 parsed-Reads files faults misses old new name bytes kind meaning onward (Err refused) finds short
     keeps (inr (fault, is, same)) =
-    let faulty : value_of kind bytes ≡ Err fault = rw (short-value kind bytes short) is in
+    let faulty : file_value kind bytes ≡ Err fault = rw (short-value kind bytes short) is in
     rw same (record {
       values = tt;
       refusal = inr (inr (inr (
@@ -188,7 +188,7 @@ unread-Reads files faults misses old new name kind rest onward file.TooLong abse
     keeps =
     let file = longer-file (files old) name kind (long refl) in
     let fault : FaultAt = record { line = 0; kind = TooLong } in
-    let faulty : value_of kind file.bytes ≡ Err fault = longer-value kind file.bytes file.longer in
+    let faulty : file_value kind file.bytes ≡ Err fault = longer-value kind file.bytes file.longer in
     record {
       values = tt;
       refusal = inr (inr (inr (

@@ -1,8 +1,8 @@
 -- Files that are read after others.
 use Rattle.std.proofs.Common.{◌≡◌, ◌∙◌, ◌≤◌, ℕ, Some, None, IfSome, Result, Ok, Err, subst, inl, inr, arith}
 use Rattle.std.specs.Prelude.{IsErrAnd}
-use Rattle.outside_edge.specs.Count.{Rose}
 use Rattle.outside_edge.specs.Shelf.{KeepsFiles}
+use Rattle.outside_edge.proofs.Counts.{rose_since}
 use Rattle.input_files.specs.declared.refusal.Refusal.{Refusal}
 use Rattle.input_files.specs.declared.status.Status.{Status}
 use Rattle.input_files.specs.Row.{RowOf}
@@ -31,12 +31,6 @@ order-before : {Outcome : Type 0} (files : Files) (row rest : RowOf Outcome) (st
 order-before None row rest status same order = tt
 order-before (Some contents) row rest status same order = rw same order
 
--- a count that rose since a later moment rose since an earlier one
-Rose-earlier : (before between after : ℕ) → before ≤ between → Rose between after
-    → Rose before after
-Rose-earlier before between after keeps (inl more) = inl (omega arith)
-Rose-earlier before between after keeps (inr most) = inr most
-
 -- a refusal after files that were read
 IsRefusal-before : {S Outcome : Type 0} (files : S → Files) (faults misses : S → ℕ)
     (old mid new : S) (row rest : RowOf Outcome) (status : Status)
@@ -49,12 +43,12 @@ IsRefusal-before : {S Outcome : Type 0} (files : S → Files) (faults misses : S
 IsRefusal-before files faults misses old mid new row rest status keeps leaves (inl miss) =
     inl (
       miss.0,
-      Rose-earlier (misses old) (misses mid) (misses new) keeps.misses_counted miss.1,
+      rose_since (misses old) (misses mid) (misses new) keeps.misses_counted miss.1,
     )
 IsRefusal-before files faults misses old mid new row rest status keeps leaves (inr (inl fails)) =
     inr (inl (
       fails.0,
-      Rose-earlier (faults old) (faults mid) (faults new) keeps.faults_counted fails.1,
+      rose_since (faults old) (faults mid) (faults new) keeps.faults_counted fails.1,
     ))
 IsRefusal-before files faults misses old mid new row rest status keeps leaves
     (inr (inr (inl memory))) =

@@ -16,8 +16,8 @@ pub record FileKind (Value : Type 0) : Type 0 where
   pub refusal : FaultAt → BadFile
 
 -- the value of a file, or its first fault: past the limit it is at line 0
-abbrev pub value_of : {Value : Type 0} → FileKind Value → List ℕ → Result Value FaultAt
-value_of kind bytes =
+abbrev pub file_value : {Value : Type 0} → FileKind Value → List ℕ → Result Value FaultAt
+file_value kind bytes =
     if nat_lt kind.limit (length bytes) then Err (record { line = 0; kind = TooLong })
     else kind.grammar bytes
 
@@ -30,4 +30,4 @@ go_on kind onward (Err fault) = Ends (Err (kind.refusal fault))
 -- a row that reads the file of this kind and name, and goes on with its value
 abbrev pub read_file :
     {Value Outcome : Type 0} → FileKind Value → List ℕ → (Value → RowOf Outcome) → RowOf Outcome
-read_file kind name onward = Reads name (λ bytes. go_on kind onward (value_of kind bytes))
+read_file kind name onward = Reads name (λ bytes. go_on kind onward (file_value kind bytes))

@@ -9,13 +9,10 @@ use Rattle.bus_signals.specs.ExecFlag.{clears, starts_run, exec}
 use Rattle.device_trace.specs.Blank.{blank_access, blank_record, blank_seen, blank_value}
 use Rattle.device_trace.specs.Logs.{goes_on_in_call, records_until_call}
 use Rattle.key_isolation.proofs.SameFlag.{exec-same}
-use Rattle.trace_facts.proofs.BlankRecords.{last_pc-blank}
+use Rattle.trace_facts.proofs.BlankRecords.{last_pc-blank, starts_run-blank}
 
 clears-blank : (last : Option ℕ) (now : SeenRecord) → clears last (blank_seen now) ≡ clears last now
 clears-blank last now = grind arith
-
-starts_run-blank : (now : SeenRecord) → starts_run (blank_seen now) ≡ starts_run now
-starts_run-blank now = grind arith
 
 pub exec-blank : (records : List SeenRecord) → exec (map blank_seen records) ≡ exec records
 exec-blank records = exec-same blank_seen clears-blank starts_run-blank last_pc-blank records

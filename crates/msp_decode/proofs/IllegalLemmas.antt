@@ -49,8 +49,8 @@ first_false : (form size takes write : Bool)
     → (size ≡ false) ⊎ ((takes ≡ false) × (write ≡ true))
 first_false form size takes write is fails = grind (arith, nat_tests)
 
-sizeless : (form size rest : Bool) → size ≡ false → (form && size && rest) ≡ false
-sizeless form size rest is = grind (arith, nat_tests)
+pub middle_false : (form size rest : Bool) → size ≡ false → (form && size && rest) ≡ false
+middle_false form size rest is = grind (arith, nat_tests)
 
 unwritable : (form size takes write : Bool)
     → takes ≡ false
@@ -97,7 +97,7 @@ fields_illegal op bit mode register mode_fits illegal =
     let takes : Bool = takes_result (source_of mode register) in
     let write : Bool = writes_operand (one_of op) in
     elim illegal [
-      | inl byte ↦ sizeless form size (takes || not write) (no_size op bit (byte.0) (byte.1))
+      | inl byte ↦ middle_false form size (takes || not write) (no_size op bit (byte.0) (byte.1))
       | inr operand ↦
           let none : takes ≡ false = takes_none mode register mode_fits (operand.1) in
           unwritable form size takes write none (writes_below op (operand.0))

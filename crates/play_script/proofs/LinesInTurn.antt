@@ -5,7 +5,7 @@ use Rattle.text_scan.specs.declared.fault_at.FaultAt.{FaultAt}
 use Rattle.text_scan.specs.declared.fault_kind.FaultKind.{FaultKind}
 use Rattle.text_scan.specs.declared.fault_kind.FaultKind.TheVariants.{Order}
 use Rattle.text_scan.specs.Line.{text_lines}
-use Rattle.text_scan.specs.LineFold.{state_after, text_fold}
+use Rattle.text_scan.specs.LineFold.{lines_fold, text_fold}
 use Rattle.text_scan.specs.Reader.{◌>>=◌, in_line}
 use Rattle.text_scan.specs.Utf8.{utf8_of}
 use Rattle.text_scan.specs.Word.{is_passed_over, words_of}
@@ -49,7 +49,7 @@ behind-entry events more (Err fault) = refl
 -- both readings agree behind a line, where they do on the lines that are left
 abbrev Agrees : List (ℕ × List ℕ) → Type 0
 Agrees lines = (so_far : ScriptSoFar)
-    → events_read (state_after with_line so_far lines)
+    → events_read (lines_fold with_line so_far lines)
     ≡ behind so_far.events (script_lines so_far.greatest lines)
 
 agrees-order : (so_far : ScriptSoFar) (number : ℕ) (lines : List (ℕ × List ℕ)) (entry : Entry)
@@ -58,7 +58,7 @@ agrees-order : (so_far : ScriptSoFar) (number : ℕ) (lines : List (ℕ × List 
     → events_read (in_line number (cond below (Err Order) (Ok (record {
       events = so_far.events ++ timed_events entry;
       greatest = entry.0;
-    }))) >>= (λ next. state_after with_line next lines))
+    }))) >>= (λ next. lines_fold with_line next lines))
     ≡ behind so_far.events (in_line number (cond below (Err Order) (Ok entry))
     >>= (λ entry. behind (timed_events entry) (script_lines entry.0 lines)))
 agrees-order so_far number lines entry true rest = refl
@@ -70,7 +70,7 @@ agrees-entry : (so_far : ScriptSoFar) (number : ℕ) (lines : List (ℕ × List 
     (answer : Result Entry FaultKind)
     → Agrees lines
     → events_read (in_line number (answer >>= with_entry so_far)
-    >>= (λ next. state_after with_line next lines))
+    >>= (λ next. lines_fold with_line next lines))
     ≡ behind so_far.events (in_line number (answer >>= in_order so_far.greatest)
     >>= (λ entry. behind (timed_events entry) (script_lines entry.0 lines)))
 agrees-entry so_far number lines (Err kind) rest = refl
@@ -80,8 +80,8 @@ agrees-entry so_far number lines (Ok entry) rest =
 agrees-line : (so_far : ScriptSoFar) (line : ℕ × List ℕ) (lines : List (ℕ × List ℕ))
     (skips : Bool)
     → Agrees lines
-    → events_read (cond skips (state_after with_line so_far lines)
-    (in_line line.0 (with_line so_far line.1) >>= (λ next. state_after with_line next lines)))
+    → events_read (cond skips (lines_fold with_line so_far lines)
+    (in_line line.0 (with_line so_far line.1) >>= (λ next. lines_fold with_line next lines)))
     ≡ behind so_far.events (cond skips (script_lines so_far.greatest lines)
     (entry_of so_far.greatest line
     >>= (λ entry. behind (timed_events entry) (script_lines entry.0 lines))))
@@ -91,7 +91,7 @@ agrees-line so_far line lines false rest =
     agrees-entry so_far line.0 lines (entry_in line) rest
 
 agrees : (lines : List (ℕ × List ℕ)) → Agrees lines
-unfolding state_after script_lines
+unfolding lines_fold script_lines
 agrees [] so_far = ap (λ (all : List TimedEvent). Ok all) (sym (append-nil so_far.events))
 agrees (line ∷ lines) so_far =
     agrees-line so_far line lines (is_passed_over line.1) (agrees lines)
@@ -101,7 +101,7 @@ behind-none (Ok later) = refl
 behind-none (Err fault) = refl
 
 in_turn : (lines : List (ℕ × List ℕ)) (sound : Result Unit FaultAt)
-    → events_read (sound >>= (λ _. state_after with_line no_lines lines))
+    → events_read (sound >>= (λ _. lines_fold with_line no_lines lines))
     ≡ (sound >>= (λ _. script_lines 0 lines))
 in_turn lines (Ok _) = agrees lines no_lines ∙ behind-none (script_lines 0 lines)
 in_turn lines (Err fault) = refl

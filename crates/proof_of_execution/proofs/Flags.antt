@@ -25,10 +25,11 @@ use Rattle.trace_facts.proofs.BlankRecords.{last_pc-blank}
 use Rattle.trace_facts.proofs.Choices.{other_false}
 use Rattle.trace_facts.proofs.ExecFlag.{exec-more, exec-none, aux-more, aux-none}
 use Rattle.trace_facts.proofs.Fresh.{LogsAreFresh}
+use Rattle.trace_facts.proofs.BlankRecords.{starts_run-blank}
 use Rattle.proof_of_execution.proofs.Entries.{region_entered, sleep_lasts}
 use Rattle.proof_of_execution.proofs.InterruptEntries.{IsEarly, irq-follows}
 use Rattle.proof_of_execution.proofs.Keeps.{KeepsBoth, Keeps, clears-kept, undisturbed-kept, code-kept, enters_at_start}
-use Rattle.proof_of_execution.proofs.KeepsAux.{KeepsAux, clears_aux-kept, starts_run-blank, trusted-kept, code_and_vectors-kept, enters_first}
+use Rattle.proof_of_execution.proofs.KeepsAux.{KeepsAux, clears_aux-kept, trusted-kept, code_and_vectors-kept, enters_first}
 use Rattle.proof_of_execution.proofs.Runs.{Goes}
 
 -- EXEC, or with trusted interrupts the second flag, which sees the records blanked

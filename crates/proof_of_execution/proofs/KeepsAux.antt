@@ -8,7 +8,7 @@ use Rattle.bus_signals.specs.Bounds.{are_valid, executable_region}
 use Rattle.bus_signals.specs.Kind.{is_irq}
 use Rattle.bus_signals.specs.Map.{lies_in}
 use Rattle.bus_signals.specs.SeenRecord.{SeenRecord}
-use Rattle.bus_signals.specs.ExecFlag.{runs_inside, ran_inside, fetches_first, starts_run, clears_both}
+use Rattle.bus_signals.specs.ExecFlag.{runs_inside, ran_inside, fetches_first, clears_both}
 use Rattle.part_definitions.specs.TrustedFlag.{enters_elsewhere, clears_f3, clears_f4, clears_f10, clears_aux}
 use Rattle.device_trace.specs.Blank.{touches_secrets, blank_access, blank_value, blank_seen}
 use Rattle.device_trace.specs.RegionRun.{TrustedInterrupts, runs_alone, runs_with, keeps_code, keeps_code_with}
@@ -31,9 +31,6 @@ f3-blank last now = grind arith
 
 f10-blank : (now : SeenRecord) → clears_f10 (blank_seen now) ≡ clears_f10 now
 f10-blank now = grind arith
-
-pub starts_run-blank : (now : SeenRecord) → starts_run (blank_seen now) ≡ starts_run now
-starts_run-blank now = grind arith
 
 -- address 0 is in no valid region
 zero_outside : (bounds : Bounds) → are_valid bounds ≡ true

@@ -10,16 +10,16 @@ use Rattle.bus_signals.specs.Rule.{rule_name, rule_names}
 use Rattle.printed_lines.specs.Line.{byte_digits, word_digits, flag_digit, with_pieces, line_of, sent_line, reset_line, report_keyword, report_line, denied_line, end_line}
 use Rattle.line_buffer.specs.LineLaw.{ArePieces}
 use Rattle.line_buffer.proofs.PieceLines.{first_line, utf8_line, plain-flag, plain-byte, plain-word}
-use Rattle.text_scan.specs.LineFold.{state_after, text_fold}
+use Rattle.text_scan.specs.LineFold.{lines_fold, text_fold}
 use Rattle.text_scan.specs.Line.{numbered_lines}
 use Rattle.text_scan.specs.Word.{words_of, says_nothing, is_passed_over}
-use Rattle.text_scan.specs.WordValue.{number_of, place_of, block_of}
+use Rattle.text_scan.specs.WordValue.{number_of, place_of, hex_block_of}
 use Rattle.named_value.specs.Names.{value_named}
 use Rattle.named_value.specs.PlainWord.{IsPlainWord}
 use Rattle.text_scan.proofs.PlainWords.{hex_bytes_of-digits, hex_word_of-digits, one_byte, plain-decimal}
 use Rattle.text_scan.proofs.NamedWord.{value_of-name}
 use Rattle.text_scan.proofs.TextUtf8.{utf8_of-whole}
-use Rattle.report_verifier.specs.declared.decision.Decision.{Decision}
+use Rattle.report_verifier.specs.declared.verdict.Verdict.{Verdict}
 use Rattle.report_verifier.specs.VerdictName.{verdict_name, verdict_names}
 use Rattle.report_text.specs.ReadBack.{IsPrintable, IsReadBack, IsPassedOver}
 use Rattle.report_text.specs.ReportFile.{with_report, with_line, reports_of}
@@ -32,8 +32,8 @@ pub record ReadsAs (text : List ℕ) (reports : List ReportFields) : Type 0 wher
   pub cuts : List (List ℕ)
   pub cut : (rest : List ℕ) → lines (text ++ rest) ≡ cuts ++ lines rest
   pub read : (before : List ReportFields) (number : ℕ) (later : List (List ℕ))
-      → state_after with_line before (numbered_lines number (cuts ++ later))
-      ≡ state_after with_line (before ++ reports) (numbered_lines (number + length cuts) later)
+      → lines_fold with_line before (numbered_lines number (cuts ++ later))
+      ≡ lines_fold with_line (before ++ reports) (numbered_lines (number + length cuts) later)
   pub utf8 : IsUtf8 text
 
 pub reads-none : ReadsAs [] []
@@ -47,20 +47,20 @@ reads-none = record {
 read-both : (one two : List ℕ) (first second : List ReportFields)
     (a : ReadsAs one first) (b : ReadsAs two second)
     (before : List ReportFields) (number : ℕ) (later : List (List ℕ))
-    → state_after with_line before (numbered_lines number ((a.cuts ++ b.cuts) ++ later))
-    ≡ state_after with_line (before ++ (first ++ second))
+    → lines_fold with_line before (numbered_lines number ((a.cuts ++ b.cuts) ++ later))
+    ≡ lines_fold with_line (before ++ (first ++ second))
     (numbered_lines (number + length (a.cuts ++ b.cuts)) later)
 read-both one two first second a b before number later =
     let count : number + length a.cuts + length b.cuts ≡ number + length (a.cuts ++ b.cuts) =
     omega (arith, length-append a.cuts b.cuts) in
-    ap (λ (all : List (List ℕ)). state_after with_line before (numbered_lines number all))
+    ap (λ (all : List (List ℕ)). lines_fold with_line before (numbered_lines number all))
     (append_assoc a.cuts b.cuts later)
     ∙ a.read before number (b.cuts ++ later)
     ∙ b.read (before ++ first) (number + length a.cuts) later
-    ∙ ap (λ (reports : List ReportFields). state_after with_line reports
+    ∙ ap (λ (reports : List ReportFields). lines_fold with_line reports
     (numbered_lines (number + length a.cuts + length b.cuts) later))
     (append_assoc before first second)
-    ∙ ap (λ (from : ℕ). state_after with_line (before ++ (first ++ second))
+    ∙ ap (λ (from : ℕ). lines_fold with_line (before ++ (first ++ second))
     (numbered_lines from later)) count
 
 -- one text after another
@@ -78,7 +78,7 @@ reads-both one two first second a b = record {
 -- the reports of the whole text
 pub reads-whole : (text : List ℕ) (reports : List ReportFields) → ReadsAs text reports
     → reports_of text ≡ Ok reports
-unfolding text_fold state_after
+unfolding text_fold lines_fold
 reads-whole text reports says =
     let all : lines text ≡ says.cuts ++ [] =
     ap lines (sym (append-nil text)) ∙ says.cut [] in
@@ -89,8 +89,8 @@ reads-whole text reports says =
 state_after-next : (before next : List ReportFields) (number : ℕ) (line : List ℕ)
     (later : List (ℕ × List ℕ))
     → is_passed_over line ≡ false → with_line before line ≡ Ok next
-    → state_after with_line before ((number, line) ∷ later) ≡ state_after with_line next later
-unfolding state_after
+    → lines_fold with_line before ((number, line) ∷ later) ≡ lines_fold with_line next later
+unfolding lines_fold
 state_after-next before next number line later says answer = rw says (rw answer refl)
 
 with_line-words : (before next : List ReportFields) (line : List ℕ) (words : List (List ℕ))
@@ -144,7 +144,7 @@ read_back report printable =
 -- the lines of the other sorts
 
 pub reads-sent : (step byte : ℕ) → step < 2 ^ 32 → byte < 256 → ReadsAs (sent_line step byte) []
-unfolding report_line_of no_report_of block_of
+unfolding report_line_of no_report_of hex_block_of
 reads-sent step byte within fits =
     reads-other (codes "tx") (decimal step ∷ byte_digits byte ∷ []) (
       (omega arith, refl),
@@ -197,13 +197,13 @@ reads-denied step decision within denies =
     ) refl)
 
 verdict_told :
-    (verdict : Decision) → value_named verdict_names (verdict_name verdict) ≡ Some verdict
+    (verdict : Verdict) → value_named verdict_names (verdict_name verdict) ≡ Some verdict
 verdict_told = search rules
 
-plain-verdict : (verdict : Decision) → IsPlainWord (verdict_name verdict)
+plain-verdict : (verdict : Verdict) → IsPlainWord (verdict_name verdict)
 plain-verdict = search rules
 
-reads-verdict : (number : ℕ) (verdict : Decision) → number < 2 ^ 32
+reads-verdict : (number : ℕ) (verdict : Verdict) → number < 2 ^ 32
     → ReadsAs (verdict_line number verdict) []
 unfolding report_line_of no_report_of
 reads-verdict number verdict within =

@@ -6,7 +6,7 @@ use Rattle.bus_signals.specs.declared.version.Version.TheVariants.{One, Two}
 use Rattle.bus_signals.specs.Bounds.{AreWords}
 use Rattle.bus_signals.specs.Report.{ReportFields}
 use Rattle.printed_lines.specs.Line.{report_line}
-use Rattle.report_verifier.specs.declared.decision.Decision.{Decision}
+use Rattle.report_verifier.specs.declared.verdict.Verdict.{Verdict}
 use Rattle.report_text.specs.ReportFile.{output_fits, reports_of}
 use Rattle.report_text.specs.VerdictLine.{verdict_line}
 
@@ -39,5 +39,5 @@ IsReadBack =
 -- the file of a verdict's line has no report
 abbrev pub IsPassedOver : Type 0
 IsPassedOver =
-    (number : ℕ) (verdict : Decision) → number < 2 ^ 32
+    (number : ℕ) (verdict : Verdict) → number < 2 ^ 32
     → reports_of (verdict_line number verdict) ≡ Ok []

@@ -11,8 +11,8 @@ use Rattle.text_scan.specs.declared.fault_kind.FaultKind.TheVariants.{Word}
 use Rattle.text_scan.specs.Ends.{ends_of}
 use Rattle.text_scan.specs.Hexadecimal.{even_bytes_of}
 use Rattle.text_scan.specs.Reader.{◌>>=◌}
-use Rattle.text_scan.specs.Word.{word_of, keyword_of, end_of}
-use Rattle.text_scan.specs.WordValue.{number_of, place_of, block_of, value_of}
+use Rattle.text_scan.specs.Word.{next_word, keyword_of, end_of}
+use Rattle.text_scan.specs.WordValue.{number_of, place_of, hex_block_of, value_of}
 use Rattle.report_verifier.specs.VerdictName.{verdict_names}
 use Rattle.report_text.specs.declared.field.Field.{Field}
 use Rattle.report_text.specs.declared.field.Field.TheVariants as fields
@@ -46,7 +46,7 @@ request_of Two words = do
 unfoldable pub digest_of : List ℕ → List (List ℕ) → Result (List ℕ × List (List ℕ)) FaultKind
 digest_of keyword words = do
   rest ← keyword_of keyword words
-  block_of 32 rest
+  hex_block_of 32 rest
 
 -- `er H4 H4 or H4 H4`
 unfoldable pub bounds_of : List (List ℕ) → Result (Bounds × List (List ℕ)) FaultKind
@@ -75,7 +75,7 @@ output_in word =
 unfoldable pub output_of : List (List ℕ) → Result (Option (List ℕ) × List (List ℕ)) FaultKind
 output_of words = do
   rest ← keyword_of (codes "data") words
-  word ← word_of rest
+  word ← next_word rest
   output ← output_in word.0
   Ok (output, word.1)
 
@@ -108,7 +108,7 @@ report_of version words = do
 -- the bytes of one word
 unfoldable pub bytes_of : List (List ℕ) → Result (List ℕ × List (List ℕ)) FaultKind
 bytes_of words = do
-  word ← word_of words
+  word ← next_word words
   bytes ← even_bytes_of word.0
   Ok (bytes, word.1)
 
@@ -120,7 +120,7 @@ passed answer = answer >>= (λ read. Ok (tt, read.1))
 -- the decision of a denial, another than to attest, is 2 or 3
 abbrev pub field_of : Field → List (List ℕ) → Result (Unit × List (List ℕ)) FaultKind
 field_of fields.Count words = passed (count_of words)
-field_of fields.Byte words = passed (block_of 1 words)
+field_of fields.Byte words = passed (hex_block_of 1 words)
 field_of fields.Rule words = passed (value_of rule_names words)
 field_of fields.Denial words = passed (number_of 2 3 words)
 field_of fields.Verdict words = passed (value_of verdict_names words)
@@ -168,7 +168,7 @@ report_by_keyword keyword words =
 -- the report of a line, none where the line is of another kind
 unfoldable pub report_line_of : List (List ℕ) → Result (Option ReportFields) FaultKind
 report_line_of words = do
-  keyword ← word_of words
+  keyword ← next_word words
   report ← report_by_keyword keyword.0 keyword.1
   end ← end_of report.1
   Ok report.0

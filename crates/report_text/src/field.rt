@@ -3,7 +3,7 @@ ghost use Rattle.report_text.specs.ReportLine.{bytes_of, field_of};
 
 use crate::report_entry::{read_count, read_flag};
 use bus_signals::Rule;
-use report_verifier::Decision;
+use report_verifier::Verdict;
 use std::alloc::Global;
 use text_scan::{Bytes, WordFault, Words};
 
@@ -44,7 +44,7 @@ impl Field {
                 words.number(2, 3)?;
             }
             Field::Verdict => {
-                words.value::<Decision>()?;
+                words.value::<Verdict>()?;
             }
             Field::Bytes => {
                 read_bytes(alloc, words)?;

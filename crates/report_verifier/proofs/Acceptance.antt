@@ -14,7 +14,7 @@ use Rattle.part_definitions.specs.Hmac.{hmac}
 use Rattle.part_definitions.specs.Metadata.{bounds_in}
 use Rattle.part_definitions.specs.Region.{metadata_bytes, bounded_bytes, rest_bytes, bytes_between, challenge_bytes, output_bytes}
 use Rattle.part_definitions.proofs.BytesFrom.{length-bytes_from}
-use Rattle.report_verifier.specs.declared.decision.Decision.TheVariants.{Accept, VersionDiffers, ChalDiffers, CountDiffers, BoundsDiffer, ExecZero, AuxZero, MacDiffers}
+use Rattle.report_verifier.specs.declared.verdict.Verdict.TheVariants.{Accept, VersionDiffers, ChalDiffers, CountDiffers, BoundsDiffer, ExecZero, AuxZero, MacDiffers}
 use Rattle.report_verifier.specs.declared.expect.Expect.{Expect}
 use Rattle.report_verifier.specs.declared.flag_kind.FlagKind.{FlagKind}
 use Rattle.report_verifier.specs.declared.flag_kind.FlagKind.TheVariants.{Exec, Aux, Plain}
@@ -22,7 +22,7 @@ use Rattle.report_verifier.specs.Acceptance.{HasFlag, IsAccepted, StandsAsExpect
 use Rattle.report_verifier.specs.Collision.{AreBytes, Collides, GivesBytes, colliding_pair}
 use Rattle.report_verifier.specs.Comparison.{expected_key, expected_bytes, own_bytes}
 use Rattle.mem_map.specs.Image.{image_byte}
-use Rattle.report_verifier.specs.Expectation.{expected_mac, expected_metadata, expected_rest, image_code, output_of}
+use Rattle.report_verifier.specs.Expectation.{expected_mac, expected_metadata, expected_rest, image_code, report_output}
 use Rattle.report_verifier.specs.PolicyGrammar.{bounds_with}
 use Rattle.report_verifier.specs.Verdict.{same_version, same_bounds, lacks_exec, lacks_aux, verdict}
 use Rattle.report_verifier.proofs.ComparedBytes.{expected-bytes, from-bytes, memory-words, own-bytes}
@@ -178,7 +178,7 @@ expected-where digest key image expect bytes report is same =
     let own_output : List ℕ = output_bytes bytes bounds in
     let output : report.output ≡ Some own_output =
     rw (← agrees.bounds) at (is.of_memory.output (rw agrees.bounds at valid)) in
-    let told : output_of report.output ≡ own_output = ap output_of output in
+    let told : report_output report.output ≡ own_output = ap report_output output in
     let rest : rest_bytes bytes ≡ own_code ++ own_output =
     ap (bounded_bytes bytes) (sym here) ∙ cond-true (are_valid bounds) _ _ valid in
     let count : ℕ = bounds.er_max + 2 - bounds.er_min in
@@ -187,7 +187,7 @@ expected-where digest key image expect bytes report is same =
     ∙ sym (length-bytes_from bytes bounds.er_min count) in
     let rest_size : length (expected_rest image expect report.output)
     ≡ length (rest_bytes bytes) =
-    length-append code (output_of report.output)
+    length-append code (report_output report.output)
     ∙ omega (arith, code_size, ap length told)
     ∙ sym (length-append own_code own_output) ∙ ap length (sym rest) in
     let size : length metadata ≡ length (metadata_bytes bytes) =
@@ -200,7 +200,7 @@ expected-where digest key image expect bytes report is same =
     ) in
     let parts = parts-same metadata (expected_rest image expect report.output)
     (metadata_bytes bytes) (rest_bytes bytes) size same in
-    let codes = parts-same code (output_of report.output) own_code own_output code_size
+    let codes = parts-same code (report_output report.output) own_code own_output code_size
     (parts.1 ∙ rest) in
     record {
       metadata = sym parts.0;

@@ -18,7 +18,7 @@ use Rattle.report_verifier.specs.Collision.{AreBytes, GivesBytes}
 use Rattle.report_verifier.specs.Comparison.{expected_bytes, own_bytes}
 use Rattle.mem_map.specs.Image.{image_byte}
 use Rattle.word_arith.specs.Number.{bit_of}
-use Rattle.report_verifier.specs.Expectation.{count_bytes, expected_metadata, expected_rest, expected_token, first_metadata, image_code, output_of, request_metadata}
+use Rattle.report_verifier.specs.Expectation.{count_bytes, expected_metadata, expected_rest, expected_token, first_metadata, image_code, report_output, request_metadata}
 use Rattle.report_verifier.proofs.PairBytes.{IsByte}
 
 -- of a memory
@@ -128,11 +128,11 @@ metadata-bytes digest key expect report gives chal words =
 pub expected-bytes : (digest : List ℕ → List ℕ) (key : List ℕ) (image : ℕ → Option ℕ)
     (expect : Expect) (report : ReportFields)
     → GivesBytes digest → AreBytes expect.chal → AreWords expect.bounds
-    → ((place : ℕ) → image_byte image place < 256) → AreBytes (output_of report.output)
+    → ((place : ℕ) → image_byte image place < 256) → AreBytes (report_output report.output)
     → AreBytes (expected_bytes digest key image expect report)
 expected-bytes digest key image expect report gives chal words small output =
     All-append IsByte (expected_metadata digest key expect report)
     (expected_rest image expect report.output)
     (metadata-bytes digest key expect report gives chal words)
-    (All-append IsByte (image_code image expect.bounds) (output_of report.output)
+    (All-append IsByte (image_code image expect.bounds) (report_output report.output)
     (from-bytes (image_byte image) expect.bounds.er_min _ small) output)

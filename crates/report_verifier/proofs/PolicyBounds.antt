@@ -9,7 +9,7 @@ use Rattle.text_scan.specs.declared.fault_at.FaultAt.{FaultAt}
 use Rattle.text_scan.specs.declared.fault_kind.FaultKind.{FaultKind}
 use Rattle.text_scan.specs.declared.fault_kind.FaultKind.TheVariants as kinds
 use Rattle.text_scan.specs.Line.{text_lines}
-use Rattle.text_scan.specs.LineFold.{state_after, text_fold}
+use Rattle.text_scan.specs.LineFold.{lines_fold, text_fold}
 use Rattle.text_scan.specs.Reader.{◌>>=◌, in_line}
 use Rattle.text_scan.specs.Utf8.{utf8_of}
 use Rattle.text_scan.specs.Word.{is_passed_over, words_of}
@@ -19,7 +19,7 @@ use Rattle.report_verifier.specs.declared.draft.Draft.TheVariants.{Empty, Versio
 use Rattle.report_verifier.specs.declared.policy_line.PolicyLine.{PolicyLine}
 use Rattle.report_verifier.specs.declared.policy_line.PolicyLine.TheVariants.{VersionTwo, Executable, Output, Flag, Request, Challenge}
 use Rattle.report_verifier.specs.Policy.{PolicyFields}
-use Rattle.report_verifier.specs.PolicyGrammar.{policy_of, policy_line_of, bounds_with, draft_with, has_request, with_request, with_challenge, with_entry, with_line, whole_policy}
+use Rattle.report_verifier.specs.PolicyGrammar.{policy_of, policy_line_of, bounds_with, draft_with, has_request, with_request, with_challenge, draft_after, draft_with_line, whole_policy}
 use Rattle.report_verifier.specs.Validity.{are_valid_for}
 
 -- the bounds that a draft has are valid in its version
@@ -55,7 +55,7 @@ with_new_request-valid policy asked true valid = tt
 with_new_request-valid policy asked false valid = valid
 
 with_entry-valid : (draft : Draft) (line : PolicyLine) → HasValidBounds draft
-    → IfOk (with_entry draft line) HasValidBounds
+    → IfOk (draft_after draft line) HasValidBounds
 with_entry-valid Empty VersionTwo valid = tt
 with_entry-valid Empty (Executable first last) valid = tt
 with_entry-valid Empty (Output first last) valid = tt
@@ -91,12 +91,12 @@ with_entry-valid (Whole policy) (Challenge chal) valid =
     with_challenge-valid policy.version policy chal valid
 
 with_line-valid : (draft : Draft) (line : List ℕ) → HasValidBounds draft
-    → IfOk (with_line draft line) HasValidBounds
-unfolding with_line
+    → IfOk (draft_with_line draft line) HasValidBounds
+unfolding draft_with_line
 with_line-valid draft line valid = by_entry (policy_line_of draft (words_of line))
   where
     by_entry : (entry : Result PolicyLine FaultKind)
-        → IfOk (entry >>= (λ entry. with_entry draft entry)) HasValidBounds
+        → IfOk (entry >>= (λ entry. draft_after draft entry)) HasValidBounds
     by_entry (Ok entry) = with_entry-valid draft entry valid
     by_entry (Err kind) = tt
 
@@ -104,20 +104,20 @@ one_more-valid : (draft : Draft) (line : ℕ × List ℕ) (lines : List (ℕ × 
     (next : Result Draft FaultKind) → HasValidBounds draft
     → IfOk next HasValidBounds
     → ((after : Draft) → HasValidBounds after
-    → IfOk (state_after with_line after lines) HasValidBounds)
-    → IfOk (if skips then state_after with_line draft lines
-    else (in_line line.0 next >>= (λ after. state_after with_line after lines)))
+    → IfOk (lines_fold draft_with_line after lines) HasValidBounds)
+    → IfOk (if skips then lines_fold draft_with_line draft lines
+    else (in_line line.0 next >>= (λ after. lines_fold draft_with_line after lines)))
     HasValidBounds
 one_more-valid draft line lines true next valid valid_next later = later draft valid
 one_more-valid draft line lines false (Ok after) valid valid_next later = later after valid_next
 one_more-valid draft line lines false (Err kind) valid valid_next later = tt
 
 state_after-valid : (draft : Draft) (lines : List (ℕ × List ℕ)) → HasValidBounds draft
-    → IfOk (state_after with_line draft lines) HasValidBounds
-unfolding state_after
+    → IfOk (lines_fold draft_with_line draft lines) HasValidBounds
+unfolding lines_fold
 state_after-valid draft [] valid = valid
 state_after-valid draft (line ∷ lines) valid =
-    one_more-valid draft line lines (is_passed_over line.1) (with_line draft line.1) valid
+    one_more-valid draft line lines (is_passed_over line.1) (draft_with_line draft line.1) valid
     (with_line-valid draft line.1 valid)
     (λ after valid_after. state_after-valid after lines valid_after)
 
@@ -140,10 +140,10 @@ unfolding policy_of text_fold
 policy_of-valid text = by_case (utf8_of text)
   where
     by_case : (sound : Result Unit FaultAt)
-        → IfOk ((sound >>= (λ is. state_after with_line Empty (text_lines text)))
+        → IfOk ((sound >>= (λ is. lines_fold draft_with_line Empty (text_lines text)))
         >>= whole_policy (length (lines text)))
         IsValidPolicy
     by_case (Err fault) = tt
     by_case (Ok is) =
-        draft-valid (length (lines text)) (state_after with_line Empty (text_lines text))
+        draft-valid (length (lines text)) (lines_fold draft_with_line Empty (text_lines text))
         (state_after-valid Empty (text_lines text) tt)

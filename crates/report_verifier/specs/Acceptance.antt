@@ -6,7 +6,7 @@ use Rattle.bus_signals.specs.Report.{ReportFields}
 use Rattle.part_definitions.specs.Attestation.{attestation_tag}
 use Rattle.part_definitions.specs.Metadata.{bounds_in}
 use Rattle.part_definitions.specs.Region.{metadata_bytes, challenge_bytes, rest_bytes, bytes_between, output_bytes}
-use Rattle.report_verifier.specs.declared.decision.Decision.TheVariants.{Accept}
+use Rattle.report_verifier.specs.declared.verdict.Verdict.TheVariants.{Accept}
 use Rattle.report_verifier.specs.declared.expect.Expect.{Expect}
 use Rattle.report_verifier.specs.declared.flag_kind.FlagKind.{FlagKind}
 use Rattle.report_verifier.specs.declared.flag_kind.FlagKind.TheVariants.{Exec, Aux, Plain}

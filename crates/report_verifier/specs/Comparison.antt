@@ -6,7 +6,7 @@ use Rattle.bus_signals.specs.Report.{ReportFields}
 use Rattle.part_definitions.specs.Hmac.{hmac}
 use Rattle.part_definitions.specs.Region.{metadata_bytes, rest_bytes}
 use Rattle.report_verifier.specs.declared.expect.Expect.{Expect}
-use Rattle.report_verifier.specs.Expectation.{expected_metadata, expected_rest, output_of}
+use Rattle.report_verifier.specs.Expectation.{expected_metadata, expected_rest, report_output}
 
 -- the key of the challenge that is expected
 abbrev pub expected_key : (List ℕ → List ℕ) → List ℕ → Expect → List ℕ
@@ -24,4 +24,4 @@ own_bytes bytes = metadata_bytes bytes ++ rest_bytes bytes
 
 -- an output is no longer than its region
 abbrev pub OutputFits : Bounds → Option (List ℕ) → Type 0
-OutputFits bounds output = length (output_of output) ≤ bounds.or_max + 2 - bounds.or_min
+OutputFits bounds output = length (report_output output) ≤ bounds.or_max + 2 - bounds.or_min

@@ -46,13 +46,13 @@ abbrev pub image_code : (ℕ → Option ℕ) → Bounds → List ℕ
 image_code image bounds = bytes_between (image_byte image) bounds.er_min bounds.er_max
 
 -- no output counts as an output of no bytes
-abbrev pub output_of : Option (List ℕ) → List ℕ
-output_of None = []
-output_of (Some bytes) = bytes
+abbrev pub report_output : Option (List ℕ) → List ℕ
+report_output None = []
+report_output (Some bytes) = bytes
 
 -- the code, and the output that the report tells
 abbrev pub expected_rest : (ℕ → Option ℕ) → Expect → Option (List ℕ) → List ℕ
-expected_rest image expect output = image_code image expect.bounds ++ output_of output
+expected_rest image expect output = image_code image expect.bounds ++ report_output output
 
 abbrev pub expected_mac :
     (List ℕ → List ℕ) → List ℕ → (ℕ → Option ℕ) → Expect → ReportFields → List ℕ

@@ -14,8 +14,8 @@ use Rattle.text_scan.specs.declared.fault_kind.FaultKind.TheVariants as kinds
 use Rattle.text_scan.specs.Ends.{ends_of}
 use Rattle.text_scan.specs.LineFold.{text_fold}
 use Rattle.text_scan.specs.Reader.{◌>>=◌}
-use Rattle.text_scan.specs.Word.{words_of, word_of, end_of}
-use Rattle.text_scan.specs.WordValue.{block_of, number_of}
+use Rattle.text_scan.specs.Word.{words_of, next_word, end_of}
+use Rattle.text_scan.specs.WordValue.{hex_block_of, number_of}
 use Rattle.report_verifier.specs.declared.flag_kind.FlagKind.{FlagKind}
 use Rattle.report_verifier.specs.declared.flag_kind.FlagKind.TheVariants.{Exec, Aux, Plain}
 use Rattle.report_verifier.specs.declared.asked.Asked.{Asked}
@@ -27,20 +27,20 @@ use Rattle.report_verifier.specs.Policy.{PolicyFields}
 use Rattle.report_verifier.specs.Validity.{are_valid_for}
 
 -- `version 2`
-unfoldable pub version_of : List (List ℕ) → Result (PolicyLine × List (List ℕ)) FaultKind
-version_of words = do
+unfoldable pub version_line_of : List (List ℕ) → Result (PolicyLine × List (List ℕ)) FaultKind
+version_line_of words = do
   version ← number_of 2 2 words
   Ok (VersionTwo, version.1)
 
 -- `er H4 H4`
-unfoldable pub executable_of : List (List ℕ) → Result (PolicyLine × List (List ℕ)) FaultKind
-executable_of words = do
+unfoldable pub executable_line_of : List (List ℕ) → Result (PolicyLine × List (List ℕ)) FaultKind
+executable_line_of words = do
   ends ← ends_of words
   Ok (Executable ends.0.0 ends.0.1, ends.1)
 
 -- `or H4 H4`
-unfoldable pub output_of : List (List ℕ) → Result (PolicyLine × List (List ℕ)) FaultKind
-output_of words = do
+unfoldable pub output_line_of : List (List ℕ) → Result (PolicyLine × List (List ℕ)) FaultKind
+output_line_of words = do
   ends ← ends_of words
   Ok (Output ends.0.0 ends.0.1, ends.1)
 
@@ -52,31 +52,31 @@ flag_named word =
     else Err Word
 
 -- `flag F`
-unfoldable pub flag_of : List (List ℕ) → Result (PolicyLine × List (List ℕ)) FaultKind
-flag_of words = do
-  word ← word_of words
+unfoldable pub flag_line_of : List (List ℕ) → Result (PolicyLine × List (List ℕ)) FaultKind
+flag_line_of words = do
+  word ← next_word words
   flag ← flag_named word.0
   Ok (Flag flag, word.1)
 
 -- `ask H64 N`
-unfoldable pub request_of : List (List ℕ) → Result (PolicyLine × List (List ℕ)) FaultKind
-request_of words = do
-  chal ← block_of 32 words
+unfoldable pub request_line_of : List (List ℕ) → Result (PolicyLine × List (List ℕ)) FaultKind
+request_line_of words = do
+  chal ← hex_block_of 32 words
   count ← number_of 1 4294967295 chal.1
   Ok (Request (record { chal = chal.0; count = count.0 }), count.1)
 
 -- `chal H64`
-unfoldable pub challenge_of : List (List ℕ) → Result (PolicyLine × List (List ℕ)) FaultKind
-challenge_of words = do
-  chal ← block_of 32 words
+unfoldable pub challenge_line_of : List (List ℕ) → Result (PolicyLine × List (List ℕ)) FaultKind
+challenge_line_of words = do
+  chal ← hex_block_of 32 words
   Ok (Challenge chal.0, chal.1)
 
 -- the keywords of version 1
 abbrev pub line_by_keyword : List ℕ → List (List ℕ) → Result (PolicyLine × List (List ℕ)) FaultKind
 line_by_keyword keyword words =
-    if bytes_eq keyword (codes "er") then executable_of words
-    else if bytes_eq keyword (codes "or") then output_of words
-    else if bytes_eq keyword (codes "chal") then challenge_of words
+    if bytes_eq keyword (codes "er") then executable_line_of words
+    else if bytes_eq keyword (codes "or") then output_line_of words
+    else if bytes_eq keyword (codes "chal") then challenge_line_of words
     else Err Word
 
 -- in version 2 there are three more; `chal` is read in its form there too
@@ -84,9 +84,9 @@ abbrev pub kind_for :
     Version → List ℕ → List (List ℕ) → Result (PolicyLine × List (List ℕ)) FaultKind
 kind_for One keyword words = line_by_keyword keyword words
 kind_for Two keyword words =
-    if bytes_eq keyword (codes "version") then version_of words
-    else if bytes_eq keyword (codes "flag") then flag_of words
-    else if bytes_eq keyword (codes "ask") then request_of words
+    if bytes_eq keyword (codes "version") then version_line_of words
+    else if bytes_eq keyword (codes "flag") then flag_line_of words
+    else if bytes_eq keyword (codes "ask") then request_line_of words
     else line_by_keyword keyword words
 
 -- the version of a policy whose next line has this keyword: the first line says it
@@ -100,7 +100,7 @@ version_after (Whole policy) keyword = policy.version
 -- what a line says after what was said before
 unfoldable pub policy_line_of : Draft → List (List ℕ) → Result PolicyLine FaultKind
 policy_line_of draft words = do
-  keyword ← word_of words
+  keyword ← next_word words
   line ← kind_for (version_after draft keyword.0) keyword.0 keyword.1
   end ← end_of line.1
   Ok line.0
@@ -145,21 +145,21 @@ with_challenge One policy chal =
 with_challenge Two policy chal = Err Order
 
 -- a line after what was said before: the lines come in this order
-abbrev pub with_entry : Draft → PolicyLine → Result Draft FaultKind
-with_entry Empty VersionTwo = Ok VersionKnown
-with_entry Empty (Executable first last) = Ok (ExecutableKnown One first last)
-with_entry VersionKnown (Executable first last) = Ok (ExecutableKnown Two first last)
-with_entry (ExecutableKnown version er_min er_max) (Output first last) =
+abbrev pub draft_after : Draft → PolicyLine → Result Draft FaultKind
+draft_after Empty VersionTwo = Ok VersionKnown
+draft_after Empty (Executable first last) = Ok (ExecutableKnown One first last)
+draft_after VersionKnown (Executable first last) = Ok (ExecutableKnown Two first last)
+draft_after (ExecutableKnown version er_min er_max) (Output first last) =
     with_bounds version (bounds_with er_min er_max first last)
-with_entry (BoundsKnown policy) (Flag flag) = Ok (Whole (record policy { flag = flag }))
-with_entry (Whole policy) (Request asked) = with_new_request policy asked
-with_entry (Whole policy) (Challenge chal) = with_challenge policy.version policy chal
-with_entry draft line = Err Order
+draft_after (BoundsKnown policy) (Flag flag) = Ok (Whole (record policy { flag = flag }))
+draft_after (Whole policy) (Request asked) = with_new_request policy asked
+draft_after (Whole policy) (Challenge chal) = with_challenge policy.version policy chal
+draft_after draft line = Err Order
 
-unfoldable pub with_line : Draft → List ℕ → Result Draft FaultKind
-with_line draft line = do
+unfoldable pub draft_with_line : Draft → List ℕ → Result Draft FaultKind
+draft_with_line draft line = do
   entry ← policy_line_of draft (words_of line)
-  with_entry draft entry
+  draft_after draft entry
 
 -- a text that ends too early has the fault in its last line
 abbrev pub whole_policy : ℕ → Draft → Result PolicyFields FaultAt
@@ -169,5 +169,5 @@ whole_policy last draft = Err (record { line = last; kind = Missing })
 -- a policy, or its first fault
 unfoldable pub policy_of : List ℕ → Result PolicyFields FaultAt
 policy_of text = do
-  draft ← text_fold with_line Empty text
+  draft ← text_fold draft_with_line Empty text
   whole_policy (length (lines text)) draft

@@ -5,8 +5,8 @@ use Rattle.bus_signals.specs.declared.bounds.Bounds.{Bounds}
 use Rattle.bus_signals.specs.declared.version.Version.{Version}
 use Rattle.bus_signals.specs.declared.version.Version.TheVariants.{One, Two}
 use Rattle.bus_signals.specs.Report.{ReportFields}
-use Rattle.report_verifier.specs.declared.decision.Decision.{Decision}
-use Rattle.report_verifier.specs.declared.decision.Decision.TheVariants.{Accept, NoChallenge, VersionDiffers, ChalDiffers, CountDiffers, BoundsDiffer, ExecZero, AuxZero, MacDiffers}
+use Rattle.report_verifier.specs.declared.verdict.Verdict.{Verdict}
+use Rattle.report_verifier.specs.declared.verdict.Verdict.TheVariants.{Accept, NoChallenge, VersionDiffers, ChalDiffers, CountDiffers, BoundsDiffer, ExecZero, AuxZero, MacDiffers}
 use Rattle.report_verifier.specs.declared.expect.Expect.{Expect}
 use Rattle.report_verifier.specs.declared.flag_kind.FlagKind.{FlagKind}
 use Rattle.report_verifier.specs.declared.flag_kind.FlagKind.TheVariants.{Exec, Aux}
@@ -33,7 +33,7 @@ lacks_aux flag aux = false
 
 -- a report against what is expected; in version 1 both counters are 0, and EXEC is asked for
 abbrev pub verdict_on :
-    (List ℕ → List ℕ) → List ℕ → (ℕ → Option ℕ) → Expect → ReportFields → Decision
+    (List ℕ → List ℕ) → List ℕ → (ℕ → Option ℕ) → Expect → ReportFields → Verdict
 verdict_on digest key image expect report =
     if not (same_version expect.version report.version) then VersionDiffers
     else if not (bytes_eq expect.chal report.chal) then ChalDiffers
@@ -47,6 +47,6 @@ verdict_on digest key image expect report =
 
 -- without a challenge nothing is expected
 abbrev pub verdict :
-    (List ℕ → List ℕ) → List ℕ → (ℕ → Option ℕ) → Option Expect → ReportFields → Decision
+    (List ℕ → List ℕ) → List ℕ → (ℕ → Option ℕ) → Option Expect → ReportFields → Verdict
 verdict digest key image None report = NoChallenge
 verdict digest key image (Some expect) report = verdict_on digest key image expect report

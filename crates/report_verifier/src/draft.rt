@@ -2,7 +2,7 @@ ghost use Rattle.std.specs.Prelude.{◌≡◌, IsTrue};
 ghost use Rattle.text_scan.specs.LineFold.{TakesLine, Takes};
 ghost use Rattle.text_scan.specs.Word.{words_of};
 ghost use Rattle.report_verifier.specs.declared.policy_line.PolicyLine.TheVariants as lines;
-ghost use Rattle.report_verifier.specs.PolicyGrammar.{policy_line_of, version_after, draft_with, with_entry, with_line};
+ghost use Rattle.report_verifier.specs.PolicyGrammar.{policy_line_of, version_after, draft_with, draft_after, draft_with_line};
 ghost use Rattle.report_verifier.specs.Validity.{are_valid_for};
 
 use crate::asked::Asked;
@@ -30,9 +30,9 @@ pub enum Draft {
 }
 
 impl<'a> LineReader<'a> for Draft {
-    ghost with_line = { with_line };
+    ghost draft_with_line = { draft_with_line };
 
-    #[tactic(auto, unfolding(crate::specs::PolicyGrammar::with_line))]
+    #[tactic(auto, unfolding(crate::specs::PolicyGrammar::draft_with_line))]
     fn take(&mut self, alloc: Global, line: &'a [u8]) -> Result<(), WordFault> {
         let entry = read_policy_line(self, line)?;
         add_entry(alloc, self, entry)
@@ -75,7 +75,7 @@ fn first_version(keyword: &[u8]) -> Version
 
 // Takes what a further line says.
 fn add_entry(alloc: Global, draft: &mut Draft, entry: PolicyLine) -> Result<(), WordFault>
-    ensures { TakesLine result draft.new (with_entry draft.old entry) }
+    ensures { TakesLine result draft.new (draft_after draft.old entry) }
 {
     match entry {
         PolicyLine::VersionTwo => add_version(draft)?,
@@ -89,7 +89,7 @@ fn add_entry(alloc: Global, draft: &mut Draft, entry: PolicyLine) -> Result<(), 
 }
 
 fn add_version(draft: &mut Draft) -> Result<(), FaultKind>
-    ensures { Takes result draft.new (with_entry draft.old lines.VersionTwo) }
+    ensures { Takes result draft.new (draft_after draft.old lines.VersionTwo) }
 {
     if !matches!(draft, Draft::Empty) {
         return Err(FaultKind::Order);
@@ -99,7 +99,7 @@ fn add_version(draft: &mut Draft) -> Result<(), FaultKind>
 }
 
 fn add_executable(draft: &mut Draft, er_min: u16, er_max: u16) -> Result<(), FaultKind>
-    ensures { Takes result draft.new (with_entry draft.old (lines.Executable er_min er_max)) }
+    ensures { Takes result draft.new (draft_after draft.old (lines.Executable er_min er_max)) }
 {
     let version = match draft {
         Draft::Empty => Version::One,
@@ -111,7 +111,7 @@ fn add_executable(draft: &mut Draft, er_min: u16, er_max: u16) -> Result<(), Fau
 }
 
 fn add_output(alloc: Global, draft: &mut Draft, or_min: u16, or_max: u16) -> Result<(), FaultKind>
-    ensures { Takes result draft.new (with_entry draft.old (lines.Output or_min or_max)) }
+    ensures { Takes result draft.new (draft_after draft.old (lines.Output or_min or_max)) }
 {
     let Draft::ExecutableKnown(version, er_min, er_max) = *draft else {
         return Err(FaultKind::Order);
@@ -141,7 +141,7 @@ fn draft_with(alloc: Global, version: Version, bounds: Bounds) -> Draft
 }
 
 fn add_flag(draft: &mut Draft, flag: FlagKind) -> Result<(), FaultKind>
-    ensures { Takes result draft.new (with_entry draft.old (lines.Flag flag)) }
+    ensures { Takes result draft.new (draft_after draft.old (lines.Flag flag)) }
 {
     if !matches!(draft, Draft::BoundsKnown(_)) {
         return Err(FaultKind::Order);
@@ -153,7 +153,7 @@ fn add_flag(draft: &mut Draft, flag: FlagKind) -> Result<(), FaultKind>
 }
 
 fn add_request(draft: &mut Draft, asked: Asked) -> Result<(), WordFault>
-    ensures { TakesLine result draft.new (with_entry draft.old (lines.Request asked)) }
+    ensures { TakesLine result draft.new (draft_after draft.old (lines.Request asked)) }
 {
     let Draft::Whole(policy) = draft else {
         return Err(WordFault::Kind(FaultKind::Order));
@@ -168,7 +168,7 @@ fn add_request(draft: &mut Draft, asked: Asked) -> Result<(), WordFault>
 }
 
 fn add_challenge(draft: &mut Draft, chal: [u8; 32]) -> Result<(), WordFault>
-    ensures { TakesLine result draft.new (with_entry draft.old (lines.Challenge chal)) }
+    ensures { TakesLine result draft.new (draft_after draft.old (lines.Challenge chal)) }
 {
     let Draft::Whole(policy) = draft else {
         return Err(WordFault::Kind(FaultKind::Order));

@@ -4,7 +4,7 @@ ghost use Rattle.hmac_core.specs.Hmac.{HmacStandsFor};
 ghost use Rattle.mem_map.specs.Image.{byte_in, image_byte};
 ghost use Rattle.part_definitions.specs.Hmac.{hmac};
 ghost use Rattle.part_definitions.specs.Memory.{bytes_from};
-ghost use Rattle.report_verifier.specs.Expectation.{image_code, output_of, expected_mac};
+ghost use Rattle.report_verifier.specs.Expectation.{image_code, report_output, expected_mac};
 ghost use Rattle.report_verifier.specs.Validity.{are_valid_for};
 
 use crate::byte_list::ByteList;
@@ -51,7 +51,7 @@ fn take_piece<D: Digest32>(mac: &mut Hmac<D>, image: &Image, first: u16, end: u1
 
 /// No output counts as an output of no bytes.
 pub fn output_bytes<'a>(output: Option<&'a [u8]>) -> &'a [u8]
-    ensures { result.now ≡ output_of (option_map (λ bytes. bytes.now) output.entry) }
+    ensures { result.now ≡ report_output (option_map (λ bytes. bytes.now) output.entry) }
 {
     match output {
         None => &[],

@@ -1,6 +1,6 @@
 ghost use Rattle.std.specs.Prelude.{◌≡◌};
 ghost use Rattle.text_scan.specs.Reader.{ReadsOn};
-ghost use Rattle.report_verifier.specs.PolicyGrammar.{version_of, executable_of, output_of, flag_named, flag_of, request_of, challenge_of, line_by_keyword, kind_for};
+ghost use Rattle.report_verifier.specs.PolicyGrammar.{version_line_of, executable_line_of, output_line_of, flag_named, flag_line_of, request_line_of, challenge_line_of, line_by_keyword, kind_for};
 
 use crate::asked::Asked;
 use crate::flag_kind::FlagKind;
@@ -66,33 +66,33 @@ fn read_two(keyword: &[u8], words: &mut Words<'_>) -> Result<PolicyLine, FaultKi
     read_one(keyword, words)
 }
 
-#[tactic(auto, unfolding(crate::specs::PolicyGrammar::version_of))]
+#[tactic(auto, unfolding(crate::specs::PolicyGrammar::version_line_of))]
 fn read_version(words: &mut Words<'_>) -> Result<PolicyLine, FaultKind>
-    ensures { ReadsOn result words.new (version_of words.old) }
+    ensures { ReadsOn result words.new (version_line_of words.old) }
 {
     words.number(2, 2)?;
     Ok(PolicyLine::VersionTwo)
 }
 
-#[tactic(auto, unfolding(crate::specs::PolicyGrammar::executable_of))]
+#[tactic(auto, unfolding(crate::specs::PolicyGrammar::executable_line_of))]
 fn read_executable(words: &mut Words<'_>) -> Result<PolicyLine, FaultKind>
-    ensures { ReadsOn result words.new (executable_of words.old) }
+    ensures { ReadsOn result words.new (executable_line_of words.old) }
 {
     let (first, last) = words.ends()?;
     Ok(PolicyLine::Executable(first, last))
 }
 
-#[tactic(auto, unfolding(crate::specs::PolicyGrammar::output_of))]
+#[tactic(auto, unfolding(crate::specs::PolicyGrammar::output_line_of))]
 fn read_output(words: &mut Words<'_>) -> Result<PolicyLine, FaultKind>
-    ensures { ReadsOn result words.new (output_of words.old) }
+    ensures { ReadsOn result words.new (output_line_of words.old) }
 {
     let (first, last) = words.ends()?;
     Ok(PolicyLine::Output(first, last))
 }
 
-#[tactic(auto, unfolding(crate::specs::PolicyGrammar::flag_of))]
+#[tactic(auto, unfolding(crate::specs::PolicyGrammar::flag_line_of))]
 fn read_flag(words: &mut Words<'_>) -> Result<PolicyLine, FaultKind>
-    ensures { ReadsOn result words.new (flag_of words.old) }
+    ensures { ReadsOn result words.new (flag_line_of words.old) }
 {
     Ok(PolicyLine::Flag(flag_named(words.word()?)?))
 }
@@ -108,9 +108,9 @@ fn flag_named(word: &[u8]) -> Result<FlagKind, FaultKind>
     }
 }
 
-#[tactic(auto, unfolding(crate::specs::PolicyGrammar::request_of))]
+#[tactic(auto, unfolding(crate::specs::PolicyGrammar::request_line_of))]
 fn read_request(words: &mut Words<'_>) -> Result<PolicyLine, FaultKind>
-    ensures { ReadsOn result words.new (request_of words.old) }
+    ensures { ReadsOn result words.new (request_line_of words.old) }
 {
     let chal = words.block::<32>()?;
     let count = words.number(1, 4_294_967_295)?;
@@ -120,9 +120,9 @@ fn read_request(words: &mut Words<'_>) -> Result<PolicyLine, FaultKind>
     }))
 }
 
-#[tactic(auto, unfolding(crate::specs::PolicyGrammar::challenge_of))]
+#[tactic(auto, unfolding(crate::specs::PolicyGrammar::challenge_line_of))]
 fn read_challenge(words: &mut Words<'_>) -> Result<PolicyLine, FaultKind>
-    ensures { ReadsOn result words.new (challenge_of words.old) }
+    ensures { ReadsOn result words.new (challenge_line_of words.old) }
 {
     Ok(PolicyLine::Challenge(words.block::<32>()?))
 }

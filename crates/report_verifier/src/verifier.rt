@@ -1,7 +1,7 @@
 ghost use Rattle.std.specs.Prelude.{◌≡◌};
 
-use crate::decision::{Decision, decide_by};
 use crate::policy::Policy;
+use crate::verdict::{Verdict, decide_by};
 use bus_signals::ReportView;
 use hmac_core::Digest32;
 use mem_map::Image;
@@ -20,7 +20,7 @@ impl Verifier<'_> {
 
     /// The verdict on a report, numbered from 0: it is expected to answer the request of its
     /// number.
-    pub fn verdict<D: Digest32>(&self, i: usize, report: &ReportView<'_>) -> Decision
+    pub fn verdict<D: Digest32>(&self, i: usize, report: &ReportView<'_>) -> Verdict
         ensures { result ≡ verdict_at (judge_of D.hash.digest_of self.now) i
             (fields_of report.now) }
     {

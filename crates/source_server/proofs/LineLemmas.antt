@@ -1,15 +1,14 @@
 -- Lines of a piece that were answered, one more, and where it stopped.
-use Rattle.std.proofs.Common.{◌≡◌, ◌≢◌, ◌<◌, ◌≤◌, ◌∙◌, ◌++◌, ◌+◌, ℕ, zero, suc, List, [], ◌∷◌, Option, Some, None, Ok, Err, IsOk, length, take, drop, refl, ap, sym, subst, arith, append_assoc, ⊎_elim}
+use Rattle.std.proofs.Common.{◌≡◌, ◌≢◌, ◌<◌, ◌∙◌, ◌++◌, ◌+◌, ℕ, zero, suc, List, [], ◌∷◌, Option, Some, None, Ok, Err, length, take, drop, refl, ap, sym, subst, arith, append_assoc, ⊎_elim}
 use Rattle.std.specs.Prelude.{OnOk, IfErr, Result, nat_eq, slice_index}
 use Rattle.std.specs.Str.Lines.{strip_carriage_return}
-use Rattle.std.proofs.lemmas.Bool.{cases_Bool, false≢true}
+use Rattle.std.proofs.lemmas.Bool.{cases_Bool}
 use Rattle.std.proofs.lemmas.List.{append-nil, get_or-take, length-take}
 use Rattle.source_server.specs.declared.halt.Halt.{Halt}
 use Rattle.source_server.specs.HeldLine.{HoldsRest, ended_line, last_line, short_line, with_piece}
 use Rattle.source_server.specs.LineCut.{LineCut, all_lines, cut_of, no_lines, whole_lines, with_byte, with_bytes, with_last}
 use Rattle.source_server.specs.LineResponder.{LinePromise, Settles, Tells}
 use Rattle.source_server.specs.Lines.{HoldsCut, StopsAmong, TellsPiece}
-use Rattle.source_server.specs.Responder.{Moment}
 use Rattle.source_server.proofs.Pieces.{cut_anywhere, held_line, plain_piece}
 
 -- lines only become more
@@ -238,14 +237,6 @@ module _ {X O : Type 0} (promise : LinePromise X O) where
               (settles cut.lines holds.told).stops;
         }),
       )
-
-  -- where the input ends in no line
-  pub none_last : {held : Option (List ℕ)} {now : X} (bytes : List ℕ)
-      → held ≡ Some [] → HoldsCut promise held now (cut_of bytes)
-      → promise.answered now (whole_lines bytes) → promise.answered now (all_lines bytes)
-  none_last {held} {now} bytes empty holds answered =
-      let none : (cut_of bytes).rest ≡ [] = rw empty at holds.holds in
-      rw none answered
 
 -- what is held of a rest that is not empty
 rest_is_line : (held : Option (List ℕ)) (lines : List (List ℕ)) (rest : List ℕ)

@@ -8,7 +8,7 @@ use Rattle.source_server.specs.declared.halt.Halt.TheVariants as halt
 use Rattle.source_server.specs.declared.served.Served.{Served}
 use Rattle.source_server.specs.declared.served.Served.TheVariants.{Done, Spent, ReadFault, WriteFault, Own}
 use Rattle.source_server.specs.Responder.{Promise}
-use Rattle.source_server.specs.Serving.{EndsSo, Serves, Stops, served_of}
+use Rattle.source_server.specs.Serving.{EndsSo, Serves, StopsSo, served_of}
 use Rattle.source_server.specs.Taken.{KeepsLimit, earlier, joined, most_input, newest}
 
 -- no more were taken than were left
@@ -26,7 +26,7 @@ module _ {R X O : Type 0} (r : source.Ghosts R) (promise : Promise X O) (old new
   StopsSomewhere why = (before : List ℕ) × (last : List ℕ) × promise.stopped now before last why
 
   stops_somewhere : (pieces : List (List ℕ)) (why : Halt O)
-      → Stops r promise old new now pieces why → StopsSomewhere why
+      → StopsSo r promise old new now pieces why → StopsSomewhere why
   stops_somewhere pieces why (inl so) = (earlier pieces, newest pieces, so.1)
   stops_somewhere pieces why (inr so) = (joined pieces, [], so.1)
 

@@ -5,12 +5,13 @@ use Rattle.std.proofs.lemmas.List.{append-nil, length-take-le}
 use Rattle.outside_edge.specs.Count.{Rose}
 use Rattle.outside_edge.specs.Source.{IsAsked}
 use Rattle.outside_edge.specs.declared.source.Source as source
+use Rattle.outside_edge.proofs.Counts.{rose_since}
 use Rattle.source_server.specs.declared.halt.Halt.{Halt}
 use Rattle.source_server.specs.declared.halt.Halt.TheVariants as halt
 use Rattle.source_server.specs.declared.served.Served.{Served}
 use Rattle.source_server.specs.declared.served.Served.TheVariants as served
 use Rattle.source_server.specs.Responder.{Answers, Ends, Moment, Promise}
-use Rattle.source_server.specs.Serving.{EndsSo, Serves, Stops, served_after, served_of}
+use Rattle.source_server.specs.Serving.{EndsSo, Serves, StopsSo, served_after, served_of}
 use Rattle.source_server.specs.Taken.{Gave, HasGiven, counts_of, IsAtEnd, IsLeft, earlier, joined, most_input, newest}
 
 -- one take after another, of the bytes that are told
@@ -23,11 +24,6 @@ left_both (Some left) one two = ap Some (sym (append_assoc one two left))
 left_same : (left : Option (List ℕ)) → left ≡ option_map (λ (rest : List ℕ). [] ++ rest) left
 left_same None = refl
 left_same (Some left) = refl
-
--- a count that rose has risen since an earlier moment
-pub rose_since : (one two three : ℕ) → one ≤ two → Rose two three → Rose one three
-rose_since one two three below (inl more) = inl (omega (arith, below, more))
-rose_since one two three below (inr end) = inr end
 
 module _ {R : Type 0} (r : source.Ghosts R) where
   pub gave_both : (first mid last : R) (one two : List ℕ)
@@ -55,7 +51,7 @@ module _ {R : Type 0} (r : source.Ghosts R) where
 module _ {R X O : Type 0} (r : source.Ghosts R) (promise : Promise X O) (old new : R) (now : X)
     (pieces : List (List ℕ)) where
   -- where the responder stopped
-  stops_so : (why : Halt O) → Stops r promise old new now pieces why
+  stops_so : (why : Halt O) → StopsSo r promise old new now pieces why
       → EndsSo r promise old new now pieces (served_of why)
   stops_so halt.Write so = so
   stops_so (halt.Own own) so = so
@@ -246,7 +242,7 @@ module _ {R X Y O : Type 0} (r : source.Ghosts R) (promise : Promise X O) (other
     (stopped : (before last : List ℕ) (why : Halt O) → promise.stopped x before last why
     → other.stopped y before last why) where
   stops_as : (pieces : List (List ℕ)) (why : Halt O)
-      → Stops r promise old new x pieces why → Stops r other old new y pieces why
+      → StopsSo r promise old new x pieces why → StopsSo r other old new y pieces why
   stops_as pieces why (inl so) = inl (so.0, stopped (earlier pieces) (newest pieces) why so.1)
   stops_as pieces why (inr so) = inr (so.0, stopped (joined pieces) [] why so.1)
 

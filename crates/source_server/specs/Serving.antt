@@ -6,7 +6,7 @@ use Rattle.source_server.specs.declared.halt.Halt.TheVariants as halt
 use Rattle.source_server.specs.declared.served.Served.{Served}
 use Rattle.source_server.specs.declared.served.Served.TheVariants.{Done, Spent, ReadFault, WriteFault, Own}
 use Rattle.source_server.specs.Responder.{Promise}
-use Rattle.source_server.specs.Taken.{HasFailed, HasGiven, IsAtEnd, IsLeft, earlier, joined, most_input, newest}
+use Rattle.source_server.specs.Taken.{IsAtFault, HasGiven, IsAtEnd, IsLeft, earlier, joined, most_input, newest}
 
 -- where a responder stopped, and at the end of its source
 abbrev pub served_of : {O : Type 0} → Halt O → Served O
@@ -18,9 +18,9 @@ served_after (Ok unit) = Done
 served_after (Err why) = served_of why
 
 -- it stopped within the newest piece, and no more was read, or at the end of the source
-abbrev pub Stops : {R X O : Type 0} → source.Ghosts R → Promise X O → R → R → X
+abbrev pub StopsSo : {R X O : Type 0} → source.Ghosts R → Promise X O → R → R → X
     → List (List ℕ) → Halt O → Type 0
-Stops r promise old new now pieces why =
+StopsSo r promise old new now pieces why =
     (IsLeft r old new pieces × promise.stopped now (earlier pieces) (newest pieces) why)
     ⊎ (IsAtEnd r old new pieces × promise.stopped now (joined pieces) [] why)
 
@@ -33,10 +33,10 @@ EndsSo r promise old new now pieces Spent =
     IsLeft r old new pieces × (length (joined pieces) ≡ most_input)
     × promise.answered now (joined pieces)
 EndsSo r promise old new now pieces ReadFault =
-    HasFailed r old new pieces × promise.answered now (joined pieces)
-EndsSo r promise old new now pieces WriteFault = Stops r promise old new now pieces halt.Write
+    IsAtFault r old new pieces × promise.answered now (joined pieces)
+EndsSo r promise old new now pieces WriteFault = StopsSo r promise old new now pieces halt.Write
 EndsSo r promise old new now pieces (Own own) =
-    Stops r promise old new now pieces (halt.Own own)
+    StopsSo r promise old new now pieces (halt.Own own)
 
 -- a source was served: the pieces that it gave, the newest first, and how that ended
 pub record Serves {R X O : Type 0} (r : source.Ghosts R) (promise : Promise X O) (old new : R)

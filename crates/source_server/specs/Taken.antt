@@ -57,7 +57,7 @@ pub record IsAtEnd {R : Type 0} (r : source.Ghosts R) (old new : R) (pieces : Li
   pub none : IfSome (r.left new) (λ left. left ≡ [])
   pub before : length (joined pieces) < most_input
 
-pub record HasFailed {R : Type 0} (r : source.Ghosts R) (old new : R) (pieces : List (List ℕ))
+pub record IsAtFault {R : Type 0} (r : source.Ghosts R) (old new : R) (pieces : List (List ℕ))
     : Type 0 where
   pub asked : Asks r old new (0 ∷ counts_of pieces)
   pub rose : Rose (r.faults old) (r.faults new)

@@ -7,7 +7,7 @@ use Rattle.std.proofs.lemmas.Bool.{ltb-true}
 use Rattle.std.proofs.lemmas.Fmt.{decimal_is_IsNumeral}
 use Rattle.named_value.specs.Names.{value_named}
 use Rattle.text_scan.specs.declared.fault_kind.FaultKind.{FaultKind}
-use Rattle.report_verifier.specs.declared.decision.Decision.{Decision}
+use Rattle.report_verifier.specs.declared.verdict.Verdict.{Verdict}
 use Rattle.report_verifier.specs.VerdictName.{verdict_name, verdict_names}
 use Rattle.desk_memory.specs.declared.answer.Answer.{Answer}
 use Rattle.desk_memory.specs.declared.answer.Answer.TheVariants.{Stale, Bad, Spent, Requested, Judged}
@@ -19,7 +19,7 @@ pub kind_found : (kind : FaultKind) (name : List ℕ) → name ≡ fault_name ki
     → value_named fault_names name ≡ Some kind
 kind_found = search rules
 
-pub verdict_found : (verdict : Decision) (name : List ℕ) → name ≡ verdict_name verdict
+pub verdict_found : (verdict : Verdict) (name : List ℕ) → name ≡ verdict_name verdict
     → value_named verdict_names name ≡ Some verdict
 verdict_found = search rules
 
@@ -29,7 +29,7 @@ fault_name-injective a b same =
     let second = kind_found b (fault_name a) same in
     cc
 
-verdict_name-injective : (a b : Decision) → verdict_name a ≡ verdict_name b → a ≡ b
+verdict_name-injective : (a b : Verdict) → verdict_name a ≡ verdict_name b → a ≡ b
 verdict_name-injective a b same =
     let first = verdict_found a (verdict_name a) refl in
     let second = verdict_found b (verdict_name a) same in

@@ -7,7 +7,7 @@ ghost use Rattle.desk_memory.specs.declared.answer.Answer.TheVariants.{Requested
 use crate::printed_answer::answer_text;
 use desk_memory::Answer;
 use named_value::Named;
-use report_verifier::Decision;
+use report_verifier::Verdict;
 use text_scan::{FaultKind, decimal};
 
 /// The answer that a text says.
@@ -40,7 +40,7 @@ fn answer_like(text: &[u8]) -> Option<Answer>
         return Some(Answer::Bad(FaultKind::named(name)?));
     }
     if let Some(name) = text.strip_prefix(b"verdict ") {
-        return Some(Answer::Judged(Decision::named(name)?));
+        return Some(Answer::Judged(Verdict::named(name)?));
     }
     request_like(text.strip_prefix(b"request ")?)
 }

@@ -1,7 +1,7 @@
 ghost use Rattle.std.specs.Prelude.{◌≡◌, ◌∷◌, ◌<◌, ◌≤◌, ℕ, List, length, drop, slice_index, true, false, Ok, Err, IfOk, IfErr, OnOk};
 ghost use Rattle.std.specs.Iterator.{YieldsFirstRef, item_count};
 ghost use Rattle.text_scan.specs.Word.{is_blank, words_of};
-ghost use Rattle.text_scan.specs.Word.{word_of, keyword_of, end_of, is_passed_over};
+ghost use Rattle.text_scan.specs.Word.{next_word, keyword_of, end_of, is_passed_over};
 
 use crate::fault_kind::FaultKind;
 use std::marker::Model;
@@ -28,8 +28,8 @@ impl<'a> Words<'a> {
 
     /// The next word; `Missing` where there is none.
     pub fn word(&mut self) -> Result<&'a [u8], FaultKind>
-        ensures word { IfOk result (λ word. word_of self.old ≡ Ok (word.now, self.new)) }
-        ensures missing { IfErr result (λ kind. word_of self.old ≡ Err kind) }
+        ensures word { IfOk result (λ word. next_word self.old ≡ Ok (word.now, self.new)) }
+        ensures missing { IfErr result (λ kind. next_word self.old ≡ Err kind) }
         ensures left { self.new ≡ drop 1 self.old }
     {
         self.next().ok_or(FaultKind::Missing)

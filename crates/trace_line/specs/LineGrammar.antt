@@ -14,7 +14,7 @@ use Rattle.text_scan.specs.declared.fault_kind.FaultKind.{FaultKind}
 use Rattle.text_scan.specs.declared.fault_kind.FaultKind.TheVariants as faults
 use Rattle.text_scan.specs.Hexadecimal.{hex_bytes_of, hex_word_of}
 use Rattle.text_scan.specs.Reader.{◌>>=◌}
-use Rattle.text_scan.specs.Word.{word_of, keyword_of, end_of}
+use Rattle.text_scan.specs.Word.{next_word, keyword_of, end_of}
 use Rattle.text_scan.specs.WordValue.{number_of, place_of, or_word, value_of}
 use Rattle.trace_line.specs.declared.trace_line.TraceLine.{TraceLine}
 
@@ -91,7 +91,7 @@ rule_in word =
 unfoldable pub named_of : {A : Type 0}
     → (List ℕ → Result A FaultKind) → List (List ℕ) → Result (A × List (List ℕ)) FaultKind
 named_of value_in words = do
-  word ← word_of words
+  word ← next_word words
   value ← value_in word.0
   Ok (value, word.1)
 

@@ -9,8 +9,8 @@ use Rattle.std.proofs.lemmas.List.Elements.{All-nil, All-cons, Contains-append_r
 use Rattle.bus_signals.specs.Report.{ReportFields}
 use Rattle.text_scan.specs.declared.fault_kind.FaultKind.{FaultKind}
 use Rattle.report_text.specs.ReportFile.{report2_of}
-use Rattle.report_verifier.specs.declared.decision.Decision.{Decision}
-use Rattle.report_verifier.specs.declared.decision.Decision.TheVariants.{Accept, NoChallenge, VersionDiffers, ChalDiffers, CountDiffers, BoundsDiffer, ExecZero, AuxZero, MacDiffers}
+use Rattle.report_verifier.specs.declared.verdict.Verdict.{Verdict}
+use Rattle.report_verifier.specs.declared.verdict.Verdict.TheVariants.{Accept, NoChallenge, VersionDiffers, ChalDiffers, CountDiffers, BoundsDiffer, ExecZero, AuxZero, MacDiffers}
 use Rattle.report_verifier.specs.declared.expect.Expect.{Expect}
 use Rattle.report_verifier.specs.Judge.{Judge}
 use Rattle.report_verifier.specs.Verdict.{verdict_on, same_version}
@@ -26,7 +26,7 @@ use Rattle.verifier_desk.specs.Law.{Descends, IsAcceptedOnce, KeyCounter, Starts
 use Rattle.verifier_desk.proofs.KeyPlaces.{same_name}
 
 -- an accepted report has the counter that is expected
-counts_agree : (version chal count : Bool) (later : Decision)
+counts_agree : (version chal count : Bool) (later : Verdict)
     → (if not version then VersionDiffers
     else if not chal then ChalDiffers
     else if not count then CountDiffers
@@ -145,7 +145,7 @@ ask_counts old base mark count outstanding requests accepts report [] so =
 ask_counts old base mark count outstanding requests accepts report (word ∷ words) so = so
 
 judged_counts : (old : List KeyCounter) (base : ℕ) (mark : List ℕ) (count n : ℕ)
-    (requests accepts : List KeyCounter) (report : ReportFields) (decision : Decision)
+    (requests accepts : List KeyCounter) (report : ReportFields) (decision : Verdict)
     → IsCounted old base mark count (Some n) requests accepts
     → (decision ≡ Accept → n ≡ report.count)
     → Counts old base mark count (Some n) requests accepts (Ok report) (Judged decision)

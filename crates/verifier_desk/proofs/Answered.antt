@@ -6,8 +6,8 @@ use Rattle.std.proofs.lemmas.Slice.Eq.{bytes_eq-Decides}
 use Rattle.bus_signals.specs.Report.{ReportFields}
 use Rattle.text_scan.specs.declared.fault_kind.FaultKind.{FaultKind}
 use Rattle.report_text.specs.ReportFile.{report2_of}
-use Rattle.report_verifier.specs.declared.decision.Decision.{Decision}
-use Rattle.report_verifier.specs.declared.decision.Decision.TheVariants.{Accept, VersionDiffers, ChalDiffers}
+use Rattle.report_verifier.specs.declared.verdict.Verdict.{Verdict}
+use Rattle.report_verifier.specs.declared.verdict.Verdict.TheVariants.{Accept, VersionDiffers, ChalDiffers}
 use Rattle.report_verifier.specs.declared.expect.Expect.{Expect}
 use Rattle.report_verifier.specs.Judge.{Judge}
 use Rattle.report_verifier.specs.Verdict.{verdict_on, same_version}
@@ -18,7 +18,7 @@ use Rattle.verifier_desk.specs.DeviceReply.{LAST_COUNT, answer_to_ask, answer_to
 use Rattle.verifier_desk.specs.Law.{AnswersRequest, IsAnswered}
 use Rattle.verifier_desk.proofs.AcceptedOnce.{accepted_count, new_by_number}
 
-chals_agree : (version chal : Bool) (later : Decision)
+chals_agree : (version chal : Bool) (later : Verdict)
     → (if not version then VersionDiffers else if not chal then ChalDiffers else later) ≡ Accept
     → chal ≡ true
 chals_agree true true later accepts = refl
@@ -33,7 +33,7 @@ accepted_chal judge expect report accepts =
     (chals_agree (same_version expect.version report.version)
     (bytes_eq expect.chal report.chal) _ accepts))
 
-judged-decision : (one two : Decision) → Judged one ≡ Judged two → one ≡ two
+judged-decision : (one two : Verdict) → Judged one ≡ Judged two → one ≡ two
 judged-decision one two same = cc same
 
 given : (judge : Judge) (outstanding : Option ℕ) (report : Result ReportFields FaultKind)

@@ -22,7 +22,7 @@ use Rattle.verifier_desk.specs.declared.desk_responder.DeskResponder.{DeskRespon
 use Rattle.verifier_desk.specs.Desk.{DeskStandsFor, no_lines_of}
 use Rattle.verifier_desk.specs.Replies.{DeskFields, lines_said}
 use Rattle.verifier_desk.specs.Serving.{HasAnswered, Keeps, Outside, desk_promise}
-use Rattle.verifier_desk.specs.Telling.{DeskStart, PutsHeld, TellsLines, lines_promise, outside_at}
+use Rattle.verifier_desk.specs.Telling.{PutsHeld, lines_promise, outside_at}
 use Rattle.verifier_desk.specs.Withheld.{nothing_withheld}
 use Rattle.verifier_desk.proofs.HeldReplies.{answered_of_told, stops_of_fails, told_anew}
 use Rattle.verifier_desk.proofs.MoreLines.{grows_self}
@@ -64,15 +64,6 @@ module _ {M W : Type 0} (m : memory.Ghosts M) (w : sink.Ghosts W) (first : Outsi
         stops = stops_of_fails m w first fields (outside_at now) lines why so.fails;
       }
 
-  pub begins : (desk : Desk) → DeskStandsFor desk fields no_lines_of
-      → Keeps m first.memory fields.entries
-      → TellsLines m w first first nothing_withheld fields desk []
-  begins desk stands keeps =
-      record {
-        told = told_anew m w first fields first [] (grows_self m w first) (answered_none keeps);
-        stands = stands;
-      }
-
   pub begins_with : (desk : Desk) (now : Moment (Lines (DeskResponder M)) W)
       (responder : DeskResponder M)
       → now.responder.held ≡ Some [] → now.responder.responder ≡ responder
@@ -83,7 +74,13 @@ module _ {M W : Type 0} (m : memory.Ghosts M) (w : sink.Ghosts W) (first : Outsi
       → (promise_of (lines_promise m w (record { fields = fields; first = first }))).answered now []
   begins_with desk now responder empty is desk_is withheld_is memory_is edge_is stands keeps =
       rw (empty, is, desk_is, withheld_is, memory_is, edge_is) (
-        record { told = begins desk stands keeps; holds = refl },
+        record {
+          told = record {
+            told = told_anew m w first fields first [] (grows_self m w first) (answered_none keeps);
+            stands = stands;
+          };
+          holds = refl;
+        },
         answered_none keeps,
       )
 

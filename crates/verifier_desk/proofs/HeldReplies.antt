@@ -1,6 +1,6 @@
 -- Replies that are held back, put, and more of them.
-use Rattle.std.proofs.Common.{◌≡◌, ◌≤◌, ◌∙◌, ◌++◌, ℕ, Bool, true, false, List, [], ◌∷◌, Option, Some, None, Ok, Err, length, take, drop, refl, ap, sym, subst, arith, append_assoc, ⊎_elim}
-use Rattle.std.specs.Prelude.{◌||◌, if◌then◌else◌, nat_lt, IsTrue, OnOk, Result}
+use Rattle.std.proofs.Common.{◌≡◌, ◌∙◌, ◌++◌, ℕ, Bool, true, false, List, [], ◌∷◌, Option, Some, None, Ok, Err, length, take, drop, refl, ap, sym, subst, arith, append_assoc, ⊎_elim}
+use Rattle.std.specs.Prelude.{◌||◌, if◌then◌else◌, nat_lt, OnOk, Result}
 use Rattle.std.proofs.Math.Bool.{or-false}
 use Rattle.std.proofs.lemmas.List.{append-nil, take-append-drop}
 use Rattle.text_scan.specs.Word.{words_of}
@@ -11,6 +11,7 @@ use Rattle.outside_edge.proofs.SinkLemmas.{takes_both}
 use Rattle.source_server.specs.declared.halt.Halt.{Halt}
 use Rattle.source_server.specs.declared.halt.Halt.TheVariants.{Write, Own}
 use Rattle.source_server.specs.HeldLine.{LONGEST_LINE, short_line}
+use Rattle.outside_edge.proofs.Counts.{rose_since}
 use Rattle.desk_memory.specs.declared.memory.Memory as memory
 use Rattle.desk_memory.specs.declared.memory_fault.MemoryFault.{MemoryFault}
 use Rattle.desk_memory.specs.Entry.{Entry}
@@ -23,13 +24,13 @@ use Rattle.verifier_desk.specs.Desk.{DeskStandsFor}
 use Rattle.verifier_desk.specs.DeskLine.{DeskLine, TooLong, desk_line_of, desk_line_of_words}
 use Rattle.verifier_desk.specs.DeviceKey.{DeviceKey}
 use Rattle.verifier_desk.specs.Noted.{entries_after, noted_of, with_noted}
-use Rattle.verifier_desk.specs.Replies.{DeskFields, gives_report, lines_said, replies, reply, reply_to}
+use Rattle.verifier_desk.specs.Replies.{DeskFields, lines_said, replies, reply, reply_to}
 use Rattle.verifier_desk.specs.Reply.{ReplyFields}
 use Rattle.verifier_desk.specs.Standing.{with_said}
 use Rattle.verifier_desk.specs.Serving.{HasAnswered, HasFailed, HasPut, Keeps, Outside, StopsAt}
 use Rattle.verifier_desk.specs.Telling.{FailsAt, Grows, PutsHeld, TellsLines, Told}
 use Rattle.verifier_desk.specs.Withheld.{Withheld, nothing_withheld}
-use Rattle.verifier_desk.proofs.MoreLines.{failed_since, fails_more, grows_more, put_of_more, rose_more}
+use Rattle.verifier_desk.proofs.MoreLines.{failed_since, fails_more, grows_more, put_of_more}
 
 module _ {M W : Type 0} (m : memory.Ghosts M) (w : sink.Ghosts W) (first : Outside M W)
     (fields : DeskFields) where
@@ -133,7 +134,7 @@ module _ {M W : Type 0} (m : memory.Ghosts M) (w : sink.Ghosts W) (first : Outsi
       let parts : replies fields lines ≡ text ++ drop n withheld.replies =
       so.held ∙ ap (λ (one : List ℕ). done ++ one) (sym (take-append-drop n withheld.replies))
       ∙ sym (append_assoc done (take n withheld.replies) (drop n withheld.replies)) in (
-        rose_more (w.faults first.sink) (w.faults old.sink) (w.faults new.sink)
+        rose_since (w.faults first.sink) (w.faults old.sink) (w.faults new.sink)
             so.grows.sink_rises rose,
         keeps.whole,
         (

@@ -1,10 +1,10 @@
 -- What was put of the replies to lines, where more lines follow.
-use Rattle.std.proofs.Common.{◌≡◌, ◌≤◌, ◌<◌, ◌∙◌, ◌++◌, inl, inr, ℕ, List, [], ◌∷◌, ap, sym, arith, append_assoc, ⊎_elim}
+use Rattle.std.proofs.Common.{◌≡◌, ◌≤◌, ◌∙◌, ◌++◌, inl, inr, ℕ, List, [], ◌∷◌, ap, sym, arith, append_assoc, ⊎_elim}
 use Rattle.std.proofs.lemmas.List.{append-nil}
-use Rattle.outside_edge.specs.Count.{Rose}
 use Rattle.outside_edge.specs.declared.sink.Sink as sink
 use Rattle.source_server.specs.declared.halt.Halt.{Halt}
 use Rattle.source_server.specs.declared.halt.Halt.TheVariants.{Write, Own}
+use Rattle.outside_edge.proofs.Counts.{rose_since}
 use Rattle.desk_memory.specs.declared.memory.Memory as memory
 use Rattle.desk_memory.specs.declared.memory_fault.MemoryFault.{MemoryFault}
 use Rattle.desk_memory.specs.Entry.{Entry}
@@ -39,11 +39,6 @@ beginning_of_more fields more lines text found so =
       answered = so.answered;
     }
 
--- a count that rose has risen since an earlier moment
-pub rose_more : (one two three : ℕ) → one ≤ two → Rose two three → Rose one three
-rose_more one two three below rose =
-    ⊎_elim (λ (more : two < three). inl (omega (arith, below, more))) (λ end. inr end) rose
-
 module _ {M W : Type 0} (m : memory.Ghosts M) (w : sink.Ghosts W) where
   -- a text that was put of the replies to lines is one of those to more lines
   pub put_of_more : (first now : Outside M W) (fields : DeskFields) (more lines : List (List ℕ))
@@ -61,7 +56,7 @@ module _ {M W : Type 0} (m : memory.Ghosts M) (w : sink.Ghosts W) where
       → HasFailed m mid new fault → HasFailed m old new fault
   failed_since old mid new fault rises failed =
       ⊎_elim (λ refused. inl refused)
-      (λ rose. inr (rose_more (m.faults old) (m.faults mid) (m.faults new) rises rose)) failed
+      (λ rose. inr (rose_since (m.faults old) (m.faults mid) (m.faults new) rises rose)) failed
 
   -- the outside goes on growing
   pub grows_self : (now : Outside M W) → Grows m w now now

@@ -9,8 +9,8 @@ use Rattle.text_scan.specs.declared.fault_kind.FaultKind.{FaultKind}
 use Rattle.text_scan.specs.declared.fault_kind.FaultKind.TheVariants.{Digit, Count, Twice}
 use Rattle.text_scan.specs.LineFold.{text_fold}
 use Rattle.text_scan.specs.Reader.{◌>>=◌}
-use Rattle.text_scan.specs.Word.{words_of, word_of, keyword_of, end_of}
-use Rattle.text_scan.specs.WordValue.{block_of}
+use Rattle.text_scan.specs.Word.{words_of, next_word, keyword_of, end_of}
+use Rattle.text_scan.specs.WordValue.{hex_block_of}
 
 pub record DeviceKey : Type 0 where
   pub name : List ℕ
@@ -37,9 +37,9 @@ name_fault word =
 unfoldable pub device_of : List (List ℕ) → Result DeviceKey FaultKind
 device_of words = do
   rest ← keyword_of (codes "device") words
-  name ← word_of rest
+  name ← next_word rest
   sound ← name_fault name.0
-  key ← block_of 64 name.1
+  key ← hex_block_of 64 name.1
   end ← end_of key.1
   Ok (record { name = name.0; key = key.0 })
 

@@ -6,7 +6,7 @@ use Rattle.std.specs.Str.{bytes_eq}
 use Rattle.bus_signals.specs.Report.{ReportFields}
 use Rattle.text_scan.specs.declared.fault_kind.FaultKind.{FaultKind}
 use Rattle.report_text.specs.ReportFile.{report2_of}
-use Rattle.report_verifier.specs.declared.decision.Decision.TheVariants.{Accept}
+use Rattle.report_verifier.specs.declared.verdict.Verdict.TheVariants.{Accept}
 use Rattle.report_verifier.specs.Judge.{Judge}
 use Rattle.desk_memory.specs.declared.answer.Answer.{Answer}
 use Rattle.desk_memory.specs.declared.answer.Answer.TheVariants.{Stale, Requested, Judged}

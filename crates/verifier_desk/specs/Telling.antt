@@ -1,5 +1,5 @@
 -- Within a serving: replies that are held back until the memory has settled.
-use Rattle.std.specs.Prelude.{◌≡◌, ◌≤◌, ◌++◌, ℕ, Bool, false, List, [], Result, OnOk, IfErr}
+use Rattle.std.specs.Prelude.{◌≡◌, ◌≤◌, ◌++◌, ℕ, false, List, Result, OnOk, IfErr}
 use Rattle.outside_edge.specs.declared.sink.Sink as sink
 use Rattle.source_server.specs.declared.halt.Halt.{Halt}
 use Rattle.source_server.specs.declared.halt.Halt.TheVariants.{Own}

@@ -1,6 +1,6 @@
 use mem_map::Image;
 use report_text::read_reports;
-use report_verifier::{Decision, decide, read_policy, token};
+use report_verifier::{Verdict, decide, read_policy, token};
 use std::alloc::Global;
 use std::process::Abort;
 use std::test::Fail;
@@ -28,7 +28,7 @@ fn image_of(rt: &impl Abort, alloc: Global, code: &[u8]) -> Image {
 }
 
 // The verdict on the only report of a text, under the first challenge of a policy.
-fn verdict(rt: &impl Abort, alloc: Global, policy: &str, report: &str, code: &[u8]) -> Decision {
+fn verdict(rt: &impl Abort, alloc: Global, policy: &str, report: &str, code: &[u8]) -> Verdict {
     let Ok(policy) = read_policy(alloc, policy.as_bytes()) else {
         panic!(rt; "the policy is in its form");
     };
@@ -69,24 +69,20 @@ fn the_first_verdict_that_holds(rt: HostRuntime) {
          er c040 c046 or 0300 0300 data 3413 mac \
          284a196506045ee45937fae57138147665e982308b52f63a952bbf1f9e18063c\n";
     for &(policy, report, decision) in &[
-        (POLICY, REPORT, Decision::Accept),
-        (
-            "er C040 C046\nor 0300 0300\n",
-            REPORT,
-            Decision::NoChallenge,
-        ),
-        (other_chal, REPORT, Decision::ChalDiffers),
-        (longer_output, REPORT, Decision::BoundsDiffer),
-        (POLICY, exec_zero, Decision::ExecZero),
-        (POLICY, last_digit, Decision::MacDiffers),
-        (POLICY, other_output, Decision::MacDiffers),
+        (POLICY, REPORT, Verdict::Accept),
+        ("er C040 C046\nor 0300 0300\n", REPORT, Verdict::NoChallenge),
+        (other_chal, REPORT, Verdict::ChalDiffers),
+        (longer_output, REPORT, Verdict::BoundsDiffer),
+        (POLICY, exec_zero, Verdict::ExecZero),
+        (POLICY, last_digit, Verdict::MacDiffers),
+        (POLICY, other_output, Verdict::MacDiffers),
     ] {
         let answer = verdict(&rt, rt.alloc(), policy, report, &CODE);
         assert_eq!(rt; answer, decision, "in {report}");
     }
     let other_code = [0x92, 0x42, 0x20, 0x00, 0x02, 0x03, 0x30, 0x41];
     let answer = verdict(&rt, rt.alloc(), POLICY, REPORT, &other_code);
-    assert_eq!(rt; answer, Decision::MacDiffers);
+    assert_eq!(rt; answer, Verdict::MacDiffers);
 }
 
 // The same run attested for requests of version 2, with the counters 1 and 16909060 and with the
@@ -126,72 +122,66 @@ const ASK_LATER: &str =
 fn the_first_verdict_that_holds_in_version_two(rt: HostRuntime) -> Result<(), Fail> {
     let other_chal = "ask ffffffffffffffffffffffffffffffffffffffffffffffffffffffffffffffff 1\n";
     for &(regions, flag, ask, report, decision) in &[
-        ("or 0300 0300", "exec", ASK, REPORT2, Decision::Accept),
-        ("or 0300 0300", "plain", ASK, REPORT2, Decision::Accept),
-        ("or 0300 0300", "plain", ASK, EXEC_ZERO, Decision::Accept),
-        ("or 0300 0300", "aux", ASK, AUX_ONE, Decision::Accept),
+        ("or 0300 0300", "exec", ASK, REPORT2, Verdict::Accept),
+        ("or 0300 0300", "plain", ASK, REPORT2, Verdict::Accept),
+        ("or 0300 0300", "plain", ASK, EXEC_ZERO, Verdict::Accept),
+        ("or 0300 0300", "aux", ASK, AUX_ONE, Verdict::Accept),
         (
             "or 0300 0300",
             "exec",
             ASK_LATER,
             LATER_COUNT,
-            Decision::Accept,
+            Verdict::Accept,
         ),
-        ("or 0300 0300", "exec", "", REPORT2, Decision::NoChallenge),
-        ("or 0300 0300", "exec", "", REPORT, Decision::NoChallenge),
-        (
-            "or 0300 0300",
-            "exec",
-            ASK,
-            REPORT,
-            Decision::VersionDiffers,
-        ),
+        ("or 0300 0300", "exec", "", REPORT2, Verdict::NoChallenge),
+        ("or 0300 0300", "exec", "", REPORT, Verdict::NoChallenge),
+        ("or 0300 0300", "exec", ASK, REPORT, Verdict::VersionDiffers),
         (
             "or 0300 0300",
             "exec",
             other_chal,
             LATER_COUNT,
-            Decision::ChalDiffers,
+            Verdict::ChalDiffers,
         ),
         (
             "or 0300 0302",
             "exec",
             ASK_LATER,
             REPORT2,
-            Decision::CountDiffers,
+            Verdict::CountDiffers,
         ),
-        ("or 0300 0302", "aux", ASK, REPORT2, Decision::BoundsDiffer),
-        ("or 0300 0300", "exec", ASK, EXEC_ZERO, Decision::ExecZero),
-        ("or 0300 0300", "exec", ASK, AUX_ONE, Decision::ExecZero),
-        ("or 0300 0300", "aux", ASK, REPORT2, Decision::AuxZero),
-        ("or 0300 0300", "aux", ASK, EXEC_ZERO, Decision::AuxZero),
+        ("or 0300 0302", "aux", ASK, REPORT2, Verdict::BoundsDiffer),
+        ("or 0300 0300", "exec", ASK, EXEC_ZERO, Verdict::ExecZero),
+        ("or 0300 0300", "exec", ASK, AUX_ONE, Verdict::ExecZero),
+        ("or 0300 0300", "aux", ASK, REPORT2, Verdict::AuxZero),
+        ("or 0300 0300", "aux", ASK, EXEC_ZERO, Verdict::AuxZero),
         (
             "or 0300 0300",
             "exec",
             ASK_LATER,
             COUNT_CHANGED,
-            Decision::MacDiffers,
+            Verdict::MacDiffers,
         ),
         (
             "or 0300 0300",
             "exec",
             ASK,
             FLAGS_CHANGED,
-            Decision::MacDiffers,
+            Verdict::MacDiffers,
         ),
         (
             "or 0300 0300",
             "aux",
             ASK,
             FLAGS_CHANGED,
-            Decision::MacDiffers,
+            Verdict::MacDiffers,
         ),
         (
             "or 0300 0300",
             "plain",
             ASK,
             FLAGS_CHANGED,
-            Decision::MacDiffers,
+            Verdict::MacDiffers,
         ),
     ] {
         let policy = format!(in rt.alloc();
@@ -201,7 +191,7 @@ fn the_first_verdict_that_holds_in_version_two(rt: HostRuntime) -> Result<(), Fa
         assert_eq!(rt; answer, decision, "of {report} under {policy}");
     }
     let answer = verdict(&rt, rt.alloc(), POLICY, REPORT2, &CODE);
-    assert_eq!(rt; answer, Decision::VersionDiffers);
+    assert_eq!(rt; answer, Verdict::VersionDiffers);
     Ok(())
 }
 

@@ -18,7 +18,7 @@ use hmac_core::Digest32;
 use mem_map::Memory;
 use outside_edge::Sink;
 use report_text::{print_collision, print_verdict};
-use report_verifier::{Decision, Exhibit, Expect, Verifier, compare};
+use report_verifier::{Exhibit, Expect, Verdict, Verifier, compare};
 use std::alloc::Global;
 
 // After an accept the device's own bytes are compared with those that the report is expected to be
@@ -27,7 +27,7 @@ fn print_evidence<D: Digest32, W: Sink>(
     alloc: Global,
     verifier: &Verifier<'_>,
     expect: Option<Expect>,
-    verdict: Decision,
+    verdict: Verdict,
     report: &ReportView<'_>,
     memory: &Memory,
     sink: &mut W,
@@ -50,7 +50,7 @@ fn print_evidence<D: Digest32, W: Sink>(
         (fields_of report.now) (byte_at start flags writes)) result }
     ensures counts { CountsWriteFaults W.faults sink.old sink.new result }
 {
-    let (Some(expect), Decision::Accept) = (expect, verdict) else {
+    let (Some(expect), Verdict::Accept) = (expect, verdict) else {
         return Ok(());
     };
     let (key, image) = (verifier.key, verifier.image);
@@ -71,7 +71,7 @@ fn judge<D: Digest32, W: Sink>(
     report: &ReportView<'_>,
     memory: &Memory,
     sink: &mut W,
-) -> Result<Decision, PutFault>
+) -> Result<Verdict, PutFault>
     requires { i < most_steps }
     ensures verdict { IfOk result (λ verdict.
         verdict ≡ verdict_at (judge_of D.hash.digest_of verifier.now) i (fields_of report.now)) }

@@ -1,7 +1,7 @@
 ghost use Rattle.std.specs.Prelude.{◌≡◌};
 ghost use Rattle.device_cli.specs.Verdicts.{is_accept};
 
-use report_verifier::{Decision, Policy};
+use report_verifier::{Policy, Verdict};
 
 /// The verdicts so far: how many, and how many of them stand before the first that is not `accept`.
 #[derive(Clone, Copy, Debug)]
@@ -12,7 +12,7 @@ pub struct Tally {
 
 impl Tally {
     ghost use Rattle.std.specs.Prelude.{◌≡◌, ◌<◌, ◌^◌, [], IfSome, List};
-    ghost use Rattle.report_verifier.specs.declared.decision.Decision.{Decision};
+    ghost use Rattle.report_verifier.specs.declared.verdict.Verdict.{Verdict};
     ghost use Rattle.device_cli.specs.Tally.{Counts, tally_with};
     ghost use Rattle.device_cli.specs.Unanswered.{first_unanswered};
     ghost use Rattle.device_cli.specs.Verdicts.{all_accept};
@@ -27,7 +27,7 @@ impl Tally {
     }
 
     /// The same with one verdict more.
-    pub fn with_verdict(self, decision: Decision) -> Tally
+    pub fn with_verdict(self, decision: Verdict) -> Tally
         requires { self.verdicts < 2 ^ 63 }
         ensures { result ≡ tally_with self decision }
     {
@@ -43,7 +43,7 @@ impl Tally {
     }
 
     pub fn all_accept(&self) -> bool
-        ensures { (decisions : List Decision) → Counts decisions self.now
+        ensures { (decisions : List Verdict) → Counts decisions self.now
             → result ≡ all_accept decisions }
     {
         self.leading_accepts == self.verdicts
@@ -51,7 +51,7 @@ impl Tally {
 
     /// The first request of a policy, from 0, whose report is absent or not accepted.
     pub fn first_unanswered(&self, policy: &Policy) -> Option<usize>
-        ensures first { (decisions : List Decision) → Counts decisions self.now
+        ensures first { (decisions : List Verdict) → Counts decisions self.now
             → result ≡ first_unanswered policy.now.requests decisions }
         ensures place { IfSome result (λ i. i ≡ self.now.leading_accepts) }
     {
@@ -61,8 +61,8 @@ impl Tally {
 }
 
 /// Whether a verdict is `accept`.
-pub fn is_accept(decision: Decision) -> bool
+pub fn is_accept(decision: Verdict) -> bool
     ensures { result ≡ is_accept decision }
 {
-    matches!(decision, Decision::Accept)
+    matches!(decision, Verdict::Accept)
 }

@@ -1,7 +1,7 @@
 ghost use Rattle.std.specs.Prelude.{◌≡◌, ◌<◌, ◌^◌, ◌&&◌, IfOk, IfSome, List, Some};
 ghost use Rattle.std.specs.Option.{is_none};
 ghost use Rattle.outside_edge.specs.Sink.{Puts, CountsFaults};
-ghost use Rattle.report_verifier.specs.declared.decision.Decision.{Decision};
+ghost use Rattle.report_verifier.specs.declared.verdict.Verdict.{Verdict};
 ghost use Rattle.device_cli.specs.Row.{ending_of};
 ghost use Rattle.device_cli.specs.Tally.{Counts};
 ghost use Rattle.device_cli.specs.Unanswered.{unanswered_if, unanswered_line, unanswered_lines};
@@ -28,7 +28,7 @@ fn print_line<W: Sink>(i: usize, sink: &mut W) -> Result<(), Failed>
 
 // The first request, from 0, that is not answered, where all have to be.
 fn unanswered(all: bool, policy: &Policy, tally: &Tally) -> Option<usize>
-    ensures first { (decisions : List Decision) → Counts decisions tally.now
+    ensures first { (decisions : List Verdict) → Counts decisions tally.now
         → result ≡ unanswered_if all policy.now.requests decisions }
     ensures place { IfSome result (λ i. i ≡ tally.now.leading_accepts) }
 {
@@ -48,10 +48,10 @@ pub fn end_verdicts<W: Sink>(
     sink: &mut W,
 ) -> Result<Ending, Failed>
     requires { tally.now.leading_accepts < 2 ^ 63 }
-    ensures puts { (decisions : List Decision) → Counts decisions tally.now
+    ensures puts { (decisions : List Verdict) → Counts decisions tally.now
         → Puts W.stands sink.old sink.new
         (unanswered_lines (unanswered_if all policy.now.requests decisions)) result }
-    ensures ending { (decisions : List Decision) → Counts decisions tally.now
+    ensures ending { (decisions : List Verdict) → Counts decisions tally.now
         → IfOk result (λ ending. ending ≡ ending_of
         (is_none (unanswered_if all policy.now.requests decisions) && all_accept decisions)) }
     ensures counts { CountsFaults W.faults sink.old sink.new result }

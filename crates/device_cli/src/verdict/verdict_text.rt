@@ -9,7 +9,7 @@ use crate::verdict::tally::Tally;
 use hmac_core::Digest32;
 use outside_edge::{Failed, Sink};
 use report_text::{Report, print_verdict};
-use report_verifier::{Decision, Verifier};
+use report_verifier::{Verdict, Verifier};
 
 /// Puts a line for each report, and answers the tally of the verdicts.
 pub fn print_verdicts<D: Digest32, W: Sink>(
@@ -42,7 +42,7 @@ fn count_of(reports: &[Report]) -> usize
 }
 
 // The verdict on a report of the list, numbered from 0.
-fn verdict_at<D: Digest32>(verifier: &Verifier<'_>, reports: &[Report], i: usize) -> Decision
+fn verdict_at<D: Digest32>(verifier: &Verifier<'_>, reports: &[Report], i: usize) -> Verdict
     requires { i < length reports.now }
     ensures { Some result ≡ option_map (verdict_at (judge_of D.hash.digest_of verifier.now) i)
         (slice_get reports.now i) }

@@ -18,7 +18,7 @@ use named_value::Named;
 
 /// The verdict on a report.
 #[derive(Clone, Copy, Debug, PartialEq, Eq)]
-pub enum Decision {
+pub enum Verdict {
     /// The report is what the policy and the image make of this challenge.
     Accept,
     /// No challenge is left: the report answers none.
@@ -40,34 +40,34 @@ pub enum Decision {
     MacDiffers,
 }
 
-impl Named for Decision {
+impl Named for Verdict {
     ghost names = { verdict_names };
 
-    fn values() -> &'static [Decision] {
+    fn values() -> &'static [Verdict] {
         &[
-            Decision::Accept,
-            Decision::NoChallenge,
-            Decision::VersionDiffers,
-            Decision::ChalDiffers,
-            Decision::CountDiffers,
-            Decision::BoundsDiffer,
-            Decision::ExecZero,
-            Decision::AuxZero,
-            Decision::MacDiffers,
+            Verdict::Accept,
+            Verdict::NoChallenge,
+            Verdict::VersionDiffers,
+            Verdict::ChalDiffers,
+            Verdict::CountDiffers,
+            Verdict::BoundsDiffer,
+            Verdict::ExecZero,
+            Verdict::AuxZero,
+            Verdict::MacDiffers,
         ]
     }
 
     fn name(self) -> &'static str {
         match self {
-            Decision::Accept => "accept",
-            Decision::NoChallenge => "no-challenge",
-            Decision::VersionDiffers => "version-differs",
-            Decision::ChalDiffers => "chal-differs",
-            Decision::CountDiffers => "count-differs",
-            Decision::BoundsDiffer => "bounds-differ",
-            Decision::ExecZero => "exec-zero",
-            Decision::AuxZero => "aux-zero",
-            Decision::MacDiffers => "mac-differs",
+            Verdict::Accept => "accept",
+            Verdict::NoChallenge => "no-challenge",
+            Verdict::VersionDiffers => "version-differs",
+            Verdict::ChalDiffers => "chal-differs",
+            Verdict::CountDiffers => "count-differs",
+            Verdict::BoundsDiffer => "bounds-differ",
+            Verdict::ExecZero => "exec-zero",
+            Verdict::AuxZero => "aux-zero",
+            Verdict::MacDiffers => "mac-differs",
         }
     }
 
@@ -81,35 +81,35 @@ fn decide_on<D: Digest32>(
     image: &Image,
     expect: &Expect,
     report: &ReportView<'_>,
-) -> Decision
+) -> Verdict
     requires { IsTrue (are_valid_for expect.now.version expect.now.bounds) }
     ensures { result
         ≡ verdict_on D.hash.digest_of key.now (byte_in image.now) expect.now
         (fields_of report.now) }
 {
     if expect.version != report.version {
-        return Decision::VersionDiffers;
+        return Verdict::VersionDiffers;
     }
     if !same_bytes(&expect.chal, &report.chal) {
-        return Decision::ChalDiffers;
+        return Verdict::ChalDiffers;
     }
     if expect.count != report.count {
-        return Decision::CountDiffers;
+        return Verdict::CountDiffers;
     }
     if expect.bounds != report.bounds {
-        return Decision::BoundsDiffer;
+        return Verdict::BoundsDiffer;
     }
     if lacks_exec(expect.flag, report.exec) {
-        return Decision::ExecZero;
+        return Verdict::ExecZero;
     }
     if lacks_aux(expect.flag, report.aux) {
-        return Decision::AuxZero;
+        return Verdict::AuxZero;
     }
     let mac = expected_mac::<D>(key, image, expect, report);
     if !same_bytes(&mac, &report.mac) {
-        return Decision::MacDiffers;
+        return Verdict::MacDiffers;
     }
-    Decision::Accept
+    Verdict::Accept
 }
 
 // Whether EXEC is asked for, and is 0.
@@ -132,7 +132,7 @@ pub fn decide_by<D: Digest32>(
     image: &Image,
     expect: Option<&Expect>,
     report: &ReportView<'_>,
-) -> Decision
+) -> Verdict
     requires { ForSome expect (λ expect.
         IsTrue (are_valid_for expect.now.version expect.now.bounds)) }
     ensures { result
@@ -140,7 +140,7 @@ pub fn decide_by<D: Digest32>(
         (option_map (λ expect. expect.now) expect.entry) (fields_of report.now) }
 {
     match expect {
-        None => Decision::NoChallenge,
+        None => Verdict::NoChallenge,
         Some(expect) => decide_on::<D>(key, image, expect, report),
     }
 }
@@ -151,7 +151,7 @@ pub fn decide(
     image: &Image,
     expect: Option<&Expect>,
     report: &ReportView<'_>,
-) -> Decision
+) -> Verdict
     requires { ForSome expect (λ expect.
         IsTrue (are_valid_for expect.now.version expect.now.bounds)) }
     ensures { result
