@@ -1,5 +1,5 @@
 -- Counts of faults that rose.
-use Rattle.std.proofs.Common.{◌≤◌, ℕ, ⊥, inl, inr, arith}
+use Rattle.std.proofs.Common.{◌≤◌, ℕ, inl, inr, arith}
 use Rattle.outside_edge.specs.Count.{Rose}
 
 -- what rose since a later moment rose since an earlier one
