@@ -30,7 +30,7 @@ pub enum Draft {
 }
 
 impl<'a> LineReader<'a> for Draft {
-    ghost draft_with_line = { draft_with_line };
+    ghost with_line = { draft_with_line };
 
     #[tactic(auto, unfolding(crate::specs::PolicyGrammar::draft_with_line))]
     fn take(&mut self, alloc: Global, line: &'a [u8]) -> Result<(), WordFault> {
