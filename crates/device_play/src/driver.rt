@@ -1,11 +1,10 @@
-ghost use Rattle.std.specs.Prelude.{◌≡◌, ◌<◌, ◌≤◌, [], ℕ, List, true};
+ghost use Rattle.std.specs.Prelude.{◌≡◌, ◌<◌, ◌≤◌, ◌^◌, [], ℕ, List, true};
 ghost use Rattle.bus_signals.specs.declared.event.Event.{Event};
 ghost use Rattle.device_trace.specs.Start.{Start};
 ghost use Rattle.device_trace.specs.Trace.{play_of};
 ghost use Rattle.play_script.specs.Script.{events_of};
 ghost use Rattle.device_core.specs.Device.{HasStepped, HeldStandsFor, steps_made};
 ghost use Rattle.device_play.specs.Cuts.{CountsWriteFaults};
-ghost use Rattle.device_play.specs.Limit.{most_steps};
 ghost use Rattle.device_play.specs.Midway.{IsMidway, HasGoneOn, HasSleptOn};
 ghost use Rattle.device_play.specs.Watching.{IsPoweredOn, IsWatched};
 
@@ -25,7 +24,7 @@ pub fn play_to_shown<O: Watcher, D: Digest32, G: TraceFlag>(
     steps: u64,
 ) -> Live<D, G>
     requires more { steps_made live < steps }
-    requires few { steps ≤ most_steps }
+    requires few { steps ≤ 2 ^ 63 }
     ensures made { steps_made live < steps_made result }
     ensures within { steps_made result ≤ steps }
     ensures kept { O.every_step ≡ true → HasStepped result }
@@ -51,7 +50,7 @@ pub fn sleep_on<D: Digest32, G: TraceFlag>(
     steps: u64,
 ) -> Live<D, G>
     requires ahead { steps_made live ≤ steps }
-    requires few { steps ≤ most_steps }
+    requires few { steps ≤ 2 ^ 63 }
     ensures within { (steps_made live ≤ steps_made result) × (steps_made result ≤ steps) }
     ensures sleeps { (start : Start) (events_at : ℕ → List Event)
         → IsMidway D.hash G.flag start events_at live playback.now
@@ -72,7 +71,7 @@ pub fn play_before<O: Watcher, D: Digest32, G: TraceFlag, W: Sink>(
     sink: &mut W,
 ) -> Result<(Live<D, G>, O::Tally), PutFault>
     requires powered_on { IsPoweredOn D.hash G.flag device }
-    requires few { steps ≤ most_steps }
+    requires few { steps ≤ 2 ^ 63 }
     ensures watched { (start : Start)
         → HeldStandsFor D.hash G.flag device start []
         → IsWatched D.hash G.flag W.stands (O.account D.hash.digest_of watcher.now)

@@ -1,5 +1,4 @@
 ghost use Rattle.device_core.specs.Device.{HasStepped, OfLive};
-ghost use Rattle.device_play.specs.Limit.{most_steps};
 
 use crate::put_fault::PutFault;
 use bus_signals::TraceFlag;
@@ -10,7 +9,7 @@ use outside_edge::{Failed, Sink};
 /// Who watches a play: it puts what there is to say of it, and keeps a tally. What it says of a
 /// play goes on from what it says of the steps before.
 pub trait Watcher {
-    ghost use Rattle.std.specs.Prelude.{◌≡◌, ◌<◌, [], Bool, true, List, IfOk};
+    ghost use Rattle.std.specs.Prelude.{◌≡◌, ◌<◌, ◌^◌, [], Bool, true, List, IfOk};
     ghost use Rattle.bus_signals.specs.declared.event.Event.{Event};
     ghost use Rattle.outside_edge.specs.Sink.{Puts, CountsFaults};
     ghost use Rattle.part_definitions.specs.Hmac.{Digest};
@@ -52,7 +51,7 @@ pub trait Watcher {
         live: &Live<D, G>,
         sink: &mut W,
     ) -> Result<(), PutFault>
-        requires few { step < most_steps }
+        requires few { step < 2 ^ 63 }
         requires kept { every_step ≡ true → HasStepped live.now }
         requires shown { IsShownSome D.hash G.flag (account D.hash.digest_of self.now) live.now
             tally.old step }

@@ -1,4 +1,4 @@
-ghost use Rattle.std.specs.Prelude.{◌≡◌, ◌<◌, List, Some, IfOk, IfSome, IsTrue, option_map};
+ghost use Rattle.std.specs.Prelude.{◌≡◌, ◌<◌, ◌^◌, List, Some, IfOk, IfSome, IsTrue, option_map};
 ghost use Rattle.bus_signals.specs.Report.{fields_of};
 ghost use Rattle.part_definitions.specs.Memory.{PowerOn, ShownFlags, MemoryWrite, byte_at};
 ghost use Rattle.mem_map.specs.Memory.{MemoryStandsFor};
@@ -8,7 +8,6 @@ ghost use Rattle.report_verifier.specs.Validity.{are_valid_for};
 ghost use Rattle.device_play.specs.Cuts.{CountsWriteFaults, StopsOnlyAt};
 ghost use Rattle.device_cli.specs.Judgement.{evidence_lines, evidence_cuts, judgement_lines, judgement_cuts, TellsOutput, tally_after};
 ghost use Rattle.report_verifier.specs.Judge.{judge_of, verdict_at};
-ghost use Rattle.device_play.specs.Limit.{most_steps};
 ghost use Rattle.device_cli.specs.Verdicts.{is_accept};
 
 use crate::verdict::tally::Tally;
@@ -72,7 +71,7 @@ fn judge<D: Digest32, W: Sink>(
     memory: &Memory,
     sink: &mut W,
 ) -> Result<Verdict, PutFault>
-    requires { i < most_steps }
+    requires { i < 2 ^ 63 }
     ensures verdict { IfOk result (λ verdict.
         verdict ≡ verdict_at (judge_of D.hash.digest_of verifier.now) i (fields_of report.now)) }
     ensures puts { (start : PowerOn) (flags : ShownFlags) (writes : List MemoryWrite)
@@ -106,7 +105,7 @@ pub fn judge_last<D: Digest32, W: Sink>(
     memory: &Memory,
     sink: &mut W,
 ) -> Result<Tally, PutFault>
-    requires { tally.verdicts < most_steps }
+    requires { tally.verdicts < 2 ^ 63 }
     ensures tally { IfOk result (λ new.
         new ≡ tally_after (judge_of D.hash.digest_of verifier.now) tally
         (option_map fields_of report.entry)) }
