@@ -287,7 +287,8 @@ module _ {X O : Type 0} (promise : LinePromise X O) where
       (all_lines (bytes ++ [])) (whole_lines bytes))
   last_settled {held} {line} {old} {mid} {new} bytes result some holds is tells settles =
       let cut : LineCut = cut_of bytes in
+      let short = is ∙ (held_line held cut.rest holds.holds).1 in
       let told : promise.told mid (cut.rest ∷ cut.lines) =
-      (tells cut.lines cut.rest holds.told (is ∙ (held_line held cut.rest holds.holds).1)).goes_on in
+      (tells cut.lines cut.rest holds.told short).goes_on in
       rw (append-nil bytes, rest_is_line held cut.lines cut.rest holds.holds some)
       (settled_so new cut.rest cut.lines result (settles (cut.rest ∷ cut.lines) told))

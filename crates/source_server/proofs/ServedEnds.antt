@@ -1,5 +1,5 @@
 -- What the end of a serving tells of its source and of where its responder stopped.
-use Rattle.std.proofs.Common.{◌≡◌, ◌≤◌, ◌<◌, ◌⊎◌, ◌+◌, ◌++◌, ℕ, List, [], Option, Some, None, length, refl, arith, length-append, inl, inr}
+use Rattle.std.proofs.Common.{◌≡◌, ◌≤◌, ◌<◌, ◌⊎◌, ◌+◌, ◌++◌, ℕ, List, [], Option, Some, None, drop, length, take, refl, arith, length-append, inl, inr}
 use Rattle.std.specs.Prelude.{option_map}
 use Rattle.outside_edge.specs.Count.{Rose}
 use Rattle.outside_edge.specs.declared.source.Source as source
@@ -9,7 +9,7 @@ use Rattle.source_server.specs.declared.served.Served.{Served}
 use Rattle.source_server.specs.declared.served.Served.TheVariants.{Done, Spent, ReadFault, WriteFault, Own}
 use Rattle.source_server.specs.Responder.{Promise}
 use Rattle.source_server.specs.Serving.{EndsSo, Serves, StopsSo, served_of}
-use Rattle.source_server.specs.Taken.{KeepsLimit, earlier, joined, most_input, newest}
+use Rattle.source_server.specs.Taken.{KeepsLimit, joined, most_input}
 
 -- no more were taken than were left
 few_taken : (bytes : List ℕ) (rest : Option (List ℕ)) (taken : List ℕ)
@@ -20,14 +20,19 @@ few_taken bytes (Some rest) taken is =
     let same : bytes ≡ taken ++ rest = cc is in
     rw (same, length-append) (omega arith)
 
-module _ {R X O : Type 0} (r : source.Ghosts R) (promise : Promise X O) (old new : R) (now : X) where
+module _ {R X O : Type 0} (r : source.Ghosts R) (promise : Promise X O) (old new : R)
+    (now : X) where
   -- where it stopped
   abbrev pub StopsSomewhere : Halt O → Type 0
   StopsSomewhere why = (before : List ℕ) × (last : List ℕ) × promise.stopped now before last why
 
   stops_somewhere : (pieces : List (List ℕ)) (why : Halt O)
       → StopsSo r promise old new now pieces why → StopsSomewhere why
-  stops_somewhere pieces why (inl so) = (earlier pieces, newest pieces, so.1)
+  stops_somewhere pieces why (inl so) = (
+    joined (drop 1 pieces),
+    joined (take 1 pieces),
+    so.1,
+  )
   stops_somewhere pieces why (inr so) = (joined pieces, [], so.1)
 
   pub unwritten : Serves r promise old new now WriteFault → StopsSomewhere halt.Write
@@ -62,7 +67,7 @@ module _ {R X O : Type 0} (r : source.Ghosts R) (promise : Promise X O) (old new
       ⊎ ((why : Halt O) × (served ≡ served_of why) × StopsSomewhere why)
   whole_pieces pieces Done so few sound = inl refl
   whole_pieces pieces Spent so few sound = absurd (omega (arith, few, so.1))
-  whole_pieces pieces ReadFault so few sound = absurd (sound so.0.rose)
+  whole_pieces pieces ReadFault so few sound = absurd (sound so.0.1)
   whole_pieces pieces WriteFault so few sound =
       inr (halt.Write, refl, stops_somewhere pieces halt.Write so)
   whole_pieces pieces (Own own) so few sound =

@@ -1,7 +1,8 @@
 -- What is served of a source, piece after piece.
-use Rattle.std.proofs.Common.{◌≡◌, ◌≤◌, ◌<◌, ◌+◌, ◌-◌, ◌∙◌, ◌++◌, ℕ, List, [], ◌∷◌, Option, Some, None, Ok, Err, length, take, refl, ap, sym, subst, arith, append_assoc, length-append, inl, inr}
+use Rattle.std.proofs.Common.{◌≡◌, ◌≤◌, ◌<◌, ◌+◌, ◌-◌, ◌∙◌, ◌++◌, ℕ, List, [], ◌∷◌, Option, Some, None, Ok, Err, length, drop, map, take, refl, ap, sym, subst, arith, append_assoc, length-append, inl, inr}
 use Rattle.std.specs.Prelude.{IfSome, Result, option_map}
 use Rattle.std.proofs.lemmas.List.{append-nil, length-take-le}
+use Rattle.std.proofs.lemmas.List.Elements.{All-cons, All-nil}
 use Rattle.outside_edge.specs.Count.{Rose}
 use Rattle.outside_edge.specs.Source.{IsAsked}
 use Rattle.outside_edge.specs.declared.source.Source as source
@@ -12,7 +13,7 @@ use Rattle.source_server.specs.declared.served.Served.{Served}
 use Rattle.source_server.specs.declared.served.Served.TheVariants as served
 use Rattle.source_server.specs.Responder.{Answers, Ends, Moment, Promise}
 use Rattle.source_server.specs.Serving.{EndsSo, Serves, StopsSo, served_after, served_of}
-use Rattle.source_server.specs.Taken.{Gave, HasGiven, counts_of, IsAtEnd, IsLeft, earlier, joined, most_input, newest}
+use Rattle.source_server.specs.Taken.{Gave, HasGiven, IsAtEnd, IsLeft, joined, most_input}
 
 -- one take after another, of the bytes that are told
 left_both : (left : Option (List ℕ)) (one two : List ℕ)
@@ -40,7 +41,7 @@ module _ {R : Type 0} (r : source.Ghosts R) where
   gave_none now = record { told = left_same (r.left now); count = omega arith }
 
   pub given_none : (now : R) → HasGiven r now now []
-  given_none now = record { gave = gave_none now; whole = tt; few = omega arith }
+  given_none now = record { gave = gave_none now; whole = All-nil (λ piece. 0 < length piece); few = omega arith }
 
   -- a take that gave nothing
   gave_still : (first mid last : R) (bytes : List ℕ)
@@ -102,8 +103,8 @@ module _ {R T E Start O : Type 0} (r : source.Ghosts R)
 
     asked_more : IsAsked r.asked source_now source_new 0 → (before : List ℕ)
         → r.asked source before
-        → r.asked source_new (0 ∷ (counts_of so.pieces ++ before))
-    asked_more asked before holds = asked (counts_of so.pieces ++ before) (so.asked before holds)
+        → r.asked source_new (0 ∷ (map length so.pieces ++ before))
+    asked_more asked before holds = asked (map length so.pieces ++ before) (so.asked before holds)
 
     pub end_served : {n : ℕ} (piece : List ℕ) (new : Moment T E) (result : Result Unit (Halt O))
         → 0 < room → n ≡ 0
@@ -119,12 +120,13 @@ module _ {R T E Start O : Type 0} (r : source.Ghosts R)
         record {
           pieces = so.pieces;
           given = none_more (subst Nothing none gave);
-          ends = ends_so r (promise start) source source_new new so.pieces result
-              (record {
-                asked = asked_more (subst (IsAsked r.asked source_now source_new) none asked);
-                none = ends none;
-                before = omega (arith, so.count, some);
-              })
+          ends = ends_so r (promise start) source source_new new so.pieces result (
+            (
+              asked_more (subst (IsAsked r.asked source_now source_new) none asked),
+              omega (arith, so.count, some),
+            ),
+            ends none,
+          )
               (came start (joined so.pieces) (so.answered start begins));
         }
 
@@ -138,12 +140,10 @@ module _ {R T E Start O : Type 0} (r : source.Ghosts R)
           pieces = so.pieces;
           given = none_more gave;
           ends = (
-            record {
-              asked = asked_more asked;
-              rose = rose_since (r.faults source) (r.faults source_now) (r.faults source_new)
-                  so.rises rose;
-              before = omega (arith, so.count, some);
-            },
+            (
+              (asked_more asked, omega (arith, so.count, some)),
+              rose_since (r.faults source) (r.faults source_now) (r.faults source_new) so.rises rose,
+            ),
             so.answered start begins,
           );
         }
@@ -154,7 +154,7 @@ module _ {R T E Start O : Type 0} (r : source.Ghosts R)
         → IsLeft r source source_new (take n piece ∷ so.pieces)
     asked_piece {n} piece within asked before holds =
         rw (length-take-le n piece within)
-        (asked (counts_of so.pieces ++ before) (so.asked before holds))
+        (asked (map length so.pieces ++ before) (so.asked before holds))
 
     piece_given : {n : ℕ} (piece : List ℕ) → n ≤ length piece → 0 < n → n ≤ room
         → Gave r source_now source_new (take n piece)
@@ -164,7 +164,8 @@ module _ {R T E Start O : Type 0} (r : source.Ghosts R)
         record {
           gave = gave_both r source source_now source_new (joined so.pieces) (take n piece)
               so.given.gave gave;
-          whole = (omega (arith, count, some), so.given.whole);
+          whole = All-cons (λ piece. 0 < length piece) (take n piece) so.pieces
+              (omega (arith, count, some)) so.given.whole;
           few = omega (
             arith,
             so.count,
@@ -243,7 +244,7 @@ module _ {R X Y O : Type 0} (r : source.Ghosts R) (promise : Promise X O) (other
     → other.stopped y before last why) where
   stops_as : (pieces : List (List ℕ)) (why : Halt O)
       → StopsSo r promise old new x pieces why → StopsSo r other old new y pieces why
-  stops_as pieces why (inl so) = inl (so.0, stopped (earlier pieces) (newest pieces) why so.1)
+  stops_as pieces why (inl so) = inl (so.0, stopped (joined (drop 1 pieces)) (joined (take 1 pieces)) why so.1)
   stops_as pieces why (inr so) = inr (so.0, stopped (joined pieces) [] why so.1)
 
   ends_as : (pieces : List (List ℕ)) (served : Served O)

@@ -14,11 +14,11 @@ pub record HoldsCut {X O : Type 0} (promise : LinePromise X O) (held : Option (L
   pub holds : HoldsRest held cut.rest
 
 -- it stopped at one of these lines, behind those that were whole before
-pub record StopsAmong (Stopped : List (List ℕ) → Type 0) (lines whole : List (List ℕ)) : Type 0 where
+pub record StopsAmong (Stops : List (List ℕ) → Type 0) (lines whole : List (List ℕ)) : Type 0 where
   pub later : List (List ℕ)
   pub newer : List (List ℕ)
   pub parts : lines ≡ later ++ (newer ++ whole)
-  pub stopped : Stopped (newer ++ whole)
+  pub stopped : Stops (newer ++ whole)
 
 -- the lines that end in a piece were answered
 pub record TellsPiece {X O : Type 0} (promise : LinePromise X O) (held : Option (List ℕ)) (now : X)
@@ -33,7 +33,8 @@ within now = record { responder = now.responder.responder; edge = now.edge }
 
 -- what a responder of lines promises of bytes: of the lines that are whole, of all at the end, and
 -- of those up to the one at which it stopped
-abbrev pub promise_of : {L E O : Type 0} → LinePromise (Moment L E) O → Promise (Moment (Lines L) E) O
+abbrev pub promise_of : {L E O : Type 0} → LinePromise (Moment L E) O
+    → Promise (Moment (Lines L) E) O
 promise_of promise =
     record {
       answered = λ now bytes. HoldsCut promise now.responder.held (within now) (cut_of bytes)

@@ -1,12 +1,12 @@
 -- How a source is served: what is taken of it, what was answered, and why it ended.
-use Rattle.std.specs.Prelude.{◌≡◌, ◌⊎◌, ℕ, List, [], length, Result, Ok, Err}
+use Rattle.std.specs.Prelude.{◌≡◌, ◌⊎◌, ℕ, List, [], drop, length, take, Result, Ok, Err}
 use Rattle.outside_edge.specs.declared.source.Source as source
 use Rattle.source_server.specs.declared.halt.Halt.{Halt}
 use Rattle.source_server.specs.declared.halt.Halt.TheVariants as halt
 use Rattle.source_server.specs.declared.served.Served.{Served}
 use Rattle.source_server.specs.declared.served.Served.TheVariants.{Done, Spent, ReadFault, WriteFault, Own}
 use Rattle.source_server.specs.Responder.{Promise}
-use Rattle.source_server.specs.Taken.{IsAtFault, HasGiven, IsAtEnd, IsLeft, earlier, joined, most_input, newest}
+use Rattle.source_server.specs.Taken.{HasGiven, IsAtEnd, IsAtFault, IsLeft, joined, most_input}
 
 -- where a responder stopped, and at the end of its source
 abbrev pub served_of : {O : Type 0} → Halt O → Served O
@@ -21,7 +21,8 @@ served_after (Err why) = served_of why
 abbrev pub StopsSo : {R X O : Type 0} → source.Ghosts R → Promise X O → R → R → X
     → List (List ℕ) → Halt O → Type 0
 StopsSo r promise old new now pieces why =
-    (IsLeft r old new pieces × promise.stopped now (earlier pieces) (newest pieces) why)
+    (IsLeft r old new pieces
+    × promise.stopped now (joined (drop 1 pieces)) (joined (take 1 pieces)) why)
     ⊎ (IsAtEnd r old new pieces × promise.stopped now (joined pieces) [] why)
 
 -- what was answered of these pieces, and why no more was taken

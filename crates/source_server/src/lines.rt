@@ -66,8 +66,8 @@ fn answer_lines<E, L: LineResponder<E>>(
     edge: &mut E,
 ) -> Result<(), Halt<L::Own>>
     ensures tells { (start : L.Start) (cut : LineCut)
-        → HoldsCut (L.promise start) held.old (record { responder = responder.old; edge = edge.old })
-        cut
+        → HoldsCut (L.promise start) held.old
+        (record { responder = responder.old; edge = edge.old }) cut
         → TellsPiece (L.promise start) held.new
         (record { responder = responder.new; edge = edge.new }) cut piece.now result }
     ensures grows { (first : Moment L E)
