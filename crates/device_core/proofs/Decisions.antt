@@ -21,7 +21,6 @@ use Rattle.device_trace.specs.Start.{Start}
 use Rattle.device_trace.specs.Step.{asks_reset, next_record, record_of, value_recorded}
 use Rattle.device_trace.specs.Text.{last_decision}
 use Rattle.device_trace.specs.Trace.{trace, last_record, logs_after}
-use Rattle.msp_decode.proofs.IllegalLemmas.{middle_false}
 use Rattle.mac_coverage.proofs.CallItems.{exit_returns}
 use Rattle.device_core.specs.Bus.{answer_in, logs_after_step, value_unless}
 use Rattle.device_core.specs.Machine.{DecisionStandsFor}
@@ -122,6 +121,10 @@ pub call-decision :
 unfolding with_record record_of signals_at
 call-decision start logs reset regs words within = rw within refl
 
+both-false : (first middle last : Bool) → middle ≡ false → (first && middle && last) ≡ false
+both-false true middle last is = rw is refl
+both-false false middle last is = refl
+
 not-exit : (item : CallItem) (ends : Bool)
     → (item_pc item == ROM_EXIT) ≡ ends → is_return item ≡ false → ends ≡ false
 not-exit item true exit goes = absurd (false≢true (sym goes ∙ exit_returns item exit))
@@ -137,7 +140,7 @@ unfolding record_of signals_at
 call-goes_on start logs reset regs words within goes =
     let place : (next_pc_of (step_progress logs (step_kind logs)) == ROM_EXIT) ≡ false =
     rw within (not-exit (call_item words) _ refl goes) in
-    middle_false _ _ _ place
+    both-false _ _ _ place
 
 -- what is kept stands for a decision that is there, and for none
 pub decision-none : (kept : ℕ) (decision : Option ℕ) → decision ≡ None → DecisionStandsFor kept
