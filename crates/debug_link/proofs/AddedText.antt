@@ -61,8 +61,8 @@ module _ {W : Type 0} (w : sink.Ghosts W) where
   full_failed old new piece rest is full prefix more =
       let Prefix : List (List ℕ) → Type 0 =
       λ bodies. TakesPrefix w.stands old.sink new.sink (packets_of bodies) in
-      let puts : PutsPackets {V = Unit {0}} {E = Unit {0}} w old new (text_body rest ∷ []) (Err tt) =
-      record {
+      let puts : PutsPackets {V = Unit {0}} {E = Unit {0}} w old new (text_body rest ∷ [])
+      (Err tt) = record {
         all = tt;
         prefix = subst (λ (one : List ℕ). Prefix (text_body one ∷ [])) is prefix;
       } in

@@ -28,8 +28,8 @@ pub pieces-next : (byte : ℕ) (text : List ℕ)
 pieces-next byte text =
     let size = length-drop MOST_TEXT (byte ∷ text) in
     ap (λ (rest : List (List ℕ)). text_body (take MOST_TEXT (byte ∷ text)) ∷ rest)
-    (pieces-same (length text) (length (drop MOST_TEXT (byte ∷ text))) (drop MOST_TEXT (byte ∷ text))
-    (omega (arith, size)) (omega arith))
+    (pieces-same (length text) (length (drop MOST_TEXT (byte ∷ text)))
+    (drop MOST_TEXT (byte ∷ text)) (omega (arith, size)) (omega arith))
 
 -- a piece that is full, and what comes behind it
 pub pieces-full : (piece more : List ℕ) → length piece ≡ MOST_TEXT

@@ -9,7 +9,8 @@ use Rattle.debug_link.specs.Packet.{packets_of}
 module _ {Session : Type 0} (reply : Session → List ℕ → Answer Session) where
   -- a byte while the conversation is open
   pub open_byte : (talk : Talk Session) (byte : ℕ) → talk.is_over ≡ false
-      → talk_with_byte reply talk byte ≡ answered reply (marked talk byte) (message_of talk.link byte)
+      → talk_with_byte reply talk byte
+      ≡ answered reply (marked talk byte) (message_of talk.link byte)
   unfolding talk_with_byte
   open_byte talk byte is = rw is refl
 
@@ -66,6 +67,7 @@ module _ {Session : Type 0} (reply : Session → List ℕ → Answer Session) wh
 
   -- where bytes are cut changes nothing
   pub bytes_both : (talk : Talk Session) (one two : List ℕ)
-      → talk_with_bytes reply talk (one ++ two) ≡ talk_with_bytes reply (talk_with_bytes reply talk one) two
+      → talk_with_bytes reply talk (one ++ two)
+      ≡ talk_with_bytes reply (talk_with_bytes reply talk one) two
   bytes_both talk [] two = refl
   bytes_both talk (byte ∷ one) two = bytes_both (talk_with_byte reply talk byte) one two

@@ -29,7 +29,8 @@ pub record HasAdded {W : Type 0} (w : sink.Ghosts W) (old new : PacketSink W)
     (rest text rest_new : List ℕ) : Type 0 where
   pub bodies : List (List ℕ)
   pub put : HasPut w old new bodies
-  pub whole : (more : List ℕ) → console (rest ++ text ++ more) ≡ bodies ++ console (rest_new ++ more)
+  pub whole : (more : List ℕ)
+      → console (rest ++ text ++ more) ≡ bodies ++ console (rest_new ++ more)
 
 -- they were, or a prefix of the text's packets
 pub record AddsText {W V E : Type 0} (w : sink.Ghosts W) (old new : PacketSink W)

@@ -89,7 +89,8 @@ talk_with_byte reply talk byte =
 abbrev pub talk_with_bytes : {Session : Type 0} → (Session → List ℕ → Answer Session)
     → Talk Session → List ℕ → Talk Session
 talk_with_bytes reply talk [] = talk
-talk_with_bytes reply talk (byte ∷ bytes) = talk_with_bytes reply (talk_with_byte reply talk byte) bytes
+talk_with_bytes reply talk (byte ∷ bytes) =
+    talk_with_bytes reply (talk_with_byte reply talk byte) bytes
 
 -- the conversation of these bytes, from a session's beginning
 abbrev pub conversation : {Session : Type 0} → (Session → List ℕ → Answer Session)

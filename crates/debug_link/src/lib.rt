@@ -2,7 +2,7 @@
 //! for them into a sink.
 //!
 //! [`serve`] finds the packets among the bytes that come, and has each answered by an [`Answerer`],
-//! who puts packets by a [`PacketWriter`], and text for the debugger's console by a [`ConsoleText`].
+//! who puts packets by a [`PacketWriter`], and text for a debugger's console by a [`ConsoleText`].
 //! What is put is a function of the bytes alone, from where the answerer's session stands.
 #![tactic(auto)]
 
