@@ -1,12 +1,14 @@
 """Trials of the documents, without the programs: that each name which they have in backticks is one
-of the repository, that their links lead somewhere, and that docs/proved.md names each clause in the
-file where it stands, and each edit that the prover has to refuse beside a clause of its crate.
+of the repository, that the lines which a reader types call what is there, that links lead
+somewhere, that docs/architecture.md has each crate, and that docs/proved.md names each clause in
+the file that declares it, and each edit that the prover has to refuse beside a clause of its crate.
 
 In `single backticks` a document names what the repository has. What another project has, as a wire
 of openMSP430, a package or a setting of GDB, stands in ``two``, which look the same. Of a span
-these are looked at: a path, a name of four letters or more that is the whole of it, and what
-follows ./foldgneiss or make. So lines that are typed or printed, numbers, signs and options are
-none. What a build makes (build/, out/) is no file of the repository.
+these are looked at: a path, of which one in src/, specs/ or proofs/ is of a crate that its section
+names; a name of four letters or more that is the whole of it; an option. Of spans and of lines that
+are set in: what follows foldgneiss, make and --only. Lines that are printed, numbers and signs are
+no names. What a build makes (build/, out/) is no file of the repository.
 """
 import glob
 import os
@@ -17,13 +19,24 @@ from reference import SCRIPT_COMMANDS
 from sample_files import read
 from trial import ROOT
 
-PROVED = "docs/proved.md"
+PROVED, CRATES = "docs/proved.md", "docs/architecture.md"
 TELLS_THE_PAST = ("CHANGELOG.md",)
 SPAN = re.compile(r"(?<!`)`([^`\n]+)`(?!`)")
 PART = r"[\w'◌-]"  # (of a name)
 NAME = re.compile(rf"(?![0-9a-f]{{8,}}$)[A-Za-z_◌]{PART}{{2,}}[\w'◌](?:(?:::|\.){PART}+)*(?:\(\))?"
                   rf"|\w+(?:::{PART}+)+")
-PATH = re.compile(r"(?:\./|\.\./)*[\w.*-]+(?:/[\w.*-]+)*/?")
+PATH = re.compile(r"(?:\./|\.\./)*[\w.*@-]+(?:/[\w.*@-]+)*/?")
+OF_CRATE = re.compile(r"(?:src|specs|proofs)/[\w/]+\.\w+")  # (a path in a crate)
+OPTION = re.compile(r"--[a-z-]+")
+COMMAND = re.compile(r"(?<![\w/-])(?:\./)?foldgneiss +([^\s|;)&`,]+)")
+GOALS = re.compile(r"\bmake (?:-f \S+ )?([a-z.]+(?: [a-z.]+)*)$", re.M)
+GROUPS = re.compile(r"check-program --only ([a-z_,]+)")
+# What a file of a crate declares: functions, types, members, the labels of clauses; definitions and
+# their fields.
+DECLARED = {".rt": re.compile(r"\b(?:fn|struct|enum|trait|type|const|static|mod|impl|for|ensures"
+                              rf"|requires|ghost)\s+({PART}+)"),
+            ".antt": re.compile(r"^\s*(?:(?:abbrev|unfoldable|record|data|pub)\s+)*"
+                                rf"({PART}+)(?=\s+[{{(:]|\s*$)", re.M)}
 SOURCES = tuple(".antt .c .css .edit .h .js .ld .md .mjs .py .rt .s .service .svg .v".split())
 FOLDERS = ("bench/", "conformance/", "crates/", "docs/", "examples/", "firmware/", "page/", "python/",
            "rtl/", "specs/", "src/", "proofs/", "tools/")
@@ -34,6 +47,16 @@ ROW = re.compile(r"^\| (.*) \|$", re.M)
 def prose(text):
     """A document without its blocks of code, each of which is of lines set in."""
     return "\n".join(line for line in text.split("\n") if not line.startswith("    "))
+
+
+def blocks(text):
+    return "\n".join(line for line in text.split("\n") if line.startswith("    "))
+
+
+def declared(name):
+    """What a file of the crates declares; nothing where there is no such file."""
+    path, names = f"{ROOT}/crates/{name}", DECLARED[os.path.splitext(name)[1]]
+    return {*names.findall(read(path).decode())} if os.path.exists(path) else set()
 
 
 def words_of(text):
@@ -56,7 +79,10 @@ class Names:
         self.endings = {end for name in (*self.files, *folders) for end in endings(name)}
         self.documents = [name for name in self.files
                           if name.endswith(".md") and name not in TELLS_THE_PAST]
-        self.words, self.of_crate = set(), {}
+        self.words, self.of_file, self.of_crate, self.options = set(), [], {}, set()
+        self.goals = {goal for line in re.findall(
+            r"^([^\s#=].*?):", read(f"{ROOT}/firmware/Makefile").decode(), re.M)
+            for goal in line.split()}
         for name in self.files:
             if not name.endswith((".md", ".png", ".svg", ".1", ".hex")):
                 self.read(name)
@@ -65,8 +91,11 @@ class Names:
         """The words of a file and of its path; an edit may have old ones in it."""
         words = {*re.split(r"[/.]", name)}
         if not name.endswith(".edit"):
-            words |= words_of(read(f"{ROOT}/{name}").decode("utf-8", "replace"))
+            text = read(f"{ROOT}/{name}").decode("utf-8", "replace")
+            words |= words_of(text)
+            self.options.update(OPTION.findall(text))
         self.words |= words
+        self.of_file.append(words)
         if name.startswith("crates/"):
             self.of_crate.setdefault(name.split("/")[1], set()).update(words)
 
@@ -79,26 +108,35 @@ class Names:
         return form.pattern != re.escape(text) and any(map(form.fullmatch, self.endings))
 
     def has_name(self, name):
-        """Whether it is known; of `CRATE::NAME` in the crate."""
-        parts = [part for part in re.split(r"::|\.", name.rstrip("()")) if part]
-        words = self.of_crate.get(parts[0], self.words) if len(parts) > 1 else self.words
-        return all(part in words or part in self.of_crate for part in parts)
+        """Whether it is known; of `CRATE::NAME` in the crate, of `TYPE::NAME` both in one file."""
+        first, *rest = [part for part in re.split(r"::|\.", name.rstrip("()")) if part]
+        if not rest:
+            return first in self.words
+        if first in self.of_crate:
+            return {*rest} <= self.of_crate[first]
+        return any({first, *rest} <= words for words in self.of_file)
+
+    def typed_faults(self, text):
+        """What is typed in vain: commands of ./foldgneiss, goals of the kit's make, and groups of
+        tools/check-program.
+        """
+        goals = (goal for goals in GOALS.findall(text) for goal in goals.split())
+        groups = (group for groups in GROUPS.findall(text) for group in groups.split(","))
+        yield from (f"no command {one}" for one in COMMAND.findall(text) if one not in SCRIPT_WORDS)
+        yield from (f"no goal {one}" for one in goals if one not in self.goals)
+        yield from (f"no group {one}" for one in groups if one not in self.words)
 
     def fault(self, span):
         """What is wrong with a span in backticks; None where nothing is."""
-        first, *rest = span.split(" ")
-        if first in ("./foldgneiss", "foldgneiss") and rest and rest[0] not in SCRIPT_WORDS:
-            return f"no command {rest[0]}"
-        if first == "make" and rest and re.fullmatch("[a-z.]+", rest[0]) and (
-                f"\n{rest[0]}:" not in read(f"{ROOT}/firmware/Makefile").decode()):
-            return f"no goal {rest[0]}"
-        for word in (first, *rest):
+        for word in span.split(" "):
             if is_path(word, span) and not self.has_path(word):
                 return f"no file {word}"
+        if OPTION.fullmatch(span) and span not in self.options:
+            return f"no option {span}"
         if NAME.fullmatch(span) and not self.has_path(span) and not self.has_name(span) and (
                 not os.path.splitext(span)[1]):
             return f"no name {span}"
-        return None
+        return next(self.typed_faults(span), None)
 
 
 def above(folder):
@@ -129,6 +167,26 @@ def spans(trial, names, document, text):
         fault = names.fault(span)
         if fault:
             trial.fault(f"{document}: {fault}")
+
+
+def lines_to_type(trial, names, document, text):
+    """The blocks of a document: its commands, and the paths of the repository in them."""
+    text = blocks(text)
+    for fault in names.typed_faults(text):
+        trial.fault(f"{document}: {fault}")
+    for path in PATH.findall(re.sub(r"[^\w\s.*@/-]+/?", " ", text)):
+        if path.startswith(FOLDERS) and is_path(path, "") and not names.has_path(path):
+            trial.fault(f"{document}: no file {path}")
+
+
+def paths_in_crates(trial, names, document, text):
+    """A path in src/, specs/ or proofs/ is of a crate that its section names."""
+    for section in re.split(r"^#+ ", prose(text), flags=re.M):
+        named = SPAN.findall(section)
+        crates = {part for span in named for part in re.split(r"[/:]", span)} & {*names.of_crate}
+        for path in filter(OF_CRATE.fullmatch, named):
+            if crates and not any(names.has_path(f"{crate}/{path}") for crate in crates):
+                trial.fault(f"{document}: no {path} in {', '.join(sorted(crates))}")
 
 
 def crates_named(trial, names, document, text):
@@ -163,13 +221,12 @@ def links(trial, document, text):
 
 
 def clauses(trial, cell):
-    """Each name behind the name of a file stands in that file of the crates."""
+    """Each name behind the name of a file is declared in that file of the crates."""
     known = set()
     for span in SPAN.findall(cell):
         if span.endswith((".rt", ".antt")):
-            name = f"{ROOT}/crates/{span}"
-            known = words_of(read(name).decode()) if os.path.exists(name) else set()
-        elif NAME.fullmatch(span) and not {*re.split(r"::|\.", span)} <= known:
+            known = declared(span)
+        elif not {*re.split(r"::|\.", span)} <= known:
             trial.fault(f"{PROVED}: {span} stands not where it is said to: {cell}")
 
 
@@ -194,12 +251,22 @@ def statements(trial, text):
     trial.tries += len(edits)
 
 
+def crates_told(trial, text):
+    """Each crate of crates.txt has its place in the document that says which is what."""
+    for crate in re.findall(r"^(\w+):", read(f"{ROOT}/crates.txt").decode(), re.M):
+        if f"`{crate}`" not in text:
+            trial.fault(f"{CRATES}: nothing of {crate}")
+
+
 def names(trial, files):
     """Each name, link, clause and edit of the documents is there."""
     known = Names()
     for document in known.documents:
         text = read(f"{ROOT}/{document}").decode()
         spans(trial, known, document, text)
+        lines_to_type(trial, known, document, text)
+        paths_in_crates(trial, known, document, text)
         crates_named(trial, known, document, text)
         links(trial, document, text)
+    crates_told(trial, read(f"{ROOT}/{CRATES}").decode())
     statements(trial, read(f"{ROOT}/{PROVED}").decode())
