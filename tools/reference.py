@@ -114,7 +114,7 @@ COMMANDS = {command.name: command for command in (
             "new, 3 for another token), and `end N pc H4 exec E` after the last step.",
             "play image.hex script.txt key.txt 5000"),
     Command("dump", ("image", "script", "key", "steps"),
-            "the same, and then RAM, program and vectors as Intel HEX",
+            "what `play` prints, and then RAM, program and vectors as Intel HEX",
             "Prints what play prints, and then RAM, program and vectors as Intel HEX.",
             "dump image.hex script.txt key.txt 5000"),
     Command("trace", ("image", "script", "key", "steps"),
@@ -133,7 +133,7 @@ COMMANDS = {command.name: command for command in (
             "remote | foldgneiss debug image.hex script.txt key.txt`.",
             "debug image.hex script.txt key.txt", "debug_main"),
     Command("wave", ("image", "script", "key", "steps"),
-            "the same, with registers, flags and ports, as a waveform, for GTKWave and others",
+            "what `trace` prints, with registers, flags and ports, as a waveform for GTKWave",
             "Prints what trace says of a run, and registers, AUX, the timer's flag, pins, and the "
             "bytes sent and received, as a value change dump (IEEE 1364), in which one unit of "
             "time is one bus step.",
