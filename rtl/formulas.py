@@ -358,18 +358,22 @@ def smv():
         for name, formula in named_formulas().items())
 
 
-def table(paper):
-    """The rows of a paper as they stand in docs/audit.md."""
+def table_rows(paper):
     def cell(premises, excepted):
         words = ", ".join(premises) or "always"
         return f"{words}; but for `{excepted}`" if excepted else words
-    lines = [f"| Here | {paper} | It is kept | No more is asked |", "|---|---|---|---|"]
     for row in PAPERS[paper]:
         text = f"`G : {{{row.text}}}`" if row.text else "none"
         kept = cell(row.kept, row.less) if row.text else ""
         asked = cell(row.asked, row.more) if row.asks else ""
-        lines.append(f"| {row.here} | {text} | {kept} | {asked} |".replace("  ", " "))
-    return "\n".join(lines) + "\n"
+        yield f"| {row.here} | {text} | {kept} | {asked} |\n".replace("  ", " ")
+
+
+def table(paper):
+    """The rows of a paper as they stand in docs/audit.md; of ASAP those that are not APEX's."""
+    of_apex = {re.sub(r"\bE(?=\d)", "F", row.replace("EXEC", "AUX")) for row in table_rows("APEX")}
+    rows = (row for row in table_rows(paper) if paper != "ASAP" or row not in of_apex)
+    return f"| Here | {paper} | It is kept | No more is asked |\n|---|---|---|---|\n" + "".join(rows)
 
 
 def tables():
