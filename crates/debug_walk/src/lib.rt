@@ -17,7 +17,7 @@ mod walk;
 pub use breakpoint::is_at_breakpoint;
 pub use halted::Halted;
 pub use levels::{RETI, is_instruction};
-pub use memory_view::{MOST_BYTES, is_shown, shown_bytes, shown_registers};
+pub use memory_view::{MOST_BYTES, is_shown, live_bytes, shown_bytes, shown_registers};
 pub use run::{Run, play_up_to};
 pub use step_seen::{LevelPlace, StepSeen};
 pub use walk::{Walk, differs};

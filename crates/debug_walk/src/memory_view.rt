@@ -1,11 +1,13 @@
-ghost use Rattle.std.specs.Prelude.{◌≡◌, ◌<◌, min};
-ghost use Rattle.debug_session.specs.Place.{registers_at};
+ghost use Rattle.std.specs.Prelude.{◌≡◌, ◌<◌, ℕ, min};
+ghost use Rattle.device_core.specs.Device.{LiveStandsFor};
+ghost use Rattle.debug_session.specs.Place.{Run, play_to, registers_at};
 ghost use Rattle.debug_session.specs.Shown.{byte_shown, bytes_shown, is_shown, registers_bytes};
 ghost use Rattle.debug_walk.specs.Halted.{OfHalted};
 
 use crate::halted::Halted;
 use arrayvec::ArrayVec;
 use bus_signals::{KR, TraceFlag, XS};
+use device_core::Live;
 use hmac_core::Digest32;
 use isr_flag::IsrFlag;
 
@@ -23,14 +25,36 @@ pub fn is_shown(place: u32) -> bool
     !KR.contains(place) && !XS.contains(place)
 }
 
-fn shown_byte<D: Digest32>(halted: &Halted<'_, D>, at: u16) -> u8
-    ensures { OfHalted D.hash ⟦<IsrFlag as TraceFlag>⟧.flag halted.now (λ run place.
-        result ≡ byte_shown run place at) }
+fn shown_byte<D: Digest32, G: TraceFlag>(live: &Live<D, G>, at: u16) -> u8
+    ensures { (run : Run) (place : ℕ)
+        → LiveStandsFor D.hash G.flag live.now run.start (play_to run place)
+        → result ≡ byte_shown run place at }
 {
-    (halted.live().peek(at) % 256) as u8
+    (live.peek(at) % 256) as u8
 }
 
 /// The bytes of at most so many addresses, up to the first that has none.
+pub fn live_bytes<D: Digest32, G: TraceFlag>(
+    live: &Live<D, G>,
+    first: u32,
+    size: u32,
+) -> ArrayVec<u8, MOST_BYTES>
+    ensures { (run : Run) (place : ℕ)
+        → LiveStandsFor D.hash G.flag live.now run.start (play_to run place)
+        → result.items ≡ bytes_shown run place first (min size 2048) }
+{
+    let mut bytes = ArrayVec::new();
+    let count = size.min(MOST_BYTES as u32);
+    for at in first..first.saturating_add(count) {
+        if !is_shown(at) {
+            return bytes;
+        }
+        bytes.push(shown_byte(live, at as u16));
+    }
+    bytes
+}
+
+/// Those of a device that is halted.
 pub fn shown_bytes<D: Digest32>(
     halted: &Halted<'_, D>,
     first: u32,
@@ -39,15 +63,7 @@ pub fn shown_bytes<D: Digest32>(
     ensures { OfHalted D.hash ⟦<IsrFlag as TraceFlag>⟧.flag halted.now (λ run place.
         result.items ≡ bytes_shown run place first (min size 2048)) }
 {
-    let mut bytes = ArrayVec::new();
-    let count = size.min(MOST_BYTES as u32);
-    for at in first..first.saturating_add(count) {
-        if !is_shown(at) {
-            return bytes;
-        }
-        bytes.push(shown_byte(halted, at as u16));
-    }
-    bytes
+    live_bytes(halted.live(), first, size)
 }
 
 /// The sixteen registers, each with four bytes, the low one first.
