@@ -25,7 +25,7 @@ loop-at-preserved g c =
     record {
       size = omega (arith, c.push.ensures.len, c.loop-at.invariant.size, c.loop-at.auto.at);
       bytes = λ run place stands.
-              rw (c.push.ensures.items, less)
+          rw (c.push.ensures.items, less)
           (shown-more run place c.loop-at.bytes.items (bytes_shown run place first count) at
           (count - (at - first)) c.shown_byte.result (sym c.if-not-is_shown.ensures) some
           (c.shown_byte.ensures run place stands) (c.loop-at.invariant.bytes run place stands));
