@@ -29,7 +29,8 @@ pub refused-complete : {Outcome : Type 0} (files : Files) (left : Option (List �
     → HoldsIfTold files left row few failed Claim
 refused-complete None left missed failed row status few Claim order cause claims = tt
 refused-complete (Some contents) None missed failed row status few Claim order cause claims = tt
-refused-complete (Some contents) (Some bytes) missed failed row status few Claim order cause claims =
+refused-complete (Some contents) (Some bytes) missed failed row status few Claim order cause
+    claims =
     let Fails : Option Status → Type 0 = λ answer. Refuses answer status in
     λ none is_few no_read. claims (failed-memory (Some contents) missed failed row status
     (subst Fails none order) cause no_read)

@@ -188,7 +188,8 @@ unread-Reads files faults misses old new name kind rest onward file.TooLong abse
     keeps =
     let file = longer-file (files old) name kind (long refl) in
     let fault : FaultAt = record { line = 0; kind = TooLong } in
-    let faulty : file_value kind file.bytes ≡ Err fault = longer-value kind file.bytes file.longer in
+    let faulty : file_value kind file.bytes ≡ Err fault =
+    longer-value kind file.bytes file.longer in
     record {
       values = tt;
       refusal = inr (inr (inr (

@@ -1,5 +1,5 @@
 -- Files that are read after others.
-use Rattle.std.proofs.Common.{◌≡◌, ◌∙◌, ◌≤◌, ℕ, Some, None, IfSome, Result, Ok, Err, subst, inl, inr, arith}
+use Rattle.std.proofs.Common.{◌≡◌, ◌∙◌, ℕ, Some, None, IfSome, Result, Ok, Err, subst, inl, inr, arith}
 use Rattle.std.specs.Prelude.{IsErrAnd}
 use Rattle.outside_edge.specs.Shelf.{KeepsFiles}
 use Rattle.outside_edge.proofs.Counts.{rose_since}

@@ -1,8 +1,14 @@
 -- What a refusal is not, and what it counts.
-use Rattle.std.proofs.Common.{inl, inr}
-use Rattle.input_files.specs.declared.status.Status.TheVariants.{ReadFault, Words}
+use Rattle.std.proofs.Common.{◌≡◌, inl, inr, rules}
+use Rattle.input_files.specs.declared.refusal.Refusal.{Refusal}
+use Rattle.input_files.specs.declared.status.Status.TheVariants.{ReadFault, Spent, Words}
 use Rattle.input_files.specs.Reading.{Files, IsRefusal}
 use Rattle.input_files.specs.Row.{RowOf}
+use Rattle.input_files.specs.Status.{status_of_refusal}
+
+-- files that were refused have not spent the input
+pub refused-spent : (refusal : Refusal) → status_of_refusal refusal ≡ Spent → ⊥
+refused-spent = search rules
 
 pub refused-words : {Outcome : Type 0} (files : Files) (missed failed : Type 0)
     (row : RowOf Outcome) → IsRefusal files missed failed row Words → ⊥

@@ -5,6 +5,7 @@ use Rattle.outside_edge.specs.File.{file_of, Finds}
 use Rattle.outside_edge.specs.Shelf.{KeepsFiles}
 use Rattle.outside_edge.specs.declared.file_fault.FileFault.{FileFault}
 use Rattle.outside_edge.specs.declared.file_fault.FileFault.TheVariants as file
+use Rattle.outside_edge.specs.declared.shelf.Shelf as shelves
 use Rattle.text_scan.specs.declared.fault_at.FaultAt.{FaultAt}
 use Rattle.text_scan.specs.declared.fault_kind.FaultKind.TheVariants.{TooLong}
 use Rattle.input_files.specs.declared.bad_file.BadFile.{BadFile}
@@ -55,6 +56,13 @@ IsFailure status = (status ≡ ReadFault) ⊎ (status ≡ Memory)
 abbrev pub Refuses : Option Status → Status → Type 0
 Refuses (Some refusal) status = (status ≡ refusal) ⊎ IsFailure status
 Refuses None status = IsFailure status
+
+-- the files of a row were refused, for a cause
+pub record IsUnread {S Outcome : Type 0} (s : shelves.Ghosts S) (old new : S)
+    (row : RowOf Outcome) (status : Status) : Type 0 where
+  pub cause : IsRefusal (s.files old) (Rose (s.misses old) (s.misses new))
+      (Rose (s.faults old) (s.faults new)) row status
+  pub order : IfSome (s.files old) (λ contents. Refuses (first_refusal row contents) status)
 
 -- the files that come first in a row were read without fault, and these are left of it
 pub record Leaves {Outcome : Type 0} (files : Files) (row rest : RowOf Outcome)

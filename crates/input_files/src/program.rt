@@ -53,8 +53,8 @@ pub fn run_program<R: AllocGlobal + Eprint, P: Program, W: Sink>(
     texts: &OwnTexts<'_>,
     output: &mut W,
 ) -> ExitCode
-    ensures { EndsAs (exit_status result) (IsAnswer W.stands output.old output.new texts.now.help.now
-        texts.now.version.now (P.may_answer program.now) words) }
+    ensures { EndsAs (exit_status result) (IsAnswer W.stands output.old output.new
+        texts.now.help.now texts.now.version.now (P.may_answer program.now) words) }
 {
     let status = answer(rt, words, program, texts, output);
     exit_with(rt, status)
