@@ -1,5 +1,5 @@
 -- Answers of a debugger: after a refusal of its files, and after it served its source.
-use Rattle.std.proofs.Common.{◌≡◌, ◌≤◌, ℕ, List, Option, Some, Ok, Err, refl, inl, inr, rules, arith}
+use Rattle.std.proofs.Common.{◌≡◌, ◌≤◌, ℕ, List, Option, Some, Ok, Err, refl, inl, inr, arith}
 use Rattle.outside_edge.specs.Shelf.{KeepsFiles}
 use Rattle.outside_edge.specs.declared.shelf.Shelf as shelves
 use Rattle.outside_edge.specs.declared.sink.Sink as sink
@@ -8,22 +8,19 @@ use Rattle.play_script.specs.Script.{TimedEvent}
 use Rattle.debug_session.specs.Place.{Run}
 use Rattle.input_files.specs.declared.refusal.Refusal.{Refusal}
 use Rattle.input_files.specs.declared.status.Status.{Status}
-use Rattle.input_files.specs.declared.status.Status.TheVariants.{Words, Spent}
+use Rattle.input_files.specs.declared.status.Status.TheVariants.{Words}
 use Rattle.input_files.specs.Reading.{Reaches, Reads}
 use Rattle.input_files.specs.Row.{RowOf, Ends}
 use Rattle.input_files.specs.Status.{status_of_refusal}
 use Rattle.input_files.proofs.Complete.{refused-complete, told-complete}
-use Rattle.input_files.proofs.Refused.{refused-words}
+use Rattle.input_files.proofs.Refused.{refused-spent, refused-words}
 use Rattle.debug_cli.specs.Debug.{DebugNames, HasServed, IsDebugAnswer, debug_row, run_with}
-use Rattle.debug_cli.specs.Edge.{Ports}
+use Rattle.source_server.specs.Ports.{Ports}
 use Rattle.debug_cli.proofs.DebugServed.{served-limit, served-whole, served-words}
 
 -- the end of its row, once its files have values
 abbrev pub debug_end : List ℕ × ((ℕ → Option ℕ) × List TimedEvent) → RowOf Run
 debug_end values = Ends (Ok (run_with values.0 values.1.0 values.1.1))
-
-refusal-spent : (refusal : Refusal) → status_of_refusal refusal ≡ Spent → ⊥
-refusal-spent = search rules
 
 module _ {S R W : Type 0} (s : shelves.Ghosts S) (r : source.Ghosts R) (w : sink.Ghosts W)
     (shelf shelf_after : S) where
@@ -38,12 +35,12 @@ module _ {S R W : Type 0} (s : shelves.Ghosts S) (r : source.Ghosts R) (w : sink
       rw (← spells) (record {
         words = (λ is. absurd (no_words is), λ none. absurd (cc none));
         unread = λ is. absurd (no_words is);
-        answers = inl (record { cause = reads.refusal; order = reads.order; silent = refl });
+        answers = inl (record { cause = reads.refusal; order = reads.order }, refl);
         complete = refused-complete (s.files shelf) (r.left ports.source) _ _ (debug_row names) _ _
             _ reads.order reads.refusal (λ is no_source no_sink. inr is);
         limit = record {
           few = omega arith;
-          spent = λ is. absurd (refusal-spent refusal is);
+          spent = λ is. absurd (refused-spent refusal is);
         };
         kept = reads.kept;
         source_counted = omega arith;

@@ -19,7 +19,7 @@ use Rattle.device_debug.specs.Session.{RunSession, run_reply}
 use Rattle.input_files.specs.declared.status.Status.{Status}
 use Rattle.input_files.specs.declared.status.Status.TheVariants.{Done, Words, Memory, Spent}
 use Rattle.debug_cli.specs.Debug.{HasServed, first_of}
-use Rattle.debug_cli.specs.Edge.{Ports}
+use Rattle.source_server.specs.Ports.{Ports}
 use Rattle.debug_cli.specs.Status.{status_of_served}
 
 ended-words : (ended : Served TalkEnd) → status_of_served ended ≡ Words → ⊥
@@ -41,8 +41,8 @@ module _ {R W : Type 0} (r : source.Ghosts R) (w : sink.Ghosts W) where
   pub served-limit : (run : Run) (old new : Ports R W) (status : Status)
       → HasServed r w run old new status → KeepsLimit r old.source new.source (status ≡ Spent)
   served-limit run old new status has =
-      keeps_limit r (talk_promise w run_reply (first_of run) old.sink) old.source new.source new.sink
-      has.ended has.serves (λ is. ended-spent has.ended (rw has.answer at is))
+      keeps_limit r (talk_promise w run_reply (first_of run) old.sink) old.source new.source
+      new.sink has.ended has.serves (λ is. ended-spent has.ended (rw has.answer at is))
 
   -- all was answered, or memory ran out
   stopped-whole : {Session : Type 0} (reply : Session → List ℕ → Answer Session)

@@ -18,7 +18,7 @@ use Rattle.input_files.specs.declared.status.Status.TheVariants.{Words, ReadFaul
 use Rattle.input_files.specs.Reading.{Files, IsRefusal}
 use Rattle.input_files.specs.Row.{RowOf}
 use Rattle.debug_cli.specs.Debug.{DebugNames, IsDebugAnswer, debug_row, first_of}
-use Rattle.debug_cli.specs.Edge.{Ports}
+use Rattle.source_server.specs.Ports.{Ports}
 use Rattle.debug_cli.specs.Status.{status_of_served}
 
 abbrev pub IsFault : Status → Type 0
@@ -52,7 +52,7 @@ module _ {R W : Type 0} (r : source.Ghosts R) (w : sink.Ghosts W) where
       → ¬ Rose (r.faults old.source) (r.faults new.source)
       → ¬ Rose (w.faults old.sink) (w.faults new.sink)
       → IsFault (status_of_served ended) → ⊥
-  served-fault run old new served.ReadFault so no_source no_sink fault = no_source so.ends.0.rose
+  served-fault run old new served.ReadFault so no_source no_sink fault = no_source so.ends.0.1
   served-fault run old new served.WriteFault so no_source no_sink fault =
       let stopped = unwritten r (talk_promise w run_reply (first_of run) old.sink) old.source
       new.source new.sink so in
@@ -78,8 +78,8 @@ module _ {R W : Type 0} (r : source.Ghosts R) (w : sink.Ghosts W) where
   no-fault-of_run s shelf shelf_after old new (Some names) status answer no_read no_source no_sink
       fault =
       ⊎_elim
-      (λ refused. refused-fault (s.files shelf) _ _ (debug_row names) status refused.cause no_read
-      fault)
+      (λ refused. refused-fault (s.files shelf) _ _ (debug_row names) status refused.0.cause
+      no_read fault)
       (λ came. let has = came.2 in
       served-fault came.0 old new has.ended has.serves no_source no_sink
       (rw has.answer at fault))

@@ -22,9 +22,9 @@ use Rattle.device_debug.specs.Session.{RunSession, run_reply}
 use Rattle.input_files.specs.declared.status.Status.{Status}
 use Rattle.input_files.specs.declared.status.Status.TheVariants.{Done, Words, Memory, Spent}
 use Rattle.input_files.specs.FileKind.{image_kind, key_kind, script_kind}
-use Rattle.input_files.specs.Reading.{IsRefusal, Reaches, Refuses, first_refusal}
+use Rattle.input_files.specs.Reading.{IsUnread, Reaches, first_refusal}
 use Rattle.input_files.specs.Row.{RowOf, Ends, read_file}
-use Rattle.debug_cli.specs.Edge.{Ports}
+use Rattle.source_server.specs.Ports.{Ports}
 use Rattle.debug_cli.specs.Status.{status_of_served}
 
 -- the names of its files
@@ -52,15 +52,6 @@ debug_row names =
     read_file image_kind names.image (λ image.
     read_file script_kind names.script (λ script. Ends (Ok (run_with key image script)))))
 
--- the files were refused, for a cause, and nothing was taken or put
-pub record IsRefused {S R W : Type 0} (s : shelves.Ghosts S) (shelf shelf_after : S)
-    (old new : Ports R W) (names : DebugNames) (status : Status) : Type 0 where
-  pub cause : IsRefusal (s.files shelf) (Rose (s.misses shelf) (s.misses shelf_after))
-      (Rose (s.faults shelf) (s.faults shelf_after)) (debug_row names) status
-  pub order : IfSome (s.files shelf) (λ contents.
-      Refuses (first_refusal (debug_row names) contents) status)
-  pub silent : new ≡ old
-
 -- before the first packet of a run
 abbrev pub first_of : Run → RunSession
 first_of run = record { run = run; session = first_session }
@@ -79,9 +70,10 @@ pub record IsDebugAnswer {S R W : Type 0} (s : shelves.Ghosts S) (r : source.Gho
     (status : Status) : Type 0 where
   pub words : (status ≡ Words) ↔ (names ≡ None)
   pub unread : status ≡ Words → (shelf_after ≡ shelf) × (new ≡ old)
-  -- the files were refused, or they were read without fault, and their run served the source
+  -- the files were refused, and nothing was taken or put, or they were read without fault, and
+  -- their run served the source
   pub answers : IfSome names (λ names.
-      IsRefused s shelf shelf_after old new names status
+      (IsUnread s shelf shelf_after (debug_row names) status × (new ≡ old))
       ⊎ ((run : Run) × Reaches (s.files shelf) (debug_row names) (Ok run)
       × HasServed r w run old new status))
   -- where files and packets are told, no file is refused, the packets are not too many, and no

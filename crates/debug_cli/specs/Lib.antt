@@ -1,3 +1,2 @@
 pub mod Debug
-pub mod Edge
 pub mod Status
