@@ -3,9 +3,10 @@ use Rattle.std.proofs.Common.{◌≡◌, ◌<◌, ◌≤◌, ◌+◌, ℕ, Bool,
 use Rattle.std.specs.Prelude.{if◌then◌else◌, nat_eq, not, IfSome}
 use Rattle.std.specs.List.{All, Contains}
 use Rattle.std.specs.Str.{bytes_eq}
-use Rattle.std.proofs.lemmas.Bool.{cases_Bool}
+use Rattle.std.proofs.lemmas.Bool.{cases_Bool, eqb-true}
 use Rattle.std.proofs.lemmas.Bool.Decides.{nat_tests}
 use Rattle.std.proofs.lemmas.List.Elements.{All-nil, All-cons, Contains-append_right}
+use Rattle.std.proofs.lemmas.Slice.Eq.{bytes_eq-Decides}
 use Rattle.bus_signals.specs.Report.{ReportFields}
 use Rattle.text_scan.specs.declared.fault_kind.FaultKind.{FaultKind}
 use Rattle.report_text.specs.ReportFile.{report2_of}
@@ -23,7 +24,6 @@ use Rattle.desk_memory.specs.Entry.{Entry, entry_at, home_of, state_under}
 use Rattle.verifier_desk.specs.DeviceReply.{LAST_COUNT, answer_to_ask, answer_to_give, new_answer}
 use Rattle.verifier_desk.specs.Judged.{JudgedLine, answer_to, entry_after, entry_through, is_new_to, mark_of, state_before}
 use Rattle.verifier_desk.specs.Law.{Descends, IsAcceptedOnce, KeyCounter, StartsSound, accepted, accepted_counter, count_in, counter_in_state, counter_of, counters_in, outstanding_in, requested, under_mark}
-use Rattle.verifier_desk.proofs.KeyPlaces.{same_name}
 
 -- an accepted report has the counter that is expected
 counts_agree : (version chal count : Bool) (later : Verdict)
@@ -38,14 +38,11 @@ counts_agree true true false later accepts = absurd (cc accepts)
 counts_agree true false count later accepts = absurd (cc accepts)
 counts_agree false chal count later accepts = absurd (cc accepts)
 
-same_count : (left right : ℕ) → nat_eq left right ≡ true → left ≡ right
-same_count left right same = grind (arith, nat_tests, same)
-
 pub accepted_count : (judge : Judge) (expect : Expect) (report : ReportFields)
     → verdict_on judge.digest judge.key judge.image expect report ≡ Accept
     → expect.count ≡ report.count
 accepted_count judge expect report accepts =
-    same_count expect.count report.count
+    eqb-true expect.count report.count
     (counts_agree (same_version expect.version report.version) (bytes_eq expect.chal report.chal)
     (nat_eq expect.count report.count) _ accepts)
 
@@ -203,7 +200,7 @@ entry_counted : (old : List KeyCounter) (base : ℕ) (entry : Entry)
     → AreCounted old base (Some entry) requests accepts
 entry_counted old base entry requests accepts so mark =
     elim (cases_Bool (bytes_eq entry.mark mark)) [
-      | inl same ↦ rw (same, sym (same_name entry.mark mark same)) so
+      | inl same ↦ rw (same, sym ((bytes_eq-Decides entry.mark mark).0 same)) so
       | inr other ↦ rw other (renewed_counted old base entry.mark mark entry.state.count
           entry.state.outstanding requests accepts so)
     ]

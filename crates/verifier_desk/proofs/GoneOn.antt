@@ -15,7 +15,7 @@ use Rattle.verifier_desk.specs.Noted.{entries_after, noted_of, with_noted}
 use Rattle.verifier_desk.specs.Replies.{DeskFields, answer_line, judge_at, lines_said, mark_at, own_line, own_lines, replies, reply, reply_to, state_at}
 use Rattle.verifier_desk.proofs.Remembered.{IsKnown, device_remembered, line_known}
 
-own_lines-append : (devices : List DeviceKey) (name : List ℕ) (later earlier : List (List ℕ))
+pub own_lines-append : (devices : List DeviceKey) (name : List ℕ) (later earlier : List (List ℕ))
     → own_lines devices name (later ++ earlier)
     ≡ own_lines devices name later ++ own_lines devices name earlier
 own_lines-append devices name [] earlier = refl

@@ -1,7 +1,7 @@
 -- The marks of the devices before a place.
-use Rattle.std.proofs.Common.{◌≡◌, ◌∙◌, ◌<◌, ◌+◌, ℕ, true, false, List, [], ◌∷◌, ◌++◌, refl, ap, sym, subst, arith, ⊎_elim, Contains, below_more}
+use Rattle.std.proofs.Common.{◌≡◌, ◌∙◌, ◌<◌, ◌+◌, ℕ, false, List, [], ◌∷◌, ◌++◌, refl, ap, sym, subst, arith, ⊎_elim, Contains, below_more}
 use Rattle.std.specs.Prelude.{nat_lt, slice_index_or}
-use Rattle.std.proofs.lemmas.Bool.{cases_Bool}
+use Rattle.std.proofs.lemmas.Bool.{cases_Bool, ltb-true}
 use Rattle.std.proofs.lemmas.Bool.Decides.{nat_tests}
 use Rattle.std.proofs.lemmas.List.Elements.{All-cons, All-contains, All-nil, Contains-append_cases, Contains-append_left, Contains-append_right}
 use Rattle.desk_memory.specs.Entry.{Entry, owner_in}
@@ -45,9 +45,6 @@ earlier_or_last : (before place : ℕ) → nat_lt before place ≡ false → bef
     → place ≡ before
 earlier_or_last before place above below = grind (arith, nat_tests, above, below)
 
-earlier : (before place : ℕ) → nat_lt before place ≡ true → before < place
-earlier before place below = grind (arith, nat_tests, below)
-
 -- one more
 pub next_marks : (digest : List ℕ → List ℕ) (devices : List DeviceKey) (marks : List (List ℕ))
     (place : ℕ) (name mark : List ℕ) → IsAt digest devices place name mark
@@ -57,7 +54,7 @@ next_marks digest devices marks place name mark at so =
     record {
       all = λ before d below. ⊎_elim
           (λ sooner. Contains-append_left marks (mark ∷ []) _
-          (so.all before d (earlier before place sooner)))
+          (so.all before d (ltb-true before place sooner)))
           (λ last. Contains-append_right marks (mark ∷ []) _ (subst (λ (here : ℕ).
           Contains (mark ∷ []) (key_mark digest (slice_index_or devices here d).key))
           (earlier_or_last before place last below)

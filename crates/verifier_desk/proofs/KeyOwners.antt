@@ -3,7 +3,8 @@ use Rattle.std.proofs.Common.{◌≡◌, ◌∙◌, ◌<◌, ℕ, Bool, true, fa
 use Rattle.std.specs.Prelude.{if◌then◌else◌, nat_lt, not, slice_index_or}
 use Rattle.std.specs.Option.{is_some}
 use Rattle.std.specs.Str.{bytes_eq}
-use Rattle.std.proofs.lemmas.Bool.{cases_Bool}
+use Rattle.std.proofs.lemmas.Option.{same_Some}
+use Rattle.std.proofs.lemmas.Bool.{cases_Bool, ltb-true}
 use Rattle.std.proofs.lemmas.Bool.Decides.{nat_tests}
 use Rattle.std.proofs.lemmas.Slice.Eq.{bytes_eq-Decides}
 use Rattle.desk_memory.specs.declared.answer.Answer.TheVariants.{Stale}
@@ -23,16 +24,10 @@ use Rattle.verifier_desk.specs.Noted.{entries_after, note_at, noted_of, with_not
 use Rattle.verifier_desk.specs.Replies.{DeskFields, judge_at, lines_said, mark_at, own_answer, own_line, state_at}
 use Rattle.verifier_desk.specs.Run.{AreStarted, Run, entries_through}
 use Rattle.verifier_desk.proofs.GoneOn.{desk_goes_on}
-use Rattle.verifier_desk.proofs.KeyPlaces.{IsPlaceOf, place_named, placed, same_name}
+use Rattle.verifier_desk.proofs.KeyPlaces.{IsPlaceOf, place_named, placed}
 use Rattle.verifier_desk.proofs.Remembered.{IsKnown, entry_known, line_known, memory_has_states, own_known_entry, state_known}
 use Rattle.verifier_desk.proofs.Repeated.{HasAnswer, has_answer}
 use Rattle.verifier_desk.proofs.Standing.{same_device}
-
-same_some : (one two : List ℕ) → Some one ≡ Some two → one ≡ two
-same_some one two same = cc same
-
-some_entry : (one two : Entry) → Some one ≡ Some two → one ≡ two
-some_entry one two same = cc same
 
 second : (a b c : Bool) → (a && b && c) ≡ true → b ≡ true
 second true true c all = refl
@@ -47,7 +42,7 @@ owner_elsewhere [] new mark other = rw other refl
 owner_elsewhere (entry ∷ later) new mark other = elim (cases_Bool (is_replaced entry later new)) [
   | inl same ↦
       let marked : entry.mark ≡ new.mark =
-      same_name entry.mark new.mark (second (bytes_eq entry.name new.name)
+      (bytes_eq-Decides entry.mark new.mark).0 (second (bytes_eq entry.name new.name)
       (bytes_eq entry.mark new.mark) (not (is_some (last_in later new.name))) same) in
       rw (same, marked, other) refl
   | inr more ↦ elim (cases_Bool (bytes_eq entry.mark mark)) [
@@ -71,7 +66,7 @@ found_at devices device (Some place) so known =
       place = place;
       within = so.0;
       is = λ d. same_device (slice_index_or devices place d) device.name device.key (so.1 d)
-          (same_some _ _ (sym (so.2 d) ∙ known));
+          (same_Some _ _ (sym (so.2 d) ∙ known));
     }
 
 stands_at : (devices : List DeviceKey) (device : DeviceKey)
@@ -119,9 +114,6 @@ owns_noted digest devices entries device state at so =
     (free_owner device.name (owner_in entries (key_mark digest device.key))
     (free_known digest devices entries device at so))
 
-before : (i j : ℕ) → nat_lt i j ≡ true → i < j
-before i j below = grind (arith, nat_tests, below)
-
 at_once : (i j : ℕ) → nat_lt i j ≡ false → nat_lt j i ≡ false → i ≡ j
 at_once i j above over = grind (arith, nat_tests, above, over)
 
@@ -134,7 +126,7 @@ same_place : (digest : List ℕ → List ℕ) (devices : List DeviceKey) (entrie
     → i ≡ j
 same_place digest devices entries i j d so within_i within_j same =
     ⊎_elim
-    (λ below. absurd ((so j within_j).new i d (before i j below) same))
+    (λ below. absurd ((so j within_j).new i d (ltb-true i j below) same))
     (λ above. ⊎_elim
     (λ under. absurd ((so i within_i).new j d (before j i under) (sym same)))
     (λ over. at_once i j above over)
@@ -154,7 +146,7 @@ apart_noted digest devices entries device state at so = λ i below.
           let here : at.place ≡ i =
           same_place digest devices entries at.place i d so at.within below
           (ap (λ (owner : DeviceKey). key_mark digest owner.key) (at.is d)
-          ∙ same_name (key_mark digest device.key) (key_mark digest one.key) same) in
+          ∙ (bytes_eq-Decides (key_mark digest device.key) (key_mark digest one.key)).0 same) in
           let is : device ≡ one =
           sym (at.is d) ∙ ap (λ (place : ℕ). slice_index_or devices place d) here in
           subst (λ (owner : DeviceKey). IsFreeFor owner.name
@@ -163,8 +155,8 @@ apart_noted digest devices entries device state at so = λ i below.
           (subst (IsFreeFor device.name)
           (sym (owns_noted digest devices entries device state at so)) refl))
           (λ differ. subst (IsFreeFor one.name)
-          (sym (owner_elsewhere entries (entry_of digest entries device state) (key_mark digest one.key)
-          differ)) ((so i below).free d))
+          (sym (owner_elsewhere entries (entry_of digest entries device state)
+          (key_mark digest one.key) differ)) ((so i below).free d))
           (cases_Bool (bytes_eq (key_mark digest device.key) (key_mark digest one.key)));
       new = (so i below).new;
     }
@@ -176,8 +168,8 @@ entry_kept desk entries device state has so =
     record {
       apart = apart_noted desk.digest desk.devices entries device state
           (stands_at desk.devices device has) so.apart;
-      kept = λ mark name owns. owner_is_kept entries (entry_of desk.digest entries device state) mark name
-          (so.kept mark name owns);
+      kept = λ mark name owns. owner_is_kept entries
+          (entry_of desk.digest entries device state) mark name (so.kept mark name owns);
     }
 
 kept_if : (desk : DeskFields) (new : Bool) (entries : List Entry) (note : Note)
@@ -215,7 +207,7 @@ last_owned (entry ∷ later) name last is none =
       ]
       | inr unnamed ↦ elim (cases_Bool (bytes_eq entry.name name)) [
         | inl hit ↦
-            let same : entry ≡ last = some_entry entry last (rw (unnamed, hit) at is) in
+            let same : entry ≡ last = same_Some entry last (rw (unnamed, hit) at is) in
             let mine : bytes_eq entry.mark last.mark ≡ true =
             (bytes_eq-Decides entry.mark last.mark).1
             (ap (λ (one : Entry). one.mark) same) in
@@ -304,6 +296,6 @@ owns_through start (run ∷ earlier) name mark so apart served =
 
 pub key_is_under_one_name : IsUnderOneName
 key_is_under_one_name start runs mark one other so apart served again =
-    same_some one other
+    same_Some one other
     (sym (owns_through start runs one mark so apart served)
     ∙ owns_through start runs other mark so apart again)

@@ -17,9 +17,6 @@ use Rattle.verifier_desk.specs.Standing.{AreDistinct}
 pub no_device : DeviceKey
 no_device = record { name = []; key = [] }
 
-pub same_name : (left right : List ℕ) → bytes_eq left right ≡ true → left ≡ right
-same_name left right same = (bytes_eq-Decides left right).0 same
-
 -- where the device of this name stands
 abbrev pub place_named : List ℕ → List DeviceKey → Option ℕ
 place_named name devices =
@@ -62,7 +59,7 @@ placed_first : (name : List ℕ) (device : DeviceKey) (devices : List DeviceKey)
     (place : Option ℕ) → bytes_eq device.name name ≡ same → IsPlaceOf name devices place
     → IsPlaceOf name (device ∷ devices) (cond same (Some 0) (option_map (λ place. place + 1) place))
 placed_first name device devices true place same so =
-    (omega arith, λ d. same_name device.name name same, λ d. rw same refl)
+    (omega arith, λ d. (bytes_eq-Decides device.name name).0 same, λ d. rw same refl)
 placed_first name device devices false place other so =
     further name device devices place other so
 

@@ -88,12 +88,12 @@ module _ {M W : Type 0} (m : memory.Ghosts M) (w : sink.Ghosts W) where
           put_of_more first now fields more lines text put,
         ),
       )
-  fails_more first now fields more lines (Own (Unkept fault)) (failed, (later, done, parts, put)) = (
+  fails_more first now fields more lines (Own (Unkept fault)) (failed, (rest, done, parts, put)) = (
     failed,
     (
-      more ++ later,
+      more ++ rest,
       done,
-      ap (λ (one : List (List ℕ)). more ++ one) parts ∙ sym (append_assoc more later done),
+      ap (λ (one : List (List ℕ)). more ++ one) parts ∙ sym (append_assoc more rest done),
       put_of_more first now fields more lines (replies fields done) put,
     ),
   )

@@ -1,8 +1,9 @@
 -- Devices that are found by the places of their names and of their keys.
 use Rattle.std.proofs.Common.{◌≡◌, ◌<◌, ◌∙◌, ℕ, zero, suc, Bool, true, false, List, [], ◌∷◌, ◌++◌, Option, Some, None, length, refl, arith, ap, sym, subst, ⊎_elim}
-use Rattle.std.specs.Prelude.{◌≤◌, slice_index_or, unwrap_or}
+use Rattle.std.specs.Prelude.{◌≤◌, slice_index_or}
 use Rattle.std.specs.Map.{update}
 use Rattle.std.specs.Str.{bytes_eq}
+use Rattle.std.proofs.lemmas.Option.{same_Some}
 use Rattle.std.proofs.Math.Seq.{get_or-append_seam}
 use Rattle.std.proofs.lemmas.Bool.{cases_Bool, cond-true, cond-false, false≢true}
 use Rattle.std.proofs.lemmas.List.{get_or_append_left, get_or_default}
@@ -135,9 +136,6 @@ pub is_at_place : (word : DeviceKey → List ℕ) (devices : List DeviceKey)
 is_at_place word devices places one i d are within same =
     sym (ap places same) ∙ are i d within
 
-one_place : (i j : ℕ) → Some i ≡ Some j → i ≡ j
-one_place i j same = ap (λ (place : Option ℕ). unwrap_or place 0) same
-
 -- a word whose place is none, or behind the devices
 pub missed : (word : DeviceKey → List ℕ) (devices : List DeviceKey)
     (places : List ℕ → Option ℕ) (one : List ℕ) → ArePlaced word devices places
@@ -153,7 +151,7 @@ missed_behind word devices places one place are at behind i d within same =
       arith,
       within,
       behind,
-      one_place place i
+      same_Some place i
           (sym at ∙ is_at_place word devices places one i d are within same),
     )
 
@@ -165,7 +163,7 @@ pub missed_there : (word : DeviceKey → List ℕ) (devices : List DeviceKey)
     → place < length devices → HasNone word devices one
 missed_there word devices places one place there are at is other inside i d within same =
     let here =
-    one_place i place (sym (is_at_place word devices places one i d are within same) ∙ at) in
+    same_Some i place (sym (is_at_place word devices places one i d are within same) ∙ at) in
     let first = is_at_place word devices places (word there) place there are inside
     (ap word (sym is)) in
     absurd (false≢true (sym other ∙ (bytes_eq-Decides (word there) one).1

@@ -23,7 +23,6 @@ use Rattle.verifier_desk.specs.Law.{IsRemembered, judged_at}
 use Rattle.verifier_desk.specs.Noted.{entries_after, noted_of, with_noted}
 use Rattle.verifier_desk.specs.Replies.{DeskFields, judge_at, lines_said, mark_at, state_at}
 use Rattle.verifier_desk.specs.Standing.{with_said}
-use Rattle.verifier_desk.proofs.KeyPlaces.{same_name}
 
 -- a line of a device is of one that the desk has
 abbrev pub IsKnown : List DeviceKey → DeskLine → Type 0
@@ -218,7 +217,7 @@ noted desk lines (Own device line) entries name known so =
     (λ same. subst (λ (one : List ℕ).
     last_in (with_noted (noted_of desk lines (Own device line)) entries) one
     ≡ entry_known desk one (with_said (Own device line) lines one))
-    (same_name device.name name same)
+    ((bytes_eq-Decides device.name name).0 same)
     (noted_here desk lines device line entries known (so device.name)
     ∙ rw ((bytes_eq-Decides device.name device.name).1 refl) refl))
     (λ other. noted_elsewhere desk lines device line entries name other ∙ so name

@@ -4,6 +4,7 @@ use Rattle.std.specs.Prelude.{if◌then◌else◌, option_map}
 use Rattle.std.specs.Str.{bytes_eq}
 use Rattle.std.proofs.lemmas.Bool.{cases_Bool}
 use Rattle.std.proofs.lemmas.Bool.Decides.{nat_tests}
+use Rattle.std.proofs.lemmas.Slice.Eq.{bytes_eq-Decides}
 use Rattle.desk_memory.specs.declared.answer.Answer.{Answer}
 use Rattle.desk_memory.specs.declared.answer.Answer.TheVariants.{Stale}
 use Rattle.desk_memory.specs.declared.device_state.DeviceState.{DeviceState}
@@ -13,7 +14,6 @@ use Rattle.verifier_desk.specs.DeviceReply.{new_answer}
 use Rattle.verifier_desk.specs.Judged.{JudgedLine, answer_to, entry_after, is_new_to, mark_of, state_before}
 use Rattle.verifier_desk.specs.Law.{IsRepeated}
 use Rattle.verifier_desk.proofs.AcceptedOnce.{new_by_number}
-use Rattle.verifier_desk.proofs.KeyPlaces.{same_name}
 
 -- a device's last entry has the number of a line and what was answered to it, under its key
 pub record HasAnswer (after : Option Entry) (now : JudgedLine) (answer : Answer) : Type 0 where
@@ -45,7 +45,7 @@ old_entry : (mark : List ℕ) (number : ℕ) (entry : Entry) (answer : Answer)
 old_entry mark number entry answer old fresh = elim (cases_Bool (bytes_eq entry.mark mark)) [
   | inl same ↦
       rw same (
-        same_name entry.mark mark same,
+        (bytes_eq-Decides entry.mark mark).0 same,
         kept_last number entry.state.last answer (rw same at old) (rw same at fresh),
       )
   | inr other ↦

@@ -12,12 +12,8 @@ use Rattle.source_server.specs.HeldLine.{LONGEST_LINE}
 use Rattle.verifier_desk.specs.DeskLine.{DeskLine, TooLong, Silent, Foreign, Own, is_verb, own_or_foreign, desk_line_of_words, desk_line_of}
 use Rattle.verifier_desk.specs.DeviceKey.{DeviceKey, key_named}
 use Rattle.verifier_desk.specs.DeviceLine.{DeviceLine}
-use Rattle.verifier_desk.specs.Replies.{DeskFields, own_line, own_lines, own_reply, reply_to, reply, replies}
+use Rattle.verifier_desk.specs.Replies.{DeskFields, answer_line, own_answer, own_line, own_lines, reply_to, reply, replies}
 use Rattle.verifier_desk.specs.Law.{alone, is_named, is_of, lines_of_device, replies_to_device, IsServedAlone}
-use Rattle.verifier_desk.proofs.KeyPlaces.{same_name}
-
-bytes_eq-self : (bytes : List ℕ) → bytes_eq bytes bytes ≡ true
-bytes_eq-self bytes = (bytes_eq-Decides bytes bytes).1 refl
 
 -- the key of its name is the device's own
 own_key : (devices : List DeviceKey) (device : DeviceKey) (name : List ℕ)
@@ -25,8 +21,8 @@ own_key : (devices : List DeviceKey) (device : DeviceKey) (name : List ℕ)
     → bytes_eq name device.name ≡ true
     → key_named name (device ∷ []) ≡ key_named name devices
 own_key devices device name known same =
-    let is : name ≡ device.name = same_name name device.name same in
-    rw is (rw (bytes_eq-self device.name) (sym known))
+    let is : name ≡ device.name = (bytes_eq-Decides name device.name).0 same in
+    rw is (rw ((bytes_eq-Decides device.name device.name).1 refl) (sym known))
 
 -- a line of another name is no line of the device
 other_name : (name : List ℕ) (key : Option (List ℕ)) (number : Result ℕ FaultKind)
@@ -118,8 +114,8 @@ reply_to-alone desk device earlier TooLong known named = absurd (false≢true na
 reply_to-alone desk device earlier Silent known named = absurd (false≢true named)
 reply_to-alone desk device earlier Foreign known named = absurd (false≢true named)
 reply_to-alone desk device earlier (Own owner line) known named =
-    let is : owner.name ≡ device.name = same_name owner.name device.name named in
-    ap (λ lines. own_reply desk lines owner line)
+    let is : owner.name ≡ device.name = (bytes_eq-Decides owner.name device.name).0 named in
+    ap (λ lines. answer_line desk.digest owner line.number (own_answer desk lines owner line))
     (subst (λ name. own_lines desk.devices name earlier
     ≡ own_lines (device ∷ []) name (lines_of_device desk device.name earlier)) (sym is)
     (own_lines-alone desk device earlier known))

@@ -1,9 +1,10 @@
 -- A line of the device at a place changes the state there alone.
-use Rattle.std.proofs.Common.{◌≡◌, ◌<◌, ◌∙◌, ℕ, true, false, List, ◌∷◌, Option, Some, length, refl, ap, sym, subst, arith, ⊎_elim}
+use Rattle.std.proofs.Common.{◌≡◌, ◌<◌, ◌∙◌, ℕ, false, List, ◌∷◌, Option, Some, length, refl, ap, sym, subst, arith, ⊎_elim}
 use Rattle.std.specs.Prelude.{nat_eq, slice_index_or, slice_set}
 use Rattle.std.specs.Str.{bytes_eq}
+use Rattle.std.proofs.lemmas.Option.{same_Some}
 use Rattle.std.proofs.lemmas.List.{get_or-set_same, get_or-set_other}
-use Rattle.std.proofs.lemmas.Bool.{cases_Bool, false_from_ne_true}
+use Rattle.std.proofs.lemmas.Bool.{cases_Bool, eqb-true, false_from_ne_true}
 use Rattle.std.proofs.lemmas.Bool.Decides.{nat_tests}
 use Rattle.std.proofs.lemmas.Slice.Eq.{bytes_eq-Decides}
 use Rattle.report_verifier.specs.Judge.{Judge}
@@ -35,9 +36,6 @@ own-elsewhere device line lines name other =
     rw (false_from_ne_true (bytes_eq device.name name)
     (λ same. other ((bytes_eq-Decides device.name name).0 same))) refl
 
-equal : (i place : ℕ) → nat_eq i place ≡ true → i ≡ place
-equal i place same = grind (arith, nat_tests, same)
-
 unequal : (i place : ℕ) → nat_eq i place ≡ false → i ≡ place → ⊥
 unequal i place differ at = grind (arith, nat_tests, differ, at)
 
@@ -64,7 +62,7 @@ kept_at_its_place desk states lines place device line state distinct long within
     (λ same. subst (λ (at : ℕ). slice_index_or (slice_set states place state) at s
     ≡ state_at desk (slice_index_or desk.devices at d)
     (with_said (Own device line) lines (slice_index_or desk.devices at d).name))
-    (sym (equal i place same))
+    (sym (eqb-true i place same))
     (kept-here desk states lines place device line state d s (omega (arith, long, within)) (is d)
     after))
     (λ differ. set-elsewhere states place i state s (unequal i place differ)
@@ -99,9 +97,6 @@ said_at_place says desk states lines place device old s digest key image policy 
     ap (λ (one : Judge). says one old) (sym same)
     ∙ ap (λ (one : DeviceState). says (judge_at desk device) one) state
 
-some-key : (one two : List ℕ) → Some one ≡ Some two → one ≡ two
-some-key one two same = cc same
-
 with_name : (device : DeviceKey) (name : List ℕ) → device.name ≡ name
     → device ≡ record { name = name; key = device.key }
 with_name device name same = ap (λ (one : List ℕ). record device { name = one }) same
@@ -125,4 +120,4 @@ pub device_at :
     ≡ record { name = name; key = (slice_index_or devices place e).key }
 device_at devices place name found named keyed d e =
     same_device (slice_index_or devices place d) name (slice_index_or devices place e).key (named d)
-    (some-key _ _ (sym (keyed d) ∙ keyed e))
+    (same_Some _ _ (sym (keyed d) ∙ keyed e))

@@ -27,10 +27,4 @@ no_lines_of name = []
 abbrev pub desk_with :
     List DeviceKey → (ℕ → Option ℕ) → PolicyFields → List Entry → DeskFields
 desk_with devices image policy entries =
-    record {
-      digest = sha256;
-      devices = devices;
-      image = image;
-      policy = policy;
-      entries = entries;
-    }
+    record { digest = sha256; devices = devices; image = image; policy = policy; entries = entries }

@@ -40,11 +40,8 @@ answer_to_ask count (word ∷ words) = Bad Extra
 abbrev pub answer_to_give : Judge → Option ℕ → Result ReportFields FaultKind → Answer
 answer_to_give judge outstanding (Err kind) = Bad kind
 answer_to_give judge outstanding (Ok report) =
-    Judged (
-    verdict judge.digest judge.key judge.image
-    (expectation judge.policy
-    (option_map (request_with judge.digest judge.key) outstanding)) report
-    )
+    Judged (verdict judge.digest judge.key judge.image (expectation judge.policy
+    (option_map (request_with judge.digest judge.key) outstanding)) report)
 
 -- to a line with a new number
 abbrev pub new_answer : Judge → DeviceState → DeviceLine → Answer

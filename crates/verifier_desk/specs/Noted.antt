@@ -10,11 +10,7 @@ use Rattle.verifier_desk.specs.Replies.{DeskFields, lines_said, mark_at, state_a
 -- the note of a device after these lines of it
 abbrev pub note_at : DeskFields → DeviceKey → List DeviceLine → Note
 note_at desk device lines =
-    record {
-      name = device.name;
-      mark = mark_at desk device;
-      state = state_at desk device lines;
-    }
+    record { name = device.name; mark = mark_at desk device; state = state_at desk device lines }
 
 -- what is noted of what a line says, where these were the earlier lines of each device
 abbrev pub noted_of : DeskFields → (List ℕ → List DeviceLine) → DeskLine → Option Note

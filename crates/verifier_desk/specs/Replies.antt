@@ -30,12 +30,7 @@ pub record DeskFields : Type 0 where
 
 abbrev pub judge_at : DeskFields → DeviceKey → Judge
 judge_at desk device =
-    record {
-      digest = desk.digest;
-      key = device.key;
-      image = desk.image;
-      policy = desk.policy;
-    }
+    record { digest = desk.digest; key = device.key; image = desk.image; policy = desk.policy }
 
 -- the mark of a device's key
 abbrev pub mark_at : DeskFields → DeviceKey → List ℕ
@@ -87,21 +82,18 @@ own_lines devices name (line ∷ earlier) =
 abbrev pub lines_said : DeskFields → List (List ℕ) → List ℕ → List DeviceLine
 lines_said desk lines name = own_lines desk.devices name lines
 
--- the answer to a line of a device, where these were its earlier ones, and the reply
+-- the answer to a line of a device, where these were its earlier ones
 abbrev pub own_answer : DeskFields → List DeviceLine → DeviceKey → DeviceLine → Answer
 own_answer desk earlier device line =
     answer_after (judge_at desk device) (state_at desk device earlier) line
-
-abbrev pub own_reply : DeskFields → List DeviceLine → DeviceKey → DeviceLine → List ℕ
-own_reply desk earlier device line =
-    answer_line desk.digest device line.number (own_answer desk earlier device line)
 
 -- the reply to what a line says, where these were the earlier lines of the device of each name
 abbrev pub reply_to : DeskFields → (List ℕ → List DeviceLine) → DeskLine → List ℕ
 reply_to desk earlier TooLong = codes "too-long\n"
 reply_to desk earlier Silent = []
 reply_to desk earlier Foreign = codes "refused\n"
-reply_to desk earlier (Own device line) = own_reply desk (earlier device.name) device line
+reply_to desk earlier (Own device line) =
+    answer_line desk.digest device line.number (own_answer desk (earlier device.name) device line)
 
 -- whether what a line says is a new report of a device
 abbrev pub gives_report : DeskFields → (List ℕ → List DeviceLine) → DeskLine → Bool

@@ -1,13 +1,14 @@
 ghost use Rattle.std.specs.Prelude.{◌≡◌};
-ghost use Rattle.desk_memory.specs.Entry.{last_in};
-ghost use Rattle.verifier_desk.specs.Gone.{first_gone, is_gone};
+ghost use Rattle.std.specs.Option.{is_some};
+ghost use Rattle.desk_memory.specs.Entry.{home_of, last_in};
+ghost use Rattle.verifier_desk.specs.Gone.{first_gone};
 
 use crate::key_list::KeyList;
 use desk_memory::{Entry, home_in};
 
 // Whether the device of a name is gone, as these entries have it.
 fn is_gone(entries: &[Entry], name: &[u8]) -> bool
-    ensures { result ≡ is_gone (last_in entries.now name.now) }
+    ensures { result ≡ is_some (home_of (last_in entries.now name.now)).gone }
 {
     home_in(entries, name).gone.is_some()
 }

@@ -31,8 +31,8 @@ returns-clause-serves g c = λ fields stands keeps.
 
 pub returns-clause-grows : goal.returns-clause-grows
 returns-clause-grows g c =
-    let memory = ap (λ (one : DeskResponder g.row.M.Denot). one.memory) c.new-lines.ensures.responder
-    ∙ c.new-3.ensures.memory in
+    let memory = ap (λ (one : DeskResponder g.row.M.Denot). one.memory)
+    c.new-lines.ensures.responder ∙ c.new-3.ensures.memory in
     rw (c.into_memory.ensures, c.into_responder.ensures, ← memory)
     (c.serve-served.ensures.grows
     (record { responder = c.new-lines.result; edge = c.args.sink.now })
