@@ -1,5 +1,5 @@
 -- The last entry of a device after its memory adopted lines.
-use Rattle.std.proofs.Common.{◌≡◌, ◌∙◌, ◌⊎◌, ℕ, List, [], ◌∷◌, Bool, true, false, Option, Some, None, ◌||◌, ◌&&◌, not, refl, sym, ap, inl, inr, arith}
+use Rattle.std.proofs.Common.{◌≡◌, ◌∙◌, ℕ, List, [], ◌∷◌, Bool, true, false, Option, Some, None, ◌||◌, ◌&&◌, not, refl, sym, ap, inl, inr, arith}
 use Rattle.std.specs.Prelude.{if◌then◌else◌, option_map, map, nat_eq}
 use Rattle.std.specs.List.{AllByRecursion, All, filter}
 use Rattle.std.specs.Option.{is_none, is_some}
@@ -10,34 +10,8 @@ use Rattle.std.proofs.lemmas.Slice.Eq.{bytes_eq-Decides}
 use Rattle.text_scan.specs.declared.fault_kind.FaultKind.TheVariants.{Order, Place, Twice}
 use Rattle.desk_memory.specs.Entry.{Entry, Home, home_of, last_in, owner_in, with_entries, with_entry}
 use Rattle.desk_memory.specs.Moving.{adopted, adoption_fault, arrived, arriving, at_home, entries_of, has_not_come, is_behind, is_gone_to, is_here, is_needed, is_new_in, is_of_other, moved_lines}
-use Rattle.desk_memory.proofs.Noted.{entry_is_last}
+use Rattle.desk_memory.proofs.Noted.{entry_is_last, last_of_more}
 use Rattle.many_desks.proofs.Worlds.{same_bytes, other_bytes}
-
-some_entry : (one other : Entry) → Some one ≡ Some other → one ≡ other
-some_entry one other same = cc same
-
--- the last of more entries is that of the later ones, or the first
-last_of_more : (first : Entry) (later : List Entry) (name : List ℕ) (last : Entry)
-    → last_in (first ∷ later) name ≡ Some last
-    → (last_in later name ≡ Some last) ⊎ ((first ≡ last) × (first.name ≡ name))
-last_of_more first later name last is = elim (cases_Bool (is_some (last_in later name))) [
-  | inl named ↦ inl (rw named at is)
-  | inr unnamed ↦ elim (cases_Bool (bytes_eq first.name name)) [
-    | inl hit ↦ inr (
-      some_entry first last (rw (unnamed, hit) at is),
-      (bytes_eq-Decides first.name name).0 hit,
-    )
-    | inr miss ↦ absurd (let known = rw (unnamed, miss) at is in cc known)
-  ]
-]
-
-pub last_named : (entries : List Entry) (name : List ℕ) (last : Entry)
-    → last_in entries name ≡ Some last → last.name ≡ name
-last_named [] name last is = absurd (cc is)
-last_named (first ∷ later) name last is = elim (last_of_more first later name last is) [
-  | inl behind ↦ last_named later name last behind
-  | inr own ↦ sym (ap (λ (entry : Entry). entry.name) own.0) ∙ own.1
-]
 
 pub last_has : (P : Entry → Type 0) (entries : List Entry) (name : List ℕ) (last : Entry)
     → All P entries → last_in entries name ≡ Some last → P last

@@ -12,7 +12,8 @@ use Rattle.desk_memory.specs.Moving.{adopted, adoption_fault, arrived, arriving,
 use Rattle.many_desks.specs.Act.{world_after}
 use Rattle.many_desks.specs.Law.{entry_of_one}
 use Rattle.many_desks.specs.Moves.{AreAdoptedOnce, AreAlike, IsAdoptedAgain}
-use Rattle.many_desks.proofs.Adopted.{AreAt, adopted_last, last_named, new_alike, not_behind, says_of_none}
+use Rattle.desk_memory.proofs.Noted.{last_named}
+use Rattle.many_desks.proofs.Adopted.{AreAt, adopted_last, new_alike, not_behind, says_of_none}
 use Rattle.many_desks.proofs.Placed.{MovedTo, placed, view_of}
 use Rattle.many_desks.proofs.Token.{settles}
 

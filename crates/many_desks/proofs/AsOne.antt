@@ -1,5 +1,5 @@
 -- What follows of where devices are.
-use Rattle.std.proofs.Common.{◌≡◌, ◌∙◌, ◌⊎◌, ℕ, List, [], ◌∷◌, ◌++◌, Option, Some, None, append_assoc, refl, sym, ap, subst, inl, inr}
+use Rattle.std.proofs.Common.{◌≡◌, ◌∙◌, ◌⊎◌, ℕ, List, [], ◌∷◌, ◌++◌, Option, Some, None, refl, sym, ap, subst, inl, inr}
 use Rattle.std.proofs.lemmas.List.{map-append}
 use Rattle.desk_memory.specs.Entry.{Entry, last_in}
 use Rattle.desk_memory.specs.declared.device_state.DeviceState.{DeviceState}
@@ -8,6 +8,7 @@ use Rattle.verifier_desk.specs.DeviceKey.{DeviceKey, key_named}
 use Rattle.verifier_desk.specs.DeviceLine.{DeviceLine}
 use Rattle.verifier_desk.specs.DeviceReply.{answer_after}
 use Rattle.verifier_desk.specs.Replies.{DeskFields, answer_line, judge_at, lines_said, own_answer, own_line, own_lines, reply_to}
+use Rattle.verifier_desk.proofs.GoneOn.{own_lines-append}
 use Rattle.verifier_desk.proofs.Remembered.{IsKnown, line_known, state_known}
 use Rattle.verifier_desk.specs.Judged.{JudgedLine, answer_to, entry_through, mark_of}
 use Rattle.verifier_desk.specs.Law.{judged_at, judged_lines}
@@ -47,16 +48,6 @@ desks_are_as_one start acts home name desk so allowed =
     (entry_of_one start acts home name) desk (placed start acts home name so allowed)
 
 -- the lines of a device in parts of a run
-own_lines-append : (devices : List DeviceKey) (name : List ℕ) (later earlier : List (List ℕ))
-    → own_lines devices name (later ++ earlier)
-    ≡ own_lines devices name later ++ own_lines devices name earlier
-own_lines-append devices name [] earlier = refl
-own_lines-append devices name (line ∷ later) earlier =
-    ap (λ (lines : List DeviceLine). own_line name (desk_line_of devices line) ++ lines)
-    (own_lines-append devices name later earlier)
-    ∙ sym (append_assoc (own_line name (desk_line_of devices line)) (own_lines devices name later)
-    (own_lines devices name earlier))
-
 judged_lines-append : (desk : DeskFields) (name : List ℕ) (later earlier : List (List ℕ))
     → judged_lines desk name (later ++ earlier)
     ≡ judged_lines desk name later ++ judged_lines desk name earlier

@@ -1,5 +1,6 @@
 -- Under which name each key stands after acts.
 use Rattle.std.proofs.Common.{◌≡◌, ◌∙◌, ◌⊎◌, ℕ, List, [], ◌∷◌, Bool, true, false, Option, Some, None, ◌&&◌, not, refl, sym, ap, subst, inl, inr}
+use Rattle.std.proofs.lemmas.Option.{same_Some}
 use Rattle.std.specs.Prelude.{map}
 use Rattle.std.specs.List.{filter}
 use Rattle.std.specs.Option.{is_some}
@@ -97,14 +98,11 @@ last_stands (entry ∷ later) name last is = elim (cases_Bool (is_some (last_in 
   | inl named ↦ inr (last_stands later name last (rw named at is))
   | inr unnamed ↦ elim (cases_Bool (bytes_eq entry.name name)) [
     | inl hit ↦
-        let same : entry ≡ last = same_entry (rw (unnamed, hit) at is) in
+        let same : entry ≡ last = same_Some entry last (rw (unnamed, hit) at is) in
         inl (ap (λ (one : Entry). one.mark) same, ap (λ (one : Entry). one.name) same)
     | inr miss ↦ absurd (let known = rw (unnamed, miss) at is in cc known)
   ]
 ]
-  where
-    same_entry : Some entry ≡ Some last → entry ≡ last
-    same_entry same = cc same
 
 -- a device that goes
 pub stands_departed : (name target : List ℕ) (entries : List Entry) (mark owner : List ℕ)

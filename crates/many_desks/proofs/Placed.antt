@@ -1,14 +1,15 @@
 -- Where each device is after acts.
-use Rattle.std.proofs.Common.{◌≡◌, ◌∙◌, ◌+◌, ℕ, List, [], ◌∷◌, Bool, true, false, not, Option, Some, None, refl, sym, ap, subst, inl, inr}
+use Rattle.std.proofs.Common.{◌≡◌, ◌∙◌, ◌+◌, ℕ, List, [], ◌∷◌, true, false, Option, Some, None, refl, sym, ap, subst, inl, inr}
 use Rattle.std.specs.Prelude.{IfSome, option_map}
+use Rattle.std.specs.Option.{is_none, is_some}
 use Rattle.std.specs.Str.{bytes_eq}
 use Rattle.std.proofs.lemmas.Bool.{cases_Bool}
 use Rattle.std.proofs.lemmas.Slice.Eq.{bytes_eq-Decides}
 use Rattle.desk_memory.specs.Entry.{Entry, Home, home_of, last_in}
 use Rattle.desk_memory.specs.Moving.{adoption_fault, departed, entries_of, gone_to, has_here, is_behind, is_here, moved_lines, with_gone}
-use Rattle.desk_memory.proofs.Noted.{entry_is_last}
+use Rattle.desk_memory.proofs.Noted.{entry_is_last, last_named}
 use Rattle.verifier_desk.specs.DeviceKey.{DeviceKey, key_named}
-use Rattle.verifier_desk.specs.Gone.{first_gone, is_gone}
+use Rattle.verifier_desk.specs.Gone.{first_gone}
 use Rattle.verifier_desk.specs.Judged.{JudgedLine, entry_through}
 use Rattle.verifier_desk.specs.Law.{judged_at, judged_lines}
 use Rattle.verifier_desk.specs.Replies.{own_lines}
@@ -17,7 +18,7 @@ use Rattle.verifier_desk.proofs.AllRuns.{entry_through-append}
 use Rattle.verifier_desk.proofs.Remembered.{memory_has_states}
 use Rattle.many_desks.specs.Act.{Act, Adopts, AreAllowed, IsMove, MayAdopt, MayServe, Sends, Serves, WasMoved, World, desk_of, entries_by, world_after}
 use Rattle.many_desks.specs.Law.{IsLeft, StartsAt, entry_of_one, lines_in, note_of}
-use Rattle.many_desks.proofs.Adopted.{AreAt, adopted_elsewhere, adopted_last, last_has, last_named, last_of_own, moved_are_alike, moved_last, not_behind}
+use Rattle.many_desks.proofs.Adopted.{AreAt, adopted_elsewhere, adopted_last, last_has, last_of_own, moved_are_alike, moved_last, not_behind}
 use Rattle.many_desks.proofs.Token.{IsBehind, IsPlaced, SpeaksRightly, View, comes, goes, serves, speaks_rightly, stays}
 use Rattle.many_desks.proofs.Worlds.{changed_memory, other_bytes, other_memory, same_bytes, same_or_other}
 
@@ -153,21 +154,21 @@ pub begun_here : (world : World) (desk : List ℕ) (run : Run) (name : List ℕ)
     → last_in run.desk.entries name ≡ last_in (world desk) name
 begun_here world desk run name may = ap (λ (entries : List Entry). last_in entries name) may.begun
 
-still_here : (last : Option Entry) → is_gone last ≡ false
+still_here : (last : Option Entry) → is_some (home_of last).gone ≡ false
     → IfSome last (λ entry. is_here entry ≡ true)
 still_here None here = tt
-still_here (Some last) here = not_false (is_here last) here
+still_here (Some last) here = none_here last.home.gone here
   where
-    not_false : (b : Bool) → not b ≡ false → b ≡ true
-    not_false true is = refl
-    not_false false is = absurd (cc is)
+    none_here : (gone : Option (List ℕ)) → is_some gone ≡ false → is_none gone ≡ true
+    none_here None is = refl
+    none_here (Some desk) is = absurd (cc is)
 
 pub none_gone : (entries : List Entry) (place : ℕ) (devices : List DeviceKey) (name key : List ℕ)
     → first_gone entries place devices ≡ None → key_named name devices ≡ Some key
     → IfSome (last_in entries name) (λ last. is_here last ≡ true)
 none_gone entries place [] name key none has = absurd (cc has)
 none_gone entries place (device ∷ devices) name key none has =
-    elim (cases_Bool (is_gone (last_in entries device.name))) [
+    elim (cases_Bool (is_some (home_of (last_in entries device.name)).gone)) [
       | inl gone ↦ let known = rw gone at none in absurd (cc known)
       | inr here ↦ elim (cases_Bool (bytes_eq device.name name)) [
         | inl hit ↦ subst (λ (one : List ℕ).

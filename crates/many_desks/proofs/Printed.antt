@@ -1,5 +1,6 @@
 -- What a memory prints again of a device that is gone.
 use Rattle.std.proofs.Common.{◌≡◌, ◌∙◌, ◌⊎◌, ℕ, List, [], ◌∷◌, Bool, true, false, not, Option, Some, None, refl, sym, ap, subst, inl, inr, true≢false}
+use Rattle.std.proofs.lemmas.Option.{same_Some}
 use Rattle.std.specs.Prelude.{if◌then◌else◌, map, IfSome}
 use Rattle.std.specs.List.{AllByRecursion}
 use Rattle.std.specs.Option.{is_none, is_some}
@@ -20,7 +21,8 @@ use Rattle.verifier_desk.specs.Run.{Run}
 use Rattle.verifier_desk.proofs.Remembered.{IsKnown, line_known, memory_has_states}
 use Rattle.many_desks.specs.Act.{Act, Adopts, IsAllowed, IsMove, MayServe, Sends, Serves, WasMoved, World, desk_of, entries_by, world_after}
 use Rattle.many_desks.specs.Possible.{IsPrintedAgain}
-use Rattle.many_desks.proofs.Adopted.{last_has, last_named, last_of_own, more_last, or_else, says_of_none}
+use Rattle.desk_memory.proofs.Noted.{last_named}
+use Rattle.many_desks.proofs.Adopted.{last_has, last_of_own, more_last, or_else, says_of_none}
 use Rattle.many_desks.proofs.KeyPairs.{both}
 use Rattle.many_desks.proofs.Placed.{departed_last, none_gone}
 use Rattle.many_desks.proofs.Through.{home_through}
@@ -146,9 +148,6 @@ gone_is_kept : (entries lines : List Entry) (name target : List ℕ) (last : Ent
 gone_is_kept entries lines name target last is gone =
     by_last (last_in (arriving entries lines) name) refl
   where
-    same_entry : (one other : Entry) → Some one ≡ Some other → one ≡ other
-    same_entry one other same = cc same
-
     by_last : (new : Option Entry) → last_in (arriving entries lines) name ≡ new
         → entries_of name (adopted entries lines) ≡ entries_of name entries
     by_last None none =
@@ -162,7 +161,7 @@ gone_is_kept entries lines name target last is gone =
         last_has (λ (entry : Entry). is_here entry ≡ true) (arriving entries lines) name new
         (All-from_recursion (λ (entry : Entry). is_here entry ≡ true) (arriving entries lines)
         (all_here entries lines)) some in
-        let same : new ≡ last = same_entry new last (sym whole ∙ is) in
+        let same : new ≡ last = same_Some new last (sym whole ∙ is) in
         let never = sym gone ∙ ap (λ (entry : Entry). entry.home.gone) (sym same)
         ∙ none_of new.home.gone here in
         absurd (cc never)

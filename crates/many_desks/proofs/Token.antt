@@ -1,6 +1,7 @@
 -- A device as a token that goes from desk to desk: what the memories of all desks have of it, step
 -- by step.
 use Rattle.std.proofs.Common.{◌≡◌, ◌∙◌, ◌⊎◌, ◌<◌, ◌≤◌, ◌+◌, ℕ, List, [], true, false, Option, Some, None, refl, sym, ap, subst, inl, inr, arith}
+use Rattle.std.proofs.lemmas.Option.{same_Some}
 use Rattle.std.specs.Option.{is_none}
 use Rattle.std.specs.Prelude.{if◌then◌else◌, nat_lt, IfSome, option_map}
 use Rattle.std.proofs.lemmas.Bool.{cases_Bool}
@@ -145,9 +146,6 @@ here_says view moved known desk (inr (inl it)) here =
 here_says view moved known desk (inr (inr way)) here =
     absurd (behind_is_away way.line.home.moves (view desk) (way.behind desk) here)
 
-same_entry : (one other : Entry) → Some one ≡ Some other → one ≡ other
-same_entry one other same = cc same
-
 -- where it is here, all others are behind
 pub others_behind : (view : View) (moved : List ℕ → Entry → Type 0) (known : Option Entry)
     (desk other : List ℕ) (last : Entry)
@@ -159,7 +157,7 @@ others_behind view moved known desk other last (inl nowhere) is here apart =
 others_behind view moved known desk other last (inr (inl it)) is here apart =
     let home : it.home ≡ desk =
     here_is_home view moved known it desk (ap has_here is ∙ here) in
-    let entry : it.last ≡ last = same_entry it.last last (sym it.is ∙ ap view home ∙ is) in
+    let entry : it.last ≡ last = same_Some it.last last (sym it.is ∙ ap view home ∙ is) in
     subst (λ (one : Entry). IsBehind one.home.moves (view other)) entry
     (it.others other (λ same. apart (sym home ∙ same)))
 others_behind view moved known desk other last (inr (inr way)) is here apart =
