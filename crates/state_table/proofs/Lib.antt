@@ -1,6 +1,5 @@
-pub mod AnswerNames
+pub mod AnswerWords
 pub mod Committing
-pub mod AnswerNumbers
 pub mod Moved
 pub mod Reasons
 pub mod RowColumns

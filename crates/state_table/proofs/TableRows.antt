@@ -15,7 +15,7 @@ use Rattle.desk_memory.specs.SizedEntry.{are_sized, is_short, is_short_answer, i
 use Rattle.state_table.specs.Opening.{HasNoEntries}
 use Rattle.state_table.specs.Rows.{line_values, number_value, row_of, rows_from, text_value}
 use Rattle.state_table.specs.Table.{FindsEntries, IsMemoryOf}
-use Rattle.state_table.proofs.AnswerNames.{answer_text-injective}
+use Rattle.state_table.proofs.AnswerWords.{answer_text-injective}
 
 -- a row that is put at its entry's place
 

@@ -4,8 +4,8 @@
 //! put, and what is settled is committed and copied from the log into the file. SQLite's user
 //! version counts the commits: each that settles, and two at each opening. [`read_memory`] gives
 //! the desk and the entries of a store, or why it is refused. An answer stands there in words, and
-//! [`answer_of_text`] reads each of them back. The law says that a table is that of one list of
-//! entries.
+//! [`answer_of_text`] reads each of them back, as [`next_answer`] reads one among the words of any
+//! line. The law says that a table is that of one list of entries.
 #![tactic(auto)]
 
 mod counted_commit;
@@ -26,7 +26,7 @@ pub use law::table_is_of_one_list;
 pub use logged::Logged;
 pub use open_fault::OpenFault;
 pub use printed_answer::answer_text;
-pub use read_answer::answer_of_text;
+pub use read_answer::{answer_of_text, next_answer};
 pub use row_entry::{desk_of, entry_of};
 pub use store_memory::StoreMemory;
 pub use table_reading::{read_desk, read_entries, read_memory};

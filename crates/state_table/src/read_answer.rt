@@ -1,22 +1,23 @@
-ghost use Rattle.std.specs.Prelude.{◌≡◌, ℕ, Some, IfSome, IsTrue, decimal};
+ghost use Rattle.std.specs.Prelude.{◌≡◌, IfSome, IsTrue};
+ghost use Rattle.text_scan.specs.Reader.{ReadsOn};
+ghost use Rattle.desk_memory.specs.AnswerRead.{answer_of, answer_with};
 ghost use Rattle.desk_memory.specs.AnswerText.{answer_text};
-ghost use Rattle.desk_memory.specs.SizedEntry.{is_short, is_short_answer};
+ghost use Rattle.desk_memory.specs.SizedEntry.{is_short_answer};
 ghost use Rattle.desk_memory.specs.declared.answer.Answer.{Answer as Said};
-ghost use Rattle.desk_memory.specs.declared.answer.Answer.TheVariants.{Requested};
 
 use crate::printed_answer::answer_text;
 use desk_memory::Answer;
-use named_value::Named;
-use report_verifier::Verdict;
-use text_scan::{FaultKind, decimal};
+use text_scan::{FaultKind, Words};
 
 /// The answer that a text says.
+#[tactic(auto, using(crate::proofs::AnswerWords::answer_text_read))]
 pub fn answer_of_text(text: &[u8]) -> Option<Answer>
     ensures said { IfSome result (λ answer. text.now ≡ answer_text answer) }
     ensures read { (answer : Said) → IsTrue (is_short_answer answer)
         → text.now ≡ answer_text answer → result ≡ Some answer }
 {
-    let answer = answer_like(text)?;
+    let mut words = Words::new(text);
+    let answer = next_answer(&mut words).ok()?;
     if answer_text(answer).as_slice() == text {
         Some(answer)
     } else {
@@ -24,33 +25,30 @@ pub fn answer_of_text(text: &[u8]) -> Option<Answer>
     }
 }
 
-// The one answer that a text may say.
-#[tactic(auto, using(crate::proofs::AnswerNames::kind_found, crate::proofs::AnswerNames::verdict_found))]
-fn answer_like(text: &[u8]) -> Option<Answer>
-    ensures { (answer : Said) → IsTrue (is_short_answer answer)
-        → text.now ≡ answer_text answer → result ≡ Some answer }
+/// The answer that the words say which come next: its verb, and what comes of it.
+#[tactic(auto, unfolding(desk_memory::specs::AnswerRead::answer_of))]
+pub fn next_answer(words: &mut Words<'_>) -> Result<Answer, FaultKind>
+    ensures { ReadsOn result words.new (answer_of words.old) }
 {
-    if text == b"stale".as_slice() {
-        return Some(Answer::Stale);
-    }
-    if text == b"spent".as_slice() {
-        return Some(Answer::Spent);
-    }
-    if let Some(name) = text.strip_prefix(b"bad ") {
-        return Some(Answer::Bad(FaultKind::named(name)?));
-    }
-    if let Some(name) = text.strip_prefix(b"verdict ") {
-        return Some(Answer::Judged(Verdict::named(name)?));
-    }
-    request_like(text.strip_prefix(b"request ")?)
+    answer_of_verb(words.word()?, words)
 }
 
-fn request_like(count: &[u8]) -> Option<Answer>
-    ensures { (number : ℕ) → IsTrue (is_short number)
-        → count.now ≡ decimal number → result ≡ Some (Requested number) }
+// What an answer of this verb says.
+#[tactic(auto, unfolding(desk_memory::specs::AnswerRead::answer_with))]
+fn answer_of_verb(verb: &[u8], words: &mut Words<'_>) -> Result<Answer, FaultKind>
+    ensures { ReadsOn result words.new (answer_with verb.now words.old) }
 {
-    match decimal(count, 0, u64::from(u32::MAX)) {
-        Ok(number) => Some(Answer::Requested(number as u32)),
-        Err(_) => None,
+    if verb == b"stale".as_slice() {
+        Ok(Answer::Stale)
+    } else if verb == b"spent".as_slice() {
+        Ok(Answer::Spent)
+    } else if verb == b"bad".as_slice() {
+        Ok(Answer::Bad(words.value()?))
+    } else if verb == b"verdict".as_slice() {
+        Ok(Answer::Judged(words.value()?))
+    } else if verb == b"request".as_slice() {
+        Ok(Answer::Requested(words.number(0, u64::from(u32::MAX))? as u32))
+    } else {
+        Err(FaultKind::Word)
     }
 }

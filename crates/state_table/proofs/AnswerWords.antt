@@ -1,0 +1,90 @@
+-- The words of an answer, and what they are read as.
+use Rattle.std.proofs.Common.{◌≡◌, ◌∙◌, ℕ, ◌^◌, ◌≤◌, List, [], ◌∷◌, Some, Ok, true, refl, ap, arith, rules}
+use Rattle.std.specs.Fmt.{decimal}
+use Rattle.std.proofs.lemmas.Bool.{ltb-true}
+use Rattle.named_value.specs.Names.{value_named}
+use Rattle.named_value.specs.PlainWord.{IsPlainWord}
+use Rattle.text_scan.specs.declared.fault_kind.FaultKind.{FaultKind}
+use Rattle.text_scan.specs.FaultName.{fault_name, fault_names}
+use Rattle.text_scan.specs.Word.{words_of}
+use Rattle.text_scan.specs.WordValue.{number_of}
+use Rattle.text_scan.proofs.NamedWord.{value_of-name}
+use Rattle.text_scan.proofs.PlainWords.{ArePlain, decimal_of-decimal, plain-decimal, words_of-join}
+use Rattle.line_buffer.specs.LineLaw.{ArePieces}
+use Rattle.report_verifier.specs.declared.verdict.Verdict.{Verdict}
+use Rattle.report_verifier.specs.VerdictName.{verdict_name, verdict_names}
+use Rattle.desk_memory.specs.declared.answer.Answer.{Answer}
+use Rattle.desk_memory.specs.declared.answer.Answer.TheVariants.{Stale, Bad, Spent, Requested, Judged}
+use Rattle.desk_memory.specs.AnswerRead.{answer_of, answer_with, most_number}
+use Rattle.desk_memory.specs.AnswerText.{answer_text, answer_words}
+use Rattle.desk_memory.specs.SizedEntry.{is_short, is_short_answer}
+
+pub short : (number : ℕ) → is_short number ≡ true → number ≤ 4294967295
+short number is = let below = ltb-true number (2 ^ 32) is in omega (arith, below)
+
+pub count-read : (number : ℕ) (rest : List (List ℕ)) → is_short number ≡ true
+    → number_of 0 most_number (decimal number ∷ rest) ≡ Ok (number, rest)
+unfolding number_of
+count-read number rest is =
+    rw (decimal_of-decimal 4294967295 number (short number is) (omega arith)) refl
+
+kind-told : (kind : FaultKind) → value_named fault_names (fault_name kind) ≡ Some kind
+kind-told = search rules
+
+verdict-told :
+    (verdict : Verdict) → value_named verdict_names (verdict_name verdict) ≡ Some verdict
+verdict-told = search rules
+
+pub answer-read : (answer : Answer) → is_short_answer answer ≡ true
+    → answer_of (answer_words answer) ≡ Ok (answer, [])
+unfolding answer_of answer_with
+answer-read Stale few = refl
+answer-read (Bad kind) few = rw (value_of-name fault_names kind [] (kind-told kind)) refl
+answer-read Spent few = refl
+answer-read (Requested count) few = rw (count-read count [] few) refl
+answer-read (Judged verdict) few =
+    rw (value_of-name verdict_names verdict [] (verdict-told verdict)) refl
+
+-- the words are plain
+
+pub short-plain : (number : ℕ) → is_short number ≡ true → IsPlainWord (decimal number)
+short-plain number is =
+    let most = short number is in plain-decimal number (omega (arith, most))
+
+kind-plain : (kind : FaultKind) → IsPlainWord (fault_name kind)
+kind-plain = search rules
+
+verdict-plain : (verdict : Verdict) → IsPlainWord (verdict_name verdict)
+verdict-plain = search rules
+
+answer-plain : (answer : Answer) → is_short_answer answer ≡ true
+    → ArePlain (answer_words answer)
+answer-plain Stale is = ((omega arith, refl), tt)
+answer-plain (Bad kind) is = ((omega arith, refl), (kind-plain kind, tt))
+answer-plain Spent is = ((omega arith, refl), tt)
+answer-plain (Requested count) is = ((omega arith, refl), (short-plain count is, tt))
+answer-plain (Judged verdict) is = ((omega arith, refl), (verdict-plain verdict, tt))
+
+pub answer-are : (answer : Answer) → is_short_answer answer ≡ true
+    → ArePieces (answer_words answer)
+answer-are Stale is = answer-plain Stale is
+answer-are (Bad kind) is = answer-plain (Bad kind) is
+answer-are Spent is = answer-plain Spent is
+answer-are (Requested count) is = answer-plain (Requested count) is
+answer-are (Judged verdict) is = answer-plain (Judged verdict) is
+
+-- so the text is read back, and is that of no other answer
+
+pub answer_text_read : (text : List ℕ) (answer : Answer) → is_short_answer answer ≡ true
+    → text ≡ answer_text answer → answer_of (words_of text) ≡ Ok (answer, [])
+answer_text_read text answer few is =
+    ap (λ (one : List ℕ). answer_of (words_of one)) is
+    ∙ ap answer_of (words_of-join (answer_words answer) (answer-plain answer few))
+    ∙ answer-read answer few
+
+pub answer_text-injective : (a b : Answer) → is_short_answer a ≡ true → is_short_answer b ≡ true
+    → answer_text a ≡ answer_text b → a ≡ b
+answer_text-injective a b few_a few_b same =
+    let first = answer_text_read (answer_text a) a few_a refl in
+    let second = answer_text_read (answer_text a) b few_b same in
+    cc
