@@ -1,5 +1,5 @@
 -- A step whose report is judged.
-use Rattle.std.proofs.Common.{◌≡◌, ◌∷◌, List, Result, Ok, Err, length, refl}
+use Rattle.std.proofs.Common.{◌≡◌, ◌∷◌, List, Option, Result, Ok, Err, refl}
 use Rattle.std.specs.Prelude.{IsErrAnd}
 use Rattle.bus_signals.specs.Address.{Bytes}
 use Rattle.bus_signals.specs.declared.event.Event.{Event}
@@ -7,30 +7,22 @@ use Rattle.outside_edge.specs.Sink.{Puts, Takes}
 use Rattle.outside_edge.proofs.SinkLemmas.{prefix_after, takes_both}
 use Rattle.device_trace.specs.Play.{Play}
 use Rattle.device_trace.specs.Start.{Start}
-use Rattle.device_trace.specs.Text.{last_report, lines_of_step}
-use Rattle.device_trace.specs.Trace.{byte_after}
+use Rattle.device_trace.specs.Text.{last_report, lines_of_step, some_line}
 use Rattle.report_verifier.specs.Judge.{Judge}
 use Rattle.device_play.specs.Cuts.{StopsOnlyAt}
 use Rattle.device_play.specs.Watching.{HasSeen}
 use Rattle.device_play.specs.declared.put_fault.PutFault.{PutFault}
 use Rattle.device_play.proofs.Cuts.{stops-later}
 use Rattle.device_cli.specs.declared.verdict.tally.Tally.{Tally}
-use Rattle.device_cli.specs.Judgement.{judgement_cuts, judgement_lines, tally_after}
+use Rattle.device_cli.specs.Judgement.{Remark, remark_cuts, remark_lines, tally_after}
 use Rattle.device_cli.specs.JudgedPlay.{CountsVerdicts, judge_account}
-use Rattle.device_cli.specs.RoundText.{reports_in}
+use Rattle.device_cli.specs.RoundText.{piece_of_step}
 use Rattle.device_cli.proofs.RoundLines.{stops-in_round}
 use Rattle.device_cli.proofs.Tallies.{tally-more}
 
 -- what is said of the report of the last step
-abbrev pub remark : Judge → Start → List Event → Play → Bytes
-remark judge start events play =
-    judgement_lines judge (length (reports_in start play)) (byte_after start (events ∷ play))
-    (last_report start (events ∷ play))
-
-abbrev pub remark_cuts : Judge → Start → List Event → Play → List Bytes
-remark_cuts judge start events play =
-    judgement_cuts judge (length (reports_in start play)) (byte_after start (events ∷ play))
-    (last_report start (events ∷ play))
+abbrev pub remark : Judge → Start → List Event → Play → Option Remark
+remark judge start events play = (piece_of_step judge start events play).remark
 
 pub judged-failed :
     {S T V : Type 0} (stands : S → Bytes → Type 0) (old mid new : S) (judge : Judge)
@@ -38,8 +30,9 @@ pub judged-failed :
     (result : Result V PutFault)
     → IsErrAnd result (λ error. error ≡ fault)
     → Takes stands old mid (lines_of_step start events play)
-    → Puts {V = T} stands mid new (remark judge start events play) (Err fault)
-    → StopsOnlyAt {V = T} stands mid new (remark_cuts judge start events play) (Err fault)
+    → Puts {V = T} stands mid new (some_line remark_lines (remark judge start events play))
+    (Err fault)
+    → StopsOnlyAt {V = T} stands mid new (remark_cuts (remark judge start events play)) (Err fault)
     → HasSeen stands (judge_account judge) old new tally start events play result
 judged-failed stands old mid new judge start events play tally fault (Ok value) is takes puts stops
     =
@@ -51,11 +44,11 @@ judged-failed {V = V} stands old mid new judge start events play tally fault (Er
       puts = record {
         all = tt;
         prefix = prefix_after stands old mid new (lines_of_step start events play)
-            (remark judge start events play) takes puts.prefix;
+            (some_line remark_lines (remark judge start events play)) takes puts.prefix;
       };
       memory = stops-in_round {V = V} stands old new judge start events play (Err error)
           (stops-later {V = V} stands old mid new (lines_of_step start events play)
-          (remark_cuts judge start events play) fault (Err error) is takes stops);
+          (remark_cuts (remark judge start events play)) fault (Err error) is takes stops);
     }
 
 pub judged-seen :
@@ -64,14 +57,14 @@ pub judged-seen :
     → CountsVerdicts judge start play tally
     → more ≡ tally_after judge tally (last_report start (events ∷ play))
     → Takes stands old mid (lines_of_step start events play)
-    → Takes stands mid new (remark judge start events play)
+    → Takes stands mid new (some_line remark_lines (remark judge start events play))
     → HasSeen stands (judge_account judge) old new more start events play (Ok value)
 judged-seen stands old mid new judge start events play tally more value counts is takes says =
     record {
       counted = rw is (tally-more judge start events play tally _ counts refl);
       puts = record {
         all = takes_both stands old mid new (lines_of_step start events play)
-            (remark judge start events play) takes says;
+            (some_line remark_lines (remark judge start events play)) takes says;
         prefix = tt;
       };
       memory = tt;

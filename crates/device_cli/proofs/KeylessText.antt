@@ -1,6 +1,7 @@
 -- A round and a dump put the same of a play without its key.
 use Rattle.std.proofs.Common.{◌≡◌, ◌∙◌, ◌+◌, ◌++◌, ◌∷◌, [], ℕ, List, Option, Some, None, ap, sym, refl, length, lit≤}
-use Rattle.std.specs.Prelude.{if◌then◌else◌}
+use Rattle.std.specs.Prelude.{if◌then◌else◌, map, option_map}
+use Rattle.std.specs.List.{concat}
 use Rattle.std.proofs.lemmas.List.{append_cancel_left}
 use Rattle.bus_signals.specs.Address.{Bytes, Contents}
 use Rattle.bus_signals.specs.Bounds.{are_valid}
@@ -27,15 +28,15 @@ use Rattle.key_isolation.proofs.Numbers.{bounds_in-outside}
 use Rattle.key_isolation.proofs.OpenRecords.{image_place-open}
 use Rattle.key_isolation.proofs.TextBlank.{end_line_after-hide, lines_of-hide, play_text-hide, ram_bytes, report_where-hide, valid_bytes}
 use Rattle.key_isolation.proofs.TwoKeys.{byte-hide}
-use Rattle.report_text.specs.VerdictLine.{verdict_line}
 use Rattle.report_verifier.specs.Comparison.{expected_bytes, expected_key, own_bytes}
 use Rattle.report_verifier.specs.Judge.{Judge, verdict_at}
 use Rattle.report_verifier.specs.Policy.{expect_at}
+use Rattle.report_verifier.specs.declared.verdict.Verdict.{Verdict}
 use Rattle.report_verifier.specs.declared.expect.Expect.{Expect}
 use Rattle.device_play.specs.Accounts.{end_line_of, memory_after}
-use Rattle.device_cli.specs.Judgement.{collision_lines, evidence_lines, judgement_lines}
+use Rattle.device_cli.specs.Judgement.{Remark, pair_shown, pair_with_one_mac, remark_on}
 use Rattle.device_cli.specs.KeylessText.{HasKeylessTexts}
-use Rattle.device_cli.specs.RoundText.{remark_of_step, reports_in, round_lines, round_text, with_last}
+use Rattle.device_cli.specs.RoundText.{Piece, piece_of_step, piece_text, reports_in, round_lines, round_pieces, round_text, with_last}
 use Rattle.device_cli.specs.Unanswered.{unanswered_if}
 use Rattle.device_cli.specs.Verdicts.{is_accept, verdicts}
 
@@ -61,27 +62,33 @@ own-outside left right same =
     (ap (bounded_bytes left) (bounds_in-outside left right same)
     ∙ rest-outside left right same (bounds_in right))
 
+abbrev remark-with : ℕ → Verdict → Option (Bytes × Bytes) → Remark
+remark-with number verdict pair = record { number = number; verdict = verdict; pair = pair }
+
 -- and nothing else of memory is looked at
-judgement-outside : (judge : Judge) (i : ℕ) (left right : Contents) (report : Option ReportFields)
+remark-outside : (judge : Judge) (i : ℕ) (left right : Contents) (report : ReportFields)
     → SameOutside left right
-    → judgement_lines judge i left report ≡ judgement_lines judge i right report
-judgement-outside judge i left right None same = refl
-judgement-outside judge i left right (Some report) same =
-    by-expect (expect_at judge.policy i)
+    → remark_on judge i left report ≡ remark_on judge i right report
+remark-outside judge i left right report same =
+    ap (remark-with (i + 1) (verdict_at judge i report)) (by-expect (expect_at judge.policy i))
   where
     by-expect : (expect : Option Expect)
-        → verdict_line (i + 1) (verdict_at judge i report)
-        ++ evidence_lines judge expect (verdict_at judge i report) report left
-        ≡ verdict_line (i + 1) (verdict_at judge i report)
-        ++ evidence_lines judge expect (verdict_at judge i report) report right
+        → pair_shown judge expect (verdict_at judge i report) report left
+        ≡ pair_shown judge expect (verdict_at judge i report) report right
     by-expect None = refl
     by-expect (Some expect) =
-        ap (λ (own : Bytes). verdict_line (i + 1) (verdict_at judge i report)
-        ++ (if is_accept (verdict_at judge i report)
-        then collision_lines judge.digest (expected_key judge.digest judge.key expect)
+        ap (λ (own : Bytes). if is_accept (verdict_at judge i report)
+        then pair_with_one_mac judge.digest (expected_key judge.digest judge.key expect)
         (expected_bytes judge.digest judge.key judge.image expect report) own
-        else []))
+        else None)
         (own-outside left right same)
+
+some-outside : (judge : Judge) (i : ℕ) (left right : Contents) (report : Option ReportFields)
+    → SameOutside left right
+    → option_map (remark_on judge i left) report ≡ option_map (remark_on judge i right) report
+some-outside judge i left right None same = refl
+some-outside judge i left right (Some report) same =
+    ap (λ (remark : Remark). Some remark) (remark-outside judge i left right report same)
 
 -- the report of the last step
 report-hide : (start : Start) (free : List ℕ) (play : Play) (more : List ℕ)
@@ -117,18 +124,19 @@ reports-hide start free (events ∷ play) more split =
 remark-hide : (judge : Judge) (start : Start) (free : List ℕ) (events : List Event) (play : Play)
     (more : List ℕ)
     → free ≡ released_words start (events ∷ play) ++ more
-    → remark_of_step judge start events play
-    ≡ remark_of_step judge (open_start free start) events play
+    → (piece_of_step judge start events play).remark
+    ≡ (piece_of_step judge (open_start free start) events play).remark
 remark-hide judge start free events play more split =
     let rest = split-before start free events play more split in
     let bare : Start = open_start free start in
-    ap (λ (reports : List ReportFields). judgement_lines judge (length reports)
-    (byte_after start (events ∷ play)) (last_report start (events ∷ play)))
+    ap (λ (reports : List ReportFields). option_map (remark_on judge (length reports)
+    (byte_after start (events ∷ play))) (last_report start (events ∷ play)))
     (reports-hide start free play rest.0 rest.1)
-    ∙ judgement-outside judge (length (reports_in bare play)) (byte_after start (events ∷ play))
+    ∙ some-outside judge (length (reports_in bare play)) (byte_after start (events ∷ play))
     (byte_after bare (events ∷ play)) (last_report start (events ∷ play))
     (byte-hide start free (events ∷ play) more split)
-    ∙ ap (judgement_lines judge (length (reports_in bare play)) (byte_after bare (events ∷ play)))
+    ∙ ap (option_map (remark_on judge (length (reports_in bare play))
+    (byte_after bare (events ∷ play))))
     (report-hide start free (events ∷ play) more split)
 
 -- the device's lines of a step are what is more in those of the play
@@ -145,22 +153,21 @@ step-hide start free events play more split =
     (sym (lines_of-hide start free play rest.0 rest.1))
     ∙ lines_of-hide start free (events ∷ play) more split)
 
-round_lines-hide : (judge : Judge) (start : Start) (free : List ℕ) (play : Play) (more : List ℕ)
+round_pieces-hide : (judge : Judge) (start : Start) (free : List ℕ) (play : Play) (more : List ℕ)
     → free ≡ released_words start play ++ more
-    → round_lines judge start play ≡ round_lines judge (open_start free start) play
-unfolding round_lines
-round_lines-hide judge start free [] more split = refl
-round_lines-hide judge start free (events ∷ play) more split =
+    → round_pieces judge start play ≡ round_pieces judge (open_start free start) play
+unfolding round_pieces
+round_pieces-hide judge start free [] more split = refl
+round_pieces-hide judge start free (events ∷ play) more split =
     let rest = split-before start free events play more split in
     let bare : Start = open_start free start in
-    ap (λ (lines : Bytes). lines
-    ++ (lines_of_step start events play ++ remark_of_step judge start events play))
-    (round_lines-hide judge start free play rest.0 rest.1)
-    ∙ ap (λ (lines : Bytes). round_lines judge bare play
-    ++ (lines ++ remark_of_step judge start events play))
+    ap (λ (pieces : List Piece). pieces ++ piece_of_step judge start events play ∷ [])
+    (round_pieces-hide judge start free play rest.0 rest.1)
+    ∙ ap (λ (lines : Bytes). round_pieces judge bare play
+    ++ record { lines = lines; remark = (piece_of_step judge start events play).remark } ∷ [])
     (step-hide start free events play more split)
-    ∙ ap (λ (remark : Bytes). round_lines judge bare play
-    ++ (lines_of_step bare events play ++ remark))
+    ∙ ap (λ (remark : Option Remark). round_pieces judge bare play
+    ++ record { lines = lines_of_step bare events play; remark = remark } ∷ [])
     (remark-hide judge start free events play more split)
 
 end-hide : (start : Start) (free : List ℕ) (play : Play) (more : List ℕ)
@@ -175,8 +182,8 @@ round_text-hide : (judge : Judge) (start : Start) (free : List ℕ) (play : Play
     → round_text judge start play ≡ round_text judge (open_start free start) play
 unfolding round_text
 round_text-hide judge start free play more split =
-    ap (λ (lines : Bytes). lines ++ end_line_of start play)
-    (round_lines-hide judge start free play more split)
+    ap (λ (pieces : List Piece). concat (map piece_text pieces) ++ end_line_of start play)
+    (round_pieces-hide judge start free play more split)
     ∙ ap (λ (end : Bytes). round_lines judge (open_start free start) play ++ end)
     (end-hide start free play more split)
 

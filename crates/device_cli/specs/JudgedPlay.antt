@@ -5,7 +5,7 @@ use Rattle.report_verifier.specs.Judge.{Judge}
 use Rattle.device_play.specs.Account.{Account}
 use Rattle.device_play.specs.Accounts.{end_line_of}
 use Rattle.device_cli.specs.declared.verdict.tally.Tally.{Tally}
-use Rattle.device_cli.specs.RoundText.{judged_lines, reports_in, round_cuts, round_lines}
+use Rattle.device_cli.specs.RoundText.{piece_of_step, piece_text, reports_in, round_cuts, round_lines}
 use Rattle.device_cli.specs.Tally.{Counts}
 use Rattle.device_cli.specs.Verdicts.{verdicts}
 
@@ -18,7 +18,7 @@ judge_account judge =
     record {
       tallies = CountsVerdicts judge;
       text = round_lines judge;
-      step_text = judged_lines judge;
+      step_text = λ start events play. piece_text (piece_of_step judge start events play);
       end_text = end_line_of;
       cuts = round_cuts judge;
     }

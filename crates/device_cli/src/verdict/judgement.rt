@@ -1,12 +1,13 @@
 ghost use Rattle.std.specs.Prelude.{◌≡◌, ◌<◌, ◌^◌, List, Some, IfOk, IfSome, IsTrue, option_map};
 ghost use Rattle.bus_signals.specs.Report.{fields_of};
 ghost use Rattle.part_definitions.specs.Memory.{PowerOn, ShownFlags, MemoryWrite, byte_at};
+ghost use Rattle.device_trace.specs.Text.{some_line};
 ghost use Rattle.mem_map.specs.Memory.{MemoryStandsFor};
 ghost use Rattle.outside_edge.specs.Sink.{Puts};
 ghost use Rattle.report_verifier.specs.Comparison.{OutputFits};
 ghost use Rattle.report_verifier.specs.Validity.{are_valid_for};
 ghost use Rattle.device_play.specs.Cuts.{CountsWriteFaults, StopsOnlyAt};
-ghost use Rattle.device_cli.specs.Judgement.{evidence_lines, evidence_cuts, judgement_lines, judgement_cuts, TellsOutput, tally_after};
+ghost use Rattle.device_cli.specs.Judgement.{TellsOutput, pair_cuts, pair_line, pair_shown, remark_cuts, remark_lines, remark_on, tally_after};
 ghost use Rattle.report_verifier.specs.Judge.{judge_of, verdict_at};
 ghost use Rattle.device_cli.specs.Verdicts.{is_accept};
 
@@ -38,15 +39,15 @@ fn print_evidence<D: Digest32, W: Sink>(
         → (IsTrue (is_accept verdict) → IfSome expect (λ expect.
         OutputFits expect.bounds (fields_of report.now).output))
         → Puts W.stands sink.old sink.new
-        (evidence_lines (judge_of D.hash.digest_of verifier.now) expect verdict
-        (fields_of report.now) (byte_at start flags writes)) result }
+        (some_line pair_line (pair_shown (judge_of D.hash.digest_of verifier.now) expect verdict
+        (fields_of report.now) (byte_at start flags writes))) result }
     ensures memory { (start : PowerOn) (flags : ShownFlags) (writes : List MemoryWrite)
         → MemoryStandsFor memory.now start flags writes
         → (IsTrue (is_accept verdict) → IfSome expect (λ expect.
         OutputFits expect.bounds (fields_of report.now).output))
         → StopsOnlyAt W.stands sink.old sink.new
-        (evidence_cuts (judge_of D.hash.digest_of verifier.now) expect verdict
-        (fields_of report.now) (byte_at start flags writes)) result }
+        (pair_cuts (pair_shown (judge_of D.hash.digest_of verifier.now) expect verdict
+        (fields_of report.now) (byte_at start flags writes))) result }
     ensures counts { CountsWriteFaults W.faults sink.old sink.new result }
 {
     let (Some(expect), Verdict::Accept) = (expect, verdict) else {
@@ -78,14 +79,14 @@ fn judge<D: Digest32, W: Sink>(
         → MemoryStandsFor memory.now start flags writes
         → TellsOutput (byte_at start flags writes) (Some (fields_of report.now))
         → Puts W.stands sink.old sink.new
-        (judgement_lines (judge_of D.hash.digest_of verifier.now) i (byte_at start flags writes)
-        (Some (fields_of report.now))) result }
+        (remark_lines (remark_on (judge_of D.hash.digest_of verifier.now) i
+        (byte_at start flags writes) (fields_of report.now))) result }
     ensures memory { (start : PowerOn) (flags : ShownFlags) (writes : List MemoryWrite)
         → MemoryStandsFor memory.now start flags writes
         → TellsOutput (byte_at start flags writes) (Some (fields_of report.now))
         → StopsOnlyAt W.stands sink.old sink.new
-        (judgement_cuts (judge_of D.hash.digest_of verifier.now) i (byte_at start flags writes)
-        (Some (fields_of report.now))) result }
+        (remark_cuts (Some (remark_on (judge_of D.hash.digest_of verifier.now) i
+        (byte_at start flags writes) (fields_of report.now)))) result }
     ensures counts { CountsWriteFaults W.faults sink.old sink.new result }
 {
     let expect = verifier.policy.expect(i);
@@ -113,14 +114,14 @@ pub fn judge_last<D: Digest32, W: Sink>(
         → MemoryStandsFor memory.now start flags writes
         → TellsOutput (byte_at start flags writes) (option_map fields_of report.entry)
         → Puts W.stands sink.old sink.new
-        (judgement_lines (judge_of D.hash.digest_of verifier.now) tally.verdicts
-        (byte_at start flags writes) (option_map fields_of report.entry)) result }
+        (some_line remark_lines (option_map (remark_on (judge_of D.hash.digest_of verifier.now)
+        tally.verdicts (byte_at start flags writes)) (option_map fields_of report.entry))) result }
     ensures memory { (start : PowerOn) (flags : ShownFlags) (writes : List MemoryWrite)
         → MemoryStandsFor memory.now start flags writes
         → TellsOutput (byte_at start flags writes) (option_map fields_of report.entry)
         → StopsOnlyAt W.stands sink.old sink.new
-        (judgement_cuts (judge_of D.hash.digest_of verifier.now) tally.verdicts
-        (byte_at start flags writes) (option_map fields_of report.entry)) result }
+        (remark_cuts (option_map (remark_on (judge_of D.hash.digest_of verifier.now)
+        tally.verdicts (byte_at start flags writes)) (option_map fields_of report.entry))) result }
     ensures counts { CountsWriteFaults W.faults sink.old sink.new result }
 {
     let Some(report) = report else {

@@ -1,5 +1,11 @@
-use Rattle.device_cli.proofs.RoundPieces.{play_with_verdicts}
+use Rattle.std.proofs.Common.{◌++◌, ap}
+use Rattle.bus_signals.specs.Address.{Bytes}
+use Rattle.device_trace.specs.Text.{play_text}
+use Rattle.device_play.specs.Accounts.{end_line_of}
+use Rattle.device_cli.proofs.RoundPieces.{device-lines}
 use Rattle.device_cli.proofs.law.round_is_play_with_verdicts.Goals as goal
 
 pub returns : goal.returns
-returns c = play_with_verdicts
+unfolding play_text
+returns c = λ judge start play.
+    ap (λ (text : Bytes). text ++ end_line_of start play) (device-lines judge start play)

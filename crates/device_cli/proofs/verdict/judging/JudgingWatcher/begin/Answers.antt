@@ -1,6 +1,6 @@
 use Rattle.device_play.proofs.PutsLemmas.{takes-nothing}
 use Rattle.report_verifier.specs.Judge.{judge_of}
-use Rattle.device_cli.specs.RoundText.{round_lines}
+use Rattle.device_cli.specs.RoundText.{round_pieces}
 use Rattle.device_cli.proofs.RoundLines.{judge-goes_on}
 use Rattle.device_cli.proofs.Tallies.{tally-none}
 use Rattle.device_cli.proofs.verdict.judging.JudgingWatcher.begin.Goals as goal
@@ -14,6 +14,6 @@ returns-clause-tally g c = λ digest start.
     tally-none (judge_of digest c.args.self.now.verifier.now) start c.new.result c.new.ensures
 
 pub returns-clause-puts : goal.returns-clause-puts
-unfolding round_lines
+unfolding round_pieces
 returns-clause-puts g c = λ digest start.
     record { all = takes-nothing g.W.Sink.stands c.args._sink.now; prefix = tt }

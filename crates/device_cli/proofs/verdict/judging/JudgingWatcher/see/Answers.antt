@@ -3,11 +3,12 @@ use Rattle.device_trace.specs.Logs.{flags_of}
 use Rattle.device_trace.specs.Trace.{logs_after}
 use Rattle.outside_edge.proofs.SinkLemmas.{prefix_of_more}
 use Rattle.report_verifier.specs.Judge.{Judge}
-use Rattle.device_trace.specs.Text.{lines_of_step}
+use Rattle.device_trace.specs.Text.{lines_of_step, some_line}
 use Rattle.device_play.proofs.SeenStep.{seen-failed}
 use Rattle.device_play.proofs.WriteCounts.{counts-passed}
 use Rattle.report_verifier.specs.Judge.{judge_of}
 use Rattle.device_cli.specs.JudgedPlay.{judge_account}
+use Rattle.device_cli.specs.Judgement.{remark_lines}
 use Rattle.device_cli.specs.RoundText.{reports_in}
 use Rattle.device_cli.proofs.JudgedStep.{judged-failed, judged-seen, remark}
 use Rattle.device_cli.proofs.RoundLines.{last_report-output}
@@ -30,7 +31,8 @@ returns-in_err-print_last_step-clause-seen g c = λ start events play shown.
     let judge : Judge = judge_of g.D.Digest32.hash.digest_of c.args.self.now.verifier.now in
     seen-failed {account = judge_account judge} c.from_residual.result c.from_residual.ensures.1
     (prefix_of_more g.W.Sink.stands c.args.sink.now c.print_last_step.new.sink
-    (lines_of_step start events play) (remark judge start events play)
+    (lines_of_step start events play)
+    (some_line remark_lines (remark judge start events play))
     (c.in_err-print_last_step.ensures.puts start events play shown.device
     shown.number).prefix)
 
