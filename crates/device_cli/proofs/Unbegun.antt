@@ -145,9 +145,9 @@ never-begun : {S W : Type 0} {files : S → Files} {faults misses : S → ℕ}
     {sink sink_after : W} (row : Option Row) (status : Status)
     → IsRun files faults misses stands sink_faults shelf shelf_after sink sink_after row status
     → IsUncutRow row → status ≡ Memory → sink_after ≡ sink
-never-begun None status run uncut is = absurd (cc (is, run.words.1 refl))
+never-begun None status run uncut is = absurd (cc (is, run.0))
 never-begun {files} {stands} {shelf} {sink} {sink_after} (Some row) status run uncut is =
-    elim (rw is at run.answers.memory) [
+    elim (rw is at run.cause) [
       | inl same ↦ same
       | inr stops ↦
           let none = reached-always IsUncut (files shelf) row stops.0 uncut.always stops.1 in

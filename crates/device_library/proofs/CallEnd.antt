@@ -1,15 +1,13 @@
 -- How a call ends: by the run whose text was kept.
-use Rattle.std.proofs.Common.{rules, ◌≡◌, [], ℕ, List, Option, Some, None, Ok, inl, inr, ap, refl, subst, sym, arith}
-use Rattle.outside_edge.specs.Count.{Rose}
+use Rattle.std.proofs.Common.{rules, ◌≡◌, [], ℕ, Bool, true, false, List, Option, Some, None, inl, inr, ap, subst, sym}
 use Rattle.outside_edge.specs.Shelf.{SureShelf}
 use Rattle.outside_edge.proofs.Counts.{never_rises}
 use Rattle.input_files.specs.declared.status.Status.{Status}
 use Rattle.input_files.specs.declared.status.Status.TheVariants.{Done, Rejected, ReadFault, WriteFault, Memory}
-use Rattle.input_files.specs.Reading.{Files, IsRefusal, first_refusal}
+use Rattle.input_files.specs.Reading.{Files, first_refusal}
 use Rattle.device_cli.specs.Answer.{Answers, Follows, HasOutcome, PutsAll}
-use Rattle.device_cli.specs.Row.{Row, ending_of}
+use Rattle.device_cli.specs.Row.{Row}
 use Rattle.device_cli.specs.Run.{IsRun}
-use Rattle.device_cli.specs.Status.{status_of_put}
 use Rattle.device_library.specs.Call.{IsAnswer, IsCall}
 use Rattle.device_library.specs.KeptText.{KeptBytes}
 use Rattle.device_library.specs.Shown.{IsTold, Shows, ShowsFirst}
@@ -36,35 +34,30 @@ first-is None status refusing (inr (inr (inl is))) = absurd (refusing.written is
 first-is None status refusing (inr (inr (inr (inl is)))) = absurd (refusing.read is)
 first-is None status refusing (inr (inr (inr (inr is)))) = absurd (refusing.memory is)
 
-never-failed : {missed : Type 0} (files : Files) (row : Row)
-    → IsRefusal files missed (Rose 0 0) row ReadFault → ⊥
-never-failed files row (inl (is, missed)) = cc is
-never-failed files row (inr (inl (is, rose))) = never_rises rose
-never-failed files row (inr (inr (inl is))) = cc is
-never-failed files row (inr (inr (inr (fault, is, reaches)))) = cc is
-
-shown-text : (files : Files) (row : Row) (how : Status) (before after : KeptBytes)
+shown-text : (files : Files) (row : Row) (accepted : Bool) (before after : KeptBytes)
     (piece : List ℕ) (count : ℕ) → before.held ≡ [] → Shows after.held piece count
-    → HasOutcome files row (PutsAll kept_is before after how)
+    → HasOutcome files row (PutsAll kept_is before after accepted)
     → HasOutcome files row (λ outcome.
-    (how ≡ status_of_put (Ok (ending_of outcome.is_accepted))) × Shows outcome.text piece count)
-shown-text files row how before after piece count empty shows (outcome, reaches, puts, lawful) = (
-  outcome,
-  reaches,
-  (puts.0, subst (λ (text : List ℕ). Shows text piece count) (sym (puts.1 [] (sym empty))) shows),
-  lawful,
-)
+    (outcome.is_accepted ≡ accepted) × Shows outcome.text piece count)
+shown-text files row accepted before after piece count empty shows
+    (outcome, reaches, puts, lawful) = (
+      outcome,
+      reaches,
+      (puts.0, subst (λ (text : List ℕ). Shows text piece count) (sym (puts.1 [] (sym empty))) shows),
+      lawful,
+    )
 
-shown-first : (files : Files) (row : Row) (how : Status) (before after : KeptBytes)
+shown-first : (files : Files) (row : Row) (accepted : Bool) (before after : KeptBytes)
     (piece : List ℕ) (count : ℕ) → before.held ≡ [] → ShowsFirst after.held piece count
-    → HasOutcome files row (PutsAll kept_is before after how)
+    → HasOutcome files row (PutsAll kept_is before after accepted)
     → HasOutcome files row (λ outcome. ShowsFirst outcome.text piece count)
-shown-first files row how before after piece count empty shows (outcome, reaches, puts, lawful) = (
-  outcome,
-  reaches,
-  subst (λ (text : List ℕ). ShowsFirst text piece count) (sym (puts.1 [] (sym empty))) shows,
-  lawful,
-)
+shown-first files row accepted before after piece count empty shows
+    (outcome, reaches, puts, lawful) = (
+      outcome,
+      reaches,
+      subst (λ (text : List ℕ). ShowsFirst text piece count) (sym (puts.1 [] (sym empty))) shows,
+      lawful,
+    )
 
 -- a run over files in memory, whose text is kept
 abbrev Ran : SureShelf → SureShelf → KeptBytes → KeptBytes → Row → Status → Type 0
@@ -91,44 +84,19 @@ told-row : (shelf shelf_after : SureShelf) (before after : KeptBytes) (row : Row
     → IsTold how after.held piece count told
     → IsAnswer shelf.files row piece count told
 told-row shelf shelf_after before after row Done told piece count empty ran (inl (is, shows)) =
-    rw is (record {
-      text = shown-text (Some shelf.files) row Done before after piece count empty shows ran.text;
-      longer = tt;
-      refusal = tt;
-    })
+    rw is (shown-text (Some shelf.files) row true before after piece count empty shows ran.cause)
 told-row shelf shelf_after before after row Done told piece count empty ran (inr (is, shows)) =
-    rw is (record {
-      text = tt;
-      longer = shown-first (Some shelf.files) row Done before after piece count empty shows
-          ran.text;
-      refusal = tt;
-    })
+    rw is (shown-first (Some shelf.files) row true before after piece count empty shows ran.cause)
 told-row shelf shelf_after before after row Rejected told piece count empty ran (inl (is, shows)) =
-    rw is (record {
-      text = shown-text (Some shelf.files) row Rejected before after piece count empty shows
-          ran.text;
-      longer = tt;
-      refusal = tt;
-    })
+    rw is (shown-text (Some shelf.files) row false before after piece count empty shows ran.cause)
 told-row shelf shelf_after before after row Rejected told piece count empty ran (inr (is, shows)) =
-    rw is (record {
-      text = tt;
-      longer = shown-first (Some shelf.files) row Rejected before after piece count empty shows
-          ran.text;
-      refusal = tt;
-    })
-told-row shelf shelf_after before after row WriteFault told piece count empty ran is =
-    rw is (record { text = tt; longer = tt; refusal = tt })
-told-row shelf shelf_after before after row Memory told piece count empty ran is =
-    rw is (record { text = tt; longer = tt; refusal = tt })
+    rw is (shown-first (Some shelf.files) row false before after piece count empty shows ran.cause)
+told-row shelf shelf_after before after row WriteFault told piece count empty ran is = rw is tt
+told-row shelf shelf_after before after row Memory told piece count empty ran is = rw is tt
 told-row shelf shelf_after before after row ReadFault told piece count empty ran is =
-    absurd (never-failed (Some shelf.files) row ran.refusal)
+    absurd (never_rises ran.cause.0)
 told-row shelf shelf_after before after row refusal told piece count empty ran is =
-    rw is (record {
-      text = tt;
-      longer = tt;
-      refusal = refused shelf shelf_after before after row refusal piece count (search rules) ran;
-    })
+    rw is (refused shelf shelf_after before after row refusal piece count (search rules) ran)
 
 told-words : (shelf shelf_after : SureShelf) (before after : KeptBytes) (row : Option Row)
     (how told : Status) (piece : List ℕ) (count : ℕ) → before.held ≡ []
@@ -136,7 +104,7 @@ told-words : (shelf shelf_after : SureShelf) (before after : KeptBytes) (row : O
     → IsTold how after.held piece count told
     → IsCall shelf.files row piece count told
 told-words shelf shelf_after before after None how told piece count empty ran is =
-    inl (subst (λ (how : Status). IsTold how after.held piece count told) (ran.words.1 refl) is)
+    inl (subst (λ (how : Status). IsTold how after.held piece count told) ran.0 is)
 told-words shelf shelf_after before after (Some row) how told piece count empty ran is =
     told-row shelf shelf_after before after row how told piece count empty ran.answers is
 
@@ -144,8 +112,7 @@ told-words shelf shelf_after before after (Some row) how told piece count empty 
 pub memory-call : (contents : List (List ℕ × List ℕ)) (row : Option Row) (piece : List ℕ)
     (count : ℕ) (told : Status) → told ≡ Memory → IsCall contents row piece count told
 memory-call contents None piece count told is = inr is
-memory-call contents (Some row) piece count told is =
-    rw is (record { text = tt; longer = tt; refusal = tt })
+memory-call contents (Some row) piece count told is = rw is tt
 
 -- the same over these files, where this text was kept
 pub told-call : (contents : List (List ℕ × List ℕ)) (text : List ℕ)

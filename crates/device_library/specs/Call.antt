@@ -1,11 +1,10 @@
 -- What a call of the library is given, and what it gives back.
-use Rattle.std.specs.Prelude.{◌≡◌, ◌⊎◌, ℕ, List, [], ◌∷◌, codes, Option, Some, None, Ok}
+use Rattle.std.specs.Prelude.{◌≡◌, ◌⊎◌, ℕ, true, false, List, [], ◌∷◌, codes, Option, Some, None}
 use Rattle.input_files.specs.Reading.{first_refusal}
 use Rattle.input_files.specs.declared.status.Status.{Status}
-use Rattle.input_files.specs.declared.status.Status.TheVariants.{Words, Memory}
-use Rattle.device_cli.specs.Answer.{HasOutcome, OnPut, OnWriteFault, UnlessPut}
-use Rattle.device_cli.specs.Row.{Row, ending_of}
-use Rattle.device_cli.specs.Status.{status_of_put}
+use Rattle.input_files.specs.declared.status.Status.TheVariants.{Done, Rejected, Words, WriteFault, Memory}
+use Rattle.device_cli.specs.Answer.{HasOutcome}
+use Rattle.device_cli.specs.Row.{Row}
 use Rattle.device_library.specs.Shown.{Shows, ShowsFirst}
 
 -- the files of a call, each under the name that the words have for it
@@ -17,17 +16,20 @@ files_named image script key other =
     ∷ (codes "other", other)
     ∷ []
 
--- an answer to the command of a row
-pub record IsAnswer (files : List (List ℕ × List ℕ)) (row : Row) (piece : List ℕ) (count : ℕ)
-    (status : Status) : Type 0 where
-  -- the piece has the text; where it is of a play, that obeys the laws of the device
-  pub text : OnPut status (HasOutcome (Some files) row (λ outcome.
-      (status ≡ status_of_put (Ok (ending_of outcome.is_accepted)))
-      × Shows outcome.text piece count))
-  pub longer : OnWriteFault status (HasOutcome (Some files) row (λ outcome.
-      ShowsFirst outcome.text piece count))
-  -- of the files the first that is absent or has a fault; or memory ran out
-  pub refusal : UnlessPut status (first_refusal row files ≡ Some status)
+-- an answer to the command of a row: the piece has the text; where it is of a play, that obeys the
+-- laws of the device
+abbrev pub IsAnswer : List (List ℕ × List ℕ) → Row → List ℕ → ℕ → Status → Type 0
+IsAnswer files row piece count Done =
+    HasOutcome (Some files) row (λ outcome.
+    (outcome.is_accepted ≡ true) × Shows outcome.text piece count)
+IsAnswer files row piece count Rejected =
+    HasOutcome (Some files) row (λ outcome.
+    (outcome.is_accepted ≡ false) × Shows outcome.text piece count)
+IsAnswer files row piece count WriteFault =
+    HasOutcome (Some files) row (λ outcome. ShowsFirst outcome.text piece count)
+-- memory ran out; or of the files the first that is absent or has a fault
+IsAnswer files row piece count Memory = Unit {0}
+IsAnswer files row piece count status = first_refusal row files ≡ Some status
 
 -- an answer to words that may spell a row
 abbrev pub IsCall :
