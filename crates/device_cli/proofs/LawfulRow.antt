@@ -23,9 +23,10 @@ use Rattle.input_files.specs.Reading.{Files, Reaches}
 use Rattle.input_files.specs.FileKind.{image_kind, key_kind, policy_kind, script_kind}
 use Rattle.device_cli.specs.Load.{load_key, load_image}
 use Rattle.device_cli.specs.LawfulPlay.{IsLawful, IsLawfulRow, IsPutLawfully}
-use Rattle.report_verifier.specs.Judge.{judge_with}
+use Rattle.report_verifier.specs.Judge.{Judge, judge_with}
 use Rattle.device_cli.specs.Play.{PlayOutcome, play_with, steps_of, steps_row}
-use Rattle.device_cli.specs.Round.{AcceptsHaveGrounds, RoundsHaveGrounds, round_row}
+use Rattle.device_cli.specs.Acceptance.{EachAcceptHasGrounds}
+use Rattle.device_cli.specs.Round.{RoundsHaveGrounds, round_row}
 use Rattle.device_cli.specs.Work.{load_play, work_row}
 use Rattle.device_cli.proofs.Grounds.{each_accept-has_grounds}
 use Rattle.device_play.proofs.PlayLaws.{keeps_key_hidden, obeys_laws}
@@ -118,6 +119,9 @@ round_row_lawful all image script key policy steps =
     read-always IsPutLawfully policy_kind policy _ (λ policy_read policy_bytes policy_is.
     is-lawful (play_with steps key_read image_read script_read)
     (device_key key_bytes key_read key_is) (image_bytes bytes image_read image_is)))))
+
+abbrev AcceptsHaveGrounds : Judge × DevicePlay → Type 0
+AcceptsHaveGrounds judged = EachAcceptHasGrounds judged.0 (start_in judged.1) judged.1.play
 
 pub rounds_have_grounds : RoundsHaveGrounds
 rounds_have_grounds image script key policy steps =

@@ -16,10 +16,11 @@ use Rattle.report_verifier.specs.declared.expect.Expect.{Expect}
 use Rattle.report_verifier.specs.Policy.{PolicyFields, expect_at, expectation}
 use Rattle.device_play.specs.declared.put_fault.PutFault.{PutFault}
 use Rattle.device_play.specs.declared.put_fault.PutFault.TheVariants.{Write, Memory}
+use Rattle.device_trace.specs.Text.{some_line}
 use Rattle.device_cli.specs.declared.ending.Ending.{Ending}
 use Rattle.device_cli.specs.Answer.{PutsOutcome}
 use Rattle.device_cli.specs.Row.{Outcome, ending_of}
-use Rattle.device_cli.specs.Unanswered.{first_unanswered, is_answered, unanswered_lines, with_unanswered}
+use Rattle.device_cli.specs.Unanswered.{first_unanswered, is_answered, unanswered_line, with_unanswered}
 use Rattle.device_cli.specs.Verdicts.{is_accept}
 use Rattle.device_cli.proofs.Putting.{fails}
 
@@ -108,7 +109,7 @@ stopped : {S : Type 0} (stands : S → List ℕ → Type 0) (faults : S → ℕ)
     → PutsOutcome stands faults old new outcome (Err fault)
     → PutsOutcome stands faults old new (with_unanswered outcome unanswered) (Err fault)
 stopped stands faults old new outcome unanswered Write puts = (
-  prefix_of_more stands old new outcome.text (unanswered_lines unanswered) puts.0,
+  prefix_of_more stands old new outcome.text (some_line unanswered_line unanswered) puts.0,
   puts.1,
 )
 stopped stands faults old new outcome unanswered Memory puts = puts
@@ -127,18 +128,21 @@ pub ended : {S : Type 0} (stands : S → List ℕ → Type 0) (faults : S → �
     (outcome : Outcome) (unanswered : Option ℕ) (ending : Ending)
     → ending ≡ ending_of (is_none unanswered && outcome.is_accepted)
     → Takes stands old mid outcome.text
-    → Takes stands mid new (unanswered_lines unanswered)
+    → Takes stands mid new (some_line unanswered_line unanswered)
     → PutsOutcome stands faults old new (with_unanswered outcome unanswered) (Ok ending)
-ended stands faults old mid new outcome unanswered ending is lines line =
-    (is, takes_both stands old mid new outcome.text (unanswered_lines unanswered) lines line)
+ended stands faults old mid new outcome unanswered ending is lines line = (
+  is,
+  takes_both stands old mid new outcome.text (some_line unanswered_line unanswered) lines line,
+)
 
 pub end-failed : {S : Type 0} (stands : S → List ℕ → Type 0) (faults : S → ℕ) (old mid new : S)
     (outcome : Outcome) (unanswered : Option ℕ) (result : Result Ending PutFault)
     → IsErrAnd result (λ error. error ≡ Write)
     → Takes stands old mid outcome.text → faults mid ≡ faults old
-    → TakesPrefix stands mid new (unanswered_lines unanswered) → Rose (faults mid) (faults new)
+    → TakesPrefix stands mid new (some_line unanswered_line unanswered)
+    → Rose (faults mid) (faults new)
     → PutsOutcome stands faults old new (with_unanswered outcome unanswered) result
 end-failed stands faults old mid new outcome unanswered result is lines quiet prefix rose =
     fails stands faults old new (with_unanswered outcome unanswered) result is
-    (prefix_after stands old mid new outcome.text (unanswered_lines unanswered) lines prefix)
+    (prefix_after stands old mid new outcome.text (some_line unanswered_line unanswered) lines prefix)
     (rw quiet at rose)

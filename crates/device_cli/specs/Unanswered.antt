@@ -1,10 +1,11 @@
 -- What the word `--all` asks for: that each request of the policy has a report that is accepted.
-use Rattle.std.specs.Prelude.{◌+◌, ◌++◌, ◌&&◌, ℕ, Bool, true, false, List, [], ◌∷◌, Option, Some, None, bytes_eq, codes, not, length, if◌then◌else◌}
+use Rattle.std.specs.Prelude.{◌+◌, ◌++◌, ◌&&◌, ℕ, Bool, true, false, List, [], ◌∷◌, Option, None, bytes_eq, codes, not, length, if◌then◌else◌}
 use Rattle.std.specs.Fmt.{decimal}
 use Rattle.std.specs.List.{find, range_with_len, slice_get}
 use Rattle.std.specs.Option.{is_none, option_map_or}
 use Rattle.bus_signals.specs.Address.{Bytes}
 use Rattle.printed_lines.specs.Line.{line_of}
+use Rattle.device_trace.specs.Text.{some_line}
 use Rattle.report_verifier.specs.declared.asked.Asked.{Asked}
 use Rattle.report_verifier.specs.declared.verdict.Verdict.{Verdict}
 use Rattle.device_cli.specs.Row.{Outcome, Row}
@@ -28,15 +29,11 @@ unanswered_if all requests decisions =
 abbrev pub unanswered_line : ℕ → Bytes
 unanswered_line i = line_of (codes "unanswered") (decimal (i + 1) ∷ [])
 
-abbrev pub unanswered_lines : Option ℕ → Bytes
-unanswered_lines None = []
-unanswered_lines (Some i) = unanswered_line i
-
 -- what is put of verdicts, where this request is not answered, if there is one: its line is last
 abbrev pub with_unanswered : Outcome → Option ℕ → Outcome
 with_unanswered outcome unanswered =
     record outcome {
-      text = outcome.text ++ unanswered_lines unanswered;
+      text = outcome.text ++ some_line unanswered_line unanswered;
       is_accepted = is_none unanswered && outcome.is_accepted;
     }
 

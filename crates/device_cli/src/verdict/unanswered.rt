@@ -2,9 +2,10 @@ ghost use Rattle.std.specs.Prelude.{◌≡◌, ◌<◌, ◌^◌, ◌&&◌, IfOk,
 ghost use Rattle.std.specs.Option.{is_none};
 ghost use Rattle.outside_edge.specs.Sink.{Puts, CountsFaults};
 ghost use Rattle.report_verifier.specs.declared.verdict.Verdict.{Verdict};
+ghost use Rattle.device_trace.specs.Text.{some_line};
 ghost use Rattle.device_cli.specs.Row.{ending_of};
 ghost use Rattle.device_cli.specs.Tally.{Counts};
-ghost use Rattle.device_cli.specs.Unanswered.{unanswered_if, unanswered_line, unanswered_lines};
+ghost use Rattle.device_cli.specs.Unanswered.{unanswered_if, unanswered_line};
 ghost use Rattle.device_cli.specs.Verdicts.{all_accept};
 
 use crate::ending::Ending;
@@ -50,7 +51,7 @@ pub fn end_verdicts<W: Sink>(
     requires { tally.now.leading_accepts < 2 ^ 63 }
     ensures puts { (decisions : List Verdict) → Counts decisions tally.now
         → Puts W.stands sink.old sink.new
-        (unanswered_lines (unanswered_if all policy.now.requests decisions)) result }
+        (some_line unanswered_line (unanswered_if all policy.now.requests decisions)) result }
     ensures ending { (decisions : List Verdict) → Counts decisions tally.now
         → IfOk result (λ ending. ending ≡ ending_of
         (is_none (unanswered_if all policy.now.requests decisions) && all_accept decisions)) }

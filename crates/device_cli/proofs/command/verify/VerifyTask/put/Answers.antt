@@ -2,7 +2,8 @@ use Rattle.std.proofs.Common.{arith}
 use Rattle.mem_map.specs.Image.{byte_in}
 use Rattle.outside_edge.proofs.SinkLemmas.{prefix_of_more}
 use Rattle.report_verifier.specs.Judge.{Judge, judge_with}
-use Rattle.device_cli.specs.Unanswered.{unanswered_if, unanswered_lines}
+use Rattle.device_trace.specs.Text.{some_line}
+use Rattle.device_cli.specs.Unanswered.{unanswered_if, unanswered_line}
 use Rattle.device_cli.specs.Verdicts.{lines_from, verdicts}
 use Rattle.device_cli.specs.Verify.{verdicts_outcome, verify_outcome}
 use Rattle.device_cli.proofs.Putting.{fails}
@@ -30,7 +31,7 @@ returns-in_err-tally-clause-puts g c =
     (verify_outcome all judge reports) c.from_residual.result c.from_residual.ensures.1
     (prefix_of_more g.W.Sink.stands c.args.sink.now c.print_verdicts.new.sink
     (lines_from 1 decisions)
-    (unanswered_lines (unanswered_if all judge.policy.requests decisions))
+    (some_line unanswered_line (unanswered_if all judge.policy.requests decisions))
     c.in_err-tally.ensures.puts.prefix)
     c.in_err-tally.ensures.counts.failed)
 
