@@ -1,5 +1,5 @@
 -- The words of an answer, and what they are read as.
-use Rattle.std.proofs.Common.{◌≡◌, ◌∙◌, ℕ, ◌^◌, ◌≤◌, List, [], ◌∷◌, Some, Ok, true, refl, ap, arith, rules}
+use Rattle.std.proofs.Common.{◌≡◌, ◌∙◌, ℕ, ◌^◌, ◌≤◌, List, [], ◌∷◌, Some, None, Result, Ok, Err, true, refl, ap, sym, arith, rules}
 use Rattle.std.specs.Fmt.{decimal}
 use Rattle.std.proofs.lemmas.Bool.{ltb-true}
 use Rattle.named_value.specs.Names.{value_named}
@@ -75,16 +75,32 @@ answer-are (Judged verdict) is = answer-plain (Judged verdict) is
 
 -- so the text is read back, and is that of no other answer
 
-pub answer_text_read : (text : List ℕ) (answer : Answer) → is_short_answer answer ≡ true
+answer_text_read : (text : List ℕ) (answer : Answer) → is_short_answer answer ≡ true
     → text ≡ answer_text answer → answer_of (words_of text) ≡ Ok (answer, [])
 answer_text_read text answer few is =
     ap (λ (one : List ℕ). answer_of (words_of one)) is
     ∙ ap answer_of (words_of-join (answer_words answer) (answer-plain answer few))
     ∙ answer-read answer few
 
+answer_in : Answer → Result (Answer × List (List ℕ)) FaultKind → Answer
+answer_in other (Ok read) = read.0
+answer_in other (Err kind) = other
+
+pub answer_told : (text : List ℕ) (found answer : Answer) (rest : List (List ℕ))
+    → answer_of (words_of text) ≡ Ok (found, rest) → is_short_answer answer ≡ true
+    → text ≡ answer_text answer → Some found ≡ Some answer
+answer_told text found answer rest reads few is =
+    ap (λ read. Some (answer_in answer read)) (sym reads ∙ answer_text_read text answer few is)
+
+pub answer_untold : (text : List ℕ) (kind : FaultKind) (answer : Answer)
+    → answer_of (words_of text) ≡ Err kind → is_short_answer answer ≡ true
+    → text ≡ answer_text answer → None ≡ Some answer
+answer_untold text kind answer fails few is =
+    let reads = sym fails ∙ answer_text_read text answer few is in absurd (cc reads)
+
 pub answer_text-injective : (a b : Answer) → is_short_answer a ≡ true → is_short_answer b ≡ true
     → answer_text a ≡ answer_text b → a ≡ b
 answer_text-injective a b few_a few_b same =
-    let first = answer_text_read (answer_text a) a few_a refl in
-    let second = answer_text_read (answer_text a) b few_b same in
-    cc
+    ap (answer_in a)
+    (sym (answer_text_read (answer_text a) a few_a refl)
+    ∙ answer_text_read (answer_text a) b few_b same)

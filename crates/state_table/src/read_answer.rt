@@ -10,18 +10,29 @@ use desk_memory::Answer;
 use text_scan::{FaultKind, Words};
 
 /// The answer that a text says.
-#[tactic(auto, using(crate::proofs::AnswerWords::answer_text_read))]
 pub fn answer_of_text(text: &[u8]) -> Option<Answer>
     ensures said { IfSome result (λ answer. text.now ≡ answer_text answer) }
     ensures read { (answer : Said) → IsTrue (is_short_answer answer)
         → text.now ≡ answer_text answer → result ≡ Some answer }
 {
-    let mut words = Words::new(text);
-    let answer = next_answer(&mut words).ok()?;
+    let answer = answer_like(text)?;
     if answer_text(answer).as_slice() == text {
         Some(answer)
     } else {
         None
+    }
+}
+
+// The one answer that a text may say.
+#[tactic(auto, using(crate::proofs::AnswerWords::answer_told, crate::proofs::AnswerWords::answer_untold))]
+fn answer_like(text: &[u8]) -> Option<Answer>
+    ensures { (answer : Said) → IsTrue (is_short_answer answer)
+        → text.now ≡ answer_text answer → result ≡ Some answer }
+{
+    let mut words = Words::new(text);
+    match next_answer(&mut words) {
+        Ok(answer) => Some(answer),
+        Err(_) => None,
     }
 }
 
