@@ -1,29 +1,13 @@
 -- The lines by which a device moves are the same before and after it is kept that it is gone.
 use Rattle.std.proofs.Common.{◌≡◌, ◌∙◌, ℕ, List, [], ◌∷◌, true, false, Option, Some, refl, ap, sym, inl, inr}
+use Rattle.std.proofs.lemmas.Option.{same_Some}
 use Rattle.std.specs.Option.{is_some}
 use Rattle.std.specs.Str.{bytes_eq}
 use Rattle.std.proofs.lemmas.Bool.{cases_Bool}
 use Rattle.std.proofs.lemmas.Slice.Eq.{bytes_eq-Decides}
 use Rattle.desk_memory.specs.Entry.{Entry, Home, home_of, is_replaced, last_in, with_entry}
 use Rattle.desk_memory.specs.Moving.{at_home, departed, gone_to, lines_at, moved_lines}
-use Rattle.desk_memory.proofs.Noted.{entry_is_last}
-
-same-entry : (one two : Entry) → Some one ≡ Some two → one ≡ two
-same-entry one two same = cc same
-
--- the last entry of a device has its name
-last-named : (entries : List Entry) (name : List ℕ) (last : Entry)
-    → last_in entries name ≡ Some last → last.name ≡ name
-last-named [] name last is = absurd (cc is)
-last-named (entry ∷ later) name last is = elim (cases_Bool (is_some (last_in later name))) [
-  | inl named ↦ last-named later name last (rw named at is)
-  | inr unnamed ↦ elim (cases_Bool (bytes_eq entry.name name)) [
-    | inl hit ↦
-        let same : entry ≡ last = same-entry entry last (rw (unnamed, hit) at is) in
-        sym (ap (λ (one : Entry). one.name) same) ∙ (bytes_eq-Decides entry.name name).0 hit
-    | inr miss ↦ absurd (let known = rw (unnamed, miss) at is in cc known)
-  ]
-]
+use Rattle.desk_memory.proofs.Noted.{entry_is_last, last_named}
 
 kept-before : (entry : Entry) (later : List Entry) (new : Entry)
     → is_some (last_in later new.name) ≡ true → is_replaced entry later new ≡ false
@@ -52,7 +36,7 @@ gone-lines home name to (entry ∷ later) last is mine =
           ]
       | inr unnamed ↦ elim (cases_Bool (bytes_eq entry.name name)) [
         | inl hit ↦
-            let same : entry ≡ last = same-entry entry last (rw (unnamed, hit) at is) in
+            let same : entry ≡ last = same_Some entry last (rw (unnamed, hit) at is) in
             let named : bytes_eq last.name last.name ≡ true =
             (bytes_eq-Decides last.name last.name).1 refl in
             let marked : bytes_eq last.mark last.mark ≡ true =
@@ -77,7 +61,7 @@ pub departed-lines : (name to : List ℕ) (entries : List Entry) (last : Entry)
     → moved_lines name (departed name to entries)
     ≡ lines_at (gone_to to last).home name entries
 departed-lines name to entries last is =
-    let mine = last-named entries name last is in
+    let mine = last_named entries name last is in
     let is_departed : departed name to entries ≡ with_entry entries (gone_to to last) =
     rw is refl in
     ap (moved_lines name) is_departed

@@ -19,7 +19,7 @@ use Rattle.input_files.specs.Status.{status_of_refusal}
 use Rattle.input_files.proofs.Complete.{refused-complete, told-complete}
 use Rattle.input_files.proofs.Refused.{refused-words}
 use Rattle.desk_cli.specs.Desk.{DeskNames, DeskValues, HasServed, IsDeskAnswer, Meets, ServesFrom, desk_row}
-use Rattle.desk_cli.specs.Edge.{Ports}
+use Rattle.source_server.specs.Ports.{Ports}
 use Rattle.desk_cli.specs.MemoryFiles.{ToldMemories}
 use Rattle.desk_cli.proofs.DeskComplete.{serves-whole}
 use Rattle.desk_cli.proofs.DeskInput.{refused-limit, serves-limit}
@@ -45,12 +45,7 @@ refused-answer s told r m desk_of w shelf shelf_after memories ports names named
     rw (← spells) (record {
       words = (λ is. absurd (no_words is), λ none. absurd (cc none));
       unread = λ is. absurd (no_words is);
-      answers = inl (record {
-        cause = reads.refusal;
-        order = reads.order;
-        unopened = refl;
-        silent = refl;
-      });
+      answers = inl (record { cause = reads.refusal; order = reads.order }, refl, refl);
       complete = refused-complete (s.files shelf) (r.left ports.source) _ _ (desk_row names) _ _ _
           reads.order reads.refusal (λ is no_source no_sink serves. inr is);
       limit = refused-limit r ports.source refusal;

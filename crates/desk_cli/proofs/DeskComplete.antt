@@ -1,5 +1,7 @@
 -- Where nothing failed or hindered its memory, a desk answers all lines, or memory runs out.
-use Rattle.std.proofs.Common.{◌≡◌, ◌<◌, ◌+◌, ◌⊎◌, ℕ, List, [], ◌∷◌, length, Option, Some, None, IfSome, refl, inl, inr, subst, arith}
+use Rattle.std.proofs.Common.{◌≡◌, ◌<◌, ◌+◌, ◌⊎◌, ℕ, List, [], ◌∷◌, length, Option, Some, None, IfSome, refl, ap, ◌∙◌, inl, inr, subst, arith}
+use Rattle.std.specs.Option.{is_some}
+use Rattle.std.proofs.lemmas.Option.{same_Some}
 use Rattle.std.proofs.lemmas.Bool.{cases_Bool}
 use Rattle.sha2.specs.Sha256.{sha256}
 use Rattle.outside_edge.specs.Count.{Rose}
@@ -9,10 +11,8 @@ use Rattle.outside_edge.proofs.Counts.{never_rises}
 use Rattle.desk_memory.specs.declared.memory.Memory as memory
 use Rattle.desk_memory.specs.declared.memory_fault.MemoryFault.{MemoryFault}
 use Rattle.desk_memory.specs.declared.no_memory.NoMemory.{NoMemory}
-use Rattle.desk_memory.specs.Entry.{Entry, last_in}
+use Rattle.desk_memory.specs.Entry.{Entry, home_of, last_in}
 use Rattle.desk_memory.specs.NoMemory.{forgets}
-use Rattle.memory_file.specs.declared.memory_file_fault.MemoryFileFault.{MemoryFileFault}
-use Rattle.memory_file.specs.declared.memory_file_fault.MemoryFileFault.TheVariants as opened
 use Rattle.source_server.specs.declared.halt.Halt.{Halt}
 use Rattle.source_server.specs.declared.halt.Halt.TheVariants as halt
 use Rattle.source_server.specs.Serving.{served_of}
@@ -21,15 +21,15 @@ use Rattle.source_server.proofs.ServedEnds.{whole_or_stopped}
 use Rattle.verifier_desk.specs.declared.answer_fault.AnswerFault.{AnswerFault}
 use Rattle.verifier_desk.specs.declared.answer_fault.AnswerFault.TheVariants as fault
 use Rattle.verifier_desk.specs.DeviceKey.{DeviceKey}
-use Rattle.verifier_desk.specs.Gone.{first_gone, is_gone}
+use Rattle.verifier_desk.specs.Gone.{first_gone}
 use Rattle.verifier_desk.specs.KeyOwner.{KeysStandApart}
 use Rattle.verifier_desk.specs.Replies.{DeskFields}
 use Rattle.verifier_desk.specs.Serving.{HasFailed, Outside, desk_promise}
 use Rattle.input_files.specs.declared.status.Status.{Status}
 use Rattle.input_files.specs.declared.status.Status.TheVariants.{Done, Memory}
 use Rattle.desk_cli.specs.Desk.{DeskValues, HasServed, IsTaken, MayServe, Meets, ServesFrom}
-use Rattle.desk_cli.specs.Edge.{Ports}
-use Rattle.desk_cli.specs.MemoryFiles.{FailsToOpen, IsUnhindered, ToldMemories}
+use Rattle.source_server.specs.Ports.{Ports}
+use Rattle.desk_cli.specs.MemoryFiles.{ToldMemories}
 use Rattle.desk_cli.specs.Status.{status_of_served, status_of_unkept, status_of_unopened}
 
 -- all lines were answered, or memory ran out
@@ -106,47 +106,19 @@ whole-over m opened left status none (inr (inr (fault, is, (inl lacks)))) =
 whole-over m opened left status none (inr (inr (fault, is, (inr rose)))) =
     absurd (none (from-none (m.faults opened) (m.faults left) rose))
 
-whole-unopened : {F M : Type 0} (told : ToldMemories F M) (m : memory.Ghosts M) (old new : F)
-    (name : List ℕ) (fault : MemoryFileFault)
-    → IsUnhindered told m old new name
-    → FailsToOpen told told.unopened_for old new name fault
-    → IsWhole (status_of_unopened fault)
-whole-unopened told m old new name opened.Missing free cause =
-    absurd (free.refused opened.Missing cause)
-whole-unopened told m old new name opened.Unfounded free cause =
-    absurd (free.fit opened.Unfounded (cause free.honest))
-whole-unopened told m old new name opened.Founded free cause =
-    absurd (free.fit opened.Founded (cause free.honest))
-whole-unopened told m old new name opened.OtherLog free cause =
-    absurd (free.fit opened.OtherLog (cause free.honest))
-whole-unopened told m old new name opened.Place free cause =
-    absurd (free.refused opened.Place cause)
-whole-unopened told m old new name opened.InUse free cause =
-    absurd (free.refused opened.InUse cause)
-whole-unopened told m old new name opened.HotJournal free cause =
-    absurd (free.refused opened.HotJournal cause)
-whole-unopened told m old new name opened.Foreign free cause =
-    absurd (free.fit opened.Foreign (cause free.honest))
-whole-unopened told m old new name opened.Disk free cause = absurd (free.sound (cause free.honest))
-whole-unopened told m old new name opened.Full free cause = absurd (free.room (cause free.honest))
-whole-unopened told m old new name opened.OutOfMemory free cause = inr refl
-
 -- no key is taken where all stand apart
 none-taken : (devices : List DeviceKey) (entries : List Entry) (status : Status)
     → KeysStandApart sha256 devices entries → IsTaken devices entries status → ⊥
 none-taken devices entries status apart taken =
     taken.first.2 (apart taken.place taken.first.0)
 
-some-same : (one two : ℕ) → Some one ≡ Some two → one ≡ two
-some-same one two is = cc is
-
 -- a device that is gone is one of them
 gone-within : (entries : List Entry) (place : ℕ) (devices : List DeviceKey) (found : ℕ)
     → first_gone entries place devices ≡ Some found → found < place + length devices
 gone-within entries place [] found is = absurd (cc is)
 gone-within entries place (device ∷ devices) found is =
-    elim (cases_Bool (is_gone (last_in entries device.name))) [
-      | inl gone ↦ let same : place ≡ found = some-same place found (rw gone at is) in
+    elim (cases_Bool (is_some (home_of (last_in entries device.name)).gone)) [
+      | inl gone ↦ let same : place ≡ found = same_Some place found (rw gone at is) in
           omega (arith, same)
       | inr here ↦
           let deeper = gone-within entries (place + 1) devices found (rw here at is) in
@@ -211,8 +183,7 @@ serves-whole told r m desk_of w values None memories memories_after old new stat
     served is few no_source no_sink)
 serves-whole told r m desk_of w values (Some name) memories memories_after old new status lines
     (inl (lacks, same)) may is few no_source no_sink =
-    rw lacks.answer (whole-unopened told m memories memories_after name lacks.fault may.0
-    lacks.unopened.cause)
+    inr (lacks.answer ∙ ap status_of_unopened (may.0.free lacks.fault lacks.unopened.cause))
 serves-whole told r m desk_of w values (Some name) memories memories_after old new status lines
     (inr opens) may is few no_source no_sink =
     let kept = subst (λ left. IfSome left (λ left. m.is_honest left × ¬ Rose 0 (m.faults left)))

@@ -19,13 +19,11 @@ use Rattle.input_files.specs.declared.refusal.Refusal.{Refusal}
 use Rattle.input_files.specs.declared.status.Status.{Status}
 use Rattle.input_files.specs.declared.status.Status.TheVariants.{Spent}
 use Rattle.input_files.specs.Status.{status_of_refusal}
+use Rattle.input_files.proofs.Refused.{refused-spent}
 use Rattle.desk_cli.specs.Desk.{DeskValues, HasServed, Meets, ServesFrom}
-use Rattle.desk_cli.specs.Edge.{Ports}
+use Rattle.source_server.specs.Ports.{Ports}
 use Rattle.desk_cli.specs.MemoryFiles.{ToldMemories}
 use Rattle.desk_cli.specs.Status.{status_of_served, status_of_unkept, status_of_unopened}
-
-refusal-spent : (refusal : Refusal) → status_of_refusal refusal ≡ Spent → ⊥
-refusal-spent = search rules
 
 unkept-spent : (fault : MemoryFault) → status_of_unkept fault ≡ Spent → ⊥
 unkept-spent = search rules
@@ -42,7 +40,7 @@ module _ {R : Type 0} (r : source.Ghosts R) where
 
   pub refused-limit : (now : R) (refusal : Refusal)
       → KeepsLimit r now now (status_of_refusal refusal ≡ Spent)
-  refused-limit now refusal = untouched now (status_of_refusal refusal) (refusal-spent refusal)
+  refused-limit now refusal = untouched now (status_of_refusal refusal) (refused-spent refusal)
 
   ended-spent : (ended : Served AnswerFault) → status_of_served ended ≡ Spent
       → ended ≡ served.Spent

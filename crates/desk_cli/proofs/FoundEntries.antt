@@ -5,7 +5,6 @@ use Rattle.outside_edge.specs.Count.{Rose}
 use Rattle.sqlite_disk.specs.declared.Disk.{Ghosts}
 use Rattle.sqlite_wal.specs.Recovery.{Image}
 use Rattle.sqlite_pool.specs.Stored.{RecoversAs}
-use Rattle.sqlite_trees.specs.Tree.{Trees}
 use Rattle.sqlite_store.specs.declared.store.FileStore.{FileStore}
 use Rattle.desk_memory.specs.Entry.{Entry}
 use Rattle.desk_memory.specs.SizedEntry.{are_sized}
@@ -21,8 +20,8 @@ use Rattle.memory_file.specs.declared.memory_file_fault.MemoryFileFault.TheVaria
 use Rattle.memory_file.proofs.FoundOnce.{not_founded, not_unfounded}
 use Rattle.memory_file.proofs.HeldLemmas.{memory_carried, memory_is_something}
 use Rattle.desk_cli.specs.declared.refusals.Refusals.{Refusals}
-use Rattle.desk_cli.specs.MemoryFiles.{FailsToOpen, IsUnopened, ToldMemories}
-use Rattle.desk_cli.specs.StoreFiles.{FindsIn, FindsLeft, FindsNow, IsFullLeft, IsFullNow, IsHonestNow, IsRefused, LeavesNow, faults_left, faults_now, keeps_as, refused_with, told_over}
+use Rattle.desk_cli.specs.MemoryFiles.{IsUnopened, Request, ToldMemories}
+use Rattle.desk_cli.specs.StoreFiles.{FindsIn, FindsLeft, FindsNow, IsFullLeft, FailsNow, IsCounted, IsFullNow, IsHonestNow, LeavesNow, faults_left, faults_now, keeps_as, told_over, why_of}
 
 module _ {D : Type 0} {g : Ghosts D} (image : Image) (store : FileStore D g) (desk : List ℕ)
     (entries : List Entry) (opened : IsOpenOver image store desk entries) where
@@ -149,53 +148,57 @@ module _ {D : Type 0} {g : Ghosts D} (why : Image → MemoryFileFault → Type 0
 
 module _ {D : Type 0} {g : Ghosts D} {F M : Type 0} (images : List ℕ → Image)
     (is_unopened : F → Type 0) (is_making : F → Bool) (refusals_of : F → Refusals)
-    (left_of : F → Option (Left D g)) (closed_of : F → Option M)
-    (why : Image → MemoryFileFault → Type 0) (old new : F) (name : List ℕ)
-    (fresh : left_of old ≡ None) where
+    (left_of : F → Option (Left D g)) (closed_of : F → Option M) (asked : Request) (old new : F)
+    (name : List ℕ) (fresh : left_of old ≡ None) where
   abbrev Told : ToldMemories F M
   Told = told_over images is_unopened is_making refusals_of left_of closed_of
 
-  abbrev Why : F → List ℕ → MemoryFileFault → Type 0
-  Why files name = why (images name)
+  abbrev Why : MemoryFileFault → Type 0
+  Why = why_of asked (images name)
 
-  -- a fault with which the path is refused was counted
-  abbrev Counted : MemoryFileFault → Type 0
-  Counted fault = IsRefused fault
-      → Rose (refused_with (refusals_of old) fault) (refused_with (refusals_of new) fault)
-
-  fails : (fault : MemoryFileFault) → Counted fault
-      → FailsBy why (images name) (left_of new) fault → FailsToOpen Told Why old new name fault
-  fails Foreign counted cause =
-      unfit why (images name) (left_of new) Foreign (λ never. never) (λ n limit is. is) cause
-  fails Unfounded counted cause =
-      unfit why (images name) (left_of new) Unfounded (λ never. never) (λ n limit is. is) cause
-  fails Founded counted cause =
-      unfit why (images name) (left_of new) Founded (λ never. never) (λ n limit is. is) cause
-  fails OtherLog counted cause =
-      unfit why (images name) (left_of new) OtherLog (λ never. never) (λ n limit is. is) cause
-  fails Disk counted cause = λ clean.
+  fails_now : (fault : MemoryFileFault)
+      → FailsBy (why_of asked) (images name) (left_of new) fault → IsHonestNow (left_of new)
+      → FailsNow Why (left_of old) (left_of new) fault
+  fails_now Foreign cause =
+      unfit (why_of asked) (images name) (left_of new) Foreign (λ never. never) (λ n limit is. is)
+      cause
+  fails_now Unfounded cause =
+      unfit (why_of asked) (images name) (left_of new) Unfounded (λ never. never)
+      (λ n limit is. is) cause
+  fails_now Founded cause =
+      unfit (why_of asked) (images name) (left_of new) Founded (λ never. never) (λ n limit is. is)
+      cause
+  fails_now OtherLog cause =
+      unfit (why_of asked) (images name) (left_of new) OtherLog (λ never. never)
+      (λ n limit is. is) cause
+  fails_now Disk cause = λ clean.
       subst (λ n. Rose (faults_now n) (faults_now (left_of new))) (sym fresh)
-      (inl (failed why (images name) (left_of new) cause clean))
-  fails Full counted cause = full why (images name) (left_of new) cause
-  fails Missing counted cause = counted tt
-  fails Place counted cause = counted tt
-  fails InUse counted cause = counted tt
-  fails HotJournal counted cause = counted tt
-  fails OutOfMemory counted cause = tt
+      (inl (failed (why_of asked) (images name) (left_of new) cause clean))
+  fails_now Full cause = full (why_of asked) (images name) (left_of new) cause
+  fails_now Missing cause = λ clean. tt
+  fails_now Place cause = λ clean. tt
+  fails_now InUse cause = λ clean. tt
+  fails_now HotJournal cause = λ clean. tt
+  fails_now OutOfMemory cause = λ clean. tt
 
   pub unopened : (making : Bool) (fault : MemoryFileFault) → is_making new ≡ making
-      → Counted fault
+      → IsCounted (refusals_of old) (refusals_of new) fault
       → (left_of new ≡ None → IsOfPath fault)
-      → IfSome (left_of new) (λ rest. IsCleanLeft rest → FailsAs why 0 (images name) rest fault)
+      → IfSome (left_of new) (λ rest. IsCleanLeft rest
+      → FailsAs (why_of asked) 0 (images name) rest fault)
       → IfSome (left_of new) (λ rest. IsCleanLeft rest
       → Leaves (keeps_as making) (λ after. after ≡ images name) (images name) rest)
-      → IsUnopened Told Why old new name fault
-  unopened making fault asked counted path cause spared = record {
-    cause = fails fault counted (fails_by why (images name) (left_of new) fault path cause);
+      → IsUnopened Told asked old new name fault
+  unopened making fault is counted path cause spared = record {
+    cause = (
+      counted,
+      fails_now fault
+          (fails_by (why_of asked) (images name) (left_of new) fault path cause),
+    );
     spared = λ clean desk found finds.
         subst (λ n. FindsNow (images name) n desk found) (sym fresh)
         (now_finds making (images name) (left_of new) desk found spared clean finds);
     unharmed = λ clean was.
-        subst (λ is. LeavesNow is (images name) (left_of new)) (sym asked)
+        subst (λ is. LeavesNow is (images name) (left_of new)) (sym is)
         (now_leaves making (images name) (left_of new) spared clean);
   }

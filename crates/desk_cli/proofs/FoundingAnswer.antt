@@ -7,12 +7,12 @@ use Rattle.desk_memory.specs.Entry.{Entry}
 use Rattle.input_files.specs.declared.refusal.Refusal.{Refusal}
 use Rattle.input_files.specs.declared.status.Status.{Status}
 use Rattle.input_files.specs.declared.status.Status.TheVariants.{Words}
-use Rattle.input_files.specs.Reading.{Reaches, Reads}
+use Rattle.input_files.specs.Reading.{IsUnread, Reaches, Reads}
 use Rattle.input_files.specs.Row.{RowOf}
 use Rattle.input_files.specs.Status.{status_of_refusal}
 use Rattle.input_files.proofs.Refused.{refused-words}
-use Rattle.desk_cli.specs.Founding.{FoundNames, FoundsIf, IsFoundAnswer, IsRememberAnswer, IsUnread, RememberNames, states_row}
-use Rattle.desk_cli.specs.MemoryFiles.{ToldMemories}
+use Rattle.desk_cli.specs.Founding.{FoundNames, FoundsIf, IsFoundAnswer, IsRememberAnswer, RememberNames, states_row}
+use Rattle.desk_cli.specs.MemoryFiles.{Making, ToldMemories}
 use Rattle.desk_cli.specs.StateFile.{NumberedEntries}
 use Rattle.desk_cli.proofs.NoWords.{lacks-words, notes-words}
 
@@ -22,7 +22,7 @@ founds-words : {F M : Type 0} (told : ToldMemories F M) (m : memory.Ghosts M)
     → FoundsIf told m desk_of memories memories_after names entries status
     → status ≡ Words → ⊥
 founds-words told m desk_of memories memories_after names entries status (inl lacks) is =
-    lacks-words told told.unmade_for memories memories_after names.memory status lacks is
+    lacks-words told Making memories memories_after names.memory status lacks is
 founds-words told m desk_of memories memories_after names entries status (inr founds) is =
     notes-words m founds.opened founds.left _ status founds.notes is
 
@@ -45,10 +45,11 @@ found-answer told m desk_of memories memories_after names named status spells fo
 pub unread-words : {S F V : Type 0} (s : shelves.Ghosts S) (shelf shelf_after : S) (memories : F)
     (name : List ℕ) (rest : V → RowOf NumberedEntries) (refusal : Refusal)
     → Reads s.files s.faults s.misses shelf shelf_after (states_row name) rest (Err refusal)
-    → IsUnread s shelf shelf_after memories memories name (status_of_refusal refusal)
+    → (IsUnread s shelf shelf_after (states_row name) (status_of_refusal refusal)
+    × (memories ≡ memories))
     × (status_of_refusal refusal ≡ Words → ⊥)
 unread-words s shelf shelf_after memories name rest refusal reads = (
-  record { cause = reads.refusal; order = reads.order; unopened = refl },
+  (record { cause = reads.refusal; order = reads.order }, refl),
   λ is. refused-words (s.files shelf) _ _ (states_row name) (rw is at reads.refusal),
 )
 

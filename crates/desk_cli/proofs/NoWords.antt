@@ -13,7 +13,7 @@ use Rattle.verifier_desk.specs.declared.answer_fault.AnswerFault.TheVariants as 
 use Rattle.outside_edge.specs.declared.sink.Sink as sink
 use Rattle.input_files.specs.declared.status.Status.{Status}
 use Rattle.input_files.specs.declared.status.Status.TheVariants.{Words}
-use Rattle.desk_cli.specs.MemoryFiles.{LacksMemory, ToldMemories, UsesIf}
+use Rattle.desk_cli.specs.MemoryFiles.{LacksMemory, Opening, Request, ToldMemories, UsesIf}
 use Rattle.desk_cli.specs.Noting.{NotesAll, status_of_noted}
 use Rattle.desk_cli.specs.States.{PutsText}
 use Rattle.desk_cli.specs.Status.{status_of_served, status_of_unkept, status_of_unopened}
@@ -58,11 +58,10 @@ pub puts-words : {W : Type 0} (w : sink.Ghosts W) (old new : W) (text : List ℕ
 puts-words w old new text status (inl done) is = cc (done.0, is)
 puts-words w old new text status (inr cut) is = cc (cut.0, is)
 
-pub lacks-words : {F M : Type 0} (told : ToldMemories F M)
-    (Why : F → List ℕ → MemoryFileFault → Type 0) (memories memories_after : F)
-    (name : List ℕ) (status : Status)
-    → LacksMemory told Why memories memories_after name status → status ≡ Words → ⊥
-lacks-words told Why memories memories_after name status lacks is =
+pub lacks-words : {F M : Type 0} (told : ToldMemories F M) (asked : Request)
+    (memories memories_after : F) (name : List ℕ) (status : Status)
+    → LacksMemory told asked memories memories_after name status → status ≡ Words → ⊥
+lacks-words told asked memories memories_after name status lacks is =
     unopened-words lacks.fault (rw lacks.answer at is)
 
 pub uses-words : {F M : Type 0} (told : ToldMemories F M) (m : memory.Ghosts M)
@@ -73,6 +72,6 @@ pub uses-words : {F M : Type 0} (told : ToldMemories F M) (m : memory.Ghosts M)
     → Does desk entries opened left → status ≡ Words → ⊥)
     → status ≡ Words → ⊥
 uses-words told m desk_of memories memories_after name status Nothing Does (inl lacks) does =
-    lacks-words told told.unopened_for memories memories_after name status lacks.0
+    lacks-words told Opening memories memories_after name status lacks.0
 uses-words told m desk_of memories memories_after name status Nothing Does (inr uses) does =
     does _ uses.entries uses.opened uses.left uses.does

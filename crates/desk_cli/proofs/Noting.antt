@@ -104,7 +104,8 @@ pub notes-settled : {M V : Type 0} (m : memory.Ghosts M) (opened mid now : M)
     → IfErr result (λ fault. HasFailed m mid now fault)
     → m.stands opened had
     → HasNoted m opened now (with_entries had entries) (result_err result)
-notes-settled m opened mid now entries had (Ok value) notes honest same kept alone crash failed has =
+notes-settled m opened mid now entries had (Ok value) notes honest same kept alone crash failed
+    has =
     let stands = notes.has had has in
     record {
       honest = λ now_honest. notes.honest (honest now_honest);
@@ -118,7 +119,8 @@ notes-settled m opened mid now entries had (Ok value) notes honest same kept alo
           (with_entries had entries) found notes
           (crash (with_entries had entries) stands now_honest found leaves);
     }
-notes-settled m opened mid now entries had (Err fault) notes honest same kept alone crash failed has =
+notes-settled m opened mid now entries had (Err fault) notes honest same kept alone crash failed
+    has =
     let stands = notes.has had has in
     record {
       honest = λ now_honest. notes.honest (honest now_honest);

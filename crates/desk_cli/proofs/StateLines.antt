@@ -1,11 +1,10 @@
 -- The lines of entries are read as these entries.
-use Rattle.std.proofs.Common.{◌≡◌, ◌∙◌, ℕ, ◌+◌, ◌^◌, ◌<◌, ◌≤◌, ◌&&◌, Bool, true, false, List, [], ◌∷◌, ◌++◌, Option, Some, None, IfSome, Ok, Err, length, drop, append_assoc, append-nil, refl, ap, subst, sym, arith, rules}
+use Rattle.std.proofs.Common.{◌≡◌, ◌∙◌, ℕ, ◌+◌, ◌<◌, ◌≤◌, ◌&&◌, Bool, true, false, List, [], ◌∷◌, ◌++◌, Option, Some, None, IfSome, Ok, Err, length, drop, append_assoc, append-nil, refl, ap, subst, sym, arith, rules}
 use Rattle.std.specs.Prelude.{◌==◌, ◌||◌, nat_le, nat_lt, IsUtf8}
 use Rattle.std.specs.Int.{is_in_range}
-use Rattle.std.specs.Fmt.{decimal}
 use Rattle.std.specs.List.{list_all}
 use Rattle.std.specs.Str.Lines.{lines}
-use Rattle.std.proofs.lemmas.Bool.{and_from, and_parts, eqb-true, leb-true, ltb-true, le-leb, lt-ltb}
+use Rattle.std.proofs.lemmas.Bool.{and_from, and_parts, eqb-true, leb-true, le-leb, lt-ltb}
 use Rattle.std.proofs.lemmas.Str.{IsUtf8-nil, IsUtf8-append}
 use Rattle.text_scan.specs.LineFold.{lines_fold, text_fold}
 use Rattle.text_scan.specs.Line.{numbered_lines}
@@ -14,23 +13,19 @@ use Rattle.named_value.specs.PlainWord.{IsPlainWord, is_plain}
 use Rattle.printed_lines.specs.Line.{line_of, with_pieces}
 use Rattle.line_buffer.specs.LineLaw.{ArePieces, IsFirstLine}
 use Rattle.line_buffer.proofs.PieceLines.{first_line, utf8_line}
-use Rattle.text_scan.proofs.PlainWords.{plain-decimal, plain-encoded}
+use Rattle.text_scan.proofs.PlainWords.{plain-encoded}
 use Rattle.text_scan.proofs.TextUtf8.{utf8_of-whole}
-use Rattle.text_scan.specs.declared.fault_kind.FaultKind.{FaultKind}
 use Rattle.text_scan.specs.declared.fault_kind.FaultKind.TheVariants.{Digit}
-use Rattle.report_verifier.specs.VerdictName.{verdict_name}
-use Rattle.report_verifier.specs.declared.verdict.Verdict.{Verdict}
 use Rattle.desk_memory.specs.declared.answer.Answer.{Answer}
-use Rattle.desk_memory.specs.declared.answer.Answer.TheVariants.{Stale, Bad, Spent, Requested, Judged}
 use Rattle.desk_memory.specs.Entry.{Entry, first_home, last_in, with_entries}
-use Rattle.text_scan.specs.FaultName.{fault_name}
 use Rattle.desk_memory.specs.SizedEntry.{is_short, is_short_answer, is_short_line, is_short_number}
+use Rattle.state_table.proofs.AnswerWords.{answer-are, short-plain}
 use Rattle.verifier_desk.specs.DeviceKey.{is_name_character, name_fault}
 use Rattle.desk_cli.specs.declared.line_form.LineForm.{LineForm}
 use Rattle.desk_cli.specs.declared.line_form.LineForm.TheVariants.{VersionOne, Here, Gone}
 use Rattle.desk_cli.specs.ReadBack.{AreNotable, IsWritable, StatesReadBack, VersionOneReadsBack}
 use Rattle.desk_cli.specs.StateFile.{entry_of, goes_behind, goes_on, is_in_range as ranged, states_of, with_line}
-use Rattle.desk_cli.specs.StateText.{answer_pieces, desk_pieces, form_for, form_name, last_pieces, moves_pieces, number_piece, state_pieces, state_line, text_by, version_one_line}
+use Rattle.desk_cli.specs.StateText.{desk_pieces, form_for, form_name, last_pieces, moves_pieces, number_piece, state_pieces, state_line, text_by, version_one_line}
 use Rattle.desk_cli.proofs.StatesBehind.{stand_behind}
 use Rattle.desk_cli.proofs.StatesGoOn.{go_on}
 use Rattle.desk_cli.proofs.StatesNoted.{AreWritable, Each, StandWritten, each-of, noted-all, stand-noted}
@@ -38,27 +33,10 @@ use Rattle.desk_cli.proofs.StateWords.{sizes, state-line-read, version-one-read}
 
 -- the words are plain
 
-short-plain : (number : ℕ) → is_short number ≡ true → IsPlainWord (decimal number)
-short-plain number is =
-    let below = ltb-true number (2 ^ 32) is in plain-decimal number (omega (arith, below))
-
 number-plain : (number : Option ℕ) → is_short_number number ≡ true
     → IsPlainWord (number_piece number)
 number-plain None is = (omega arith, refl)
 number-plain (Some number) is = short-plain number is
-
-kind-plain : (kind : FaultKind) → IsPlainWord (fault_name kind)
-kind-plain = search rules
-
-verdict-plain : (verdict : Verdict) → IsPlainWord (verdict_name verdict)
-verdict-plain = search rules
-
-answer-are : (answer : Answer) → is_short_answer answer ≡ true → ArePieces (answer_pieces answer)
-answer-are Stale is = ((omega arith, refl), tt)
-answer-are (Bad kind) is = ((omega arith, refl), (kind-plain kind, tt))
-answer-are Spent is = ((omega arith, refl), tt)
-answer-are (Requested count) is = ((omega arith, refl), (short-plain count is, tt))
-answer-are (Judged verdict) is = ((omega arith, refl), (verdict-plain verdict, tt))
 
 last-are : (last : Option (ℕ × Answer)) → is_short_line last ≡ true → ArePieces (last_pieces last)
 last-are None is = ((omega arith, refl), tt)

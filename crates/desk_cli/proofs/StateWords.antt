@@ -3,35 +3,33 @@ use Rattle.std.proofs.Common.{◌≡◌, ℕ, ◌^◌, ◌<◌, ◌≤◌, Bool,
 use Rattle.std.specs.Prelude.{◌==◌, ◌&&◌, codes}
 use Rattle.std.specs.Fmt.{decimal}
 use Rattle.std.specs.Str.{bytes_eq}
-use Rattle.std.proofs.lemmas.Bool.{and_parts, eqb-true, leb-true, ltb-true}
+use Rattle.std.proofs.lemmas.Bool.{and_parts, eqb-true, leb-true}
 use Rattle.std.proofs.lemmas.Slice.Eq.{bytes_eq-Decides}
 use Rattle.printed_lines.specs.Line.{with_pieces}
-use Rattle.text_scan.specs.declared.fault_kind.FaultKind.{FaultKind}
 use Rattle.text_scan.specs.Decimal.{decimal_of}
-use Rattle.text_scan.specs.WordValue.{hex_block_of, number_of}
+use Rattle.text_scan.specs.WordValue.{hex_block_of}
 use Rattle.named_value.specs.Names.{value_named}
 use Rattle.text_scan.proofs.NamedWord.{value_of-name}
 use Rattle.text_scan.proofs.PlainWords.{decimal_of-decimal, hex_bytes_of-digits}
-use Rattle.report_verifier.specs.VerdictName.{verdict_name, verdict_names}
-use Rattle.report_verifier.specs.declared.verdict.Verdict.{Verdict}
+use Rattle.report_verifier.specs.VerdictName.{verdict_name}
 use Rattle.desk_memory.specs.declared.answer.Answer.{Answer}
 use Rattle.desk_memory.specs.declared.answer.Answer.TheVariants.{Stale, Bad, Spent, Requested, Judged}
 use Rattle.desk_memory.specs.declared.device_state.DeviceState.{DeviceState}
-use Rattle.desk_memory.specs.AnswerRead.{answer_of, answer_with, most_number}
-use Rattle.desk_memory.specs.AnswerText.{answer_text}
+use Rattle.desk_memory.specs.AnswerText.{answer_text, answer_words}
+use Rattle.state_table.proofs.AnswerWords.{answer-read, count-read, short}
 use Rattle.desk_memory.specs.Entry.{Entry, first_home}
-use Rattle.text_scan.specs.FaultName.{fault_name, fault_names}
+use Rattle.text_scan.specs.FaultName.{fault_name}
 use Rattle.desk_memory.specs.SizedEntry.{is_short, is_short_answer, is_short_line, is_short_number, is_sized}
 use Rattle.verifier_desk.specs.DeviceKey.{name_fault}
 use Rattle.desk_cli.specs.declared.line_form.LineForm.{LineForm}
 use Rattle.desk_cli.specs.declared.line_form.LineForm.TheVariants.{VersionOne}
 use Rattle.desk_cli.specs.ReadBack.{IsWritable, is_made}
 use Rattle.desk_cli.specs.StateFile.{entry_of, home_said, last_of, last_with, moves_of, name_of, number_in, outstanding_of, state_of}
-use Rattle.desk_cli.specs.StateText.{answer_pieces, desk_pieces, form_for, form_name, form_names, last_pieces, moves_pieces, number_piece, state_pieces}
+use Rattle.desk_cli.specs.StateText.{desk_pieces, form_for, form_name, form_names, last_pieces, moves_pieces, number_piece, state_pieces}
 
--- an answer's text is its pieces
+-- an answer's text is its words
 pub answer_text_pieces : (text : List ℕ) (answer : Answer)
-    → with_pieces text (answer_pieces answer) ≡ text ++ 32 ∷ answer_text answer
+    → with_pieces text (answer_words answer) ≡ text ++ 32 ∷ answer_text answer
 answer_text_pieces text Stale = refl
 answer_text_pieces text (Bad kind) =
     append_assoc text (32 ∷ codes "bad") (32 ∷ fault_name kind)
@@ -68,32 +66,6 @@ unfolding number_in
 number-read most None within few = refl
 number-read most (Some number) within few =
     decimal-read most number (bytes_eq (decimal number) (codes "none")) refl within few
-
-short : (number : ℕ) → is_short number ≡ true → number ≤ 4294967295
-short number is = let below = ltb-true number (2 ^ 32) is in omega (arith, below)
-
-count-read : (number : ℕ) (rest : List (List ℕ)) → is_short number ≡ true
-    → number_of 0 most_number (decimal number ∷ rest) ≡ Ok (number, rest)
-unfolding number_of
-count-read number rest is =
-    rw (decimal_of-decimal 4294967295 number (short number is) (omega arith)) refl
-
-kind-told : (kind : FaultKind) → value_named fault_names (fault_name kind) ≡ Some kind
-kind-told = search rules
-
-verdict-told :
-    (verdict : Verdict) → value_named verdict_names (verdict_name verdict) ≡ Some verdict
-verdict-told = search rules
-
-answer-read : (answer : Answer) → is_short_answer answer ≡ true
-    → answer_of (answer_pieces answer) ≡ Ok (answer, [])
-unfolding answer_of answer_with
-answer-read Stale few = refl
-answer-read (Bad kind) few = rw (value_of-name fault_names kind [] (kind-told kind)) refl
-answer-read Spent few = refl
-answer-read (Requested count) few = rw (count-read count [] few) refl
-answer-read (Judged verdict) few =
-    rw (value_of-name verdict_names verdict [] (verdict-told verdict)) refl
 
 last-read : (last : Option (ℕ × Answer)) → is_short_line last ≡ true
     → last_of (codes "last" ∷ last_pieces last) ≡ Ok (last, [])

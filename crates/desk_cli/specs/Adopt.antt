@@ -11,8 +11,8 @@ use Rattle.desk_memory.specs.Moving.{adopted, adoption_fault}
 use Rattle.input_files.specs.declared.bad_file.BadFile.TheVariants.{States}
 use Rattle.input_files.specs.declared.status.Status.{Status}
 use Rattle.input_files.specs.declared.status.Status.TheVariants.{Bad, Memory, Words}
-use Rattle.input_files.specs.Reading.{Reaches}
-use Rattle.desk_cli.specs.Founding.{IsUnread, states_row}
+use Rattle.input_files.specs.Reading.{IsUnread, Reaches}
+use Rattle.desk_cli.specs.Founding.{states_row}
 use Rattle.desk_cli.specs.MemoryFiles.{ToldMemories, UsesIf}
 use Rattle.desk_cli.specs.Noting.{NotesAll}
 use Rattle.desk_cli.specs.StateFile.{NumberedEntries}
@@ -62,14 +62,15 @@ abbrev pub Adopts : {M : Type 0} → memory.Ghosts M → NumberedEntries → Sta
 Adopts m lines status desk entries opened left =
     AdoptsIf m opened left entries lines.entries (first_refused desk entries lines) status
 
--- an answer to arguments that may name lines and a memory
+-- an answer to arguments that may name lines and a memory: the lines were refused, and no memory was
+-- opened, or it was used with them
 pub record IsAdoptAnswer {S F M : Type 0} (s : shelves.Ghosts S) (told : ToldMemories F M)
     (m : memory.Ghosts M) (desk_of : M → List ℕ) (shelf shelf_after : S)
     (memories memories_after : F) (names : Option AdoptNames) (status : Status) : Type 0 where
   pub words : (status ≡ Words) ↔ (names ≡ None)
   pub unread : status ≡ Words → (shelf_after ≡ shelf) × (memories_after ≡ memories)
   pub answers : IfSome names (λ names.
-      IsUnread s shelf shelf_after memories memories_after names.lines status
+      (IsUnread s shelf shelf_after (states_row names.lines) status × (memories_after ≡ memories))
       ⊎ ((lines : NumberedEntries) × Reaches (s.files shelf) (states_row names.lines) (Ok lines)
       × UsesIf told m desk_of memories memories_after names.memory status (Unit {0})
       (Adopts m lines status)))

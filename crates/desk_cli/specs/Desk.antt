@@ -25,9 +25,9 @@ use Rattle.input_files.specs.declared.status.Status.{Status}
 use Rattle.input_files.specs.declared.status.Status.TheVariants.{BadMemory, Done, Memory, Spent, Words}
 use Rattle.input_files.specs.declared.unfit.Unfit.TheVariants.{GoneDevice, TakenKey}
 use Rattle.input_files.specs.FileKind.{image_kind}
-use Rattle.input_files.specs.Reading.{IsRefusal, Reaches, Refuses, first_refusal}
+use Rattle.input_files.specs.Reading.{IsUnread, Reaches, first_refusal}
 use Rattle.input_files.specs.Row.{RowOf, Ends, read_file}
-use Rattle.desk_cli.specs.Edge.{Ports}
+use Rattle.source_server.specs.Ports.{Ports}
 use Rattle.desk_cli.specs.FileKind.{desk_policy_kind, keys_kind}
 use Rattle.desk_cli.specs.MemoryFiles.{IsUnhindered, ToldMemories, UsesIf}
 use Rattle.desk_cli.specs.Status.{status_of_served}
@@ -53,10 +53,6 @@ pub record DeskValues : Type 0 where
   pub image : ℕ → Option ℕ
   pub policy : PolicyFields
 
--- the desk of these, over a memory with these entries
-abbrev pub desk_over : DeskValues → List Entry → DeskFields
-desk_over values entries = desk_with values.devices values.image values.policy entries
-
 -- the row that reads its files in their order; the memory is no file of a row
 abbrev pub desk_row : DeskNames → RowOf DeskValues
 desk_row names =
@@ -64,17 +60,6 @@ desk_row names =
     read_file image_kind names.image (λ image.
     read_file desk_policy_kind names.policy (λ policy.
     Ends (Ok (record { devices = devices; image = image; policy = policy })))))
-
--- the files were refused, for a cause: no memory was opened, and nothing was taken or put
-pub record IsRefused {S F R W : Type 0} (s : shelves.Ghosts S) (shelf shelf_after : S)
-    (memories memories_after : F) (old new : Ports R W) (names : DeskNames) (status : Status)
-    : Type 0 where
-  pub cause : IsRefusal (s.files shelf) (Rose (s.misses shelf) (s.misses shelf_after))
-      (Rose (s.faults shelf) (s.faults shelf_after)) (desk_row names) status
-  pub order : IfSome (s.files shelf) (λ contents.
-      Refuses (first_refusal (desk_row names) contents) status)
-  pub unopened : memories_after ≡ memories
-  pub silent : new ≡ old
 
 -- a desk served the source over a memory
 pub record HasServed {R M W : Type 0} (r : source.Ghosts R) (m : memory.Ghosts M)
@@ -108,7 +93,8 @@ Meets r m w values old new status desk entries opened left =
     ⊎ (status ≡ Memory)) × (left ≡ opened) × (new ≡ old))
     ⊎ (KeysStandApart sha256 values.devices entries
     × (first_gone entries 0 values.devices ≡ None)
-    × HasServed r m w (desk_over values entries) opened left old new status)
+    × HasServed r m w (desk_with values.devices values.image values.policy entries) opened left
+    old new status)
 
 -- the desk of these files served the source: with no memory, or over that of a name
 abbrev pub ServesFrom : {F R M W : Type 0} → ToldMemories F M → source.Ghosts R
@@ -117,7 +103,8 @@ abbrev pub ServesFrom : {F R M W : Type 0} → ToldMemories F M → source.Ghost
 ServesFrom told r m desk_of w values None memories memories_after old new status =
     (memories_after ≡ memories)
     × ((opened : NoMemory) × (left : NoMemory)
-    × HasServed r forgets w (desk_over values []) opened left old new status)
+    × HasServed r forgets w (desk_with values.devices values.image values.policy []) opened left
+    old new status)
 ServesFrom told r m desk_of w values (Some name) memories memories_after old new status =
     UsesIf told m desk_of memories memories_after name status (new ≡ old)
     (Meets r m w values old new status)
@@ -140,9 +127,11 @@ pub record IsDeskAnswer {S F R M W : Type 0} (s : shelves.Ghosts S) (told : Told
   pub words : (status ≡ Words) ↔ (names ≡ None)
   pub unread : status ≡ Words
       → (shelf_after ≡ shelf) × (memories_after ≡ memories) × (new ≡ old)
-  -- the files were refused, or they were read without fault, and their desk served the source
+  -- the files were refused, no memory was opened and nothing was taken or put, or they were read
+  -- without fault, and their desk served the source
   pub answers : IfSome names (λ names.
-      IsRefused s shelf shelf_after memories memories_after old new names status
+      (IsUnread s shelf shelf_after (desk_row names) status × (memories_after ≡ memories)
+      × (new ≡ old))
       ⊎ ((values : DeskValues) × Reaches (s.files shelf) (desk_row names) (Ok values)
       × ServesFrom told r m desk_of w values names.memory memories memories_after old new status))
   -- where files and lines are told, no file is refused, the lines are not too many, no fault was

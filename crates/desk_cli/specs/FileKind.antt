@@ -21,16 +21,10 @@ abbrev pub keys_kind : FileKind (List DeviceKey)
 keys_kind = record { limit = keys_limit; grammar = devices_of; refusal = bad.Keys }
 
 -- a desk's policy is of version 2; one of version 1 has its fault at line 0
-abbrev pub of_version_two : PolicyFields → Result PolicyFields FaultAt
-of_version_two policy =
-    if same_version policy.version Two
-    then Ok policy
-    else Err (record { line = 0; kind = Word })
-
 abbrev pub desk_policy_of : List ℕ → Result PolicyFields FaultAt
 desk_policy_of text = do
   policy ← policy_of text
-  of_version_two policy
+  if same_version policy.version Two then Ok policy else Err (record { line = 0; kind = Word })
 
 abbrev pub desk_policy_kind : FileKind PolicyFields
 desk_policy_kind =

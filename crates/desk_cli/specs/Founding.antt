@@ -1,7 +1,6 @@
 -- The commands `found` and `remember`: a new memory of a desk, with the entries that a text has, or
 -- with none.
 use Rattle.std.specs.Prelude.{◌≡◌, ◌⊎◌, ◌↔◌, Bool, ℕ, List, [], ◌∷◌, if◌then◌else◌, Option, Some, None, IfSome, Ok, is_ok}
-use Rattle.outside_edge.specs.Count.{Rose}
 use Rattle.outside_edge.specs.Shelf.{KeepsFiles}
 use Rattle.outside_edge.specs.declared.shelf.Shelf as shelves
 use Rattle.desk_memory.specs.declared.memory.Memory as memory
@@ -9,10 +8,10 @@ use Rattle.desk_memory.specs.Entry.{Entry, with_entries}
 use Rattle.verifier_desk.specs.DeviceKey.{name_fault}
 use Rattle.input_files.specs.declared.status.Status.{Status}
 use Rattle.input_files.specs.declared.status.Status.TheVariants.{Words}
-use Rattle.input_files.specs.Reading.{IsRefusal, Reaches, Refuses, first_refusal}
+use Rattle.input_files.specs.Reading.{IsUnread, Reaches}
 use Rattle.input_files.specs.Row.{RowOf, Ends, read_file}
 use Rattle.desk_cli.specs.FileKind.{states_kind}
-use Rattle.desk_cli.specs.MemoryFiles.{IsMade, LacksMemory, ToldMemories}
+use Rattle.desk_cli.specs.MemoryFiles.{IsMade, LacksMemory, Making, ToldMemories}
 use Rattle.desk_cli.specs.Noting.{NotesAll}
 use Rattle.desk_cli.specs.StateFile.{NumberedEntries}
 
@@ -46,7 +45,7 @@ pub record Founds {F M : Type 0} (told : ToldMemories F M) (m : memory.Ghosts M)
 abbrev pub FoundsIf : {F M : Type 0} → ToldMemories F M → memory.Ghosts M → (M → List ℕ) → F → F
     → FoundNames → List Entry → Status → Type 0
 FoundsIf told m desk_of memories memories_after names entries status =
-    LacksMemory told told.unmade_for memories memories_after names.memory status
+    LacksMemory told Making memories memories_after names.memory status
     ⊎ Founds told m desk_of memories memories_after names entries status
 
 -- an answer to arguments that may name a memory and its desk
@@ -76,16 +75,8 @@ remember_names_of (states ∷ arguments) = with_states states (found_names_of ar
 abbrev pub states_row : List ℕ → RowOf NumberedEntries
 states_row name = read_file states_kind name (λ states. Ends (Ok states))
 
--- the file was refused, for a cause, and no memory was opened
-pub record IsUnread {S F : Type 0} (s : shelves.Ghosts S) (shelf shelf_after : S)
-    (memories memories_after : F) (name : List ℕ) (status : Status) : Type 0 where
-  pub cause : IsRefusal (s.files shelf) (Rose (s.misses shelf) (s.misses shelf_after))
-      (Rose (s.faults shelf) (s.faults shelf_after)) (states_row name) status
-  pub order : IfSome (s.files shelf) (λ contents.
-      Refuses (first_refusal (states_row name) contents) status)
-  pub unopened : memories_after ≡ memories
-
--- an answer to arguments that may name its file, a memory and a desk
+-- an answer to arguments that may name its file, a memory and a desk: the file was refused, and no
+-- memory was opened, or one was to be made with its entries
 pub record IsRememberAnswer {S F M : Type 0} (s : shelves.Ghosts S) (told : ToldMemories F M)
     (m : memory.Ghosts M) (desk_of : M → List ℕ) (shelf shelf_after : S)
     (memories memories_after : F) (names : Option RememberNames) (status : Status)
@@ -93,7 +84,7 @@ pub record IsRememberAnswer {S F M : Type 0} (s : shelves.Ghosts S) (told : Told
   pub words : (status ≡ Words) ↔ (names ≡ None)
   pub unread : status ≡ Words → (shelf_after ≡ shelf) × (memories_after ≡ memories)
   pub answers : IfSome names (λ names.
-      IsUnread s shelf shelf_after memories memories_after names.states status
+      (IsUnread s shelf shelf_after (states_row names.states) status × (memories_after ≡ memories))
       ⊎ ((states : NumberedEntries)
       × Reaches (s.files shelf) (states_row names.states) (Ok states)
       × FoundsIf told m desk_of memories memories_after names.found states.entries status))

@@ -1,6 +1,5 @@
 pub mod Adopt
 pub mod Desk
-pub mod Edge
 pub mod FileKind
 pub mod Founding
 pub mod MemoryFiles

@@ -1,81 +1,62 @@
 -- Memories that are opened or made by their names: what is found in one, and why one is not got.
-use Rattle.std.specs.Prelude.{◌≡◌, ◌⊎◌, ℕ, List, [], Option, Some, IfSome, ⊤}
+use Rattle.std.specs.Prelude.{◌≡◌, ◌⊎◌, ℕ, List, [], Option, Some, IfSome}
 use Rattle.outside_edge.specs.Count.{Rose}
 use Rattle.desk_memory.specs.declared.memory.Memory as memory
 use Rattle.desk_memory.specs.Entry.{Entry}
 use Rattle.memory_file.specs.declared.memory_file_fault.MemoryFileFault.{MemoryFileFault}
-use Rattle.memory_file.specs.declared.memory_file_fault.MemoryFileFault.TheVariants.{Missing, Place, InUse, HotJournal, Disk, Full, OutOfMemory}
+use Rattle.memory_file.specs.declared.memory_file_fault.MemoryFileFault.TheVariants.{OutOfMemory}
 use Rattle.verifier_desk.specs.Serving.{Keeps}
 use Rattle.input_files.specs.declared.status.Status.{Status}
 use Rattle.desk_cli.specs.Status.{status_of_unopened}
 
--- What is told of memories by their names: that none was got yet; for which faults what is there
--- keeps one from being opened, or made; the desk and the entries that an open finds, now or after
--- a crash; that what was there at first is unharmed, now and after a crash; that what was read of
--- them is what was written; how often they failed; how often the path was refused with a fault,
--- before anything was read; that a limit of the format was met; and the memory that was closed, as
--- it was left.
+-- what is asked for
+pub data Request : Type 0 where
+  Opening : Request
+  Making : Request
+
+-- What is told of memories by their names: that none was got yet; that what is there can be opened,
+-- or a memory be made of it; why one was not got, between two moments; the desk and the entries that
+-- an open finds, now or after a crash; that what was there at first is unharmed, now and after a
+-- crash; that what was read of them is what was written; and the memory that was closed, as it was
+-- left.
 pub record ToldMemories (F M : Type 0) : Type 1 where
   pub is_unopened : F → Type 0
-  pub unopened_for : F → List ℕ → MemoryFileFault → Type 0
-  pub unmade_for : F → List ℕ → MemoryFileFault → Type 0
+  pub fits : Request → F → List ℕ → Type 0
+  pub fails : Request → F → F → List ℕ → MemoryFileFault → Type 0
   pub finds : F → List ℕ → List ℕ → List Entry → Type 0
   pub is_unharmed : F → List ℕ → Type 0
   pub is_honest : F → Type 0
-  pub faults : F → ℕ
-  pub refused : F → MemoryFileFault → ℕ
-  pub is_full : F → Type 0
   pub left : F → Option M
 
--- a memory was opened, which nothing there kept from it: it has the desk and the entries that were
--- found under its name, and keeps them
+-- a memory was opened, as what is there can be: it has the desk and the entries that were found
+-- under its name, and keeps them
 pub record IsOpened {F M : Type 0} (told : ToldMemories F M) (m : memory.Ghosts M) (memories : F)
     (name : List ℕ) (now : M) (desk : List ℕ) (entries : List Entry) : Type 0 where
   pub keeps : Keeps m now entries
-  pub fit : m.is_honest now → (fault : MemoryFileFault) → ¬ told.unopened_for memories name fault
+  pub fit : m.is_honest now → told.fits Opening memories name
   pub found : m.is_honest now → told.finds memories name desk entries
 
--- a memory was made, which nothing there kept from it: it has no entry, and nothing of it is kept
--- yet
+-- a memory was made, as it can be of what is there: it has no entry, and nothing of it is kept yet
 pub record IsMade {F M : Type 0} (told : ToldMemories F M) (m : memory.Ghosts M) (memories : F)
     (name : List ℕ) (now : M) : Type 0 where
   pub has : m.stands now []
-  pub fit : m.is_honest now → (fault : MemoryFileFault) → ¬ told.unmade_for memories name fault
+  pub fit : m.is_honest now → told.fits Making memories name
   pub unkept : m.is_honest now → (found : List Entry) → m.may_leave now found → ⊥
 
--- A path that is refused was counted, and so was a failure; a limit of the format was met; that
--- memory ran out comes with no cause; and for all other faults what is there says why.
-abbrev pub FailsToOpen : {F M : Type 0} → ToldMemories F M
-    → (F → List ℕ → MemoryFileFault → Type 0) → F → F → List ℕ → MemoryFileFault → Type 0
-FailsToOpen told Why old new name Missing =
-    Rose (told.refused old Missing) (told.refused new Missing)
-FailsToOpen told Why old new name Place = Rose (told.refused old Place) (told.refused new Place)
-FailsToOpen told Why old new name InUse = Rose (told.refused old InUse) (told.refused new InUse)
-FailsToOpen told Why old new name HotJournal =
-    Rose (told.refused old HotJournal) (told.refused new HotJournal)
-FailsToOpen told Why old new name Disk =
-    told.is_honest new → Rose (told.faults old) (told.faults new)
-FailsToOpen told Why old new name Full = told.is_honest new → told.is_full new
-FailsToOpen told Why old new name OutOfMemory = ⊤
-FailsToOpen told Why old new name fault =
-    told.is_honest new → Why old name fault
-
 -- a memory was not got, and holds what it held; what is no memory is unharmed too
-pub record IsUnopened {F M : Type 0} (told : ToldMemories F M)
-    (Why : F → List ℕ → MemoryFileFault → Type 0) (old new : F) (name : List ℕ)
-    (fault : MemoryFileFault) : Type 0 where
-  pub cause : FailsToOpen told Why old new name fault
+pub record IsUnopened {F M : Type 0} (told : ToldMemories F M) (asked : Request) (old new : F)
+    (name : List ℕ) (fault : MemoryFileFault) : Type 0 where
+  pub cause : told.fails asked old new name fault
   pub spared : told.is_honest new → (desk : List ℕ) (found : List Entry)
       → told.finds new name desk found → told.finds old name desk found
   pub unharmed : told.is_honest new → told.is_unharmed old name → told.is_unharmed new name
 
 -- a memory was not got, which is the answer
-pub record LacksMemory {F M : Type 0} (told : ToldMemories F M)
-    (Why : F → List ℕ → MemoryFileFault → Type 0) (memories memories_after : F)
-    (name : List ℕ) (status : Status) : Type 0 where
+pub record LacksMemory {F M : Type 0} (told : ToldMemories F M) (asked : Request)
+    (memories memories_after : F) (name : List ℕ) (status : Status) : Type 0 where
   pub fault : MemoryFileFault
   pub answer : status ≡ status_of_unopened fault
-  pub unopened : IsUnopened told Why memories memories_after name fault
+  pub unopened : IsUnopened told asked memories memories_after name fault
 
 -- a memory was opened, something was done with it, and it was closed as it was left
 pub record Uses {F M : Type 0} (told : ToldMemories F M) (m : memory.Ghosts M)
@@ -92,15 +73,13 @@ pub record Uses {F M : Type 0} (told : ToldMemories F M) (m : memory.Ghosts M)
 abbrev pub UsesIf : {F M : Type 0} → ToldMemories F M → memory.Ghosts M → (M → List ℕ) → F → F
     → List ℕ → Status → Type 0 → (List ℕ → List Entry → M → M → Type 0) → Type 0
 UsesIf told m desk_of memories memories_after name status Nothing Does =
-    (LacksMemory told told.unopened_for memories memories_after name status × Nothing)
+    (LacksMemory told Opening memories memories_after name status × Nothing)
     ⊎ Uses told m desk_of memories memories_after name Does
 
--- nothing keeps the memory of a name from being opened, and none of its calls has failed
+-- nothing but a lack of memory keeps the memory of a name from being opened, and none of its calls
+-- has failed
 pub record IsUnhindered {F M : Type 0} (told : ToldMemories F M) (m : memory.Ghosts M)
     (old new : F) (name : List ℕ) : Type 0 where
-  pub fit : (fault : MemoryFileFault) → ¬ told.unopened_for old name fault
-  pub honest : told.is_honest new
-  pub refused : (fault : MemoryFileFault) → ¬ Rose (told.refused old fault) (told.refused new fault)
-  pub sound : ¬ Rose (told.faults old) (told.faults new)
-  pub room : ¬ told.is_full new
+  pub free : (fault : MemoryFileFault) → told.fails Opening old new name fault
+      → fault ≡ OutOfMemory
   pub kept : IfSome (told.left new) (λ left. m.is_honest left × ¬ Rose 0 (m.faults left))

@@ -4,11 +4,9 @@ use Rattle.std.specs.Fmt.{decimal}
 use Rattle.hex.specs.Hex.{encode_lower}
 use Rattle.named_value.specs.Names.{Names}
 use Rattle.printed_lines.specs.Line.{line_of}
-use Rattle.report_verifier.specs.VerdictName.{verdict_name}
 use Rattle.desk_memory.specs.declared.answer.Answer.{Answer}
-use Rattle.desk_memory.specs.declared.answer.Answer.TheVariants.{Stale, Bad, Spent, Requested, Judged}
+use Rattle.desk_memory.specs.AnswerText.{answer_words}
 use Rattle.desk_memory.specs.Entry.{Entry}
-use Rattle.text_scan.specs.FaultName.{fault_name}
 use Rattle.desk_cli.specs.declared.line_form.LineForm.{LineForm}
 use Rattle.desk_cli.specs.declared.line_form.LineForm.TheVariants.{VersionOne, Here, Gone}
 
@@ -25,17 +23,10 @@ abbrev pub number_piece : Option ℕ → List ℕ
 number_piece None = codes "none"
 number_piece (Some number) = decimal number
 
-abbrev pub answer_pieces : Answer → List (List ℕ)
-answer_pieces Stale = codes "stale" ∷ []
-answer_pieces (Bad kind) = codes "bad" ∷ fault_name kind ∷ []
-answer_pieces Spent = codes "spent" ∷ []
-answer_pieces (Requested count) = codes "request" ∷ decimal count ∷ []
-answer_pieces (Judged decision) = codes "verdict" ∷ verdict_name decision ∷ []
-
 -- the last number of a line, and its answer
 abbrev pub last_pieces : Option (ℕ × Answer) → List (List ℕ)
 last_pieces None = codes "none" ∷ []
-last_pieces (Some last) = decimal last.0 ∷ answer_pieces last.1
+last_pieces (Some last) = decimal last.0 ∷ answer_words last.1
 
 -- what a line says of its entry's key and state
 abbrev pub state_pieces : Entry → List (List ℕ)

@@ -1,5 +1,6 @@
 -- The memories of the file system: what is found in the one that is opened or made.
 use Rattle.std.specs.Prelude.{◌≡◌, Bool, true, false, ℕ, List, Option, Some, None, IsTrue, ⊤}
+use Rattle.outside_edge.specs.Count.{Rose}
 use Rattle.sqlite_disk.specs.declared.Disk.{Ghosts}
 use Rattle.sqlite_wal.specs.Files.{IsHuge, outcomes}
 use Rattle.sqlite_wal.specs.Recovery.{Image}
@@ -16,24 +17,22 @@ use Rattle.memory_file.specs.Opening.{IsCleanLeft, Leaves, WhyUnmade, WhyUnopene
 use Rattle.memory_file.specs.declared.left.Left.{Left}
 use Rattle.memory_file.specs.declared.left.Left.TheVariants as left
 use Rattle.memory_file.specs.declared.memory_file_fault.MemoryFileFault.{MemoryFileFault}
-use Rattle.memory_file.specs.declared.memory_file_fault.MemoryFileFault.TheVariants.{Missing, Place, InUse, HotJournal}
+use Rattle.memory_file.specs.declared.memory_file_fault.MemoryFileFault.TheVariants.{Disk, Full, HotJournal, InUse, Missing, OutOfMemory, Place}
 use Rattle.desk_cli.specs.declared.refusals.Refusals.{Refusals}
-use Rattle.desk_cli.specs.MemoryFiles.{ToldMemories}
+use Rattle.desk_cli.specs.MemoryFiles.{Making, Opening, Request, ToldMemories}
 
--- the faults with which a path is refused, before anything is read, and how often it was
-abbrev pub IsRefused : MemoryFileFault → Type 0
-IsRefused Missing = ⊤
-IsRefused Place = ⊤
-IsRefused InUse = ⊤
-IsRefused HotJournal = ⊤
-IsRefused fault = ⊥
+-- it was counted that a path was refused, with a fault of those that come before anything is read
+abbrev pub IsCounted : Refusals → Refusals → MemoryFileFault → Type 0
+IsCounted old new Missing = Rose old.missing new.missing
+IsCounted old new Place = Rose old.places new.places
+IsCounted old new InUse = Rose old.locks new.locks
+IsCounted old new HotJournal = Rose old.journals new.journals
+IsCounted old new fault = ⊤
 
-abbrev pub refused_with : Refusals → MemoryFileFault → ℕ
-refused_with refusals Missing = refusals.missing
-refused_with refusals Place = refusals.places
-refused_with refusals InUse = refusals.locks
-refused_with refusals HotJournal = refusals.journals
-refused_with refusals fault = 0
+-- why files that could be read are refused, which have this image
+abbrev pub why_of : Request → Image → MemoryFileFault → Type 0
+why_of Opening = WhyUnopened
+why_of Making = WhyUnmade
 
 -- a memory that files with this image hold is of this desk and has these entries
 pub record FindsIn (image : Image) (desk : List ℕ) (entries : List Entry) : Type 0 where
@@ -89,6 +88,20 @@ module _ {D : Type 0} {g : Ghosts D} where
   IsFullNow None = ⊥
   IsFullNow (Some files) = IsFullLeft files
 
+  -- Files failed, of which this was left before and after: there was a failure, or a limit of the
+  -- format was met, and for all faults of what is there it says why. That memory ran out comes with
+  -- no cause.
+  abbrev pub FailsNow : (MemoryFileFault → Type 0) → Option (Left D g) → Option (Left D g)
+      → MemoryFileFault → Type 0
+  FailsNow why old new Disk = Rose (faults_now old) (faults_now new)
+  FailsNow why old new Full = IsFullNow new
+  FailsNow why old new OutOfMemory = ⊤
+  FailsNow why old new Missing = ⊤
+  FailsNow why old new Place = ⊤
+  FailsNow why old new InUse = ⊤
+  FailsNow why old new HotJournal = ⊤
+  FailsNow why old new fault = why fault
+
   -- what is told of files whose images these are at the start, by their names: by whether the one
   -- that was asked for was to be made, how often paths were refused, what is left of files that
   -- were, and the memory that was closed
@@ -98,13 +111,12 @@ module _ {D : Type 0} {g : Ghosts D} where
   told_over start is_unopened is_making refusals_of left_of closed_of =
       record {
         is_unopened = is_unopened;
-        unopened_for = λ files name. WhyUnopened (start name);
-        unmade_for = λ files name. WhyUnmade (start name);
+        fits = λ asked files name. (fault : MemoryFileFault) → ¬ why_of asked (start name) fault;
+        fails = λ asked old new name fault. IsCounted (refusals_of old) (refusals_of new) fault
+            × (IsHonestNow (left_of new)
+            → FailsNow (why_of asked (start name)) (left_of old) (left_of new) fault);
         finds = λ files name. FindsNow (start name) (left_of files);
         is_unharmed = λ files name. LeavesNow (is_making files) (start name) (left_of files);
         is_honest = λ files. IsHonestNow (left_of files);
-        faults = λ files. faults_now (left_of files);
-        refused = λ files. refused_with (refusals_of files);
-        is_full = λ files. IsFullNow (left_of files);
         left = closed_of;
       }

@@ -1,5 +1,4 @@
-ghost use Rattle.outside_edge.specs.Count.{Rose};
-ghost use Rattle.desk_cli.specs.StoreFiles.{IsRefused, refused_with};
+ghost use Rattle.desk_cli.specs.StoreFiles.{IsCounted};
 
 use memory_file::MemoryFileFault;
 
@@ -28,8 +27,7 @@ impl Refusals {
 
     /// Counts a refusal.
     pub fn count(&mut self, fault: MemoryFileFault)
-        ensures { IsRefused fault
-            → Rose (refused_with self.old fault) (refused_with self.new fault) }
+        ensures { IsCounted self.old self.new fault }
     {
         match fault {
             MemoryFileFault::Missing => self.missing = self.missing.saturating_add(1),

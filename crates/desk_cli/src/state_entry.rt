@@ -1,12 +1,12 @@
 ghost use Rattle.std.specs.Prelude.{◌≡◌, option_map};
 ghost use Rattle.text_scan.specs.Reader.{ReadsOn, ReadsWord, value_as};
 ghost use Rattle.text_scan.specs.Word.{words_of};
-ghost use Rattle.desk_memory.specs.AnswerRead.{answer_of, answer_with};
 ghost use Rattle.desk_memory.specs.Entry.{home_fields};
 ghost use Rattle.desk_cli.specs.StateFile.{entry_of, home_said, last_of, last_with, moves_of, name_of, number_in, outstanding_of, state_of};
 
 use crate::line_form::LineForm;
 use desk_memory::{Answer, DeviceState, Entry, Home, MARK};
+use state_table::next_answer;
 use std::alloc::Global;
 use text_scan::{FaultKind, WordFault, Words, decimal};
 use verifier_desk::check_name;
@@ -99,7 +99,7 @@ fn read_last(words: &mut Words<'_>) -> Result<Option<(u32, Answer)>, FaultKind>
     words.keyword(b"last")?;
     match number_in(words.word()?, u32::MAX)? {
         None => Ok(None),
-        Some(number) => Ok(Some((number, read_answer(words)?))),
+        Some(number) => Ok(Some((number, next_answer(words)?))),
     }
 }
 
@@ -112,31 +112,4 @@ fn number_in(word: &[u8], most: u32) -> Result<Option<u32>, FaultKind>
         return Ok(None);
     }
     Ok(Some(decimal(word, 0, u64::from(most))? as u32))
-}
-
-#[tactic(auto, unfolding(desk_memory::specs::AnswerRead::answer_of))]
-fn read_answer(words: &mut Words<'_>) -> Result<Answer, FaultKind>
-    ensures { ReadsOn result words.new (answer_of words.old) }
-{
-    read_answer_of(words.word()?, words)
-}
-
-// What an answer of this verb says.
-#[tactic(auto, unfolding(desk_memory::specs::AnswerRead::answer_with))]
-fn read_answer_of(verb: &[u8], words: &mut Words<'_>) -> Result<Answer, FaultKind>
-    ensures { ReadsOn result words.new (answer_with verb.now words.old) }
-{
-    if verb == b"stale".as_slice() {
-        Ok(Answer::Stale)
-    } else if verb == b"spent".as_slice() {
-        Ok(Answer::Spent)
-    } else if verb == b"bad".as_slice() {
-        Ok(Answer::Bad(words.value()?))
-    } else if verb == b"verdict".as_slice() {
-        Ok(Answer::Judged(words.value()?))
-    } else if verb == b"request".as_slice() {
-        Ok(Answer::Requested(words.number(0, u64::from(u32::MAX))? as u32))
-    } else {
-        Err(FaultKind::Word)
-    }
 }

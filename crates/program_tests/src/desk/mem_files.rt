@@ -121,19 +121,19 @@ impl MemFiles {
 }
 
 impl MemoryFiles<MemMemory> for MemFiles {
-    ghost use Rattle.std.specs.Prelude.{◌≡◌, None, Some, false};
-    ghost use Rattle.memory_file.specs.declared.memory_file_fault.MemoryFileFault.TheVariants.{Full};
+    ghost use Rattle.std.specs.Prelude.{◌≡◌, ◌⊎◌, None, Some, false};
+    ghost use Rattle.outside_edge.specs.Count.{Rose};
+    ghost use Rattle.memory_file.specs.declared.memory_file_fault.MemoryFileFault.TheVariants.{InUse, OutOfMemory};
 
     ghost told = { record {
       is_unopened = λ files. files.is_opened ≡ false;
-      unopened_for = λ files name fault. files.fault ≡ Some fault;
-      unmade_for = λ files name fault. files.fault ≡ Some fault;
+      fits = λ asked files name. files.fault ≡ None;
+      fails = λ asked old new name fault.
+          (fault ≡ OutOfMemory)
+          ⊎ (Rose old.faults new.faults × ((fault ≡ InUse) ⊎ (old.fault ≡ Some fault)));
       finds = λ files name desk entries. entries ≡ files.entries;
       is_unharmed = λ files name. Unit {0};
       is_honest = λ files. Unit {0};
-      faults = λ files. files.faults;
-      refused = λ files fault. files.faults;
-      is_full = λ files. files.fault ≡ Some Full;
       left = λ files. files.closed;
     } };
 

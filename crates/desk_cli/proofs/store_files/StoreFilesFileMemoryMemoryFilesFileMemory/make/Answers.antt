@@ -1,7 +1,6 @@
 use Rattle.std.proofs.Common.{◌≡◌, true, ◌∙◌, rules, subst, sym}
-use Rattle.memory_file.specs.Opening.{WhyUnmade}
-use Rattle.outside_edge.specs.Count.{Rose}
-use Rattle.desk_cli.specs.StoreFiles.{refused_with}
+use Rattle.desk_cli.specs.MemoryFiles.{Making}
+use Rattle.desk_cli.specs.StoreFiles.{IsCounted}
 use Rattle.desk_cli.proofs.FoundEntries.{made_fit, unopened}
 use Rattle.desk_cli.proofs.store_files.StoreFilesFileMemoryMemoryFilesFileMemory.make.Goals as goal
 
@@ -24,10 +23,9 @@ returns-in-Err-clause-unmade g c =
     let asked : c.begin.new.self.is_making ≡ true = search rules in
     let fault = c.in-Err.fault in
     unopened g.P.MemoryPlaces.image (λ files. files.is_unopened ≡ true) (λ files. files.is_making)
-    (λ files. files.refusals) (λ files. files.left) (λ files. files.closed) WhyUnmade
+    (λ files. files.refusals) (λ files. files.left) (λ files. files.closed) Making
     c.args.self.now _ c.args.name.now
     (c.args.self.now.fresh first) true fault asked
-    (λ is. subst (λ refusals. Rose (refused_with refusals fault)
-    (refused_with c.count.new.self fault)) same (c.count.ensures is))
+    (subst (λ refusals. IsCounted refusals c.count.new.self fault) same c.count.ensures)
     c.in-Err.ensures.unmade
     c.in-Err.ensures.cause c.in-Err.ensures.spared

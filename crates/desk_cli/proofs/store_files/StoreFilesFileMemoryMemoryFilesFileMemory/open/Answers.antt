@@ -1,8 +1,7 @@
 use Rattle.std.proofs.Common.{◌≡◌, false, true, ◌∙◌, rules, subst, sym}
-use Rattle.outside_edge.specs.Count.{Rose}
 use Rattle.state_table.proofs.TableRows.{found_same}
-use Rattle.memory_file.specs.Opening.{WhyUnopened}
-use Rattle.desk_cli.specs.StoreFiles.{FindsIn, FindsNow, refused_with}
+use Rattle.desk_cli.specs.MemoryFiles.{Opening}
+use Rattle.desk_cli.specs.StoreFiles.{FindsIn, FindsNow, IsCounted}
 use Rattle.desk_cli.proofs.FoundEntries.{opened_finds, opened_fit, unopened}
 use Rattle.desk_cli.proofs.store_files.StoreFilesFileMemoryMemoryFilesFileMemory.open.Goals as goal
 
@@ -37,10 +36,9 @@ returns-in-Err-clause-unopened g c =
     let asked : c.begin.new.self.is_making ≡ false = search rules in
     let fault = c.in-Err.fault in
     unopened g.P.MemoryPlaces.image (λ files. files.is_unopened ≡ true) (λ files. files.is_making)
-    (λ files. files.refusals) (λ files. files.left) (λ files. files.closed) WhyUnopened
+    (λ files. files.refusals) (λ files. files.left) (λ files. files.closed) Opening
     c.args.self.now _ c.args.name.now
     (c.args.self.now.fresh first) false fault asked
-    (λ is. subst (λ refusals. Rose (refused_with refusals fault)
-    (refused_with c.count.new.self fault)) same (c.count.ensures is))
+    (subst (λ refusals. IsCounted refusals c.count.new.self fault) same c.count.ensures)
     c.in-Err.ensures.unopened
     c.in-Err.ensures.cause c.in-Err.ensures.spared
