@@ -32,16 +32,19 @@ COMMAND = re.compile(r"(?<![\w/-])(?:\./)?foldgneiss +([^\s|;)&`,]+)")
 GOALS = re.compile(r"\bmake (?:-f \S+ )?([a-z.]+(?: [a-z.]+)*)$", re.M)
 GROUPS = re.compile(r"check-program --only ([a-z_,]+)")
 # What a file of a crate declares: functions, types, members, the labels of clauses; definitions and
-# their fields.
+# their fields. A variant, or a field of a type, begins its line.
 DECLARED = {".rt": re.compile(r"\b(?:fn|struct|enum|trait|type|const|static|mod|impl|for|ensures"
                               rf"|requires|ghost)\s+({PART}+)"),
             ".antt": re.compile(r"^\s*(?:(?:abbrev|unfoldable|record|data|pub)\s+)*"
                                 rf"({PART}+)(?=\s+[{{(:]|\s*$)", re.M)}
 SOURCES = tuple(".antt .c .css .edit .h .js .ld .md .mjs .py .rt .s .service .svg .v".split())
-FOLDERS = ("bench/", "conformance/", "crates/", "docs/", "examples/", "firmware/", "page/", "python/",
-           "rtl/", "specs/", "src/", "proofs/", "tools/")
+FOLDERS = ("bench/", "conformance/", "crates/", "docs/", "examples/", "firmware/", "page/",
+           "python/", "rtl/", "specs/", "src/", "proofs/", "tools/")
 SCRIPT_WORDS = {*SCRIPT_COMMANDS, "build", "folder", "help", "COMMAND", "..", "--help", "--version"}
 ROW = re.compile(r"^\| (.*) \|$", re.M)
+
+
+MEMBER = re.compile(rf"^\s*(?:pub )?(?!\d)({PART}+)\s*(?:[,({{:]|$)", re.M)
 
 
 def prose(text):
@@ -68,7 +71,9 @@ def words_of(text):
 
 
 class Names:
-    """The paths of the repository, and the words of its files but for documents and edits."""
+    """The paths of the repository, and the words of its files but for documents and edits; of the
+    sources of crates what they declare.
+    """
 
     def __init__(self):
         listed = subprocess.run(["git", "ls-files", "-co", "--exclude-standard"], cwd=ROOT,
@@ -92,8 +97,11 @@ class Names:
         words = {*re.split(r"[/.]", name)}
         if not name.endswith(".edit"):
             text = read(f"{ROOT}/{name}").decode("utf-8", "replace")
-            words |= words_of(text)
             self.options.update(OPTION.findall(text))
+            if name.startswith("crates/") and name.endswith((*DECLARED,)):
+                words |= {*declared(name[len("crates/"):]), *MEMBER.findall(text)}
+            else:
+                words |= words_of(text)
         self.words |= words
         self.of_file.append(words)
         if name.startswith("crates/"):
