@@ -257,6 +257,18 @@ def statements(trial, text):
     for name in sorted({*edits} - named):
         trial.fault(f"{PROVED}: nothing of the edit {name}")
     trial.tries += len(edits)
+    laws(trial, text)
+
+
+def laws(trial, text):
+    """The table has each law; a file of laws that stands alone stands for all of them."""
+    named, alone = {*SPAN.findall(text)}, {*re.findall(r"`(\w+/src/law\.rt)`(?!:)", text)}
+    for path in sorted(glob.glob(f"{ROOT}/crates/*/src/law.rt")):
+        name = "/".join(path.split("/")[-3:])
+        for law in re.findall(r"^pub fn (\w+)\(\)", read(path).decode(), re.M):
+            trial.tries += 1
+            if name not in alone and law not in named:
+                trial.fault(f"{PROVED}: nothing of the law {law} of {name}")
 
 
 def crates_told(trial, text):
