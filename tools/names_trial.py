@@ -1,7 +1,8 @@
 """Trials of the documents, without the programs: that each name which they have in backticks is one
 of the repository, that the lines which a reader types call what is there, that links lead
-somewhere, that docs/architecture.md has each crate, and that docs/proved.md names each clause in
-the file that declares it, and each edit that the prover has to refuse beside a clause of its crate.
+somewhere, that docs/architecture.md has each crate, and that docs/proved.md names each law, each
+clause in the file that declares it, and each edit that the prover has to refuse beside a clause of
+its crate.
 
 In `single backticks` a document names what the repository has. What another project has, as a wire
 of openMSP430, a package or a setting of GDB, stands in ``two``, which look the same. Of a span
@@ -37,14 +38,12 @@ DECLARED = {".rt": re.compile(r"\b(?:fn|struct|enum|trait|type|const|static|mod|
                               rf"|requires|ghost)\s+({PART}+)"),
             ".antt": re.compile(r"^\s*(?:(?:abbrev|unfoldable|record|data|pub)\s+)*"
                                 rf"({PART}+)(?=\s+[{{(:]|\s*$)", re.M)}
+MEMBER = re.compile(rf"^\s*(?:pub )?(?!\d)({PART}+)\s*(?:[,({{:]|$)", re.M)
 SOURCES = tuple(".antt .c .css .edit .h .js .ld .md .mjs .py .rt .s .service .svg .v".split())
 FOLDERS = ("bench/", "conformance/", "crates/", "docs/", "examples/", "firmware/", "page/",
            "python/", "rtl/", "specs/", "src/", "proofs/", "tools/")
 SCRIPT_WORDS = {*SCRIPT_COMMANDS, "build", "folder", "help", "COMMAND", "..", "--help", "--version"}
 ROW = re.compile(r"^\| (.*) \|$", re.M)
-
-
-MEMBER = re.compile(rf"^\s*(?:pub )?(?!\d)({PART}+)\s*(?:[,({{:]|$)", re.M)
 
 
 def prose(text):
