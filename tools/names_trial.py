@@ -272,7 +272,7 @@ def laws(trial, text):
 
 def crates_told(trial, text):
     """Each crate of crates.txt has its place in the document that says which is what."""
-    for crate in re.findall(r"^(\w+):", read(f"{ROOT}/crates.txt").decode(), re.M):
+    for crate in re.findall(r"^(\w+)(?: \w+)?:", read(f"{ROOT}/crates.txt").decode(), re.M):
         if f"`{crate}`" not in text:
             trial.fault(f"{CRATES}: nothing of {crate}")
 
