@@ -82,7 +82,7 @@ answer_text_read text answer few is =
     ∙ ap answer_of (words_of-join (answer_words answer) (answer-plain answer few))
     ∙ answer-read answer few
 
-answer_in : Answer → Result (Answer × List (List ℕ)) FaultKind → Answer
+abbrev answer_in : Answer → Result (Answer × List (List ℕ)) FaultKind → Answer
 answer_in other (Ok read) = read.0
 answer_in other (Err kind) = other
 
