@@ -8,11 +8,11 @@ use Rattle.sqlite_trees.specs.declared.store.Shape.TheVariants.{Table}
 use Rattle.sqlite_trees.specs.Tree.{Trees}
 use Rattle.sqlite_store.specs.Db.{rows_at}
 use Rattle.sqlite_store.specs.Listing.{file_trees}
-use Rattle.state_table.specs.Table.{IsFounded, IsUnfounded}
+use Rattle.state_table.specs.Table.{IsUnfounded}
 use Rattle.memory_file.specs.Held.{CanBeFounded, HasEntries, HoldsMemory, HoldsUnfounded}
 use Rattle.memory_file.specs.Table.{page_size, memory_schema}
 use Rattle.memory_file.proofs.HeldLemmas.{memory_is_something, memory_lists}
-use Rattle.memory_file.proofs.TableRead.{is_unfounded}
+use Rattle.memory_file.proofs.TableRead.{is_unfounded, not_both}
 
 pub one_memory : (image : Image) (db other : Trees) → HoldsMemory image db
     → HoldsMemory image other → db ≡ other
@@ -20,10 +20,6 @@ one_memory image db other held beside =
     held.reads
     ∙ ap (file_trees page_size memory_schema) (recovers_once _ _ _ _ held.found beside.found)
     ∙ sym beside.reads
-
-not_both : (trees : Trees) → IsFounded trees → IsUnfounded trees → ⊥
-not_both trees founded unfounded =
-    let is = sym unfounded.1 ∙ founded.3.1 in absurd (cc)
 
 -- what has entries is founded
 pub not_unfounded : (image : Image) → HasEntries image → ¬ HoldsUnfounded image

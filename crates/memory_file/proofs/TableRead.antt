@@ -28,7 +28,7 @@ has_tables store schema = (
   named_shape 1 (omega arith) (schema_of store) ∙ rw schema refl,
 )
 
-not_both : (trees : Trees) → IsFounded trees → IsUnfounded trees → ⊥
+pub not_both : (trees : Trees) → IsFounded trees → IsUnfounded trees → ⊥
 not_both trees founded unfounded =
     let is = sym unfounded.1 ∙ founded.3.1 in absurd (cc)
 
