@@ -128,7 +128,7 @@ same_place digest devices entries i j d so within_i within_j same =
     ⊎_elim
     (λ below. absurd ((so j within_j).new i d (ltb-true i j below) same))
     (λ above. ⊎_elim
-    (λ under. absurd ((so i within_i).new j d (before j i under) (sym same)))
+    (λ under. absurd ((so i within_i).new j d (ltb-true j i under) (sym same)))
     (λ over. at_once i j above over)
     (cases_Bool (nat_lt j i)))
     (cases_Bool (nat_lt i j))

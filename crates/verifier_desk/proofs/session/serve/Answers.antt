@@ -9,6 +9,11 @@ returns-in_default-clause-serves g c = λ fields stands keeps.
     lacks_served g.M.Memory g.W.Sink (record { memory = c.args.memory; sink = c.args.sink.now })
     fields g.R.Source c.args.source.now keeps
 
+pub returns-in_default-new-clause-serves : goal.returns-in_default-new-clause-serves
+returns-in_default-new-clause-serves g c = λ fields stands keeps.
+    lacks_served g.M.Memory g.W.Sink (record { memory = c.args.memory; sink = c.args.sink.now })
+    fields g.R.Source c.args.source.now keeps
+
 pub returns-clause-serves : goal.returns-clause-serves
 returns-clause-serves g c = λ fields stands keeps.
     rw (c.into_memory.ensures, c.into_responder.ensures)
