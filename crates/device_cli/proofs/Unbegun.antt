@@ -140,13 +140,16 @@ row-uncut (name ∷ arguments) is = named-uncut name arguments is
 none-below : {n : ℕ} → n < 0 → ⊥
 none-below below = omega (arith, below)
 
-never-begun : {S W : Type 0} {files : S → Files} {faults misses : S → ℕ}
-    {stands : W → List ℕ → Type 0} {sink_faults : W → ℕ} {shelf shelf_after : S}
-    {sink sink_after : W} (row : Option Row) (status : Status)
+never-begun : {S W : Type 0} (files : S → Files) (faults misses : S → ℕ)
+    (stands : W → List ℕ → Type 0) (sink_faults : W → ℕ) (shelf shelf_after : S)
+    (sink sink_after : W) (row : Option Row) (status : Status)
     → IsRun files faults misses stands sink_faults shelf shelf_after sink sink_after row status
     → IsUncutRow row → status ≡ Memory → sink_after ≡ sink
-never-begun None status run uncut is = absurd (cc (is, run.0))
-never-begun {files} {stands} {shelf} {sink} {sink_after} (Some row) status run uncut is =
+never-begun files faults misses stands sink_faults shelf shelf_after sink sink_after None status run
+    uncut is =
+    absurd (cc (is, run.0))
+never-begun files faults misses stands sink_faults shelf shelf_after sink sink_after (Some row)
+    status run uncut is =
     elim (rw is at run.cause) [
       | inl same ↦ same
       | inr stops ↦
@@ -155,11 +158,13 @@ never-begun {files} {stands} {shelf} {sink} {sink_after} (Some row) status run u
     ]
 
 -- where memory ran out nothing was put
-pub unbegun : {S W : Type 0} {files : S → Files} {faults misses : S → ℕ}
-    {stands : W → List ℕ → Type 0} {sink_faults : W → ℕ} {shelf shelf_after : S}
-    {sink sink_after : W} (arguments : List (List ℕ)) (status : Status)
+pub unbegun : {S W : Type 0} (files : S → Files) (faults misses : S → ℕ)
+    (stands : W → List ℕ → Type 0) (sink_faults : W → ℕ) (shelf shelf_after : S)
+    (sink sink_after : W) (arguments : List (List ℕ)) (status : Status)
     → IsRun files faults misses stands sink_faults shelf shelf_after sink sink_after
     (row_of arguments) status
     → is_round arguments ≡ false → status ≡ Memory → sink_after ≡ sink
-unbegun arguments status run other is =
-    never-begun (row_of arguments) status run (row-uncut arguments other) is
+unbegun files faults misses stands sink_faults shelf shelf_after sink sink_after arguments status run
+    other is =
+    never-begun files faults misses stands sink_faults shelf shelf_after sink sink_after
+    (row_of arguments) status run (row-uncut arguments other) is
