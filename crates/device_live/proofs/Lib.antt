@@ -1,0 +1,9 @@
+pub mod ToldPlay
+pub mod Lives
+pub mod Alive
+pub mod ToCome
+pub mod Answered
+pub mod MemoryParts
+pub mod Played
+pub mod Told
+pub mod Served

@@ -1,0 +1,76 @@
+-- What a device that lives answers to a line.
+use Rattle.std.specs.Prelude.{ℕ, ◌-◌, [], ◌∷◌, Result, Ok, Err, codes}
+use Rattle.std.specs.Fmt.{decimal}
+use Rattle.bus_signals.specs.Address.{Bytes}
+use Rattle.printed_lines.specs.Line.{line_of, place_line}
+use Rattle.text_scan.specs.declared.fault_kind.FaultKind.{FaultKind}
+use Rattle.text_scan.specs.FaultName.{fault_name}
+use Rattle.text_scan.specs.Reader.{◌>>=◌}
+use Rattle.device_trace.specs.Logs.{exec_of}
+use Rattle.device_trace.specs.Progress.{last_registers, next_pc_of}
+use Rattle.device_trace.specs.Start.{Start}
+use Rattle.device_trace.specs.Trace.{logs_after}
+use Rattle.debug_session.specs.Place.{Run as PlayedRun}
+use Rattle.debug_session.specs.Shown.{bytes_shown}
+use Rattle.device_live.specs.Life.{Life, events_in, lines_since, lived, with_happening, with_steps}
+use Rattle.device_live.specs.LiveLine.{LiveLine, Happens, Run, Registers, Memory}
+use Rattle.device_live.specs.Shown.{memory_text, registers_text}
+
+-- the life behind a line, what `play` prints of the steps that were made for it, and its answer
+pub record Answer : Type 0 where
+  pub life : Life
+  pub told : Bytes
+  pub line : Bytes
+
+-- `at N pc H4 exec E`, or `end ..`: where the device stands
+abbrev pub standing_line : Bytes → Start → Life → Bytes
+standing_line keyword start life =
+    let logs = logs_after start (lived life) in
+    place_line keyword life.steps (next_pc_of logs.progress) (exec_of logs)
+
+-- the sixteen registers at the last boundary
+abbrev pub registers_line : Start → Life → Bytes
+registers_line start life =
+    registers_text (last_registers (logs_after start (lived life)).progress)
+
+-- the bytes from an address on that a debugger shows
+abbrev pub run_of : Start → Life → PlayedRun
+run_of start life = record { start = start; events_at = events_in life }
+
+abbrev pub memory_line : Start → Life → ℕ → ℕ → Bytes
+memory_line start life place count =
+    memory_text place (bytes_shown (run_of start life) life.steps place count)
+
+-- nothing is said, or this of the life as it is
+abbrev pub silent : Life → Answer
+silent life = record { life = life; told = []; line = [] }
+
+abbrev pub says : Life → Bytes → Answer
+says life line = record { life = life; told = []; line = line }
+
+-- the steps from one life to a later one are told, and where the device stands then
+abbrev pub tells : Start → Life → Life → Answer
+tells start life later =
+    record {
+      life = later;
+      told = lines_since start (events_in later) life.steps (later.steps - life.steps);
+      line = standing_line (codes "at") start later;
+    }
+
+abbrev pub answer_of : Start → Life → LiveLine → Result Answer FaultKind
+answer_of start life (Happens step events) = do
+  later ← with_happening life step events
+  Ok (silent later)
+answer_of start life (Run steps) = do
+  later ← with_steps life steps
+  Ok (tells start life later)
+answer_of start life Registers = Ok (says life (registers_line start life))
+answer_of start life (Memory place count) = Ok (says life (memory_line start life place count))
+
+-- a line with a fault changes nothing: its number is told, and the fault
+abbrev pub refusal_line : ℕ → FaultKind → Bytes
+refusal_line number kind = line_of (codes "refused") (decimal number ∷ fault_name kind ∷ [])
+
+abbrev pub or_refusal : Life → ℕ → Result Answer FaultKind → Answer
+or_refusal life number (Ok answer) = answer
+or_refusal life number (Err kind) = says life (refusal_line number kind)

@@ -1,0 +1,58 @@
+-- A device that lives, and whoever tells it lines: what is put, line by line.
+use Rattle.std.specs.Prelude.{ℕ, ◌++◌, suc, List, [], ◌∷◌, length, codes, Option, Some, None, Result, Ok, Err, if◌then◌else◌}
+use Rattle.bus_signals.specs.Address.{Bytes}
+use Rattle.text_scan.specs.declared.fault_kind.FaultKind.{FaultKind}
+use Rattle.text_scan.specs.declared.fault_kind.FaultKind.TheVariants.{TooLong}
+use Rattle.text_scan.specs.Reader.{◌>>=◌}
+use Rattle.text_scan.specs.Word.{is_passed_over, words_of}
+use Rattle.source_server.specs.HeldLine.{short_line}
+use Rattle.device_trace.specs.Start.{Start}
+use Rattle.device_live.specs.Answer.{Answer, answer_of, or_refusal, silent, standing_line}
+use Rattle.device_live.specs.Life.{Life, at_power_on}
+use Rattle.device_live.specs.LiveLine.{live_line_of}
+
+-- the life behind lines, what `play` prints of its steps, and all that was put
+pub record Talk : Type 0 where
+  pub life : Life
+  pub told : Bytes
+  pub text : Bytes
+
+abbrev pub first_talk : Talk
+first_talk = record { life = at_power_on; told = []; text = [] }
+
+-- what words say is answered, or they have a fault
+abbrev pub answer_to_words : Start → Life → List (List ℕ) → Result Answer FaultKind
+answer_to_words start life words = do
+  said ← live_line_of words
+  answer_of start life said
+
+-- a line that is not too long; one without words and a comment are passed over, as in a script
+abbrev pub answer_to : Start → Life → Option (List ℕ) → Result Answer FaultKind
+answer_to start life None = Err TooLong
+answer_to start life (Some line) =
+    if is_passed_over line then Ok (silent life) else answer_to_words start life (words_of line)
+
+abbrev pub with_answer : Talk → Answer → Talk
+with_answer talk answer =
+    record {
+      life = answer.life;
+      told = talk.told ++ answer.told;
+      text = talk.text ++ (answer.told ++ answer.line);
+    }
+
+-- behind one line more, which has this number
+abbrev pub with_line : Start → Talk → ℕ → List ℕ → Talk
+with_line start talk number line =
+    with_answer talk (or_refusal talk.life number (answer_to start talk.life (short_line line)))
+
+-- behind lines, the newest first, which are numbered from 1
+abbrev pub talk_of : Start → List (List ℕ) → Talk
+talk_of start [] = first_talk
+talk_of start (line ∷ earlier) =
+    with_line start (talk_of start earlier) (suc (length earlier)) line
+
+-- at the end of the input
+abbrev pub conversation : Start → List (List ℕ) → Bytes
+conversation start lines =
+    let talk = talk_of start lines in
+    talk.text ++ standing_line (codes "end") start talk.life

@@ -1,0 +1,63 @@
+-- What a device that lives promises of lines, behind a buffer in front of a sink.
+use Rattle.std.specs.Prelude.{◌≡◌, ◌≤◌, ℕ, List, [], ◌∷◌, length}
+use Rattle.std.specs.declared.alloc.AllocError.{AllocError}
+use Rattle.bus_signals.specs.TraceFlag.{Flag}
+use Rattle.hmac_core.specs.Hash.{Hash}
+use Rattle.outside_edge.specs.Buffer.{Buffer, BufferStandsFor}
+use Rattle.outside_edge.specs.Count.{Rose}
+use Rattle.outside_edge.specs.Sink.{Takes, TakesPrefix}
+use Rattle.outside_edge.specs.declared.sink.Sink as sink
+use Rattle.source_server.specs.LineResponder.{LinePromise}
+use Rattle.source_server.specs.Responder.{Moment}
+use Rattle.source_server.specs.Taken.{most_input}
+use Rattle.source_server.specs.declared.halt.Halt.{Halt}
+use Rattle.source_server.specs.declared.halt.Halt.TheVariants.{Write, Own}
+use Rattle.device_trace.specs.Start.{Start}
+use Rattle.device_live.specs.declared.living.Living.{Living}
+use Rattle.device_live.specs.Conversation.{talk_of}
+use Rattle.device_live.specs.Living.{LivingStandsFor}
+
+-- what it is powered on with, and the buffer before its first answer
+pub record LiveStart (W : Type 0) : Type 0 where
+  pub start : Start
+  pub first : Buffer W
+
+-- a buffer as a sink
+abbrev pub buffered : {W : Type 0} → sink.Ghosts W → sink.Ghosts (Buffer W)
+buffered w =
+    record { stands = BufferStandsFor w.stands; faults = λ buffer. w.faults buffer.sink }
+
+-- no more than an input has bytes
+abbrev pub AreFew : List (List ℕ) → Type 0
+AreFew lines = length lines ≤ most_input
+
+-- it is where its lines have led it, and what is due to them went into the buffer
+pub record HasTold {D G W : Type 0} (hash : Hash D) (flag : Flag G) (w : sink.Ghosts W)
+    (at : LiveStart W) (now : Moment (Living D G) (Buffer W)) (lines : List (List ℕ))
+    : Type 0 where
+  pub stands : LivingStandsFor hash flag now.responder at.start (talk_of at.start lines).life
+  pub number : now.responder.lines ≡ length lines
+  pub put : Takes (BufferStandsFor w.stands) at.first now.edge (talk_of at.start lines).text
+  pub rises : w.faults at.first.sink ≤ w.faults now.edge.sink
+
+-- it stopped at the newest line: the sink failed within its answer, or there was no memory for it,
+-- and what is due to those before it went into the buffer
+abbrev pub StopsTold : {D G W : Type 0} → sink.Ghosts W → LiveStart W
+    → Moment (Living D G) (Buffer W) → List (List ℕ) → Halt AllocError → Type 0
+StopsTold w at now lines Write =
+    TakesPrefix (BufferStandsFor w.stands) at.first now.edge (talk_of at.start lines).text
+    × Rose (w.faults at.first.sink) (w.faults now.edge.sink)
+StopsTold w at now [] (Own error) = ⊥
+StopsTold w at now (line ∷ earlier) (Own error) =
+    Takes (BufferStandsFor w.stands) at.first now.edge (talk_of at.start earlier).text
+
+-- its count of lines holds those of an input
+abbrev pub live_promise : {D G W : Type 0} → Hash D → Flag G → sink.Ghosts W → LiveStart W
+    → LinePromise (Moment (Living D G) (Buffer W)) AllocError
+live_promise hash flag w at =
+    record {
+      told = λ now lines. AreFew lines → HasTold hash flag w at now lines;
+      answered = λ now lines. AreFew lines
+          → HasTold hash flag w at now lines × (now.edge.waiting ≡ []);
+      stopped = λ now lines why. AreFew lines → StopsTold w at now lines why;
+    }
