@@ -22,7 +22,7 @@ use Rattle.debug_walk.specs.Walk.{SecondFlag}
 use Rattle.debug_walk.specs.declared.run.Run.{Run as GivenRun}
 use Rattle.device_debug.specs.Session.{DebuggerStandsFor, StandsInRun, run_reply}
 use Rattle.device_debug.specs.declared.debugger.Debugger.{Debugger}
-use Rattle.debug_cli.specs.Debug.{first_of}
+use Rattle.debug_cli.specs.Begun.{first_of}
 
 -- the run of these files, by any digest and any second flag
 abbrev pub files_run :

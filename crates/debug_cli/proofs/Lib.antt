@@ -1,4 +1,4 @@
-pub mod DebugAnswer
 pub mod DebugRun
-pub mod DebugServed
+pub mod ServedSession
+pub mod SessionAnswer
 pub mod NoFault

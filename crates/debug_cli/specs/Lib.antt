@@ -1,2 +1,3 @@
-pub mod Debug
+pub mod Begun
+pub mod Session
 pub mod Status

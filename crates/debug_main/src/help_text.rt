@@ -1,6 +1,7 @@
 /// What `--help` prints. `tools/write-reference` writes it.
 pub const HELP: &str = "\
 usage: foldgneiss debug IMAGE SCRIPT KEY
+       foldgneiss live IMAGE KEY
 
 debug   Answers the packets of GDB's remote protocol on standard input, each at
         once: GDB drives the run that `play` prints, by instructions and source
@@ -9,6 +10,14 @@ debug   Answers the packets of GDB's remote protocol on standard input, each at
         changes the run. In GDB its command is `target remote | foldgneiss debug
         image.hex script.txt key.txt`.
           foldgneiss debug image.hex script.txt key.txt
+
+live    Powers the firmware on, and answers each line of standard input before
+        it reads more. `at N ..`, as in a script, happens in step N; `run N`
+        goes on to N steps, and prints what play prints of them, and `at N pc H4
+        exec E`; `registers` and `memory H4 C` show what stands in it; `refused
+        L K` answers line L where it has the fault K. `end N pc H4 exec E` comes
+        at the end of the input.
+          foldgneiss live image.hex key.txt
 
   --help     prints this
   --version  prints the version
@@ -65,13 +74,14 @@ Exit status, and the line on standard error:
       command)
   3   one of the files is not there (file is absent)
   4   a file is there and cannot be read: a folder, a path through a file, a
-      lack of rights, a broken disk; or standard input of `debug` cannot be read
-      (reading failed)
+      lack of rights, a broken disk; or standard input of `debug` cannot be
+      read; or standard input of `live` cannot be read (reading failed)
   5   standard output took only a prefix of the text (writing failed)
   6   the system refused memory; nothing was printed, or in `debug` a prefix of
-      the answers (no memory)
+      the answers, or in `live` the answers to all lines before one (no memory)
   7   the key is not 128 hexadecimal digits in one line (bad key: line L: K)
   8   the image's first fault (bad image: line L: K)
   9   the script's first fault (bad script: line L: K)
-  15  `debug` took 1,073,741,824 bytes of standard input (input is too long)
+  15  `debug` took 1,073,741,824 bytes of standard input; or `live` took
+      1,073,741,824 bytes of standard input (input is too long)
 ";

@@ -1,5 +1,5 @@
-//! The program of the debugger: `run` of `debug_cli` over the file system, standard input and
-//! standard output.
+//! The program of what serves standard input: `run` of `debug_cli` over the file system, standard
+//! input and standard output.
 #![tactic(auto)]
 
 mod help_text;
@@ -22,7 +22,7 @@ fn main(rt: HostRuntime) -> ExitCode {
     run_program(
         &rt,
         env::args(&rt),
-        &Debugger { rt: &rt },
+        &Server { rt: &rt },
         &texts,
         &mut output,
     )
@@ -30,18 +30,18 @@ fn main(rt: HostRuntime) -> ExitCode {
 
 // The program over the file system, standard input and standard output.
 #[derive(Clone, Copy)]
-struct Debugger<'a> {
+struct Server<'a> {
     rt: &'a HostRuntime,
 }
 
-impl Program for Debugger<'_> {
+impl Program for Server<'_> {
     ghost use Rattle.std.specs.Prelude.{◌≡◌, ◌↔◌, None};
     ghost use Rattle.input_files.specs.declared.status.Status.TheVariants.{Words};
-    ghost use Rattle.debug_cli.specs.Debug.{debug_names_of};
+    ghost use Rattle.debug_cli.specs.Session.{session_row_of};
 
     // Words that spell no command are refused, and no others are.
-    ghost may_answer = { λ debugger arguments status.
-        (status ≡ Words) ↔ (debug_names_of arguments ≡ None) };
+    ghost may_answer = { λ server arguments status.
+        (status ≡ Words) ↔ (session_row_of arguments ≡ None) };
 
     // Where standard input is closed, the first file that is opened takes its descriptor: let it be
     // a folder, which no read of standard input can take for its bytes.

@@ -2,7 +2,7 @@ use Rattle.std.proofs.Common.{refl}
 use Rattle.source_server.specs.declared.served.Served.TheVariants.{Own}
 use Rattle.debug_link.specs.declared.talk_end.TalkEnd.TheVariants.{Memory}
 use Rattle.debug_cli.proofs.DebugRun.{none-served, stands-first}
-use Rattle.debug_cli.proofs.run.serve_run.Goals as goal
+use Rattle.debug_cli.proofs.debug.serve_run.Goals as goal
 
 pub returns-in_default-clause-served : goal.returns-in_default-clause-served
 returns-in_default-clause-served g c =

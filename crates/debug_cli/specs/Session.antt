@@ -1,0 +1,97 @@
+-- The commands that serve a source: `debug`, whose packets drive a device through a run, and
+-- `live`, whose lines say what happens to a device.
+use Rattle.std.specs.Prelude.{◌≡◌, ◌<◌, ◌≤◌, ◌⊎◌, ◌↔◌, ℕ, List, [], ◌∷◌, bytes_eq, codes, length, Option, Some, None, IfSome, Ok, if◌then◌else◌}
+use Rattle.device_trace.specs.Start.{Start}
+use Rattle.outside_edge.specs.Count.{Rose}
+use Rattle.outside_edge.specs.Shelf.{KeepsFiles}
+use Rattle.outside_edge.specs.declared.shelf.Shelf as shelves
+use Rattle.outside_edge.specs.declared.sink.Sink as sink
+use Rattle.outside_edge.specs.declared.source.Source as source
+use Rattle.source_server.specs.declared.served.Served.{Served}
+use Rattle.source_server.specs.Ports.{Ports}
+use Rattle.source_server.specs.Responder.{Promise}
+use Rattle.source_server.specs.Serving.{Serves}
+use Rattle.source_server.specs.Taken.{KeepsLimit, most_input}
+use Rattle.debug_link.specs.Serving.{talk_promise}
+use Rattle.debug_link.specs.declared.talk_end.TalkEnd.{TalkEnd}
+use Rattle.debug_session.specs.Place.{Run}
+use Rattle.device_debug.specs.Session.{run_reply}
+use Rattle.device_live.specs.Serving.{life_promise}
+use Rattle.input_files.specs.declared.status.Status.{Status}
+use Rattle.input_files.specs.declared.status.Status.TheVariants.{Done, Words, Memory, Spent}
+use Rattle.input_files.specs.FileKind.{image_kind, key_kind, script_kind}
+use Rattle.input_files.specs.Reading.{IsUnread, Reaches, first_refusal}
+use Rattle.input_files.specs.Row.{RowOf, Ends, read_file}
+use Rattle.debug_cli.specs.Begun.{first_of, run_with, start_with}
+use Rattle.debug_cli.specs.Status.{status_of_life, status_of_talk}
+
+-- what serves a source: a debugger of a run, or a device at power-on
+pub data Session : Type 0 where
+  Debugs : Run → Session
+  Lives : Start → Session
+
+-- the rows that read the files of a command in their order
+abbrev pub debug_row : List ℕ → List ℕ → List ℕ → RowOf Session
+debug_row image script key =
+    read_file key_kind key (λ key.
+    read_file image_kind image (λ image.
+    read_file script_kind script (λ script. Ends (Ok (Debugs (run_with key image script))))))
+
+abbrev pub live_row : List ℕ → List ℕ → RowOf Session
+live_row image key =
+    read_file key_kind key (λ key.
+    read_file image_kind image (λ image. Ends (Ok (Lives (start_with key image)))))
+
+-- `debug IMAGE SCRIPT KEY` or `live IMAGE KEY`
+abbrev pub session_row_of : List (List ℕ) → Option (RowOf Session)
+session_row_of (command ∷ image ∷ script ∷ key ∷ []) =
+    if bytes_eq command (codes "debug") then Some (debug_row image script key) else None
+session_row_of (command ∷ image ∷ key ∷ []) =
+    if bytes_eq command (codes "live") then Some (live_row image key) else None
+session_row_of arguments = None
+
+-- a source was served under a promise of what is put, and this is the answer to how that ended
+pub record EndsWith {R W Own : Type 0} (r : source.Ghosts R) (promise : Promise W Own)
+    (answer_to : Served Own → Status) (old new : Ports R W) (status : Status) : Type 0 where
+  pub ended : Served Own
+  pub answer : status ≡ answer_to ended
+  pub serves : Serves r promise old.source new.source new.sink ended
+
+-- what a debugger of a run promises
+abbrev pub debug_promise : {W : Type 0} → sink.Ghosts W → Run → W → Promise W TalkEnd
+debug_promise w run first = talk_promise w run_reply (first_of run) first
+
+-- what was put is the conversation of the bytes that the source gave, or a prefix of it
+abbrev pub HasServed : {R W : Type 0} → source.Ghosts R → sink.Ghosts W → Session
+    → Ports R W → Ports R W → Status → Type 0
+HasServed r w (Debugs run) old new status =
+    EndsWith r (debug_promise w run old.sink) status_of_talk old new status
+HasServed r w (Lives start) old new status =
+    EndsWith r (life_promise w start old.sink) status_of_life old new status
+
+-- an answer to arguments that may spell a command
+pub record IsSessionAnswer {S R W : Type 0} (s : shelves.Ghosts S) (r : source.Ghosts R)
+    (w : sink.Ghosts W) (shelf shelf_after : S) (old new : Ports R W)
+    (command : Option (RowOf Session)) (status : Status) : Type 0 where
+  pub words : (status ≡ Words) ↔ (command ≡ None)
+  pub unread : status ≡ Words → (shelf_after ≡ shelf) × (new ≡ old)
+  -- the files were refused, and nothing was taken or put, or they were read without fault, and what
+  -- they give served the source
+  pub answers : IfSome command (λ row.
+      (IsUnread s shelf shelf_after row status × (new ≡ old))
+      ⊎ ((session : Session) × Reaches (s.files shelf) row (Ok session)
+      × HasServed r w session old new status))
+  -- where files and input are told, no file is refused, the input is not too long, and no fault was
+  -- counted, all was answered or memory ran out
+  pub complete : IfSome command (λ row. IfSome (s.files shelf) (λ contents.
+      IfSome (r.left old.source) (λ bytes.
+      first_refusal row contents ≡ None
+      → length bytes < most_input
+      → ¬ Rose (s.faults shelf) (s.faults shelf_after)
+      → ¬ Rose (r.faults old.source) (r.faults new.source)
+      → ¬ Rose (w.faults old.sink) (w.faults new.sink)
+      → (status ≡ Done) ⊎ (status ≡ Memory))))
+  pub limit : KeepsLimit r old.source new.source (status ≡ Spent)
+  pub kept : KeepsFiles s.files s.faults s.misses shelf shelf_after
+  pub source_counted : r.faults old.source ≤ r.faults new.source
+  pub sink_counted : w.faults old.sink ≤ w.faults new.sink

@@ -1,0 +1,65 @@
+ghost use Rattle.std.specs.Prelude.{◌≡◌, ◌≤◌, Some};
+ghost use Rattle.mem_map.specs.Image.{byte_in};
+ghost use Rattle.debug_cli.specs.Begun.{run_with};
+ghost use Rattle.debug_cli.specs.Session.{Debugs, HasServed, IsSessionAnswer, debug_row};
+
+use crate::answer_status::served_status;
+use crate::session_end::SessionEnd;
+use debug_link::{PacketWriter, serve};
+use debug_walk::Run;
+use device_debug::Debugger;
+use hmac_core::Sha256Digest;
+use input_files::{File, Image, Inputs, Key, Script, Status};
+use outside_edge::{Shelf, Sink, Source};
+use std::alloc::Global;
+
+type FileValues = ([u8; 64], (mem_map::Image, play_script::Script));
+
+/// Runs `debug` with the files of these names.
+pub fn run_debug<S: Shelf, R: Source, W: Sink + Drop>(
+    alloc: Global,
+    image: &str,
+    script: &str,
+    key: &str,
+    shelf: &mut S,
+    source: &mut R,
+    sink: W,
+) -> (Status, W)
+    ensures { IsSessionAnswer S.Shelf R.Source W.Sink shelf.old shelf.new
+        (record { source = source.old; sink = sink })
+        (record { source = source.new; sink = result.1 })
+        (Some (debug_row image.now script.now key.now)) result.0 }
+{
+    let files = (
+        File::new(key, Key),
+        (File::new(image, Image), File::new(script, Script)),
+    );
+    match files.read::<SessionEnd, S>(alloc, shelf) {
+        Ok(values) => serve_run(alloc, &values, source, sink),
+        Err(refusal) => (Status::of_refusal(refusal), sink),
+    }
+}
+
+// Answers the packets of a source from the beginning of the run that these files say.
+fn serve_run<R: Source, W: Sink + Drop>(
+    alloc: Global,
+    values: &FileValues,
+    source: &mut R,
+    sink: W,
+) -> (Status, W)
+    ensures served { HasServed R.Source W.Sink
+        (Debugs (run_with values.now.0 (byte_in values.now.1.0) values.now.1.1))
+        (record { source = source.old; sink = sink })
+        (record { source = source.new; sink = result.1 }) result.0 }
+    ensures source_faults { R.faults source.old ≤ R.faults source.new }
+    ensures sink_faults { W.faults sink ≤ W.faults result.1 }
+{
+    let (key, (image, script)) = values;
+    let run = Run::new(key, image, script);
+    let Ok(debugger) = Debugger::<Sha256Digest>::new(alloc, run) else {
+        return (Status::Memory, sink);
+    };
+    let mut packets = PacketWriter::new(sink);
+    let served = serve(source, debugger, &mut packets);
+    (served_status(served), packets.into_sink())
+}

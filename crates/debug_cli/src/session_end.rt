@@ -1,0 +1,10 @@
+use input_files::RowEnd;
+
+/// The rows of these commands end with what serves the source.
+pub struct SessionEnd;
+
+impl RowEnd for SessionEnd {
+    ghost use Rattle.debug_cli.specs.Session.{Session};
+
+    ghost Outcome = { Session };
+}
