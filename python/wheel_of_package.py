@@ -22,6 +22,10 @@ Generator: foldgneiss
 Root-Is-Purelib: true
 Tag: py3-none-any
 """
+ENTRY_POINTS = """\
+[pytest11]
+foldgneiss = foldgneiss.pytest_plugin
+"""
 MOMENT = (1980, 1, 1, 0, 0, 0)  # of each file: the same package gives the same bytes
 
 
@@ -48,6 +52,7 @@ def build_wheel(wheel_directory: str, config_settings: Optional[Dict[str, Any]] 
              if name.endswith((".py", ".typed"))}
     files[f"{info}/METADATA"] = METADATA.format(version=version).encode()
     files[f"{info}/WHEEL"] = WHEEL.encode()
+    files[f"{info}/entry_points.txt"] = ENTRY_POINTS.encode()
     record = "".join(row(name, data) for name, data in files.items()) + f"{info}/RECORD,,\n"
     files[f"{info}/RECORD"] = record.encode()
     wheel = f"{NAME}-{version}-py3-none-any.whl"

@@ -14,7 +14,7 @@ from foldgneiss.key import read_key  # noqa: F401
 from foldgneiss.policy import Policy, is_valid, policy_text, read_policy  # noqa: F401
 from foldgneiss.printed_line import (Report, SentByte, read_lines, read_report,  # noqa: F401
                                      read_reports)
-from foldgneiss.script import read_script  # noqa: F401
+from foldgneiss.script import read_event, read_script  # noqa: F401
 from foldgneiss.trace_line import KINDS, Access, TraceLine, read_trace  # noqa: F401
 from foldgneiss.words import Fault, Words, lines_in, lines_of, texts_of, within_limit  # noqa: F401
 from reference import VERDICTS

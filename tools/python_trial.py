@@ -157,7 +157,8 @@ def elf_files(trial):
         same(trial, "a run of an ELF", foldgneiss.play(path, *files).text,
              foldgneiss.play(f"{folder}/image.hex", *files).text)
         write(f"{folder}/key.txt", read(example.file("key")))
-        runs_program(trial, program_of_page("firmware.elf"), folder)
+        for word in ("foldgneiss.Policy(", "foldgneiss.Device("):
+            runs_program(trial, program_of_page(word), folder)
     for _ in range(500):
         damaged = bytearray(content[:rng.choice((len(content), rng.randrange(len(content))))])
         for _ in range(rng.randrange(1, 9)):
@@ -190,8 +191,8 @@ def installs(trial, files, folder):
 
 def syntax(trial):
     """No source of the package needs a later Python, and none needs another package."""
-    own = {"foldgneiss", "typing", "os", "re", "shutil", "string", "struct", "subprocess",
-           "tempfile"}
+    own = {"foldgneiss", "typing", "argparse", "contextlib", "os", "re", "secrets", "select",
+           "shutil", "string", "struct", "subprocess", "sys", "tempfile", "termios", "time", "tty"}
     for name in sorted(glob.glob(f"{FOLDER}/foldgneiss/*.py")):
         tree = ast.parse(read(name), feature_version=OLDEST)
         imported = {(node.module or "foldgneiss").split(".")[0] for node in ast.walk(tree)
@@ -201,9 +202,54 @@ def syntax(trial):
         same(trial, name, imported - own, set())
 
 
+def program_of_all(trial, folder):
+    """A program that has the commands of the device and `live`."""
+    name = f"{folder}/foldgneiss"
+    write(name, f"""#!/bin/sh
+case $1 in
+    live) exec {trial.debugger} "$@" ;;
+    *) exec {trial.program} "$@" ;;
+esac
+""".encode())
+    os.chmod(name, 0o755)
+    return name
+
+
+def answered(trial):
+    """A device that is answered as it runs, and what `play` prints of the same."""
+    echo = Example("echo")
+    files = echo.file("image"), echo.file("key")
+    with foldgneiss.Device(*files) as device:
+        device.run(12)
+        device.rx(b"hello")
+        same(trial, "what is sent", device.until_sent(b"HELLO"), b"HELLO")
+        heard = []
+        device.when_sent(heard.append)
+        device.rx(b"x")
+        device.run(2000)
+        same(trial, "what is heard", b"".join(heard), b"X")
+        same(trial, "the key", device.memory(0x6A00, 4), b"")
+        same(trial, "registers", len(device.registers()), 16)
+        try:
+            device.rx(b"a", 5)
+            trial.fault("a byte came in a step that was made")
+        except ValueError:
+            pass
+        run = foldgneiss.play(files[0], device.script, files[1], device.steps)
+        same(trial, "the lines of a device", device.lines, run.lines[:-1])
+        same(trial, "where it stands", tuple(device.standing), tuple(run.end))
+    try:
+        with foldgneiss.Device(files[0], "/nonexistent") as device:
+            device.run(5)
+        trial.fault("a device without a key ran")
+    except foldgneiss.Failure as failure:
+        same(trial, "a key that is not there", failure.status, 3)
+
+
 def python(trial, files):
-    with calling(trial.program), tempfile.TemporaryDirectory() as folder:
+    with tempfile.TemporaryDirectory() as folder, calling(program_of_all(trial, folder)):
         runs(trial)
+        answered(trial)
         judged(trial, files)
         test_of_meter(trial, folder)
         elf_files(trial)

@@ -43,17 +43,33 @@ def program() -> str:
     return found
 
 
+class Arguments:
+    """Words of a call, of which the program reads those that are bytes from files, until the end
+    of the block.
+    """
+
+    def __init__(self, *words: Union[File, int]) -> None:
+        self._folder = tempfile.TemporaryDirectory(prefix="foldgneiss-")
+        self.words = [self._word(f"{at}", word) for at, word in enumerate(words)]
+
+    def _word(self, name: str, word: Union[File, int]) -> str:
+        if isinstance(word, bytes):
+            path = os.path.join(self._folder.name, name)
+            with open(path, "wb") as file:
+                file.write(word)
+            return path
+        return os.fspath(word) if isinstance(word, os.PathLike) else str(word)
+
+    def __enter__(self) -> List[str]:
+        return self.words
+
+    def __exit__(self, *_: Any) -> None:
+        self._folder.cleanup()
+
+
 def answer(name: str, *words: Union[File, int], option: Sequence[str] = ()) -> bytes:
-    """What a command prints; the program reads bytes from files."""
-    with tempfile.TemporaryDirectory(prefix="foldgneiss-") as folder:
-        arguments = []
-        for at, word in enumerate(words):
-            if isinstance(word, bytes):
-                path = os.path.join(folder, f"{at}")
-                with open(path, "wb") as file:
-                    file.write(word)
-                word = path
-            arguments.append(os.fspath(word) if isinstance(word, os.PathLike) else str(word))
+    """What a command prints."""
+    with Arguments(*words) as arguments:
         ran = subprocess.run([program(), name, *option, *arguments], stdin=subprocess.DEVNULL,
                              stdout=subprocess.PIPE, stderr=subprocess.PIPE)
     if ran.returncode not in ANSWERED:

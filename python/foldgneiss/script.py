@@ -19,10 +19,9 @@ class Event(NamedTuple):
                          *numbers])
 
 
-def read_event(words: Words) -> Event:
-    """That of a line."""
-    words.keyword("at")
-    step = words.decimal(MOST_STEPS - 1)
+def read_event(words: Words, last: int = MOST_STEPS - 1, digits: int = 10) -> Event:
+    """That of a line, from its step on, which is no later than the last."""
+    step = words.decimal(last, digits=digits)
     kind = words.keyword("rx", "p1", "dma", "reset")
     if kind == "rx":
         return Event(step, kind, words.digits(lambda length: length >= 2 and length % 2 == 0))
@@ -37,6 +36,7 @@ def read_script(text: bytes) -> List[Event]:
     """The events in their order."""
     events: List[Event] = []
     for words in texts_of(text, SCRIPT_BYTES)[0]:
+        words.keyword("at")
         event = read_event(words)
         words.end()
         if events and event.step < events[-1].step:

@@ -81,12 +81,12 @@ class Words:
         word = self.take(wanted).decode("utf-8", "replace")
         return word if word in names else self.fault("Word", wanted)
 
-    def decimal(self, most: int, least: int = 0) -> int:
+    def decimal(self, most: int, least: int = 0, digits: int = 10) -> int:
         wanted = f"a decimal, {least} to {most}" if least < most else f"{most}"
         word = self.take(wanted)
         if not word.isdigit():
             self.fault("Digit", wanted)
-        if len(word) > 10 or not least <= int(word) <= most:
+        if len(word) > digits or not least <= int(word) <= most:
             self.fault("Range", wanted)
         return int(word)
 
