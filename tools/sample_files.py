@@ -247,6 +247,17 @@ class SampleFiles:
                     read(f"{stem}.packets"), tuple(text[:at] for at in range(len(text))))
 
     @staticmethod
+    def live_call():
+        """A device that is told what happens, goes on, and shows what stands in it."""
+        echo = f"{EXAMPLES}/echo"
+        lines = (b"at 3 rx 41\n", b"run 10\n", b"memory 6a00 4\n", b"run 5\n", b"run 2000\n")
+        told = (b"", b"at 10 pc c032 exec 0\n", b"memory 6a00 -\n", b"refused 4 Order\n",
+                b"tx 28 41\nat 2000 pc c032 exec 0\n", b"end 2000 pc c032 exec 0\n")
+        begun = tuple(b"".join(told[:at]) for at in range(len(told)))
+        return Call(("live", f"{echo}/image.hex", f"{echo}/key.txt"), b"".join(told),
+                    b"".join(lines), begun)
+
+    @staticmethod
     def letter_image():
         """The example's image in three lines: LF at their ends, no start address."""
         lines = read(f"{EXAMPLES}/letter-a/image.hex").replace(b"\r", b"").split(b"\n")
