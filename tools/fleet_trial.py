@@ -116,7 +116,7 @@ class Fleet:
         self.journals.append(f"{folder}/journal")
         words = [f"{self.folder}/gateway.py", "--desks", str(DESKS), "--rounds", "0", "--wait",
                  WAIT, "--topics", "field", f"{folder}/devices", f"{folder}/journal",
-                 self.trial.program, *(f"{image}/image.hex" for image in IMAGES)]
+                 self.trial.debugger, *(f"{image}/image.hex" for image in IMAGES)]
         return Party(self, f"gateway-{number}", words, "gateway")
 
     # A run.
@@ -344,7 +344,7 @@ def fleet(trial, files):
     if missing := missing_tools():
         print(f"{trial.name}: a fleet is not tried: no {', '.join(missing)}")
         return
-    text = trial.expect(0, "run.sh: making the keys of 30 devices", trial.program, trial.desk,
+    text = trial.expect(0, "run.sh: making the keys of 30 devices", trial.debugger, trial.desk,
                         command=["env", "DEVICES=30", f"PORT={free_port()}",
                                  f"{EXAMPLES}/fleet/run.sh"])
     if not text.endswith(b"\n30 of 30 devices have three accepts\n"):

@@ -4,8 +4,9 @@ IMAGE..
 
 A gateway of a fleet: carries requests from desks to devices and reports back, over a broker, until
 each device has had so many accepts (0: for good). DEVICES is a folder with the key of each device,
-NAME.txt. A device is played by PROGRAM, with the IMAGE of the desk that serves it: of desk K the
-one of number K / N, from 0. Each second a line says what was done.
+NAME.txt. A device lives from its first request on, by `live` of PROGRAM, with the IMAGE of the desk
+that serves it: of desk K the one of number K / N, from 0. Where another desk serves it, it is
+powered on anew with that one's. Each second a line says what was done.
 
 What is sent stands in JOURNAL before it is sent; what counts there is the last line of each device
 and its reply, and how many accepts it had. A line without a reply is sent again after SECONDS, with
@@ -26,9 +27,13 @@ import sys
 import threading
 import time
 
+sys.path.append(os.path.join(os.path.dirname(os.path.realpath(__file__)), "../../python"))
+import foldgneiss  # noqa: E402
+
 LAST_NUMBER = 4294967295
 LONGEST_WAIT = 8  # (so many times the first one)
-STEPS = "6000"
+PINS = 0x0017  # that its firmware reads
+STEPS_BETWEEN, STEPS_AFTER = 1000, 4000  # what comes in two parts, and the attestation
 VERDICTS = ("accept|no-challenge|version-differs|chal-differs|count-differs|bounds-differ|"
             "exec-zero|aux-zero|mac-differs")
 # A whole reply that names a device and a line, with its numbers.
@@ -46,6 +51,7 @@ class Device:
         self.share = int(digest[:8], 16)  # (which of the desks of an image it has)
         self.image = self.number = self.accepts = 0
         self.line = self.reply = None
+        self.life = None  # the image that it lives with, and the device
         self.gap = 1  # to the next number
         self.due = self.sends = 0  # when the line is sent again, and how often it was sent
 
@@ -85,14 +91,27 @@ def messages(lines):
             yield topic, bytes.fromhex(payload).decode("ascii", "replace")
 
 
-def played(program, image, device):
+def living(image, device):
+    """The device as it lives with an image, powered on where it does not yet."""
+    if device.life is None or device.life[0] != image:
+        if device.life:
+            device.life[1].close()
+        device.life = image, foldgneiss.Device(image, device.path)
+        device.life[1].pins(PINS)
+    return device.life[1]
+
+
+def attested(image, device):
     """The report of a device on the request that came; None where it makes none."""
     _, _, _, challenge, count, _, token = device.reply.split()
-    count = int(count).to_bytes(4, "little").hex()
-    script = f"at 0 p1 0017\nat 1000 rx {challenge}{count}\nat 2000 rx {token}\n"
-    run = subprocess.run([program, "play", image, "/dev/stdin", device.path, STEPS], text=True,
-                         input=script, stdout=subprocess.PIPE, check=True)
-    return next((line for line in run.stdout.splitlines() if line.startswith("report2 ")), None)
+    request = foldgneiss.Request(bytes.fromhex(challenge), int(count), bytes.fromhex(token))
+    alive, lines = living(image, device), []
+    for part, steps in ((b"", STEPS_BETWEEN), (request.message[:36], STEPS_BETWEEN),
+                        (request.message[36:], STEPS_AFTER)):
+        if part:
+            alive.rx(part)
+        lines += alive.run(steps)
+    return next((f"{line}" for line in lines if isinstance(line, foldgneiss.Report)), None)
 
 
 class Journal:
@@ -191,7 +210,7 @@ class Gateway:
             return
         if device.reply and device.reply.startswith("request "):
             image = self.arguments.image[device.image]
-            play = self.players.submit(played, self.arguments.program, image, device)
+            play = self.players.submit(attested, image, device)
             play.add_done_callback(lambda done: self.events.put((self.begin, device, done)))
         else:
             self.begin(device)
@@ -275,7 +294,9 @@ def main():
     for name in ("devices", "journal", "program"):
         parser.add_argument(name)
     parser.add_argument("image", nargs="+")
-    gateway = Gateway(parser.parse_args())
+    arguments = parser.parse_args()
+    os.environ["FOLDGNEISS"] = arguments.program
+    gateway = Gateway(arguments)
     signal.signal(signal.SIGTERM, lambda *_: gateway.stop(128 + signal.SIGTERM))
     gateway.run()
 

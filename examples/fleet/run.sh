@@ -3,11 +3,11 @@
 # four gateways, until each device was attested three times. DEVICES, PORT and WORK name another
 # number, the port (on 127.0.0.1 alone) and a folder to be kept.
 #
-# PROGRAM and DESK are the proved programs if none are named.
+# PROGRAM, which has `live`, and DESK are the proved programs if none are named.
 set -eu
 folder=$(dirname "$(readlink -f "$0")")
 crates=$folder/../../crates
-program=$(readlink -f "${1:-$crates/device_main/out/device_main}")
+program=$(readlink -f "${1:-$crates/debug_main/out/debug_main}")
 desk=$(readlink -f "${2:-$crates/desk_main/out/desk_main}")
 devices=${DEVICES:-1000} port=${PORT:-18830} desks=4 gateways=4
 PATH=$PATH:/usr/sbin
