@@ -132,6 +132,15 @@ COMMANDS = {command.name: command for command in (
             "the device. Nothing that it asks changes the run. In GDB its command is `target "
             "remote | foldgneiss debug image.hex script.txt key.txt`.",
             "debug image.hex script.txt key.txt", "debug_main"),
+    Command("live", ("image", "key"),
+            "the answers of a device that lives to lines on standard input: what happens to it, how "
+            "far it goes on, and what stands in it",
+            "Powers the firmware on, and answers each line of standard input before it reads more. "
+            "`at N ..`, as in a script, happens in step N; `run N` goes on to N steps, and prints "
+            "what play prints of them, and `at N pc H4 exec E`; `registers` and `memory H4 C` show "
+            "what stands in it; `refused L K` answers line L where it has the fault K. `end N pc H4 "
+            "exec E` comes at the end of the input.",
+            "live image.hex key.txt", "debug_main"),
     Command("wave", ("image", "script", "key", "steps"),
             "what `trace` prints, with registers, flags and ports, as a waveform for GTKWave",
             "Prints what trace says of a run, and registers, AUX, the timer's flag, pins, and the "
@@ -219,14 +228,22 @@ COMMANDS = {command.name: command for command in (
             "work 7"),
 )}
 
-# The command of the script ./foldgneiss alone, which calls the program of the device for it.
+# The commands of the script ./foldgneiss alone, which calls other commands for them.
 PICTURE = Command(
     "picture", ("image", "script", "key", "steps"),
     "a page for a browser that shows this run over its steps, with the policy as `round` judges it",
     "Prints a page for a browser, one file, that shows what play or, with POLICY, round prints of "
     "this run, and over its steps the signals, registers and instructions. It ends as they do.",
     "picture image.hex script.txt key.txt 5000 > run.html", "", ("policy",))
-SCRIPT_COMMANDS = {**COMMANDS, PICTURE.name: PICTURE}  # those of ./foldgneiss
+CONSOLE = Command(
+    "console", ("image",),
+    "what a device that lives sends, which is typed to: a terminal at its serial port",
+    "Powers the firmware on, by live: what is typed arrives at its serial port, what it sends is "
+    "shown, and resets and reports are told in words, until Ctrl-] or the end of the input. After "
+    "`--pty` it is a pseudo-terminal, whose name is printed, after `--speed N` it makes N steps a "
+    "second, and after `--record SCRIPT` this file gets the script from which play makes the same "
+    "run.", "console image.hex", "", ("key",))
+SCRIPT_COMMANDS = {**COMMANDS, PICTURE.name: PICTURE, CONSOLE.name: CONSOLE}  # ./foldgneiss's
 
 PROGRAMS = ("device_main", "desk_main", "debug_main")
 
@@ -295,7 +312,7 @@ class Status(NamedTuple):
 
 WITH_MEMORY = tuple(name for name, command in COMMANDS.items() if "memory" in command.all_words)
 WITH_ALL = tuple(name for name, command in COMMANDS.items() if command.option == ALL)
-WITH_INPUT = ("desk", "debug")  # those that read standard input
+WITH_INPUT = ("desk", "debug", "live")  # those that read standard input
 
 STATUSES = {
     0: Status("", "all of the text was printed", ""),
@@ -317,7 +334,8 @@ STATUSES = {
               ("a file is there and cannot be read: a folder, a path through a file, a lack of "
                "rights, a broken disk",
                Part("desk", "; or standard input of `desk` cannot be read"),
-               Part("debug", "; or standard input of `debug` cannot be read")), "likewise"),
+               Part("debug", "; or standard input of `debug` cannot be read"),
+               Part("live", "; or standard input of `live` cannot be read")), "likewise"),
     5: Status("writing failed", "standard output took only a prefix of the text",
               "free space, or keep the pipe open"),
     6: Status("no memory",
@@ -325,7 +343,8 @@ STATUSES = {
                Part("round", ", or in `round` a prefix that ends before a `collision` line"),
                Part("desk", ", or in `desk` the replies to all lines before a report, or to some "
                             "lines where it was refused for MEMORY"),
-               Part("debug", ", or in `debug` a prefix of the answers")),
+               Part("debug", ", or in `debug` a prefix of the answers"),
+               Part("live", ", or in `live` the answers to all lines before one")),
               "the program needs a few MiB, and for the largest sources some 40, the largest "
               "trace files some 70"),
     7: Status("bad key: line L: K", "the key is not 128 hexadecimal digits in one line",
@@ -339,9 +358,11 @@ STATUSES = {
     14: Status("bad keys: line L: K", "the first fault of a desk's keys", "likewise"),
     15: Status("input is too long",
                (Part("desk", "`desk` took 1,073,741,824 bytes of standard input"),
-                Part("debug", "; or `debug` took 1,073,741,824 bytes of standard input")),
+                Part("debug", "; or `debug` took 1,073,741,824 bytes of standard input"),
+                Part("live", "; or `live` took 1,073,741,824 bytes of standard input")),
                (Part("desk", "start the desk anew with its memory: `docs/desk.md`"),
-                Part("debug", "; or connect GDB anew")), WITH_INPUT),
+                Part("debug", "; or connect GDB anew"),
+                Part("live", "; or begin anew")), WITH_INPUT),
     16: Status("bad memory: M",
                "M says it: there is no MEMORY, or none yet; it is no memory of a desk, or is "
                "damaged; the log beside it is not its own; it was to be made, and is there; a key "
