@@ -1,5 +1,5 @@
 -- What is answered once a source was served.
-use Rattle.std.proofs.Common.{◌≡◌, ◌<◌, ◌⊎◌, ℕ, List, length, Some, refl, inl, inr, ⊎_elim}
+use Rattle.std.proofs.Common.{◌≡◌, ◌<◌, ◌⊎◌, ℕ, List, length, Some, refl, inl, inr, arith}
 use Rattle.outside_edge.specs.Count.{Rose}
 use Rattle.outside_edge.specs.declared.sink.Sink as sink
 use Rattle.outside_edge.specs.declared.source.Source as source
@@ -45,78 +45,78 @@ end-fault (inl done) = no-fault (λ is. cc (done, is)) (λ is. cc (done, is))
 end-fault (inr memory) = no-fault (λ is. cc (memory, is)) (λ is. cc (memory, is))
 
 module _ {Own : Type 0} (own_status : Own → Status) (ends : (own : Own) → IsEnd (own_status own))
-    where
-  ended-words : (ended : Served Own) → status_of own_status ended ≡ Words → ⊥
-  ended-words served.Done is = cc is
-  ended-words served.Spent is = cc is
-  ended-words served.ReadFault is = cc is
-  ended-words served.WriteFault is = cc is
-  ended-words (served.Own own) is = end-words (ends own) is
+  where
+    ended-words : (ended : Served Own) → status_of own_status ended ≡ Words → ⊥
+    ended-words served.Done is = cc is
+    ended-words served.Spent is = cc is
+    ended-words served.ReadFault is = cc is
+    ended-words served.WriteFault is = cc is
+    ended-words (served.Own own) is = end-words (ends own) is
 
-  ended-spent : (ended : Served Own) → status_of own_status ended ≡ Spent → ended ≡ served.Spent
-  ended-spent served.Done is = absurd (cc is)
-  ended-spent served.Spent is = refl
-  ended-spent served.ReadFault is = absurd (cc is)
-  ended-spent served.WriteFault is = absurd (cc is)
-  ended-spent (served.Own own) is = absurd (end-spent (ends own) is)
+    ended-spent : (ended : Served Own) → status_of own_status ended ≡ Spent → ended ≡ served.Spent
+    ended-spent served.Done is = absurd (cc is)
+    ended-spent served.Spent is = refl
+    ended-spent served.ReadFault is = absurd (cc is)
+    ended-spent served.WriteFault is = absurd (cc is)
+    ended-spent (served.Own own) is = absurd (end-spent (ends own) is)
 
-  module _ {R W : Type 0} (r : source.Ghosts R) (w : sink.Ghosts W) (promise : Promise W Own)
-      (old new : Ports R W)
-      (rose : (before last : List ℕ) → promise.stopped new.sink before last halt.Write
-      → Rose (w.faults old.sink) (w.faults new.sink)) where
-    abbrev Ends : Status → Type 0
-    Ends status = EndsWith r promise (status_of own_status) old new status
+    module _ {R W : Type 0} (r : source.Ghosts R) (w : sink.Ghosts W) (promise : Promise W Own)
+        (old new : Ports R W)
+        (rose : (before last : List ℕ) → promise.stopped new.sink before last halt.Write
+        → Rose (w.faults old.sink) (w.faults new.sink)) where
+      abbrev Ends : Status → Type 0
+      Ends status = EndsWith r promise (status_of own_status) old new status
 
-    ends-words : (status : Status) → Ends status → status ≡ Words → ⊥
-    ends-words status so is = ended-words so.ended (rw so.answer at is)
+      ends-words : (status : Status) → Ends status → status ≡ Words → ⊥
+      ends-words status so is = ended-words so.ended (rw so.answer at is)
 
-    ends-limit : (status : Status) → Ends status
-        → KeepsLimit r old.source new.source (status ≡ Spent)
-    ends-limit status so =
-        keeps_limit r promise old.source new.source new.sink so.ended so.serves
-        (λ is. ended-spent so.ended (rw so.answer at is))
+      ends-limit : (status : Status) → Ends status
+          → KeepsLimit r old.source new.source (status ≡ Spent)
+      ends-limit status so =
+          keeps_limit r promise old.source new.source new.sink so.ended so.serves
+          (λ is. ended-spent so.ended (rw so.answer at is))
 
-    stopped-end : (before last : List ℕ) (why : Halt Own)
-        → promise.stopped new.sink before last why
-        → ¬ Rose (w.faults old.sink) (w.faults new.sink)
-        → IsEnd (status_of own_status (served_of why))
-    stopped-end before last halt.Write so no_sink = absurd (no_sink (rose before last so))
-    stopped-end before last (halt.Own own) so no_sink = ends own
+      stopped-end : (before last : List ℕ) (why : Halt Own)
+          → promise.stopped new.sink before last why
+          → ¬ Rose (w.faults old.sink) (w.faults new.sink)
+          → IsEnd (status_of own_status (served_of why))
+      stopped-end before last halt.Write so no_sink = absurd (no_sink (rose before last so))
+      stopped-end before last (halt.Own own) so no_sink = ends own
 
-    ends-whole : (status : Status) (bytes : List ℕ) → Ends status
-        → r.left old.source ≡ Some bytes → length bytes < most_input
-        → ¬ Rose (r.faults old.source) (r.faults new.source)
-        → ¬ Rose (w.faults old.sink) (w.faults new.sink)
-        → IsEnd status
-    ends-whole status bytes so is few no_source no_sink =
-        rw so.answer (elim (whole_or_stopped r promise old.source new.source new.sink bytes so.ended
-        so.serves is few no_source) [
-          | inl done ↦ rw done (inl refl)
-          | inr (why, is, (before, last, stopped)) ↦
-              rw is (stopped-end before last why stopped no_sink)
-        ])
+      ends-whole : (status : Status) (bytes : List ℕ) → Ends status
+          → r.left old.source ≡ Some bytes → length bytes < most_input
+          → ¬ Rose (r.faults old.source) (r.faults new.source)
+          → ¬ Rose (w.faults old.sink) (w.faults new.sink)
+          → IsEnd status
+      ends-whole status bytes so is few no_source no_sink =
+          rw so.answer (elim (whole_or_stopped r promise old.source new.source new.sink bytes so.ended
+          so.serves is few no_source) [
+            | inl done ↦ rw done (inl refl)
+            | inr (why, is, (before, last, stopped)) ↦
+                rw is (stopped-end before last why stopped no_sink)
+          ])
 
-    ended-fault : (ended : Served Own)
-        → Serves r promise old.source new.source new.sink ended
-        → ¬ Rose (r.faults old.source) (r.faults new.source)
-        → ¬ Rose (w.faults old.sink) (w.faults new.sink)
-        → IsFault (status_of own_status ended) → ⊥
-    ended-fault served.ReadFault so no_source no_sink fault = no_source so.ends.0.1
-    ended-fault served.WriteFault so no_source no_sink fault =
-        let stopped = unwritten r promise old.source new.source new.sink so in
-        no_sink (rose stopped.0 stopped.1 stopped.2)
-    ended-fault served.Done so no_source no_sink fault =
-        no-fault (λ is. cc is) (λ is. cc is) fault
-    ended-fault served.Spent so no_source no_sink fault =
-        no-fault (λ is. cc is) (λ is. cc is) fault
-    ended-fault (served.Own own) so no_source no_sink fault = end-fault (ends own) fault
+      ended-fault : (ended : Served Own)
+          → Serves r promise old.source new.source new.sink ended
+          → ¬ Rose (r.faults old.source) (r.faults new.source)
+          → ¬ Rose (w.faults old.sink) (w.faults new.sink)
+          → IsFault (status_of own_status ended) → ⊥
+      ended-fault served.ReadFault so no_source no_sink fault = no_source so.ends.0.1
+      ended-fault served.WriteFault so no_source no_sink fault =
+          let stopped = unwritten r promise old.source new.source new.sink so in
+          no_sink (rose stopped.0 stopped.1 stopped.2)
+      ended-fault served.Done so no_source no_sink fault =
+          no-fault (λ is. cc is) (λ is. cc is) fault
+      ended-fault served.Spent so no_source no_sink fault =
+          no-fault (λ is. cc is) (λ is. cc is) fault
+      ended-fault (served.Own own) so no_source no_sink fault = end-fault (ends own) fault
 
-    ends-fault : (status : Status) → Ends status
-        → ¬ Rose (r.faults old.source) (r.faults new.source)
-        → ¬ Rose (w.faults old.sink) (w.faults new.sink)
-        → IsFault status → ⊥
-    ends-fault status so no_source no_sink fault =
-        ended-fault so.ended so.serves no_source no_sink (rw so.answer at fault)
+      ends-fault : (status : Status) → Ends status
+          → ¬ Rose (r.faults old.source) (r.faults new.source)
+          → ¬ Rose (w.faults old.sink) (w.faults new.sink)
+          → IsFault status → ⊥
+      ends-fault status so no_source no_sink fault =
+          ended-fault so.ended so.serves no_source no_sink (rw so.answer at fault)
 
 talk-end : (end : TalkEnd) → IsEnd (talk_status end)
 talk-end talk.Closed = inl refl
@@ -129,7 +129,8 @@ module _ {R W : Type 0} (r : source.Ghosts R) (w : sink.Ghosts W) (old new : Por
   served-words (Debugs run) has =
       ends-words talk_status talk-end r w (debug_promise w run old.sink) old new
       (λ before last so. so.1) status has
-  served-words (Lives start) has =
+  served-words (Lives start) (inr none) = λ is. cc (none.0, is)
+  served-words (Lives start) (inl has) =
       ends-words (λ error. Memory) (λ error. inr refl) r w (life_promise w start old.sink) old new
       (λ before last so. so.1) status has
 
@@ -138,7 +139,12 @@ module _ {R W : Type 0} (r : source.Ghosts R) (w : sink.Ghosts W) (old new : Por
   served-limit (Debugs run) has =
       ends-limit talk_status talk-end r w (debug_promise w run old.sink) old new
       (λ before last so. so.1) status has
-  served-limit (Lives start) has =
+  served-limit (Lives start) (inr none) =
+      record {
+        few = rw none.1 (omega arith);
+        spent = λ is. absurd (cc (none.0, is));
+      }
+  served-limit (Lives start) (inl has) =
       ends-limit (λ error. Memory) (λ error. inr refl) r w (life_promise w start old.sink) old new
       (λ before last so. so.1) status has
 
@@ -150,7 +156,8 @@ module _ {R W : Type 0} (r : source.Ghosts R) (w : sink.Ghosts W) (old new : Por
   served-whole (Debugs run) bytes has =
       ends-whole talk_status talk-end r w (debug_promise w run old.sink) old new
       (λ before last so. so.1) status bytes has
-  served-whole (Lives start) bytes has =
+  served-whole (Lives start) bytes (inr none) = λ is few no_source no_sink. inr none.0
+  served-whole (Lives start) bytes (inl has) =
       ends-whole (λ error. Memory) (λ error. inr refl) r w (life_promise w start old.sink) old new
       (λ before last so. so.1) status bytes has
 
@@ -161,6 +168,8 @@ module _ {R W : Type 0} (r : source.Ghosts R) (w : sink.Ghosts W) (old new : Por
   served-fault (Debugs run) has =
       ends-fault talk_status talk-end r w (debug_promise w run old.sink) old new
       (λ before last so. so.1) status has
-  served-fault (Lives start) has =
+  served-fault (Lives start) (inr none) =
+      λ no_source no_sink. no-fault (λ is. cc (none.0, is)) (λ is. cc (none.0, is))
+  served-fault (Lives start) (inl has) =
       ends-fault (λ error. Memory) (λ error. inr refl) r w (life_promise w start old.sink) old new
       (λ before last so. so.1) status has

@@ -42,13 +42,25 @@ live_row image key =
     read_file key_kind key (λ key.
     read_file image_kind image (λ image. Ends (Ok (Lives (start_with key image)))))
 
--- `debug IMAGE SCRIPT KEY` or `live IMAGE KEY`
-abbrev pub session_row_of : List (List ℕ) → Option (RowOf Session)
-session_row_of (command ∷ image ∷ script ∷ key ∷ []) =
+-- `debug IMAGE SCRIPT KEY`
+abbrev pub debug_row_of : List (List ℕ) → Option (RowOf Session)
+debug_row_of (command ∷ image ∷ script ∷ key ∷ []) =
     if bytes_eq command (codes "debug") then Some (debug_row image script key) else None
-session_row_of (command ∷ image ∷ key ∷ []) =
+debug_row_of arguments = None
+
+-- `live IMAGE KEY`
+abbrev pub live_row_of : List (List ℕ) → Option (RowOf Session)
+live_row_of (command ∷ image ∷ key ∷ []) =
     if bytes_eq command (codes "live") then Some (live_row image key) else None
-session_row_of arguments = None
+live_row_of arguments = None
+
+abbrev pub or_row : Option (RowOf Session) → Option (RowOf Session) → Option (RowOf Session)
+or_row None other = other
+or_row (Some row) other = Some row
+
+-- the one or the other
+abbrev pub session_row_of : List (List ℕ) → Option (RowOf Session)
+session_row_of arguments = or_row (debug_row_of arguments) (live_row_of arguments)
 
 -- a source was served under a promise of what is put, and this is the answer to how that ended
 pub record EndsWith {R W Own : Type 0} (r : source.Ghosts R) (promise : Promise W Own)
@@ -61,13 +73,15 @@ pub record EndsWith {R W Own : Type 0} (r : source.Ghosts R) (promise : Promise 
 abbrev pub debug_promise : {W : Type 0} → sink.Ghosts W → Run → W → Promise W TalkEnd
 debug_promise w run first = talk_promise w run_reply (first_of run) first
 
--- what was put is the conversation of the bytes that the source gave, or a prefix of it
+-- what was put is the conversation of the bytes that the source gave, or a prefix of it; or there
+-- was no memory for a device, and nothing was taken or put
 abbrev pub HasServed : {R W : Type 0} → source.Ghosts R → sink.Ghosts W → Session
     → Ports R W → Ports R W → Status → Type 0
 HasServed r w (Debugs run) old new status =
     EndsWith r (debug_promise w run old.sink) status_of_talk old new status
 HasServed r w (Lives start) old new status =
     EndsWith r (life_promise w start old.sink) status_of_life old new status
+    ⊎ ((status ≡ Memory) × (new ≡ old))
 
 -- an answer to arguments that may spell a command
 pub record IsSessionAnswer {S R W : Type 0} (s : shelves.Ghosts S) (r : source.Ghosts R)

@@ -1,7 +1,8 @@
-ghost use Rattle.std.specs.Prelude.{◌≡◌, ◌≤◌, Some};
+ghost use Rattle.std.specs.Prelude.{◌≡◌, ◌≤◌, Some, option_map};
 ghost use Rattle.mem_map.specs.Image.{byte_in};
+ghost use Rattle.input_files.specs.Argument.{texts};
 ghost use Rattle.debug_cli.specs.Begun.{run_with};
-ghost use Rattle.debug_cli.specs.Session.{Debugs, HasServed, IsSessionAnswer, debug_row};
+ghost use Rattle.debug_cli.specs.Session.{Debugs, HasServed, IsSessionAnswer, debug_row, debug_row_of};
 
 use crate::answer_status::served_status;
 use crate::session_end::SessionEnd;
@@ -15,12 +16,30 @@ use std::alloc::Global;
 
 type FileValues = ([u8; 64], (mem_map::Image, play_script::Script));
 
-/// Runs `debug` with the files of these names.
+// The files of a debugger in the order in which they are read.
+type DebugFiles<'a> = (File<'a, Key>, (File<'a, Image>, File<'a, Script>));
+
+/// The files that the arguments name, where they spell `debug`.
+pub fn debug_files(arguments: &[String]) -> Option<DebugFiles<'_>>
+    ensures { option_map (λ found. debug_row found.1.0.name.now found.1.1.name.now
+        found.0.name.now) result ≡ debug_row_of (texts arguments.now) }
+{
+    let [command, image, script, key] = arguments else {
+        return None;
+    };
+    if command.as_str() != "debug" {
+        return None;
+    }
+    let key = File::new(key.as_str(), Key);
+    let image = File::new(image.as_str(), Image);
+    let script = File::new(script.as_str(), Script);
+    Some((key, (image, script)))
+}
+
+/// Runs `debug` with these files.
 pub fn run_debug<S: Shelf, R: Source, W: Sink + Drop>(
     alloc: Global,
-    image: &str,
-    script: &str,
-    key: &str,
+    files: &DebugFiles<'_>,
     shelf: &mut S,
     source: &mut R,
     sink: W,
@@ -28,12 +47,9 @@ pub fn run_debug<S: Shelf, R: Source, W: Sink + Drop>(
     ensures { IsSessionAnswer S.Shelf R.Source W.Sink shelf.old shelf.new
         (record { source = source.old; sink = sink })
         (record { source = source.new; sink = result.1 })
-        (Some (debug_row image.now script.now key.now)) result.0 }
+        (Some (debug_row files.now.1.0.name.now files.now.1.1.name.now files.now.0.name.now))
+        result.0 }
 {
-    let files = (
-        File::new(key, Key),
-        (File::new(image, Image), File::new(script, Script)),
-    );
     match files.read::<SessionEnd, S>(alloc, shelf) {
         Ok(values) => serve_run(alloc, &values, source, sink),
         Err(refusal) => (Status::of_refusal(refusal), sink),

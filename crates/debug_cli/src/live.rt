@@ -1,7 +1,8 @@
-ghost use Rattle.std.specs.Prelude.{◌≡◌, ◌≤◌, Some};
+ghost use Rattle.std.specs.Prelude.{◌≡◌, ◌≤◌, Some, option_map};
 ghost use Rattle.mem_map.specs.Image.{byte_in};
+ghost use Rattle.input_files.specs.Argument.{texts};
 ghost use Rattle.debug_cli.specs.Begun.{start_with};
-ghost use Rattle.debug_cli.specs.Session.{HasServed, IsSessionAnswer, Lives, live_row};
+ghost use Rattle.debug_cli.specs.Session.{HasServed, IsSessionAnswer, Lives, live_row, live_row_of};
 
 use crate::answer_status::served_status;
 use crate::session_end::SessionEnd;
@@ -16,11 +17,29 @@ use std::alloc::Global;
 
 type FileValues = ([u8; 64], mem_map::Image);
 
-/// Runs `live` with the files of these names.
+// The files of a device in the order in which they are read.
+type LiveFiles<'a> = (File<'a, Key>, File<'a, Image>);
+
+/// The files that the arguments name, where they spell `live`.
+pub fn live_files(arguments: &[String]) -> Option<LiveFiles<'_>>
+    ensures { option_map (λ found. live_row found.1.name.now found.0.name.now) result
+        ≡ live_row_of (texts arguments.now) }
+{
+    let [command, image, key] = arguments else {
+        return None;
+    };
+    if command.as_str() != "live" {
+        return None;
+    }
+    let key = File::new(key.as_str(), Key);
+    let image = File::new(image.as_str(), Image);
+    Some((key, image))
+}
+
+/// Runs `live` with these files.
 pub fn run_live<S: Shelf, R: Source, W: Sink + Drop>(
     alloc: Global,
-    image: &str,
-    key: &str,
+    files: &LiveFiles<'_>,
     shelf: &mut S,
     source: &mut R,
     sink: W,
@@ -28,9 +47,8 @@ pub fn run_live<S: Shelf, R: Source, W: Sink + Drop>(
     ensures { IsSessionAnswer S.Shelf R.Source W.Sink shelf.old shelf.new
         (record { source = source.old; sink = sink })
         (record { source = source.new; sink = result.1 })
-        (Some (live_row image.now key.now)) result.0 }
+        (Some (live_row files.now.1.name.now files.now.0.name.now)) result.0 }
 {
-    let files = (File::new(key, Key), File::new(image, Image));
     match files.read::<SessionEnd, S>(alloc, shelf) {
         Ok(values) => serve_life(alloc, &values, source, sink),
         Err(refusal) => (Status::of_refusal(refusal), sink),

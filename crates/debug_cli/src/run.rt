@@ -2,8 +2,8 @@ ghost use Rattle.std.specs.Prelude.{◌≡◌};
 ghost use Rattle.input_files.specs.Argument.{texts};
 ghost use Rattle.debug_cli.specs.Session.{IsSessionAnswer, session_row_of};
 
-use crate::debug::run_debug;
-use crate::live::run_live;
+use crate::debug::{debug_files, run_debug};
+use crate::live::{live_files, run_live};
 use input_files::Status;
 use outside_edge::{Shelf, Sink, Source};
 use std::alloc::Global;
@@ -23,13 +23,11 @@ pub fn run<S: Shelf, R: Source, W: Sink + Drop>(
         (record { source = source.new; sink = result.1 })
         (session_row_of (texts arguments.now)) result.0 }
 {
-    match arguments {
-        [command, image, script, key] if command.as_str() == "debug" => {
-            run_debug(alloc, image.as_str(), script.as_str(), key.as_str(), shelf, source, sink)
-        }
-        [command, image, key] if command.as_str() == "live" => {
-            run_live(alloc, image.as_str(), key.as_str(), shelf, source, sink)
-        }
-        _ => (Status::Words, sink),
+    if let Some(files) = debug_files(arguments) {
+        return run_debug(alloc, &files, shelf, source, sink);
     }
+    if let Some(files) = live_files(arguments) {
+        return run_live(alloc, &files, shelf, source, sink);
+    }
+    (Status::Words, sink)
 }

@@ -1,0 +1,8 @@
+use Rattle.std.proofs.Common.{inl, inr, refl}
+use Rattle.debug_cli.proofs.live.serve_life.Goals as goal
+
+pub returns-in_default-clause-served : goal.returns-in_default-clause-served
+returns-in_default-clause-served g c = inr (refl, refl)
+
+pub returns-in_default-new-clause-served : goal.returns-in_default-new-clause-served
+returns-in_default-new-clause-served g c = inr (refl, refl)
