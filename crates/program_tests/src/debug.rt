@@ -1,5 +1,5 @@
-//! The debugger over files, packets and a byte sink in memory. What is put is from another program,
-//! a model of the packets.
+//! The debugger, and a device that lives, over files, a source and a byte sink in memory. What a
+//! debugger puts is from another program, a model of the packets.
 
 ghost use Rattle.std.specs.Prelude.{◌≤◌};
 
@@ -26,12 +26,25 @@ const ANSWERS: &[u8] = b"+$00c00000000000000000000000000000000000000000000000000
 000000000000000000000000000000000000000000000000000000000000000#33\
 +$O747820342034310a#b0$T05#b9+$0000000000000000#00+$T05#b9+";
 
-// What is answered to these words and put, with this script, where so many bytes come in one call
-// and the calls of source and sink of these numbers fail.
-fn debugged(
+const LIVE_WORDS: [&str; 3] = ["live", "image", "key"];
+
+// The letter is sent in step 4. A step that was made is not made again, and nothing comes in it;
+// port 1 reads what it is set to.
+const LINES: &[u8] =
+    b"at 5 p1 1234\nrun 5\nregisters\nrun 4\nat 4 rx 42\nrun 6\nmemory 0020 2\nwait";
+
+const LINE_ANSWERS: &[u8] = b"tx 4 41\nat 5 pc c006 exec 0\n\
+registers c006 0000 0000 0000 0000 0000 0000 0000 0000 0000 0000 0000 0000 0000 0000 0000\n\
+refused 4 Order\nrefused 5 Order\nat 6 pc c006 exec 0\nmemory 0020 3412\nrefused 8 Word\n\
+end 6 pc c006 exec 0\n";
+
+// What is answered to these words and put, with this script and this input, of which so many bytes
+// come in one call, where the calls of source and sink of these numbers fail.
+fn served(
     alloc: Global,
     words: &[&str],
     script: &str,
+    input: &[u8],
     most: usize,
     unread: &[u64],
     unwritten: &[u64],
@@ -46,7 +59,7 @@ fn debugged(
     ];
     let words = arguments(alloc, words)?;
     let mut shelf = MemShelf::new(named_files(alloc, &files)?, 4_096, Vec::new(alloc));
-    let mut source = MemSource::new(PACKETS.to_vec(alloc)?, most, unread.to_vec(alloc)?);
+    let mut source = MemSource::new(input.to_vec(alloc)?, most, unread.to_vec(alloc)?);
     let sink = MemSink::new(Vec::new(alloc), 1_000, 64, unwritten.to_vec(alloc)?)?;
     let (status, sink) = run(alloc, &words, &mut shelf, &mut source, sink);
     Ok((status, sink.held().to_vec(alloc)?))
@@ -55,7 +68,7 @@ fn debugged(
 #[test]
 fn packets_are_answered(rt: HostRuntime) -> Result<(), Fail> {
     for most in [1, 7, 4_096] {
-        let (status, text) = debugged(rt.alloc(), &WORDS, "", most, &[], &[])?;
+        let (status, text) = served(rt.alloc(), &WORDS, "", PACKETS, most, &[], &[])?;
         assert_eq!(rt; status, Status::Done);
         assert_eq!(rt; text.as_slice(), ANSWERS);
     }
@@ -63,11 +76,21 @@ fn packets_are_answered(rt: HostRuntime) -> Result<(), Fail> {
 }
 
 #[test]
+fn lines_are_answered(rt: HostRuntime) -> Result<(), Fail> {
+    for most in [1, 7, 4_096] {
+        let (status, text) = served(rt.alloc(), &LIVE_WORDS, "", LINES, most, &[], &[])?;
+        assert_eq!(rt; status, Status::Done);
+        assert_eq!(rt; text.as_slice(), LINE_ANSWERS);
+    }
+    Ok(())
+}
+
+#[test]
 fn a_prefix_is_put_before_a_fault(rt: HostRuntime) -> Result<(), Fail> {
-    let (status, text) = debugged(rt.alloc(), &WORDS, "", 9, &[2], &[])?;
+    let (status, text) = served(rt.alloc(), &WORDS, "", PACKETS, 9, &[2], &[])?;
     assert_eq!(rt; status, Status::ReadFault);
     assert_eq!(rt; text.as_slice(), &ANSWERS[..133]);
-    let (status, text) = debugged(rt.alloc(), &WORDS, "", 4_096, &[], &[2])?;
+    let (status, text) = served(rt.alloc(), &WORDS, "", PACKETS, 4_096, &[], &[2])?;
     assert_eq!(rt; status, Status::WriteFault);
     assert_eq!(rt; text.as_slice(), b"+".as_slice());
     Ok(())
@@ -83,7 +106,7 @@ fn words_and_files_are_refused(rt: HostRuntime) -> Result<(), Fail> {
         line: 1,
         kind: FaultKind::Word,
     };
-    let rows: [(&[&str], Status); 6] = [
+    let rows: [(&[&str], Status); 8] = [
         (&[], Status::Words),
         (&["Debug", "image", "script", "key"], Status::Words),
         (&["debug", "image", "script", "key", "5"], Status::Words),
@@ -92,10 +115,15 @@ fn words_and_files_are_refused(rt: HostRuntime) -> Result<(), Fail> {
             Status::Bad(BadFile::Key(bad_key)),
         ),
         (&["debug", "other", "script", "key"], Status::Absent),
+        (&["live", "image", "script", "key"], Status::Words),
+        (
+            &["live", "other", "none"],
+            Status::Bad(BadFile::Key(bad_key)),
+        ),
         (&WORDS, Status::Bad(BadFile::Script(bad_script))),
     ];
     for &(words, wanted) in &rows {
-        let (status, text) = debugged(rt.alloc(), words, "at 5 rest\n", 4_096, &[], &[])?;
+        let (status, text) = served(rt.alloc(), words, "at 5 rest\n", PACKETS, 4_096, &[], &[])?;
         assert_eq!(rt; status, wanted);
         assert!(rt; text.is_empty());
     }
