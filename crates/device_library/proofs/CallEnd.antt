@@ -106,7 +106,7 @@ told-words : (shelf shelf_after : SureShelf) (before after : KeptBytes) (row : O
 told-words shelf shelf_after before after None how told piece count empty ran is =
     inl (subst (λ (how : Status). IsTold how after.held piece count told) ran.0 is)
 told-words shelf shelf_after before after (Some row) how told piece count empty ran is =
-    told-row shelf shelf_after before after row how told piece count empty ran.answers is
+    told-row shelf shelf_after before after row how told piece count empty ran is
 
 -- a call for which there was no memory
 pub memory-call : (contents : List (List ℕ × List ℕ)) (row : Option Row) (piece : List ℕ)
