@@ -130,6 +130,7 @@ def opened_port(is_pty: bool) -> Iterator[Port]:
         print("Ctrl-] ends it", file=sys.stderr)
         with raw_terminal(0):
             yield Port(0, 1, True)
+        print(file=sys.stderr)  # (behind what was shown last)
     else:
         yield Port(0, 1, False)
 
