@@ -65,7 +65,7 @@ module _ {left right : Run} {most : ℕ} (same : SameRuns left right most) where
   registers-same place within =
       λ i. encode_lower (registers_bytes ((same.places place within).registers i))
 
-  bytes-same : (place address count : ℕ) → place ≤ most
+  pub bytes-same : (place address count : ℕ) → place ≤ most
       → bytes_shown left place address count ≡ bytes_shown right place address count
   bytes-same place address zero within = refl
   bytes-same place address (suc count) within =

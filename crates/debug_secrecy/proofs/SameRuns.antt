@@ -2,6 +2,7 @@
 use Rattle.std.proofs.Common.{◌≡◌, ℕ, ◌<◌, ◌≤◌, true}
 use Rattle.bus_signals.specs.Access.{without_number}
 use Rattle.device_trace.specs.Logs.{aux_of, exec_of}
+use Rattle.device_trace.specs.Progress.{next_pc_of}
 use Rattle.device_trace.specs.Text.{lines_of_step, play_text}
 use Rattle.debug_session.specs.Level.{is_returning}
 use Rattle.debug_session.specs.Monitor.{last_lines}
@@ -12,6 +13,8 @@ use Rattle.debug_session.specs.Shown.{byte_shown, is_shown}
 pub record SamePlace (left right : Run) (place : ℕ) : Type 0 where
   pub boundary : is_boundary left place ≡ is_boundary right place
   pub registers : registers_at left place ≡ registers_at right place
+  pub next_pc : next_pc_of (logs_at left place).progress
+      ≡ next_pc_of (logs_at right place).progress
   pub returning : is_returning (logs_at left place).progress
       ≡ is_returning (logs_at right place).progress
   pub exec : exec_of (logs_at left place) ≡ exec_of (logs_at right place)

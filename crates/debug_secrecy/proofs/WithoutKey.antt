@@ -12,14 +12,14 @@ use Rattle.part_definitions.specs.Memory.{ShownFlags}
 use Rattle.device_trace.specs.Blank.{blank, blank_record, touches_secrets}
 use Rattle.device_trace.specs.Logs.{Logs, aux_of, exec_of}
 use Rattle.device_trace.specs.Play.{Play}
-use Rattle.device_trace.specs.Progress.{Progress, Held, Runs, InCall, last_registers}
+use Rattle.device_trace.specs.Progress.{Progress, Held, Runs, InCall, last_registers, next_pc_of}
 use Rattle.device_trace.specs.Signals.{number_read}
 use Rattle.device_trace.specs.Start.{Start}
 use Rattle.device_trace.specs.Step.{next_record}
 use Rattle.device_trace.specs.Text.{lines_of, lines_of_step}
 use Rattle.device_trace.specs.Trace.{logs_after, released_words, trace}
 use Rattle.key_isolation.proofs.FlagBlank.{exec-blank}
-use Rattle.key_isolation.proofs.Hiding.{flags_of-hide, hide, hide_progress, last_registers-hide, open_start}
+use Rattle.key_isolation.proofs.Hiding.{flags_of-hide, hide, hide_progress, last_registers-hide, next_pc_of-hide, open_start}
 use Rattle.key_isolation.proofs.Induction.{play_hides, releases_before}
 use Rattle.key_isolation.proofs.Reading.{value_read-hide}
 use Rattle.key_isolation.proofs.TextBlank.{lines_of-hide, play_text-hide}
@@ -149,6 +149,9 @@ module _ (words : List ℕ) (run : Run) (place : ℕ) where
         registers =
             sym (last_registers-hide logs.progress)
             ∙ ap (λ (other : Logs). last_registers other.progress) hides;
+        next_pc =
+            sym (next_pc_of-hide logs.progress)
+            ∙ ap (λ (other : Logs). next_pc_of other.progress) hides;
         returning =
             sym (returning-hide logs.progress)
             ∙ ap (λ (other : Logs). is_returning other.progress) hides;
