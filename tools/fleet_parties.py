@@ -10,8 +10,10 @@ import threading
 import time
 
 from sample_files import read
+from trial import ROOT
 
 DESKS = 2  # for each image
+PACKAGE = f"{ROOT}/python"  # by which a gateway has its devices live
 PATH = f"{os.environ['PATH']}:/usr/sbin"
 
 
@@ -20,7 +22,7 @@ class Party:
 
     def __init__(self, fleet, name, words, user=None):
         self.name, self.words = name, words
-        self.environment = {**os.environ, "PATH": PATH}
+        self.environment = {**os.environ, "PATH": PATH, "PYTHONPATH": PACKAGE}
         if user:
             self.environment["XDG_CONFIG_HOME"] = fleet.client(user)
         self.log, self.lock = f"{fleet.folder}/{name}.log", threading.RLock()
