@@ -12,7 +12,10 @@ import time
 
 BENCH = os.path.dirname(os.path.realpath(__file__))
 KEY = f"{BENCH}/../examples/echo/key.txt"
-STEPS, EXCHANGES, DAY, DEVICES = 10_000_000, 10_000, 86_400_000_000, 1000
+LOADS = (("cpu", 10_000_000, None), ("peripherals", 10_000_000, None),
+         ("peripherals", 10_000_000, "events.py"), ("exec", 10_000_000, None),
+         ("attestations", 5_000_000, "attestations.py"))  # image, steps, what prints the script
+EXCHANGES, DAY, DEVICES = 10_000, 86_400_000_000, 1000
 STEPS_EACH = 1_000_000  # of many devices at once
 
 
@@ -54,19 +57,26 @@ class Life:
         return usage.ru_utime + usage.ru_stime
 
 
+def printed(printer):
+    return subprocess.check_output([sys.executable, f"{BENCH}/{printer}"])
+
+
 def least(action, *arguments):
     return min(action(*arguments) for _ in range(5))
 
 
-def played(program, name):
-    process = subprocess.Popen([program, "play", image(name), os.devnull, KEY, str(STEPS)],
-                               stdout=subprocess.DEVNULL)
+def played(program, name, steps, script):
+    words = [program, "play", image(name), "/dev/stdin", KEY, str(steps)]
+    process = subprocess.Popen(words, stdin=subprocess.PIPE, stdout=subprocess.DEVNULL)
+    process.stdin.write(script)
+    process.stdin.close()
     _, _, usage = os.wait4(process.pid, 0)
     return usage.ru_utime + usage.ru_stime
 
 
-def lived(server, name, steps):
+def lived(server, name, steps, script=b""):
     life = Life(server, name)
+    life.process.stdin.write(script)
     life.goes_on(steps)
     life.is_there()
     return life.end()
@@ -103,9 +113,12 @@ def many(server, count):
 def main():
     server, program = sys.argv[1:3]
     count = int(sys.argv[3]) if sys.argv[3:] else DEVICES
-    for name in ("cpu", "peripherals", "attestations"):
-        ratio = least(lived, server, name, STEPS) / least(played, program, name)
-        print(f"run of {STEPS:,} steps, {name}: {ratio:.2f} times play")
+    for name, steps, printer in LOADS:
+        script = printed(printer) if printer else b""
+        lives, plays = (least(action, program_of, name, steps, script)
+                        for action, program_of in ((lived, server), (played, program)))
+        print(f"run of {steps:,} steps, {name}{' with events' if script else ''}: "
+              f"{lives / plays:.2f} times play")
     print(f"an exchange: {least(exchanged, server) / EXCHANGES * 1e6:.1f} µs")
     print(f"a day of sleep, {DAY:,} steps: {least(lived, server, 'days', DAY):.2f} s")
     print(f"start: {least(lived, server, 'cpu', 1) * 1000:.1f} ms")
