@@ -1,6 +1,7 @@
 -- Calm steps in a row.
 use borrow.Author.Tests.{not-true}
-use Rattle.std.proofs.Common.{◌≡◌, ◌∙◌, ◌&&◌, ◌∷◌, ℕ, Bool, true, false, not, Some, None, refl, sym, ap}
+use Rattle.std.proofs.Common.{◌≡◌, ◌∙◌, ◌&&◌, ◌∷◌, ℕ, Bool, true, false, not, Option, Some, None, inr, refl, sym, ap}
+use Rattle.bus_signals.specs.declared.access.Access.{Access}
 use Rattle.bus_signals.specs.declared.bus_record.BusRecord.{BusRecord}
 use Rattle.bus_signals.specs.declared.kind.Kind.{Kind}
 use Rattle.bus_signals.specs.declared.kind.Kind.TheVariants.{Boot, Cpu, Idle, Irq, Rom}
@@ -24,8 +25,9 @@ use Rattle.device_trace.specs.Start.{Start}
 use Rattle.device_trace.specs.Step.{dma_value_read, record_of}
 use Rattle.trace_facts.proofs.BoundsStay.{logged_bounds-stay}
 use Rattle.device_core.specs.Bus.{TurnStandsFor, answer_in, logs_after_step, record_performed}
-use Rattle.device_core.specs.Calm.{IsCalm, IsCalmRegion, ReadsCalmly, is_calm_turn}
+use Rattle.device_core.specs.Calm.{IsCalm, IsCalmRegion, ReadsCalmly, is_calm_access, is_calm_turn}
 use Rattle.device_core.specs.FlagsKept.{IsQuietStep, LeavesFlags, has_flag}
+use Rattle.device_core.specs.Quiet.{IsQuietFrom, all_quiet}
 use Rattle.device_core.specs.declared.turn.Turn.{Turn}
 use Rattle.device_core.proofs.CalmStep.{calm-peripherals, calm-quiet, calm-unbroken, calm-writes}
 use Rattle.device_core.proofs.FlagsShown.{flags-kept}
@@ -91,6 +93,14 @@ quiet-where-watched flag code start logs now region calm is_set entry is =
     calm-quiet bounds (last_pc logs.records) now entry (rw same at region.above)
     (rw same at region.ran) (rw same at calm) is
 
+-- a calm access is one
+quiet-access :
+    (quiet : Access → Bool) (code : Region) (access : Option Access)
+    → is_calm_access code access ≡ true → all_quiet quiet access ≡ true
+    → (made : Access) × (access ≡ Some made) × (quiet made ≡ true)
+quiet-access quiet code None calm quietly = absurd cc
+quiet-access quiet code (Some made) calm quietly = (made, refl, quietly)
+
 module _ {G : Type 0} (flag : Flag G) (code : Region) (start : Start) (logs : Logs) (value : ℕ)
     (region : IsCalmRegion flag code start logs) (reads : ReadsCalmly flag code start logs value)
     (legal : breaks_i1 (signals_of start logs false) ≡ false)
@@ -130,6 +140,22 @@ module _ {G : Type 0} (flag : Flag G) (code : Region) (start : Start) (logs : Lo
         → flags_shown start (calm_seen ∷ logs.records) ≡ flags_shown start logs.records
     calm-flags same =
         flags-kept flag start calm_seen logs.records same region.shown calm-leaves
+
+    -- the step is quiet where its access is
+    pub calm-quietly :
+        (quiet : Access → Bool)
+        → start.second_flag ≡ flag.value
+        → all_quiet quiet (signals_of start logs false).cpu ≡ true
+        → IsQuietFrom quiet start logs
+    unfolding with_record
+    calm-quietly quiet same quietly =
+        let access =
+        quiet-access quiet code (signals_of start logs false).cpu reads.calm.plain quietly in
+        record {
+          made = inr (rw calm-entry reads.calm.by_processor, rw calm-entry access);
+          alone = rw calm-entry reads.calm.alone;
+          same_flags = rw calm-entry (calm-flags same);
+        }
 
     calm-bounds : logged_bounds start (with_record start logs calm_entry) ≡ logged_bounds start logs
     calm-bounds =

@@ -1,5 +1,6 @@
 -- A processor that runs, after a calm step.
-use Rattle.std.proofs.Common.{◌≡◌, ◌∙◌, ◌+◌, ℕ, true, false, Some, None, inl, refl, sym, subst}
+use Rattle.std.proofs.Common.{◌≡◌, ◌∙◌, ◌+◌, ℕ, Bool, true, false, Some, None, inl, refl, sym, subst}
+use Rattle.bus_signals.specs.declared.access.Access.{Access}
 use Rattle.bus_signals.specs.declared.access.Access.TheVariants.{Fetch}
 use Rattle.bus_signals.specs.declared.kind.Kind.TheVariants.{Cpu}
 use Rattle.bus_signals.specs.declared.region.Region.{Region}
@@ -12,6 +13,7 @@ use Rattle.hmac_core.specs.Hash.{Hash}
 use Rattle.msp_exec.specs.Course.{CpuStandsFor}
 use Rattle.swatt_rom.specs.RomCall.{NoCall}
 use Rattle.swatt_rom.specs.Rom.{RomStandsFor}
+use Rattle.device_trace.specs.Level.{level_after}
 use Rattle.device_trace.specs.Logs.{Logs, step_progress}
 use Rattle.device_trace.specs.Play.{Play}
 use Rattle.device_trace.specs.Progress.{Progress, Held, InCall, Runs, fetches_opcode}
@@ -22,14 +24,16 @@ use Rattle.device_trace.specs.Trace.{logs_after}
 use Rattle.device_core.specs.Bus.{BusStandsFor, answer_in, logs_after_step}
 use Rattle.device_core.specs.Calm.{IsCalmRegion, ReadsCalmly}
 use Rattle.device_core.specs.Machine.{EndsAt, StandsAfter, WritesBy, cpu_of}
+use Rattle.device_core.specs.Quiet.{IsQuietFrom, all_quiet}
 use Rattle.device_core.specs.Silence.{with_idle}
 use Rattle.device_core.specs.declared.machine.Machine.{Machine}
 use Rattle.device_core.specs.declared.stage.Stage.TheVariants.{Running}
 use Rattle.device_core.proofs.Calls.{ended}
-use Rattle.device_core.proofs.CalmRegion.{calm-after, calm-answer}
+use Rattle.device_core.proofs.CalmRegion.{calm-after, calm-answer, calm-quietly}
 use Rattle.std.proofs.lemmas.Bool.{and_right}
 use Rattle.device_core.proofs.Decisions.{decision-none, other-decision}
 use Rattle.device_core.proofs.Idle.{idle-logs, idle-more}
+use Rattle.device_core.proofs.Levels.{level-step}
 use Rattle.device_core.proofs.NextProgress.{progress-performed}
 use Rattle.device_core.proofs.Turns.{next-runs}
 
@@ -92,8 +96,9 @@ pub runs-on :
     → answer_in (record_of start logs false) ≡ Some value
     → CpuStandsFor machine.processor (cpu_after state value)
     → RomStandsFor hash machine.call NoCall
+    → machine.processor.level ≡ level_after logs.progress (Runs (cpu_after state value)) logs.level
     → EndsAt hash Running machine (logs_after_step start logs false)
-runs-on hash machine start logs value state is within answer processor call =
+runs-on hash machine start logs value state is within answer processor call level =
     let kind = step_kind logs in
     let next : (logs_after_step start logs false).progress ≡ Runs (cpu_after state value) =
     progress-performed start logs false value answer
@@ -103,12 +108,13 @@ runs-on hash machine start logs value state is within answer processor call =
       same_progress = rw next (record { same_processor = processor; same_call = call });
       same_stage = rw next refl;
       same_decision = decision-none _ _ (other-decision start logs false (rw is refl));
+      same_level = level ∙ sym (level-step start logs false _ next);
     }
 
 -- after a calm step
 pub goes-calmly :
-    {D G : Type 0} (hash : Hash D) (flag : Flag G) (machine : Machine D G) (code : Region)
-    (start : Start) (logs : Logs) (value : ℕ) (state : CpuState)
+    {D G : Type 0} (hash : Hash D) (flag : Flag G) (quiet : Access → Bool) (machine : Machine D G)
+    (code : Region) (start : Start) (logs : Logs) (value : ℕ) (state : CpuState)
     → IsCalmRegion flag code start logs → ReadsCalmly flag code start logs value
     → breaks_i1 (signals_of start logs false) ≡ false
     → step_progress logs (step_kind logs) ≡ Runs state
@@ -117,15 +123,19 @@ pub goes-calmly :
     → WritesBy hash start
     → CpuStandsFor machine.processor (cpu_after state value)
     → RomStandsFor hash machine.call NoCall
+    → machine.processor.level ≡ level_after logs.progress (Runs (cpu_after state value)) logs.level
+    → all_quiet quiet (signals_of start logs false).cpu ≡ true
     → StandsAfter hash flag Running machine start logs false
     × IsCalmRegion flag code start (logs_after_step start logs false)
-goes-calmly hash flag machine code start logs value state region reads legal within last bus writes
-    processor call = (
+    × IsQuietFrom quiet start logs
+goes-calmly hash flag quiet machine code start logs value state region reads legal within last bus
+    writes processor call level quietly = (
       ended refl
           (runs-on hash machine start logs value state (calm-kind start logs reads) within
-          (calm-answer flag code start logs value region reads legal) processor call)
+          (calm-answer flag code start logs value region reads legal) processor call level)
           writes (record { same = bus; same_signals = rw last tt }),
       calm-after flag code start logs value region reads legal bus.same_flag,
+      calm-quietly flag code start logs value region reads legal quiet bus.same_flag quietly,
     )
 
 -- in the words of a play

@@ -1,6 +1,7 @@
 -- The decision of the call that a step finishes.
 use Rattle.std.proofs.Common.{◌≡◌, ◌∙◌, ◌&&◌, ◌==◌, ◌⊎◌, inl, inr, ℕ, Bool, true, false, List, [], ◌∷◌, Option, None, Some, is_none, is_some, if◌then◌else◌, refl, sym, ap}
 use Rattle.std.proofs.lemmas.Bool.{false≢true}
+use Rattle.msp_decode.proofs.IllegalLemmas.{middle_false}
 use Rattle.bus_signals.specs.declared.bus_record.BusRecord.{BusRecord}
 use Rattle.bus_signals.specs.declared.event.Event.{Event}
 use Rattle.bus_signals.specs.declared.kind.Kind.{Kind}
@@ -121,10 +122,6 @@ pub call-decision :
 unfolding with_record record_of signals_at
 call-decision start logs reset regs words within = rw within refl
 
-both-false : (first middle last : Bool) → middle ≡ false → (first && middle && last) ≡ false
-both-false true middle last is = rw is refl
-both-false false middle last is = refl
-
 not-exit : (item : CallItem) (ends : Bool)
     → (item_pc item == ROM_EXIT) ≡ ends → is_return item ≡ false → ends ≡ false
 not-exit item true exit goes = absurd (false≢true (sym goes ∙ exit_returns item exit))
@@ -140,7 +137,7 @@ unfolding record_of signals_at
 call-goes_on start logs reset regs words within goes =
     let place : (next_pc_of (step_progress logs (step_kind logs)) == ROM_EXIT) ≡ false =
     rw within (not-exit (call_item words) _ refl goes) in
-    both-false _ _ _ place
+    middle_false _ _ _ place
 
 -- what is kept stands for a decision that is there, and for none
 pub decision-none : (kept : ℕ) (decision : Option ℕ) → decision ≡ None → DecisionStandsFor kept

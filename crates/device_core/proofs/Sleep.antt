@@ -1,5 +1,6 @@
 -- Steps of sleep in a row.
-use Rattle.std.proofs.Common.{◌≡◌, ◌∙◌, ◌<◌, ◌≤◌, ◌∷◌, ℕ, zero, suc, Bool, true, false, map, Option, None, Some, is_some, if◌then◌else◌, refl, sym, ap, subst, arith, List}
+use Rattle.std.proofs.Common.{◌≡◌, ◌∙◌, ◌<◌, ◌≤◌, ◌∷◌, ℕ, zero, suc, Bool, true, false, map, Option, None, Some, is_some, if◌then◌else◌, refl, sym, ap, subst, arith, List, inl}
+use Rattle.bus_signals.specs.declared.access.Access.{Access}
 use Rattle.bus_signals.specs.declared.bounds.Bounds.{Bounds}
 use Rattle.bus_signals.specs.declared.bus_record.BusRecord.{BusRecord}
 use Rattle.bus_signals.specs.declared.kind.Kind.TheVariants.{Cpu, Idle, Irq, Rom}
@@ -11,7 +12,7 @@ use Rattle.part_definitions.specs.CpuState.{Boundary}
 use Rattle.part_definitions.specs.Dma.{dma_access}
 use Rattle.part_definitions.specs.FirstRule.{first_rule}
 use Rattle.device_trace.specs.Blank.{blank_seen}
-use Rattle.device_trace.specs.Logs.{Logs, aux_of, flags_of, flags_shown, logged_bounds, vector_of, with_events, with_record}
+use Rattle.device_trace.specs.Logs.{Logs, aux_of, flags_of, flags_shown, logged_bounds, vector_of, with_record}
 use Rattle.device_trace.specs.Peripherals.{requests}
 use Rattle.bus_signals.specs.declared.signals.Signals.{Signals}
 use Rattle.hmac_core.specs.Hash.{Hash}
@@ -20,8 +21,7 @@ use Rattle.device_trace.specs.Trace.{last_signals, logs_after}
 use Rattle.device_trace.specs.Progress.{Progress, Runs, boundary_kind, last_registers}
 use Rattle.device_trace.specs.Signals.{signals_at, signals_of, step_kind}
 use Rattle.device_trace.specs.Start.{Start}
-use Rattle.device_trace.specs.Step.{next_record, record_from, record_of}
-use Rattle.device_core.specs.Asleep.{AreAsleep, IsAsleep}
+use Rattle.device_trace.specs.Step.{record_from, record_of}
 use Rattle.device_core.specs.Bus.{BusStandsFor, KeepsSignals, LastStandsFor, logs_after_step}
 use Rattle.device_core.specs.FlagsKept.{LeavesFlags}
 use Rattle.part_definitions.specs.Memory.{MemoryWrite, ShownFlags, byte_at}
@@ -33,10 +33,12 @@ use Rattle.device_core.specs.declared.last_step.LastStep.{LastStep}
 use Rattle.device_core.specs.declared.machine.Machine.{Machine}
 use Rattle.device_core.specs.declared.stage.Stage.TheVariants.{Running}
 use Rattle.device_core.specs.Monitors.{MonitorsStandFor}
-use Rattle.device_core.specs.Sleep.{IsSleepStep, SleepsAt, Rests, Sleeps, idle_signals, logs_idle, rested}
+use Rattle.device_core.specs.Quiet.{AreQuiet, IsQuietFrom}
+use Rattle.device_core.specs.Sleep.{SleepsAt, Rests, Sleeps, idle_signals, logs_idle, rested}
 use Rattle.device_core.specs.declared.bus.Bus.{Bus}
 use Rattle.device_core.proofs.FlagsShown.{flags-kept}
 use Rattle.device_core.proofs.Idle.{idle-logs, silent-unkept}
+use Rattle.device_core.proofs.QuietSteps.{quiet-step}
 use Rattle.device_core.proofs.Steps.{record_of-tried}
 use Rattle.device_core.proofs.Turns.{boundary-step}
 
@@ -96,6 +98,7 @@ logs-asleep :
           ∷ logs.records;
       released_words = logs.released_words;
       decision = None;
+      level = logs.level;
     }
 unfolding with_record
 logs-asleep start logs regs rests unbroken =
@@ -114,6 +117,7 @@ pub record SleepsOn {G : Type 0} (flag : Flag G) (bus : Bus G) (start : Start) (
   pub same_decision : (decision : ℕ)
       → DecisionStandsFor decision first.decision
       → DecisionStandsFor decision logs.decision
+  pub same_level : logs.level ≡ first.level
 
 bounds-alike :
     (start : Start) (flags others : ShownFlags) (writes before : List MemoryWrite)
@@ -155,6 +159,7 @@ module _ {G : Type 0} (flag : Flag G) (bus : Bus G) (start : Start) (first : Log
           shown = rests.shown;
           same_last = subst (λ last. LastStandsFor last first.records) kept stands.same_last;
           same_decision = λ decision same. same;
+          same_level = refl;
         }
 
     still-idle :
@@ -224,6 +229,7 @@ module _ {G : Type 0} (flag : Flag G) (bus : Bus G) (start : Start) (first : Log
               ap (λ (flags : ShownFlags). flags.aux) shown ∙ on.shown ∙ sym leaves.same_second;
           same_last = refl;
           same_decision = λ decision same. tt;
+          same_level = on.same_level;
         })
 
     pub sleeps-on :
@@ -236,8 +242,9 @@ module _ {G : Type 0} (flag : Flag G) (bus : Bus G) (start : Start) (first : Log
         (alike steps (omega arith))
 
     pub asleep-step :
-        (steps : ℕ) → AsksAlike steps first → IsSleepStep start (logs_idle start steps first)
-    asleep-step steps alike =
+        (quiet : Access → Bool) (steps : ℕ)
+        → AsksAlike steps first → IsQuietFrom quiet start (logs_idle start steps first)
+    asleep-step quiet steps alike =
         let regs = last_registers first.progress in
         let logs = logs_idle start steps first in
         let on = sleeps-on steps alike in
@@ -246,10 +253,12 @@ module _ {G : Type 0} (flag : Flag G) (bus : Bus G) (start : Start) (first : Log
         record-asleep start logs regs (still-idle steps logs on (alike steps (omega arith)))
         (here.repeats.unbroken logs.records on.same_monitors) in
         record {
-          idle = ap (λ (entry : BusRecord). entry.kind) same;
-          unrefused = ap (λ (entry : BusRecord). entry.reset) same;
-          no_cpu = ap (λ (entry : BusRecord). entry.cpu) same;
-          no_dma = ap (λ (entry : BusRecord). entry.dma) same;
+          made = inl (
+            ap (λ (entry : BusRecord). entry.kind) same,
+            ap (λ (entry : BusRecord). entry.cpu)
+                same,
+          );
+          alone = ap (λ (entry : BusRecord). entry.dma) same;
           same_flags = next.same_flags ∙ sym on.same_flags;
         }
 
@@ -261,6 +270,7 @@ module _ {G : Type 0} (flag : Flag G) (bus : Bus G) (start : Start) (first : Log
           same_progress = on.same_progress;
           same_last = on.same_last;
           same_decision = on.same_decision;
+          same_level = on.same_level;
         }
 
 -- the device after them
@@ -298,6 +308,7 @@ plays-asleep {D = D} {G = G} {hash = hash} {flag = flag} machine bus start play 
                 subst (λ progress. ProgressStandsFor hash machine.processor machine.call progress)
                 (sym sleeps.same_progress) stands.same.same_progress;
             same_decision = sleeps.same_decision machine.decision stands.same.same_decision;
+            same_level = stands.same.same_level ∙ sym sleeps.same_level;
             same_word = stands.same.same_word;
           });
       same_stage =
@@ -323,43 +334,19 @@ silent-asleep start play (suc steps) sleeps = (
   silent-asleep start play steps (λ some few. sleeps some (omega arith)),
 )
 
--- so are they all
-next-asleep :
-    (start : Start) (play : Play) (steps : ℕ)
-    → IsSleepStep start (logs_idle start steps (logs_after start play))
-    → Sleeps (logs_after start play) (logs_idle start steps (logs_after start play))
-    → Sleeps (logs_after start play) (logs_idle start (suc steps) (logs_after start play))
-    → IsAsleep start (with_idle steps play)
-unfolding next_record with_events
-next-asleep start play steps is here next =
-    let same = idle-logs-all start steps play in
-    let later = idle-logs-all start (suc steps) play in
-    record {
-      idle = ap (λ (logs : Logs). (record_of start logs false).kind) same ∙ is.idle;
-      unrefused = ap (λ (logs : Logs). (record_of start logs false).reset) same ∙ is.unrefused;
-      no_cpu = ap (λ (logs : Logs). (record_of start logs false).cpu) same ∙ is.no_cpu;
-      no_dma = ap (λ (logs : Logs). (record_of start logs false).dma) same ∙ is.no_dma;
-      same_flags =
-          ap (flags_of start) (idle-logs start (with_idle steps play))
-          ∙ (ap (λ (logs : Logs). flags_of start (logs_after_step start logs false)) same
-          ∙ is.same_flags)
-          ∙ ap (flags_of start) (sym same);
-      same_progress =
-          ap (λ (logs : Logs). logs.progress) later
-          ∙ (next.same_progress ∙ sym here.same_progress)
-          ∙ ap (λ (logs : Logs). logs.progress) (sym same);
-    }
-
+-- all of them are quiet
 pub all-asleep :
-    (start : Start) (play : Play) (steps : ℕ)
-    → ((some : ℕ) → some < steps → IsSleepStep start (logs_idle start some (logs_after start play)))
-    → ((some : ℕ) → some ≤ steps
-    → Sleeps (logs_after start play) (logs_idle start some (logs_after start play)))
-    → AreAsleep start steps play
-all-asleep start play zero is sleeps = tt
-all-asleep start play (suc steps) is sleeps = (
-  next-asleep start play steps (is steps (omega arith)) (sleeps steps (omega arith))
-      (sleeps (suc steps) (omega arith)),
-  all-asleep start play steps (λ some few. is some (omega (arith, few)))
-      (λ some few. sleeps some (omega (arith, few))),
+    {quiet : Access → Bool} (start : Start) (play : Play) (steps : ℕ)
+    → ((some : ℕ) → some < steps
+    → IsQuietFrom quiet start (logs_idle start some (logs_after start play)))
+    → AreSilent start steps play
+    → AreQuiet quiet start steps play
+all-asleep start play zero is silent = tt
+all-asleep {quiet = quiet} start play (suc steps) is silent = (
+  quiet-step start (with_idle steps play)
+      (subst (λ (logs : Logs). IsQuietFrom quiet start logs)
+      (sym (idle-logs-all start steps play))
+      (is steps (omega arith)))
+      silent.0,
+  all-asleep start play steps (λ some few. is some (omega (arith, few))) silent.1,
 )

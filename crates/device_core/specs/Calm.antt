@@ -19,6 +19,7 @@ use Rattle.device_trace.specs.Start.{Start}
 use Rattle.device_core.specs.Bus.{logs_after_step}
 use Rattle.device_core.specs.FlagsKept.{KeepsFlags, has_flag}
 use Rattle.device_core.specs.Machine.{MachineStandsFor, StandsAfter}
+use Rattle.device_core.specs.Quiet.{IsQuietFrom}
 use Rattle.device_core.specs.declared.machine.Machine.{Machine}
 use Rattle.device_core.specs.declared.stage.Stage.TheVariants.{Running}
 use Rattle.device_core.specs.declared.turn.Turn.{Turn}
@@ -70,14 +71,15 @@ pub record ReadsCalmly {G : Type 0} (flag : Flag G) (code : Region) (start : Sta
   pub keeps : KeepsFlags flag start logs (signals_of start logs false)
   pub reads : value ≡ value_read start logs (signals_of start logs false).cpu
 
--- the next step was made from logs of which this holds, and it was calm
+-- the next step was made from logs of which this holds, it was calm and its access quiet
 abbrev pub GoesCalmly :
     {D G : Type 0} → Hash D → Flag G
-    → Machine D G → (Logs → Type 0) → Region → Machine D G → Type 0
-GoesCalmly hash flag old when code new =
+    → (Access → Bool) → Machine D G → (Logs → Type 0) → Region → Machine D G → Type 0
+GoesCalmly hash flag quiet old when code new =
     (start : Start) (logs : Logs)
     → MachineStandsFor hash flag old start logs
     → when logs
     → IsCalmRegion flag code start logs
     → StandsAfter hash flag Running new start logs false
     × IsCalmRegion flag code start (logs_after_step start logs false)
+    × IsQuietFrom quiet start logs

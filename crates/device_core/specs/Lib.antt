@@ -3,7 +3,6 @@ pub mod Device
 pub mod Step
 pub mod StepLine
 pub mod Silence
-pub mod Asleep
 pub mod Refusal
 pub mod KeptCounter
 pub mod ForEachKey
@@ -12,9 +11,9 @@ pub mod Outside
 pub mod Bus
 pub mod Calm
 pub mod FlagsKept
-pub mod LiveView
 pub mod Machine
 pub mod Monitors
 pub mod Peripherals
+pub mod Quiet
 pub mod Sleep
 pub mod Turn

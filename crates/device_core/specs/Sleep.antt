@@ -12,12 +12,11 @@ use Rattle.part_definitions.specs.Dma.{dma_access}
 use Rattle.part_definitions.specs.FirstRule.{first_rule}
 use Rattle.irq_timer.specs.Ticks.{with_ticks}
 use Rattle.device_trace.specs.Blank.{blank_seen}
-use Rattle.device_trace.specs.Logs.{Logs, aux_of, flags_of, logged_bounds}
+use Rattle.device_trace.specs.Logs.{Logs, aux_of, logged_bounds}
 use Rattle.device_trace.specs.Peripherals.{Peripherals}
 use Rattle.device_trace.specs.Progress.{last_registers}
 use Rattle.device_trace.specs.Signals.{step_kind}
 use Rattle.device_trace.specs.Start.{Start}
-use Rattle.device_trace.specs.Step.{record_of}
 use Rattle.device_core.specs.Bus.{LastStandsFor, logs_after_step}
 use Rattle.device_core.specs.FlagsKept.{LeavesFlags}
 use Rattle.device_core.specs.Machine.{DecisionStandsFor, IsAtBoundary}
@@ -68,15 +67,7 @@ pub record Repeats {G : Type 0} (flag : Flag G) (monitors : Monitors G) (now : S
       → IsRecordOf now entry
       → LeavesFlags flag (record { entry = entry; bounds = bounds }) records
 
--- the next step is one of sleep in which nobody has an access, is not refused, and leaves the flags
-pub record IsSleepStep (start : Start) (logs : Logs) : Type 0 where
-  pub idle : (record_of start logs false).kind ≡ Idle
-  pub unrefused : (record_of start logs false).reset ≡ None
-  pub no_cpu : (record_of start logs false).cpu ≡ None
-  pub no_dma : (record_of start logs false).dma ≡ None
-  pub same_flags : flags_of start (logs_after_step start logs false) ≡ flags_of start logs
-
--- and the bus as it is, but for the timer
+-- the next step leaves the bus as it is, but for the timer
 pub record Rests {G : Type 0} (flag : Flag G) (bus : Bus G) (now : Signals) (start : Start)
     (logs : Logs) : Type 0 where
   pub repeats : Repeats flag bus.monitors now (logged_bounds start logs)
@@ -90,3 +81,4 @@ pub record Sleeps (before after : Logs) : Type 0 where
   pub same_decision : (decision : ℕ)
       → DecisionStandsFor decision before.decision
       → DecisionStandsFor decision after.decision
+  pub same_level : after.level ≡ before.level

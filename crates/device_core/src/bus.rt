@@ -1,4 +1,4 @@
-ghost use Rattle.std.specs.Prelude.{◌≡◌, ◌<◌, ◌≤◌, ◌∷◌, [], ℕ, true, false, List, Option, IfOk, IfSome, IsSome, None, Some, is_none, map, if◌then◌else◌};
+ghost use Rattle.std.specs.Prelude.{◌≡◌, Bool, ◌<◌, ◌≤◌, ◌∷◌, [], ℕ, true, false, List, Option, IfOk, IfSome, IsSome, None, Some, is_none, map, if◌then◌else◌};
 ghost use Rattle.bus_signals.specs.declared.event.Event.{Event};
 ghost use Rattle.bus_signals.specs.Bounds.{executable_region};
 ghost use Rattle.bus_signals.specs.TraceFlag.{IsRecordOf};
@@ -18,7 +18,8 @@ ghost use Rattle.device_trace.specs.Signals.{signals_of, word_fetched, value_rea
 ghost use Rattle.device_trace.specs.Step.{is_reset, asks_reset, record_from};
 ghost use Rattle.device_core.specs.Bus.{TurnStandsFor, logs_after_step};
 ghost use Rattle.device_core.specs.Silence.{has_line};
-ghost use Rattle.device_core.specs.Sleep.{IsSleepStep, SleepsAt, idle_signals, logs_idle};
+ghost use Rattle.device_core.specs.Quiet.{IsQuietFrom};
+ghost use Rattle.device_core.specs.Sleep.{SleepsAt, idle_signals, logs_idle};
 
 use crate::access::{value_read, word_fetched};
 use crate::calm::{ABOVE_ROM, is_above_rom, is_calm};
@@ -186,11 +187,11 @@ impl<G: TraceFlag> Bus<G> {
             → SleepsAt pc logs
             → steps ≤ result
             → Sleeps logs (logs_idle start steps logs) }
-        ensures idle { (start : Start) (logs : Logs) (steps : ℕ)
+        ensures quietly { (quiet : Access → Bool) (start : Start) (logs : Logs) (steps : ℕ)
             → BusStandsFor G.flag self.old start logs
             → SleepsAt pc logs
             → steps < result
-            → IsSleepStep start (logs_idle start steps logs) }
+            → IsQuietFrom quiet start (logs_idle start steps logs) }
     {
         if self.rests(&idle_signals(pc)) {
             self.peripherals.rest(most)

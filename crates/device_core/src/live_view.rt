@@ -3,11 +3,10 @@ ghost use Rattle.word_arith.specs.declared.size.Size.TheVariants.{Byte};
 ghost use Rattle.part_definitions.specs.Pins.{pins_word};
 ghost use Rattle.part_definitions.specs.Timer.{timer_flag};
 ghost use Rattle.device_trace.specs.Logs.{aux_of};
-ghost use Rattle.device_trace.specs.Progress.{last_registers};
+ghost use Rattle.device_trace.specs.Progress.{last_registers, stands_at_boundary};
 ghost use Rattle.device_trace.specs.Signals.{number_read};
 ghost use Rattle.device_trace.specs.Trace.{logs_after};
 ghost use Rattle.device_core.specs.Device.{OfLive};
-ghost use Rattle.device_core.specs.LiveView.{is_at_boundary};
 
 use crate::access::number_read;
 use crate::live::Live;
@@ -28,12 +27,20 @@ impl<D: Digest32, G: TraceFlag> Live<D, G> {
     /// Whether the processor runs and neither an instruction nor an interrupt entry is in progress.
     pub fn is_at_boundary(&self) -> bool
         ensures { OfLive D.hash G.flag self.now (λ start play.
-            result ≡ is_at_boundary (logs_after start play).progress) }
+            result ≡ stands_at_boundary (logs_after start play).progress) }
     {
         match self {
             Live::Held(_) | Live::InRom(_) => false,
             Live::Running(device) => device.machine.processor.at_boundary(),
         }
+    }
+
+    /// How many handlers were entered and not left.
+    pub fn level(&self) -> u64
+        ensures { OfLive D.hash G.flag self.now (λ start play.
+            result ≡ (logs_after start play).level) }
+    {
+        self.machine().processor.level()
     }
 
     /// The second flag as the memory shows it.

@@ -1,6 +1,7 @@
 pub mod Play
 pub mod Start
 pub mod Progress
+pub mod Level
 pub mod Peripherals
 pub mod Logs
 pub mod Signals

@@ -19,6 +19,7 @@ use Rattle.part_definitions.specs.Interrupt.{first_vector}
 use Rattle.part_definitions.specs.Memory.{MemoryWrite, ShownFlags, with_access, byte_at}
 use Rattle.part_definitions.specs.Metadata.{bounds_in}
 use Rattle.device_trace.specs.Blank.{blank_seen}
+use Rattle.device_trace.specs.Level.{level_after}
 use Rattle.device_trace.specs.Peripherals.{Peripherals, power_on_peripherals, with_all_events, requests, with_step}
 use Rattle.device_trace.specs.Progress.{Progress, Held, Runs, InCall, last_registers, progress_within, next_progress}
 use Rattle.device_trace.specs.Start.{Start}
@@ -33,6 +34,8 @@ pub record Logs : Type 0 where
   pub released_words : List ℕ
   -- the decision of the call that the last step finished
   pub decision : Option ℕ
+  -- how many handlers were entered and not left
+  pub level : ℕ
 
 abbrev pub power_on_logs : Logs
 power_on_logs =
@@ -43,6 +46,7 @@ power_on_logs =
       records = [];
       released_words = [];
       decision = None;
+      level = 0;
     }
 
 abbrev pub exec_of : Logs → Bool
@@ -136,11 +140,14 @@ with_events logs events = record logs { peripherals = with_all_events logs.perip
 unfoldable pub with_record : Start → Logs → BusRecord → Logs
 with_record start logs entry =
     let before : Progress = step_progress logs entry.kind in
+    let after : Progress =
+    progress_after entry.reset entry.kind before entry.cpu entry.value in
     record {
-      progress = progress_after entry.reset entry.kind before entry.cpu entry.value;
+      progress = after;
       memory = memory_after entry.reset entry.cpu entry.dma logs.memory;
       peripherals = peripherals_after logs entry;
       records = record { entry = entry; bounds = logged_bounds start logs } ∷ logs.records;
       released_words = released_words_after entry.reset entry.kind entry.cpu logs.released_words;
       decision = decision_after before entry;
+      level = level_after logs.progress after logs.level;
     }

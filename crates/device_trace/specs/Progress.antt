@@ -11,7 +11,7 @@ use Rattle.bus_signals.specs.Address.{Address}
 use Rattle.part_definitions.specs.BusAccess.{read_at}
 use Rattle.part_definitions.specs.Attestation.{call_item, item_access, item_pc, bounds_read, is_return, word_passed}
 use Rattle.part_definitions.specs.CpuRegister.{Registers, clear_registers, pc_of, sp_of, with_pc, after_pop, is_asleep}
-use Rattle.part_definitions.specs.CpuState.{CpuState, Boundary, Executing, Entering, registers_of, cpu_pc, cpu_access, cpu_after, entry_begun}
+use Rattle.part_definitions.specs.CpuState.{CpuState, Boundary, Executing, Entering, registers_of, cpu_pc, cpu_access, cpu_after, entry_begun, is_at_boundary}
 use Rattle.part_definitions.specs.MonitorRule.{in_rom}
 use Rattle.device_trace.specs.Start.{Start}
 
@@ -28,6 +28,12 @@ abbrev pub last_registers : Progress → Registers
 last_registers Held = clear_registers
 last_registers (Runs cpu) = registers_of cpu
 last_registers (InCall regs words) = regs
+
+-- the processor runs, and neither an instruction nor an interrupt entry is in progress
+abbrev pub stands_at_boundary : Progress → Bool
+stands_at_boundary Held = false
+stands_at_boundary (Runs cpu) = is_at_boundary cpu
+stands_at_boundary (InCall regs words) = false
 
 abbrev pub next_pc_of : Progress → Address
 next_pc_of Held = 0

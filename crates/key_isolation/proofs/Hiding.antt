@@ -5,8 +5,10 @@ use Rattle.bus_signals.specs.declared.bus_record.BusRecord.{BusRecord}
 use Rattle.bus_signals.specs.declared.kind.Kind.{Kind}
 use Rattle.part_definitions.specs.Attestation.{item_pc}
 use Rattle.part_definitions.specs.CpuRegister.{allows_interrupts}
+use Rattle.part_definitions.specs.CpuState.{Boundary, Executing, Entering}
 use Rattle.part_definitions.specs.Interrupt.{first_vector}
 use Rattle.device_trace.specs.Blank.{is_secret, blank_record, blank_seen}
+use Rattle.device_trace.specs.Level.{level_after}
 use Rattle.device_trace.specs.Logs.{Logs, flags_of, logged_byte, logged_bounds, vector_of, step_progress, vector_taken, finishes_call, call_decision, decision_after}
 use Rattle.device_trace.specs.Peripherals.{requests}
 use Rattle.device_trace.specs.Progress.{Progress, Held, Runs, InCall, last_registers, next_pc_of, kind_of, progress_from_boundary, progress_within, tells_irq, fetches_opcode}
@@ -35,6 +37,7 @@ hide logs =
       records = map blank_seen logs.records;
       released_words = logs.released_words;
       decision = logs.decision;
+      level = logs.level;
     }
 
 -- readers of the progress
@@ -79,6 +82,21 @@ call_decision-hide : (progress : Progress)
 call_decision-hide Held = refl
 call_decision-hide (Runs cpu) = refl
 call_decision-hide (InCall regs words) = ap (λ (n : ℕ). Some n) (decision_read-hide words)
+
+pub level_after-hide : (before after : Progress) (level : ℕ)
+    → level_after (hide_progress before) (hide_progress after) level
+    ≡ level_after before after level
+level_after-hide before Held level = refl
+level_after-hide Held (Runs cpu) level = refl
+level_after-hide Held (InCall regs words) level = refl
+level_after-hide (Runs (Boundary from)) (Runs cpu) level = refl
+level_after-hide (Runs (Boundary from)) (InCall regs words) level = refl
+level_after-hide (Runs (Executing from values)) (Runs cpu) level = refl
+level_after-hide (Runs (Executing from values)) (InCall regs words) level = refl
+level_after-hide (Runs (Entering from vector values)) (Runs cpu) level = refl
+level_after-hide (Runs (Entering from vector values)) (InCall regs words) level = refl
+level_after-hide (InCall from passed) (Runs cpu) level = refl
+level_after-hide (InCall from passed) (InCall regs words) level = refl
 
 -- readers of the logs
 pub vector_of-hide : (logs : Logs) → vector_of (hide logs) ≡ vector_of logs

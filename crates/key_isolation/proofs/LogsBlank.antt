@@ -8,6 +8,7 @@ use Rattle.part_definitions.specs.FirstRule.{first_rule}
 use Rattle.bus_signals.specs.ExecFlag.{last_pc}
 use Rattle.device_trace.specs.Blank.{blank_access, blank_value, blank_record, blank_seen}
 use Rattle.device_trace.specs.AccessesAreFormed.{AccessesAreFormed}
+use Rattle.device_trace.specs.Level.{level_after}
 use Rattle.device_trace.specs.Logs.{Logs, step_progress, peripherals_after, progress_after, released_words_after, with_events, with_record}
 use Rattle.device_trace.specs.Progress.{Progress, last_registers, next_progress}
 use Rattle.device_trace.specs.Signals.{value_read, step_kind, proposed_access, signals_at, signals_of}
@@ -16,7 +17,7 @@ use Rattle.device_trace.specs.Step.{access_recorded, dma_value_read, record_from
 use Rattle.device_trace.specs.Trace.{next_logs}
 use Rattle.device_trace.proofs.FormedAccess.{record_of-formed}
 use Rattle.trace_facts.proofs.Sound.{IsSound}
-use Rattle.key_isolation.proofs.Hiding.{open_start, hide_progress, hide, vector_of-hide, step_progress-hide, vector_taken-hide, logged_bounds-hide, decision_after-hide}
+use Rattle.key_isolation.proofs.Hiding.{open_start, hide_progress, hide, vector_of-hide, step_progress-hide, vector_taken-hide, logged_bounds-hide, level_after-hide, decision_after-hide}
 use Rattle.key_isolation.proofs.WrittenBytes.{memory_after-hide}
 use Rattle.key_isolation.proofs.Projections.{with_step-blank, released_words_after-blank}
 use Rattle.key_isolation.proofs.RecordBlank.{SameWithoutRule, unrefused_same, record_of-hide}
@@ -57,6 +58,10 @@ with_record-blank start free logs entry forms follows =
       released_words =
           released_words_after-blank entry.reset entry.kind entry.cpu logs.released_words i;
       decision = decision_after-hide logs entry i;
+      level =
+          (ap (λ (after : Progress). level_after (hide_progress logs.progress) after logs.level)
+          follows.progress
+          ∙ level_after-hide logs.progress _ logs.level) i;
     }
 
 -- the record of a step has it

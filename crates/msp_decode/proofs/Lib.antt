@@ -2,5 +2,5 @@ mod WordRange
 mod TableLemmas
 mod OneHead
 mod HeadLemmas
-mod IllegalLemmas
+pub mod IllegalLemmas
 mod WordLemmas

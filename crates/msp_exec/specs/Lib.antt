@@ -1,3 +1,4 @@
 pub mod Order
 pub mod TwoOperands
 pub mod Course
+pub mod Level

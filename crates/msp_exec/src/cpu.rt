@@ -6,6 +6,7 @@ ghost use Rattle.part_definitions.specs.Operand.{state_at_start};
 ghost use Rattle.part_definitions.specs.NextAccess.{Asks, is_illegal, next_access, walk};
 ghost use Rattle.part_definitions.specs.CpuState.{CpuState, Boundary, clear_cpu, registers_of, cpu_pc, is_at_boundary, is_entering, cpu_access, cpu_after, cpu_takes, entry_begun};
 ghost use Rattle.part_definitions.specs.Part.{Answers, Becomes};
+ghost use Rattle.msp_exec.specs.Level.{level_entered, level_begun, level_taken};
 ghost use Rattle.msp_exec.specs.declared.phase.Phase.TheVariants.{Boundary as AtBoundary};
 ghost use Rattle.msp_exec.specs.Order.{accesses_from};
 ghost use Rattle.msp_exec.specs.Course.{is_entry, takes_value, instruction_course, entry_course, cpu_course, CpuStandsFor, Follows, Begins};
@@ -19,6 +20,9 @@ use msp_decode::{Head, decode};
 use part_definitions::{CpuAccess, WorkingState};
 use word_arith::Size;
 
+// The word of RETI.
+const RETI: u16 = 0x1300;
+
 /// The processor: its registers, and how far the current instruction or interrupt entry is.
 #[derive(Clone, Copy, Debug)]
 pub struct Cpu {
@@ -31,12 +35,15 @@ pub struct Cpu {
     // Its result, once that is written.
     number: u16,
     phase: Phase,
+    // How many handlers were entered and not left.
+    level: u64,
 }
 
 impl Cpu {
     /// A processor whose registers are 0, at a boundary.
     pub fn new() -> Cpu
-        ensures { CpuStandsFor result clear_cpu }
+        ensures stands { CpuStandsFor result clear_cpu }
+        ensures level { result.level ≡ 0 }
     {
         Cpu {
             regs: [0; 16],
@@ -49,6 +56,7 @@ impl Cpu {
             },
             number: 0,
             phase: Phase::Boundary,
+            level: 0,
         }
     }
 
@@ -109,11 +117,20 @@ impl Cpu {
         sr_in(&self.regs) / 16 % 2 == 1
     }
 
+    /// How many handlers were entered and not left: one is entered when its interrupt is accepted,
+    /// and left when a RETI begins.
+    pub fn level(&self) -> u64
+        ensures { result ≡ self.now.level }
+    {
+        self.level
+    }
+
     /// At a boundary: sets the program counter and the stack pointer.
     pub fn start(&mut self, pc: u16, sp: u16)
-        ensures { (regs : List ℕ)
+        ensures stands { (regs : List ℕ)
             → CpuStandsFor self.old (Boundary regs)
             → CpuStandsFor self.new (Boundary (with_sp (with_pc regs pc) sp)) }
+        ensures level { self.new.level ≡ self.old.level }
     {
         set_pc(&mut self.work.regs, pc);
         set_sp(&mut self.work.regs, sp);
@@ -123,11 +140,13 @@ impl Cpu {
     /// At a boundary: accepts an interrupt. The next three accesses enter the handler whose address
     /// is the word at `vector`.
     pub fn begin_irq(&mut self, vector: u16)
-        ensures { (regs : List ℕ)
+        ensures stands { (regs : List ℕ)
             → CpuStandsFor self.old (Boundary regs)
             → CpuStandsFor self.new (entry_begun regs vector) }
+        ensures level { self.new.level ≡ level_entered self.old.level }
     {
         self.phase = Phase::Entering(EntryAccess::PushPc, vector);
+        self.level = self.level.saturating_add(1);
     }
 
     #[tactic(auto, unfolding(part_definitions::specs::NextAccess::entry_access))]
@@ -185,6 +204,7 @@ impl Cpu {
         ensures regs { self.new.regs ≡ self.old.work.regs }
         ensures working { self.new.work ≡ self.old.work }
         ensures phase { self.new.phase ≡ AtBoundary }
+        ensures level { self.new.level ≡ self.old.level }
     {
         self.regs = self.work.regs;
         self.phase = Phase::Boundary;
@@ -194,8 +214,9 @@ impl Cpu {
     // operands are known.
     #[inline(always)]
     fn advance(&mut self, next: Option<CpuAccess>)
-        ensures { Follows self.new self.old.regs false
+        ensures follows { Follows self.new self.old.regs false
             (walk self.old.head (accesses_from self.old.head next) self.old.work) }
+        ensures level { self.new.level ≡ self.old.level }
     {
         if matches!(next, None | Some(CpuAccess::WriteResult)) {
             self.number = end_apart(&mut self.work, &self.head);
@@ -209,9 +230,10 @@ impl Cpu {
     // Begins an instruction. One that has no access but its opcode fetch is completed at once.
     #[inline(always)]
     fn begin_head(&mut self, head: &Head)
-        ensures { Follows self.new self.old.regs false
+        ensures follows { Follows self.new self.old.regs false
             (walk head.now (accesses_of head.now)
             (state_at_start head.now self.old.work.regs)) }
+        ensures level { self.new.level ≡ self.old.level }
     {
         match start(&mut self.work, head) {
             None => {
@@ -231,6 +253,7 @@ impl Cpu {
     fn begin_spelt(&mut self, word: u16) -> bool
         ensures taken { result ≡ not (is_illegal word) }
         ensures follows { result ≡ true → Begins self.old self.new word }
+        ensures level { self.new.level ≡ self.old.level }
         ensures refused { result ≡ false → self.new ≡ self.old }
     {
         match decode(word) {
@@ -247,8 +270,12 @@ impl Cpu {
     fn begin_apart(&mut self, word: u16) -> bool
         ensures taken { result ≡ not (is_illegal word) }
         ensures follows { result ≡ true → Begins self.old self.new word }
+        ensures level { result ≡ true → self.new.level ≡ level_begun self.old.level word }
         ensures refused { result ≡ false → self.new ≡ self.old }
     {
+        if word == RETI {
+            self.level = self.level.saturating_sub(1);
+        }
         self.begin_spelt(word)
     }
 
@@ -262,6 +289,7 @@ impl Cpu {
             → CpuStandsFor self.old (Boundary regs)
             → result ≡ true
             → CpuStandsFor self.new (cpu_after (Boundary regs) word) }
+        ensures level { result ≡ true → self.new.level ≡ level_begun self.old.level word }
         ensures refused { result ≡ false → self.new ≡ self.old }
     {
         self.begin_here(word)
@@ -277,6 +305,7 @@ impl Cpu {
             → CpuStandsFor self.old (Boundary regs)
             → result ≡ true
             → CpuStandsFor self.new (cpu_after (Boundary regs) word) }
+        ensures level { result ≡ true → self.new.level ≡ level_begun self.old.level word }
         ensures refused { result ≡ false → self.new ≡ self.old }
     {
         if word >= 0x4000 {
@@ -291,9 +320,10 @@ impl Cpu {
     // An access of the instruction was made and gave this value.
     #[inline(always)]
     fn execute(&mut self, access: CpuAccess, value: u16)
-        ensures { Follows self.new self.old.regs false
+        ensures follows { Follows self.new self.old.regs false
             (λ values. instruction_course self.old.head access self.old.work self.old.number
             (value ∷ values)) }
+        ensures level { self.new.level ≡ self.old.level }
     {
         match access {
             CpuAccess::WriteResult => self.complete(),
@@ -308,8 +338,9 @@ impl Cpu {
     #[inline(always)]
     #[tactic(auto, unfolding(part_definitions::specs::NextAccess::entry_access))]
     fn enter(&mut self, access: EntryAccess, vector: u16, value: u16)
-        ensures { Follows self.new self.old.regs true
+        ensures follows { Follows self.new self.old.regs true
             (λ values. entry_course self.old.work.regs access vector (value ∷ values)) }
+        ensures level { self.new.level ≡ self.old.level }
     {
         match access {
             EntryAccess::PushPc => self.phase = Phase::Entering(EntryAccess::PushSr, vector),
@@ -327,6 +358,8 @@ impl Cpu {
         ensures follows { result ≡ true
             → Follows self.new self.old.regs (is_entry self.old.phase)
             (λ values. cpu_course self.old (value ∷ values)) }
+        ensures level { result ≡ true
+            → self.new.level ≡ level_taken self.old.phase self.old.level value }
         ensures refused { result ≡ false → self.new ≡ self.old }
     {
         match self.phase {
@@ -347,6 +380,8 @@ impl Cpu {
             → CpuStandsFor self.old state
             → result ≡ true
             → CpuStandsFor self.new (cpu_after state value) }
+        ensures level { result ≡ true
+            → self.new.level ≡ level_taken self.old.phase self.old.level value }
         ensures refused { result ≡ false → self.new ≡ self.old }
     {
         self.step(value)
@@ -382,6 +417,7 @@ impl BusMaster for Cpu {
     fn clear(&mut self)
         ensures cleared { CpuStandsFor self.new clear_cpu }
         ensures stands { Becomes CpuStandsFor self.old (λ state. clear_cpu) self.new }
+        ensures level { self.new.level ≡ 0 }
     {
         *self = Cpu::new();
     }

@@ -53,13 +53,14 @@ returns-else-rests-clause-asleep g c = λ start logs steps stands sleeps few.
       same_progress = refl;
       same_last = subst (λ last. LastStandsFor last logs.records) c.requires stands.same_last;
       same_decision = λ decision same. same;
+      same_level = refl;
     })
 
-pub returns-then-rests-clause-idle : goal.returns-then-rests-clause-idle
-returns-then-rests-clause-idle g c = λ start logs steps stands sleeps few.
+pub returns-then-rests-clause-quietly : goal.returns-then-rests-clause-quietly
+returns-then-rests-clause-quietly g c = λ quiet start logs steps stands sleeps few.
     let rests = rw c.idle_signals.ensures at
     (c.rests.ensures start logs stands c.if-rests.true) in
     asleep-step g.G.TraceFlag.flag c.args.self.now start logs c.args.pc stands c.requires sleeps
-    rests steps
+    rests quiet steps
     (λ some fewer. c.rest.ensures.requests logs.peripherals some stands.same_peripherals
     (omega arith))

@@ -15,11 +15,12 @@ returns-in-Some-clause-plays g c = λ start play stands.
           (λ some few. bus.asleep start logs some stands.same.same_bus sleeps few),
     )
 
-pub returns-in-Some-clause-asleep : goal.returns-in-Some-clause-asleep
-returns-in-Some-clause-asleep g c = λ start play stands.
+pub returns-in-Some-clause-quietly : goal.returns-in-Some-clause-quietly
+returns-in-Some-clause-quietly g c = λ quiet start play stands.
     let logs = logs_after start play in
     let sleeps = c.in-Some.ensures start logs stands.same stands.same_stage in
     let bus = c.rest.ensures in
     all-asleep start play c.rest.result
-    (λ some few. bus.idle start logs some stands.same.same_bus sleeps few)
-    (λ some few. bus.asleep start logs some stands.same.same_bus sleeps few)
+    (λ some few. bus.quietly quiet start logs some stands.same.same_bus sleeps few)
+    (silent-asleep start play c.rest.result
+    (λ some few. bus.asleep start logs some stands.same.same_bus sleeps few))

@@ -5,3 +5,8 @@ pub returns-in-Some-clause-plays : goal.returns-in-Some-clause-plays
 returns-in-Some-clause-plays g c = λ start play stands.
     c.go_calmly.ensures.plays start play stands
     (c.in-Some.ensures start (logs_after start play) stands.same.same_bus)
+
+pub returns-in-Some-clause-quietly : goal.returns-in-Some-clause-quietly
+returns-in-Some-clause-quietly g c = λ start play stands.
+    c.go_calmly.ensures.quietly start play stands
+    (c.in-Some.ensures start (logs_after start play) stands.same.same_bus)

@@ -14,6 +14,7 @@ returns-clause-stands g c = λ start play stands.
       same_bus = bus;
       same_progress = stands.same.same_progress;
       same_decision = stands.same.same_decision;
+      same_level = stands.same.same_level;
       same_word = stands.same.same_word;
     })
     stands.same_stage)

@@ -2,7 +2,7 @@ use Rattle.std.proofs.Common.{sym, subst}
 use Rattle.device_trace.specs.Trace.{last_signals, logs_after}
 use Rattle.swatt_rom.specs.Rom.{RomStandsFor}
 use Rattle.device_core.specs.Bus.{KeepsSignals}
-use Rattle.device_core.proofs.Slept.{no-call}
+use Rattle.device_core.proofs.QuietDevices.{no-call}
 use Rattle.device_core.proofs.machine.Machine.try_clone.Goals as goal
 
 pub returns : goal.returns
@@ -20,6 +20,7 @@ returns g c = λ start play stands.
               c.new.ensures.stands;
         };
         same_decision = stands.same.same_decision;
+        same_level = stands.same.same_level;
         same_word = stands.same.same_word;
       };
       same_stage = stands.same_stage;

@@ -19,5 +19,7 @@ returns g c = λ start logs stands stage.
           (engine-turn g.D.Digest32.hash.digest_of start logs regs words _ stands.same_word
           (calling-turn start logs regs words calls));
       same_progress = rw (calling-within logs regs words calls) parts;
+      same_level =
+          rw (c.of_call.ensures (sp_of regs) words parts.same_call) stands.same_level;
       same_word = stands.same_word;
     }

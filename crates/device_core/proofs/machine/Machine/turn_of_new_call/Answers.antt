@@ -18,5 +18,6 @@ returns g c = λ start logs stands here irq rom.
           (begun-turn start logs regs here begins));
       same_progress = rw (begun-within logs regs here begins)
           (record { same_processor = parts.same_processor; same_call = call });
+      same_level = rw (c.of_call.ensures (sp_of regs) [] call) stands.same_level;
       same_word = stands.same_word;
     }

@@ -1,5 +1,6 @@
--- A device that slept, and one that is copied.
-use Rattle.std.proofs.Common.{◌≡◌, ◌∙◌, ◌+◌, ◌-◌, ◌≤◌, ℕ, None, refl, sym, ap, subst, arith}
+-- A device that made quiet steps alone, and one that is copied.
+use Rattle.std.proofs.Common.{◌≡◌, ◌∙◌, ◌+◌, ◌-◌, ◌≤◌, ℕ, Bool, None, refl, sym, ap, subst, arith}
+use Rattle.bus_signals.specs.declared.access.Access.{Access}
 use Rattle.bus_signals.specs.TraceFlag.{Flag}
 use Rattle.hmac_core.specs.Hash.{Hash}
 use Rattle.swatt_rom.specs.RomCall.{NoCall}
@@ -8,10 +9,10 @@ use Rattle.device_trace.specs.Play.{Play}
 use Rattle.device_trace.specs.Progress.{Progress, Held, Runs, InCall}
 use Rattle.device_trace.specs.Start.{Start}
 use Rattle.device_trace.specs.Trace.{last_signals, logs_after}
-use Rattle.device_core.specs.Asleep.{AreAsleep, HasSlept}
 use Rattle.device_core.specs.Bus.{BusStandsFor}
 use Rattle.device_core.specs.Device.{HasPlayed, LiveStandsFor, steps_made}
 use Rattle.device_core.specs.Machine.{PlaysAt, call_of, stage_of}
+use Rattle.device_core.specs.Quiet.{AreQuiet, GoesQuietly, HasGoneQuietly}
 use Rattle.device_core.specs.Silence.{with_idle}
 use Rattle.device_core.specs.declared.bus.Bus.{Bus}
 use Rattle.device_core.specs.declared.device.Device.{Device}
@@ -46,30 +47,30 @@ forgotten {bus = bus} start play bears none stands =
         same_bus = bears start (logs_after start play) stands.same.same_bus;
         same_progress = stands.same.same_progress;
         same_decision = stands.same.same_decision;
+        same_level = stands.same.same_level;
         same_word = stands.same.same_word;
       };
       same_stage = stands.same_stage;
       same_signals = no-signals bus.last (last_signals start play) none;
     }
 
--- a device that slept
-pub has-slept :
-    {D G : Type 0} {hash : Hash D} {flag : Flag G} {old loan new : Machine D G}
-    {count steps slept : ℕ} {device : Device RunningState D G}
+-- a device that made such steps
+pub has-gone :
+    {D G : Type 0} {hash : Hash D} {flag : Flag G} {quiet : Access → Bool}
+    {old loan new : Machine D G} {count steps gone : ℕ} {device : Device RunningState D G}
     → loan ≡ old
     → device.machine.value ≡ new
-    → device.steps ≡ count + slept
-    → slept ≤ steps
+    → device.steps ≡ count + gone
+    → gone ≤ steps
     → ((start : Start) (play : Play)
     → PlaysAt hash flag RunningStage loan start play
-    → PlaysAt hash flag RunningStage new start (with_idle slept play))
-    → ((start : Start) (play : Play)
-    → PlaysAt hash flag RunningStage loan start play
-    → AreAsleep start slept play)
-    → HasSlept hash flag (HasPlayed hash flag RunningStage old count) count steps (Running device)
-has-slept {hash = hash} {flag = flag} {old = old} {loan = loan} {count = count} {slept = slept}
-    {device = device} from is made few plays asleep =
-    let same : device.steps - count ≡ slept = omega arith in
+    → PlaysAt hash flag RunningStage new start (with_idle gone play))
+    → GoesQuietly hash flag quiet loan gone
+    → HasGoneQuietly hash flag quiet (HasPlayed hash flag RunningStage old count) count steps
+    (Running device)
+has-gone {hash = hash} {flag = flag} {old = old} {loan = loan} {count = count} {gone = gone}
+    {device = device} from is made few plays quietly =
+    let same : device.steps - count ≡ gone = omega arith in
     let lent : (start : Start) (play : Play)
     → HasPlayed hash flag RunningStage old count start play
     → PlaysAt hash flag RunningStage loan start play =
@@ -83,16 +84,17 @@ has-slept {hash = hash} {flag = flag} {old = old} {loan = loan} {count = count} 
           (record {
             same = rw is (plays start play (lent start play stood));
             same_steps = made
-                ∙ (ap (λ n. n + slept) stood.same_steps ∙ sym (length-idle slept play));
+                ∙ (ap (λ n. n + gone) stood.same_steps ∙ sym (length-idle gone play));
           });
-      asleep = λ start play stood. rw same (asleep start play (lent start play stood));
+      quietly = λ start play stood. rw same (quietly start play (lent start play stood));
     }
 
--- and one that did not
-pub none-slept :
-    {D G : Type 0} {hash : Hash D} {flag : Flag G} (steps : ℕ) (live : Live D G)
-    → HasSlept hash flag (LiveStandsFor hash flag live) (steps_made live) steps live
-none-slept {hash = hash} {flag = flag} steps live =
+-- and one that made none
+pub none-gone :
+    {D G : Type 0} {hash : Hash D} {flag : Flag G} (quiet : Access → Bool) (steps : ℕ)
+    (live : Live D G)
+    → HasGoneQuietly hash flag quiet (LiveStandsFor hash flag live) (steps_made live) steps live
+none-gone {hash = hash} {flag = flag} quiet steps live =
     let none : steps_made live - steps_made live ≡ 0 = omega arith in
     record {
       from = omega arith;
@@ -100,5 +102,6 @@ none-slept {hash = hash} {flag = flag} steps live =
       stands = λ start play stood.
           subst (λ (made : ℕ). LiveStandsFor hash flag live start (with_idle made play)) (sym none)
           stood;
-      asleep = λ start play stood. subst (λ (made : ℕ). AreAsleep start made play) (sym none) tt;
+      quietly = λ start play stood.
+          subst (λ (made : ℕ). AreQuiet quiet start made play) (sym none) tt;
     }
