@@ -1,11 +1,12 @@
 -- A play whose next steps have no events.
-use Rattle.std.proofs.Common.{◌≡◌, ◌≤◌, ◌<◌, ◌+◌, ℕ, subst, zero, suc, true, List, [], length, refl, ap, ⊎_elim, arith}
+use Rattle.std.proofs.Common.{◌≡◌, ◌≤◌, ◌<◌, ◌+◌, ℕ, Bool, subst, zero, suc, true, List, [], length, refl, ap, ⊎_elim, arith}
 use Rattle.std.proofs.lemmas.Bool.{cases_lt}
+use Rattle.bus_signals.specs.declared.access.Access.{Access}
 use Rattle.bus_signals.specs.declared.event.Event.{Event}
 use Rattle.device_trace.specs.Play.{Play}
 use Rattle.device_trace.specs.Start.{Start}
 use Rattle.device_trace.specs.Trace.{play_of}
-use Rattle.device_core.specs.Asleep.{AreAsleep, IsAsleep}
+use Rattle.device_core.specs.Quiet.{AreQuiet, IsQuiet}
 use Rattle.device_core.specs.Silence.{is_silent, with_idle, AreSilent}
 
 pub length-play_of :
@@ -41,16 +42,16 @@ silent-at start play (suc steps) step silent below = ⊎_elim
     subst (λ last. is_silent start (with_idle (suc last) play) ≡ true) same silent.0)
     (cases_lt step steps)
 
--- and so is sleep
-pub asleep-at :
-    (start : Start) (play : Play) (steps step : ℕ)
-    → AreAsleep start steps play
+-- and quiet, where they are
+pub quiet-at :
+    (quiet : Access → Bool) (start : Start) (play : Play) (steps step : ℕ)
+    → AreQuiet quiet start steps play
     → step < steps
-    → IsAsleep start (with_idle step play)
-asleep-at start play zero step asleep below = absurd (omega arith)
-asleep-at start play (suc steps) step asleep below = ⊎_elim
-    (λ less. asleep-at start play steps step asleep.1 less)
+    → IsQuiet quiet start (with_idle step play)
+quiet-at quiet start play zero step all below = absurd (omega arith)
+quiet-at quiet start play (suc steps) step all below = ⊎_elim
+    (λ less. quiet-at quiet start play steps step all.1 less)
     (λ over.
     let same : steps ≡ step = omega arith in
-    subst (λ last. IsAsleep start (with_idle last play)) same asleep.0)
+    subst (λ last. IsQuiet quiet start (with_idle last play)) same all.0)
     (cases_lt step steps)

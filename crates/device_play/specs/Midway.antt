@@ -1,5 +1,6 @@
 -- A device in the middle of a play.
 use Rattle.std.specs.Prelude.{◌≡◌, ◌≤◌, ◌<◌, ◌+◌, ℕ, suc, Bool, List, []}
+use Rattle.bus_signals.specs.declared.access.Access.{Access}
 use Rattle.bus_signals.specs.declared.event.Event.{Event}
 use Rattle.bus_signals.specs.TraceFlag.{Flag}
 use Rattle.hmac_core.specs.Hash.{Hash}
@@ -7,8 +8,8 @@ use Rattle.device_trace.specs.Start.{Start}
 use Rattle.device_trace.specs.Trace.{play_of}
 use Rattle.play_script.specs.Playback.{events_left}
 use Rattle.play_script.specs.declared.playback.Playback.{Playback}
-use Rattle.device_core.specs.Asleep.{IsAsleep}
 use Rattle.device_core.specs.Device.{LiveStandsFor, steps_made}
+use Rattle.device_core.specs.Quiet.{IsQuiet}
 use Rattle.device_core.specs.declared.live.Live.{Live}
 use Rattle.device_play.specs.Account.{IsPassed}
 
@@ -29,11 +30,12 @@ pub record HasGoneOn {D G : Type 0} (hash : Hash D) (flag : Flag G) (every_step 
       → step + 1 < steps_made live
       → IsPassed every_step start (play_of events_at (suc step))
 
--- and since this step on it slept
-pub record HasSleptOn {D G : Type 0} (hash : Hash D) (flag : Flag G) (start : Start)
-    (events_at : ℕ → List Event) (from : ℕ) (live : Live D G) (playback : Playback) : Type 0 where
+-- and since this step on it made quiet steps alone
+pub record HasGoneQuietlyOn {D G : Type 0} (hash : Hash D) (flag : Flag G) (quiet : Access → Bool)
+    (start : Start) (events_at : ℕ → List Event) (from : ℕ) (live : Live D G)
+    (playback : Playback) : Type 0 where
   pub midway : IsMidway hash flag start events_at live playback
-  pub asleep : (step : ℕ)
+  pub quietly : (step : ℕ)
       → from ≤ step
       → step < steps_made live
-      → (events_at step ≡ []) × IsAsleep start (play_of events_at step)
+      → (events_at step ≡ []) × IsQuiet quiet start (play_of events_at step)

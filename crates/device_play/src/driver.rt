@@ -5,13 +5,13 @@ ghost use Rattle.device_trace.specs.Trace.{play_of};
 ghost use Rattle.play_script.specs.Script.{events_of};
 ghost use Rattle.device_core.specs.Device.{HasStepped, HeldStandsFor, steps_made};
 ghost use Rattle.device_play.specs.Cuts.{CountsWriteFaults};
-ghost use Rattle.device_play.specs.Midway.{IsMidway, HasGoneOn, HasSleptOn};
+ghost use Rattle.device_play.specs.Midway.{IsMidway, HasGoneOn, HasGoneQuietlyOn};
 ghost use Rattle.device_play.specs.Watching.{IsPoweredOn, IsWatched};
 
 use crate::put_fault::PutFault;
 use crate::watcher::Watcher;
 use bus_signals::TraceFlag;
-use device_core::{Device, Held, Live};
+use device_core::{Device, Held, Live, Quiet};
 use hmac_core::Digest32;
 use outside_edge::Sink;
 use play_script::{Playback, Script};
@@ -42,23 +42,25 @@ pub fn play_to_shown<O: Watcher, D: Digest32, G: TraceFlag>(
     }
 }
 
-/// Makes steps of sleep, behind a first one that was made, up to the next event: so many that a
-/// device made this many in all, at most.
-pub fn sleep_on<D: Digest32, G: TraceFlag>(
+/// Makes steps of sleep, or calm ones over quiet accesses, behind a first one that was made, up to
+/// the next event: so many that a device made this many in all, at most.
+pub fn go_quietly<Q: Quiet, D: Digest32, G: TraceFlag>(
     live: Live<D, G>,
     playback: &Playback<'_>,
+    quiet: &Q,
     steps: u64,
 ) -> Live<D, G>
     requires ahead { steps_made live ≤ steps }
     requires few { steps ≤ 2 ^ 63 }
     ensures within { (steps_made live ≤ steps_made result) × (steps_made result ≤ steps) }
-    ensures sleeps { (start : Start) (events_at : ℕ → List Event)
+    ensures goes { (start : Start) (events_at : ℕ → List Event)
         → IsMidway D.hash G.flag start events_at live playback.now
-        → HasSleptOn D.hash G.flag start events_at (steps_made live) result playback.now }
+        → HasGoneQuietlyOn D.hash G.flag (Q.quiet quiet.now) start events_at (steps_made live)
+        result playback.now }
 {
     let step = live.steps();
     let next = playback.next_step();
-    live.sleep(next.min(steps).saturating_sub(step))
+    live.go_quietly(quiet, next.min(steps).saturating_sub(step))
 }
 
 /// Plays a script's first steps on a device at power-on before a watcher. It gives the device after
