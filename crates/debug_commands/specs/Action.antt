@@ -7,6 +7,7 @@ use Rattle.debug_commands.specs.declared.command.Command.{Command}
 use Rattle.debug_commands.specs.declared.command.Command.TheVariants.{Go, Refused}
 use Rattle.debug_commands.specs.declared.command.Going.{Going}
 use Rattle.debug_commands.specs.declared.command.Going.TheVariants.{On, Step, Range}
+use Rattle.debug_commands.specs.declared.command.Way.TheVariants.{Ahead}
 
 -- what stands behind this beginning, where a body begins so
 abbrev pub behind : List ℕ → List ℕ → Option (List ℕ)
@@ -19,7 +20,7 @@ abbrev pub is_signal : List ℕ → Bool
 is_signal digits = (length digits == 2) && is_some (number_of digits)
 
 abbrev pub signalled : Going → List ℕ → Command
-signalled going digits = if is_signal digits then Go going else Refused
+signalled going digits = if is_signal digits then Go Ahead going else Refused
 
 -- an action, what comes behind its letter, and what another letter asks for
 abbrev pub signalled_or : Going → Option (List ℕ) → Command → Command
@@ -33,13 +34,13 @@ signalled_action action =
 
 abbrev pub action_of : List ℕ → Command
 action_of action =
-    if bytes_eq action (codes "c") then Go On
-    else if bytes_eq action (codes "s") then Go Step
+    if bytes_eq action (codes "c") then Go Ahead On
+    else if bytes_eq action (codes "s") then Go Ahead Step
     else signalled_action action
 
 abbrev pub range_command : Option (ℕ × ℕ) → Command
 range_command None = Refused
-range_command (Some numbers) = Go (Range numbers.0 numbers.1)
+range_command (Some numbers) = Go Ahead (Range numbers.0 numbers.1)
 
 abbrev pub range_or_action : List ℕ → Option (List ℕ) → Command
 range_or_action action None = action_of action

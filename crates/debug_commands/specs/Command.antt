@@ -2,6 +2,7 @@
 use Rattle.std.specs.Prelude.{ℕ, ◌==◌, Bool, true, false, List, [], ◌∷◌, Option, Some, None, codes, nat_eq, nat_lt, if◌then◌else◌}
 use Rattle.std.specs.Str.{bytes_eq}
 use Rattle.std.specs.List.{list_any, starts_with}
+use Rattle.debug_stops.specs.declared.stop_change.StopChange.TheVariants.{SetBreakpoint, ClearBreakpoint, SetWatch, ClearWatch}
 use Rattle.debug_stops.specs.declared.watch.Watch.{Watch}
 use Rattle.debug_stops.specs.declared.watch.WatchKind.{WatchKind}
 use Rattle.debug_stops.specs.declared.watch.WatchKind.TheVariants as watch
@@ -9,7 +10,9 @@ use Rattle.debug_commands.specs.Action.{action_of, behind, first_action}
 use Rattle.debug_commands.specs.Number.{before_comma, behind_comma, number_of, two_numbers}
 use Rattle.debug_commands.specs.Request.{request_in}
 use Rattle.debug_commands.specs.declared.command.Command.{Command}
-use Rattle.debug_commands.specs.declared.command.Command.TheVariants.{Supported, LastStop, Attached, Registers, Memory, SetBreakpoint, ClearBreakpoint, SetWatch, ClearWatch, Actions, BackStep, BackOn, Monitor, Detach, Kill, Refused, Unknown}
+use Rattle.debug_commands.specs.declared.command.Command.TheVariants.{Supported, LastStop, Attached, Registers, Memory, Change, Actions, Go, Monitor, Detach, Kill, Refused, Unknown}
+use Rattle.debug_commands.specs.declared.command.Going.TheVariants as going
+use Rattle.debug_commands.specs.declared.command.Way.TheVariants.{Back}
 use Rattle.debug_commands.specs.declared.request.Request.{Request}
 
 -- `m`: so many bytes from an address on
@@ -19,12 +22,12 @@ memory_command (Some numbers) = Memory numbers.0 numbers.1
 
 -- `Z` and `z`, with a kind, a place and a size: breakpoints are of kinds 0 and 1, watches of 2 to 4
 abbrev pub breakpoint_command : Bool → ℕ → Command
-breakpoint_command true place = SetBreakpoint place
-breakpoint_command false place = ClearBreakpoint place
+breakpoint_command true place = Change (SetBreakpoint place)
+breakpoint_command false place = Change (ClearBreakpoint place)
 
 abbrev pub watch_command : Bool → Watch → Command
 watch_command sets one =
-    if one.size == 0 then Refused else if sets then SetWatch one else ClearWatch one
+    if one.size == 0 then Refused else Change (if sets then SetWatch one else ClearWatch one)
 
 abbrev pub watch_kind_of : ℕ → WatchKind
 watch_kind_of kind =
@@ -55,8 +58,8 @@ abbrev pub word_command : List ℕ → Option Command
 word_command body =
     if bytes_eq body (codes "?") then Some LastStop
     else if bytes_eq body (codes "g") then Some Registers
-    else if bytes_eq body (codes "bs") then Some BackStep
-    else if bytes_eq body (codes "bc") then Some BackOn
+    else if bytes_eq body (codes "bs") then Some (Go Back going.Step)
+    else if bytes_eq body (codes "bc") then Some (Go Back going.On)
     else if bytes_eq body (codes "D") then Some Detach
     else if bytes_eq body (codes "k") then Some Kill
     else if bytes_eq body (codes "vCont?") then Some Actions

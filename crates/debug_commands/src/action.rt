@@ -3,7 +3,7 @@ ghost use Rattle.std.specs.List.{before_first};
 ghost use Rattle.debug_commands.specs.Action.{action_of, behind, ends_action, first_action, is_signal, range_command, signalled, signalled_action};
 ghost use Rattle.debug_commands.specs.Number.{two_numbers};
 
-use crate::command::{Command, Going};
+use crate::command::{Command, Going, Way};
 use crate::number::{number_of, two_numbers};
 
 /// What stands behind this beginning, where a body begins so.
@@ -53,7 +53,7 @@ fn read_range(range: &[u8]) -> Command
     ensures { result ≡ range_command (two_numbers range.now) }
 {
     match two_numbers(range) {
-        Some((first, end)) => Command::Go(Going::Range(first, end)),
+        Some((first, end)) => Command::Go(Way::Ahead, Going::Range(first, end)),
         None => Command::Refused,
     }
 }
@@ -63,9 +63,9 @@ pub fn read_action(action: &[u8]) -> Command
     ensures { result ≡ action_of action.now }
 {
     if action == b"c".as_slice() {
-        Command::Go(Going::On)
+        Command::Go(Way::Ahead, Going::On)
     } else if action == b"s".as_slice() {
-        Command::Go(Going::Step)
+        Command::Go(Way::Ahead, Going::Step)
     } else {
         signalled_action(action)
     }
@@ -87,7 +87,7 @@ fn signalled(going: Going, signal: &[u8]) -> Command
     ensures { result ≡ signalled going signal.now }
 {
     if is_signal(signal) {
-        Command::Go(going)
+        Command::Go(Way::Ahead, going)
     } else {
         Command::Refused
     }

@@ -7,16 +7,23 @@ ghost use Rattle.debug_commands.specs.Request.{request_in};
 use crate::action::{behind, read_action, read_first_action};
 use crate::number::{cut_at_comma, number_of, two_numbers};
 use crate::request::{Request, read_request};
-use debug_stops::{Watch, WatchKind};
+use debug_stops::{StopChange, Watch, WatchKind};
 
-/// How far a device goes on.
+/// On which way a debugger goes.
+#[derive(Clone, Copy, Debug, PartialEq, Eq)]
+pub enum Way {
+    Ahead,
+    Back,
+}
+
+/// How far a device goes.
 #[derive(Clone, Copy, Debug, PartialEq, Eq)]
 pub enum Going {
     /// To the first cause.
     On,
-    /// Also to the end of an instruction of no higher level.
+    /// Also over an instruction of no higher level.
     Step,
-    /// The same again, as long as PC is in a range, from the first address to before the second.
+    /// Likewise, to a PC outside of a range, from the first address to before the second.
     Range(u32, u32),
 }
 
@@ -31,17 +38,11 @@ pub enum Command {
     Registers,
     /// So many bytes from an address on.
     Memory(u32, u32),
-    SetBreakpoint(u16),
-    ClearBreakpoint(u16),
-    SetWatch(Watch),
-    ClearWatch(Watch),
+    /// A breakpoint or a watch is set, or taken back.
+    Change(StopChange),
     /// Which actions there are.
     Actions,
-    Go(Going),
-    /// To the last instruction that began before.
-    BackStep,
-    /// To the last cause before.
-    BackOn,
+    Go(Way, Going),
     /// A command of the user.
     Monitor(Request),
     Detach,
@@ -71,9 +72,9 @@ fn word_command(body: &[u8]) -> Option<Command>
     } else if body == b"g".as_slice() {
         Some(Command::Registers)
     } else if body == b"bs".as_slice() {
-        Some(Command::BackStep)
+        Some(Command::Go(Way::Back, Going::Step))
     } else if body == b"bc".as_slice() {
-        Some(Command::BackOn)
+        Some(Command::Go(Way::Back, Going::On))
     } else if body == b"D".as_slice() {
         Some(Command::Detach)
     } else if body == b"k".as_slice() {
@@ -194,9 +195,9 @@ fn breakpoint_command(sets: bool, place: u16) -> Command
     ensures { result ≡ breakpoint_command sets place }
 {
     if sets {
-        Command::SetBreakpoint(place)
+        Command::Change(StopChange::SetBreakpoint(place))
     } else {
-        Command::ClearBreakpoint(place)
+        Command::Change(StopChange::ClearBreakpoint(place))
     }
 }
 
@@ -207,8 +208,8 @@ fn watch_command(sets: bool, watch: Watch) -> Command
     if watch.size == 0 {
         Command::Refused
     } else if sets {
-        Command::SetWatch(watch)
+        Command::Change(StopChange::SetWatch(watch))
     } else {
-        Command::ClearWatch(watch)
+        Command::Change(StopChange::ClearWatch(watch))
     }
 }

@@ -6,5 +6,5 @@ mod command;
 mod number;
 mod request;
 
-pub use command::{Command, Going, read_command};
+pub use command::{Command, Going, Way, read_command};
 pub use request::{MOST_STEPS, Request};

@@ -1,10 +1,10 @@
 -- What comes of a piece of packets, for whoever serves the source.
 use Rattle.std.proofs.Common.{◌≡◌, ◌++◌, ℕ, List, [], Ok, Err, refl, sym, arith}
-use Rattle.std.specs.Prelude.{Result}
+use Rattle.std.specs.Prelude.{Option, Result}
 use Rattle.std.proofs.lemmas.List.{append-nil}
 use Rattle.outside_edge.specs.declared.sink.Sink as sink
 use Rattle.source_server.specs.Responder.{Answers, Moment}
-use Rattle.debug_link.specs.Conversation.{Answer, conversation, first_talk, talk_with_bytes}
+use Rattle.debug_link.specs.Conversation.{Answer, OfSomeTalk, Talk, conversation, first_talk}
 use Rattle.debug_link.specs.Link.{Between}
 use Rattle.debug_link.specs.Reading.{ReaderStandsFor}
 use Rattle.debug_link.specs.Serving.{GoesOnTo, StandsBehind, TalkStart, came_of, parties_at, parties_promise}
@@ -16,71 +16,86 @@ use Rattle.debug_link.specs.declared.connection.Connection.TheVariants.{Open, Cl
 use Rattle.debug_link.specs.declared.packet_responder.PacketResponder.{PacketResponder}
 use Rattle.outside_edge.proofs.Counts.{rose_since}
 use Rattle.debug_link.proofs.Parties.{GoesOnBy}
-use Rattle.debug_link.proofs.Talks.{bytes_both}
+use Rattle.debug_link.proofs.Talks.{bytes_both, inputs_both}
 
-module _ {T Session W : Type 0} (stands : T → Session → Type 0) (w : sink.Ghosts W)
-    (reply : Session → List ℕ → Answer Session) where
+module _ {T Session Interrupt W : Type 0} (stands : T → Session → Type 0) (w : sink.Ghosts W)
+    (reply : Option Interrupt → Session → List ℕ → Answer Session) where
   -- before the first byte
   pub first_stands : (session : Session) (first : Moment (PacketResponder T) (PacketSink W))
       → ReaderStandsFor first.responder.reader Between
       → stands first.responder.answerer session → first.edge.last ≡ []
-      → StandsBehind stands w first.edge.sink (parties_at first) (conversation reply session [])
-  first_stands session first reads stood last =
-      record {
-        talks = record {
-          reads = reads;
-          session = stood;
-          last = last;
-          put = λ before holds. rw (append-nil before) holds;
-        };
-        goes_on = refl;
-        rises = omega arith;
-      }
+      → OfSomeTalk reply session [] (StandsBehind stands w first.edge.sink (parties_at first))
+  first_stands session first reads stood last = (
+    [],
+    refl,
+    record {
+      talks = record {
+        reads = reads;
+        session = stood;
+        last = last;
+        put = λ before holds. rw (append-nil before) holds;
+      };
+      goes_on = refl;
+      rises = omega arith;
+    },
+  )
 
   -- the conversation up to the end of a piece
   came_behind : (start : TalkStart Session W)
       (old new : Moment (PacketResponder T) (PacketSink W)) (before piece : List ℕ)
       (result : Result Connection AnswerFault)
-      → StandsBehind stands w start.sink (parties_at old)
-      (conversation reply start.session before)
+      → OfSomeTalk reply start.session before
+      (StandsBehind stands w start.sink (parties_at old))
       → GoesOnBy stands w reply (parties_at old) (parties_at new) piece result
-      → GoesOnTo stands w start.sink (parties_at new)
-      (talk_with_bytes reply (first_talk start.session) (before ++ piece)) result
+      → OfSomeTalk reply start.session (before ++ piece)
+      (λ (talk : Talk Session). GoesOnTo stands w start.sink (parties_at new) talk result)
   came_behind start old new before piece result so goes =
-      rw (bytes_both reply (first_talk start.session) before piece)
-      (goes (conversation reply start.session before) start.sink so.goes_on so.talks)
+      let end =
+      goes (conversation reply start.session so.0) start.sink so.2.goes_on so.2.talks in (
+        so.0 ++ end.0,
+        bytes_both so.0 end.0 before piece so.1 end.1,
+        rw (inputs_both reply (first_talk start.session) so.0 end.0) end.2,
+      )
 
   pub piece_came : (start : TalkStart Session W)
       (old new : Moment (PacketResponder T) (PacketSink W)) (before piece : List ℕ)
       (result : Result Connection AnswerFault)
-      → StandsBehind stands w start.sink (parties_at old)
-      (conversation reply start.session before)
+      → OfSomeTalk reply start.session before
+      (StandsBehind stands w start.sink (parties_at old))
       → GoesOnBy stands w reply (parties_at old) (parties_at new) piece result
       → CountsWriteFaults w.faults old.edge.sink new.edge.sink result
       → Answers (parties_promise stands w reply start) new before piece (came_of result)
   piece_came start old new before piece (Ok Open) so goes counts =
       let end = came_behind start old new before piece (Ok Open) so goes in
       record {
-        goes_on = record {
-          talks = end.all.1;
-          goes_on = sym end.all.0;
-          rises = omega (arith, so.rises, counts.counted);
-        };
+        goes_on = (
+          end.0,
+          end.1,
+          record {
+            talks = end.2.all.1;
+            goes_on = sym end.2.all.0;
+            rises = omega (arith, so.2.rises, counts.counted);
+          },
+        );
         stops = tt;
       }
   piece_came start old new before piece (Ok Closed) so goes counts =
       let end = came_behind start old new before piece (Ok Closed) so goes in
-      record { goes_on = tt; stops = (end.all.1.put, sym end.all.0) }
+      record { goes_on = tt; stops = (end.0, end.1, (end.2.all.1.put, sym end.2.all.0)) }
   piece_came start old new before piece (Err fault.Write) so goes counts =
       let end = came_behind start old new before piece (Err fault.Write) so goes in
       record {
         goes_on = tt;
         stops = (
-          end.prefix,
-          rose_since (w.faults start.sink) (w.faults old.edge.sink) (w.faults new.edge.sink)
-              so.rises (counts.failed refl),
+          end.0,
+          end.1,
+          (
+            end.2.prefix,
+            rose_since (w.faults start.sink) (w.faults old.edge.sink) (w.faults new.edge.sink)
+                so.2.rises (counts.failed refl),
+          ),
         );
       }
   piece_came start old new before piece (Err fault.Memory) so goes counts =
       let end = came_behind start old new before piece (Err fault.Memory) so goes in
-      record { goes_on = tt; stops = end.prefix }
+      record { goes_on = tt; stops = (end.0, end.1, end.2.prefix) }

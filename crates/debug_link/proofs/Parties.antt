@@ -6,7 +6,7 @@ use Rattle.std.proofs.lemmas.List.{append-nil, take_more}
 use Rattle.outside_edge.specs.Sink.{Takes, TakesPrefix}
 use Rattle.outside_edge.specs.declared.sink.Sink as sink
 use Rattle.outside_edge.proofs.SinkLemmas.{prefix_after, prefix_of_more, takes_both}
-use Rattle.debug_link.specs.Conversation.{LONGEST_BODY, Answer, Talk, answer_to, answered, mark_of, marked, with_answer, talk_with_byte, talk_with_bytes}
+use Rattle.debug_link.specs.Conversation.{LONGEST_BODY, Answer, Input, Talk, answer_to, answered, bytes_of, mark_of, marked, with_answer, talk_with_byte, talk_with_inputs}
 use Rattle.debug_link.specs.HeldBody.{HeldBody, short_body}
 use Rattle.debug_link.specs.Link.{Message, Silence, Again, Damage, Whole, link_after, message_of}
 use Rattle.debug_link.specs.Packet.{packet_of, packets_of}
@@ -18,7 +18,7 @@ use Rattle.debug_link.specs.declared.connection.Connection.{Connection}
 use Rattle.debug_link.specs.declared.connection.Connection.TheVariants.{Open, Closed}
 use Rattle.debug_link.specs.declared.packet_reader.Heard.{Heard}
 use Rattle.debug_link.specs.declared.packet_reader.Heard.TheVariants as heard
-use Rattle.debug_link.proofs.Talks.{answered_more, bytes_both, bytes_more, closed_bytes, open_byte}
+use Rattle.debug_link.proofs.Talks.{answered_more, bytes_both, closed_inputs, inputs_both, inputs_more, open_byte, quiet, quiet_bytes}
 
 abbrev is_whole : Heard → Bool
 is_whole heard.Silence = false
@@ -26,32 +26,8 @@ is_whole heard.Again = false
 is_whole heard.Damage = false
 is_whole heard.Whole = true
 
-module _ {T Session W : Type 0} (stands : T → Session → Type 0) (w : sink.Ghosts W)
-    (reply : Session → List ℕ → Answer Session) where
-  -- the mark that is due could not be put
-  pub mark_failed : (first : W) (old new : Parties T W) (talk : Talk Session) (byte : ℕ)
-      (result : Result Connection AnswerFault)
-      → talk.is_over ≡ false → TalkStandsFor stands w first old talk
-      → TakesPrefix w.stands old.packets.sink new.packets.sink
-      (mark_of old.packets.last (message_of talk.link byte))
-      → IsErr result
-      → GoesOnTo stands w first new (talk_with_byte reply talk byte) result
-  mark_failed first old new talk byte (Ok connection) still so prefix is = absurd (false≢true is)
-  mark_failed first old new talk byte (Err fault) still so prefix is =
-      let message : Message = message_of talk.link byte in
-      let mark : List ℕ = mark_of talk.last message in
-      let rest = answered_more reply (marked talk byte) message in
-      let Due : List ℕ → Type 0 =
-      λ last. TakesPrefix w.stands old.packets.sink new.packets.sink (mark_of last message) in
-      record {
-        all = tt;
-        prefix = rw (open_byte reply talk byte still, rest.1)
-            (prefix_of_more w.stands first new.packets.sink (talk.put ++ mark) rest.0
-            (prefix_after w.stands first old.packets.sink new.packets.sink talk.put mark so.put
-            (subst Due so.last prefix)));
-      }
-
-  -- it was put
+module _ {T Session W : Type 0} (stands : T → Session → Type 0) (w : sink.Ghosts W) where
+  -- the mark that is due was put
   pub mark_put : (first : W) (old new : Parties T W) (talk : Talk Session) (byte : ℕ)
       → TalkStandsFor stands w first old talk
       → Takes w.stands old.packets.sink new.packets.sink
@@ -70,23 +46,6 @@ module _ {T Session W : Type 0} (stands : T → Session → Type 0) (w : sink.Gh
         put = takes_both w.stands first old.packets.sink new.packets.sink talk.put
             (mark_of talk.last message) so.put (subst Due so.last put);
       }
-
-  -- nothing more is due
-  nothing_due : (talk : Talk Session) (message : Message) → (heard_of message ≡ heard.Whole → ⊥)
-      → answered reply talk message ≡ talk
-  nothing_due talk Silence other = refl
-  nothing_due talk Again other = refl
-  nothing_due talk Damage other = refl
-  nothing_due talk (Whole body) other = absurd (other refl)
-
-  pub byte_marked : (first : W) (new : Parties T W) (talk : Talk Session) (byte : ℕ)
-      → talk.is_over ≡ false → TalkStandsFor stands w first new (marked talk byte)
-      → (heard_of (message_of talk.link byte) ≡ heard.Whole → ⊥)
-      → GoesOnTo stands w first new (talk_with_byte reply talk byte) (Ok Open)
-  byte_marked first new talk byte still so other =
-      let same = open_byte reply talk byte still
-      ∙ nothing_due (marked talk byte) (message_of talk.link byte) other in
-      rw same (record { all = (sym still, so); prefix = tt })
 
   -- the answer to a whole packet
   answer_put : (first : W) (old new : Parties T W) (talk : Talk Session) (answer : Answer Session)
@@ -116,43 +75,47 @@ module _ {T Session W : Type 0} (stands : T → Session → Type 0) (w : sink.Gh
             (packets_of answer.packets) so.put put.prefix;
       }
 
-  whole_answered : (first : W) (old new : Parties T W) (talk : Talk Session) (message : Message)
-      (body : Option (List ℕ)) (result : Result Connection AnswerFault)
-      → TalkStandsFor stands w first old talk
-      → ReaderStandsFor new.reader talk.link
-      → heard_of message ≡ heard.Whole → KeepsBody old.reader message
-      → body ≡ old.reader.body.bytes
-      → ((session : Session) (bytes : List ℕ) → stands old.answerer session
-      → body ≡ short_body bytes
-      → Answers stands w old.packets new.packets new.answerer (answer_to reply session bytes)
-      result)
-      → GoesOnTo stands w first new (answered reply talk message) result
-  whole_answered first old new talk (Whole bytes) body result so reads is kept held answers =
-      answer_put first old new talk (answer_to reply talk.session bytes) result so reads
-      (answers talk.session bytes so.session (held ∙ ap (λ (one : HeldBody). one.bytes) kept))
-  whole_answered first old new talk Silence body result so reads is kept held answers =
-      absurd (false≢true (ap is_whole is))
-  whole_answered first old new talk Again body result so reads is kept held answers =
-      absurd (false≢true (ap is_whole is))
-  whole_answered first old new talk Damage body result so reads is kept held answers =
-      absurd (false≢true (ap is_whole is))
-
-  pub byte_answered : (first : W) (old new : Parties T W) (talk : Talk Session) (byte : ℕ)
-      (body : Option (List ℕ)) (result : Result Connection AnswerFault)
-      → talk.is_over ≡ false → TalkStandsFor stands w first old (marked talk byte)
-      → ReaderStandsFor new.reader (link_after talk.link byte)
-      → heard_of (message_of talk.link byte) ≡ heard.Whole
-      → KeepsBody old.reader (message_of talk.link byte)
-      → body ≡ old.reader.body.bytes
-      → ((session : Session) (bytes : List ℕ) → stands old.answerer session
-      → body ≡ short_body bytes
-      → Answers stands w old.packets new.packets new.answerer (answer_to reply session bytes)
-      result)
+module _ {T Session W : Type 0} (stands : T → Session → Type 0) (w : sink.Ghosts W)
+    (reply : Session → List ℕ → Answer Session) where
+  -- the mark that is due could not be put
+  pub mark_failed : (first : W) (old new : Parties T W) (talk : Talk Session) (byte : ℕ)
+      (result : Result Connection AnswerFault)
+      → talk.is_over ≡ false → TalkStandsFor stands w first old talk
+      → TakesPrefix w.stands old.packets.sink new.packets.sink
+      (mark_of old.packets.last (message_of talk.link byte))
+      → IsErr result
       → GoesOnTo stands w first new (talk_with_byte reply talk byte) result
-  byte_answered first old new talk byte body result still so reads is kept held answers =
-      rw (open_byte reply talk byte still)
-      (whole_answered first old new (marked talk byte) (message_of talk.link byte) body result so
-      reads is kept held answers)
+  mark_failed first old new talk byte (Ok connection) still so prefix is = absurd (false≢true is)
+  mark_failed first old new talk byte (Err fault) still so prefix is =
+      let message : Message = message_of talk.link byte in
+      let mark : List ℕ = mark_of talk.last message in
+      let rest = answered_more reply (marked talk byte) message in
+      let Due : List ℕ → Type 0 =
+      λ last. TakesPrefix w.stands old.packets.sink new.packets.sink (mark_of last message) in
+      record {
+        all = tt;
+        prefix = rw (open_byte reply talk byte still, rest.1)
+            (prefix_of_more w.stands first new.packets.sink (talk.put ++ mark) rest.0
+            (prefix_after w.stands first old.packets.sink new.packets.sink talk.put mark so.put
+            (subst Due so.last prefix)));
+      }
+
+  -- nothing more is due
+  nothing_due : (talk : Talk Session) (message : Message) → (heard_of message ≡ heard.Whole → ⊥)
+      → answered reply talk message ≡ talk
+  nothing_due talk Silence other = refl
+  nothing_due talk Again other = refl
+  nothing_due talk Damage other = refl
+  nothing_due talk (Whole body) other = absurd (other refl)
+
+  pub byte_marked : (first : W) (new : Parties T W) (talk : Talk Session) (byte : ℕ)
+      → talk.is_over ≡ false → TalkStandsFor stands w first new (marked talk byte)
+      → (heard_of (message_of talk.link byte) ≡ heard.Whole → ⊥)
+      → GoesOnTo stands w first new (talk_with_byte reply talk byte) (Ok Open)
+  byte_marked first new talk byte still so other =
+      let same = open_byte reply talk byte still
+      ∙ nothing_due (marked talk byte) (message_of talk.link byte) other in
+      rw same (record { all = (sym still, so); prefix = tt })
 
   -- a body that is too long
   short_is : (bytes : List ℕ) → nat_lt LONGEST_BODY (length bytes) ≡ false
@@ -197,34 +160,108 @@ module _ {T Session W : Type 0} (stands : T → Session → Type 0) (w : sink.Gh
         prefix = tt;
       })
 
-  -- how they go on by bytes, whatever they stood for while the connection is open
+module _ {T Session Interrupt W : Type 0} (stands : T → Session → Type 0) (w : sink.Ghosts W)
+    (reply : Option Interrupt → Session → List ℕ → Answer Session) where
+  -- the answer to a whole packet, where something interrupts it or nothing does
+  abbrev AnswersSo : Parties T W → Parties T W → Option (List ℕ) → Result Connection AnswerFault
+      → Type 0
+  AnswersSo old new body result =
+      (session : Session) (bytes : List ℕ) → stands old.answerer session
+      → body ≡ short_body bytes
+      → (interrupt : Option Interrupt) × Answers stands w old.packets new.packets new.answerer
+      (answer_to (reply interrupt) session bytes) result
+
+  whole_answered : (first : W) (old new : Parties T W) (talk : Talk Session) (message : Message)
+      (body : Option (List ℕ)) (result : Result Connection AnswerFault)
+      → TalkStandsFor stands w first old talk
+      → ReaderStandsFor new.reader talk.link
+      → heard_of message ≡ heard.Whole → KeepsBody old.reader message
+      → body ≡ old.reader.body.bytes
+      → AnswersSo old new body result
+      → (interrupt : Option Interrupt)
+      × GoesOnTo stands w first new (answered (reply interrupt) talk message) result
+  whole_answered first old new talk (Whole bytes) body result so reads is kept held answers =
+      let told =
+      answers talk.session bytes so.session (held ∙ ap (λ (one : HeldBody). one.bytes) kept) in (
+        told.0,
+        answer_put stands w first old new talk (answer_to (reply told.0) talk.session bytes) result
+            so reads told.1,
+      )
+  whole_answered first old new talk Silence body result so reads is kept held answers =
+      absurd (false≢true (ap is_whole is))
+  whole_answered first old new talk Again body result so reads is kept held answers =
+      absurd (false≢true (ap is_whole is))
+  whole_answered first old new talk Damage body result so reads is kept held answers =
+      absurd (false≢true (ap is_whole is))
+
+  pub byte_answered : (first : W) (old new : Parties T W) (talk : Talk Session) (byte : ℕ)
+      (body : Option (List ℕ)) (result : Result Connection AnswerFault)
+      → talk.is_over ≡ false → TalkStandsFor stands w first old (marked talk byte)
+      → ReaderStandsFor new.reader (link_after talk.link byte)
+      → heard_of (message_of talk.link byte) ≡ heard.Whole
+      → KeepsBody old.reader (message_of talk.link byte)
+      → body ≡ old.reader.body.bytes
+      → AnswersSo old new body result
+      → (interrupt : Option Interrupt)
+      × GoesOnTo stands w first new (talk_with_byte (reply interrupt) talk byte) result
+  byte_answered first old new talk byte body result still so reads is kept held answers =
+      let told =
+      whole_answered first old new (marked talk byte) (message_of talk.link byte) body result so
+      reads is kept held answers in
+      (told.0, rw (open_byte (reply told.0) talk byte still) told.1)
+
+  -- how they go on by a byte, whatever they stood for while the connection is open
+  abbrev pub GoesOnAt : Parties T W → Parties T W → ℕ → Result Connection AnswerFault → Type 0
+  GoesOnAt old new byte result =
+      (talk : Talk Session) (first : W) → talk.is_over ≡ false
+      → TalkStandsFor stands w first old talk
+      → (interrupt : Option Interrupt)
+      × GoesOnTo stands w first new (talk_with_byte (reply interrupt) talk byte) result
+
+  -- and by bytes
   abbrev pub GoesOnBy : Parties T W → Parties T W → List ℕ → Result Connection AnswerFault → Type 0
   GoesOnBy old new bytes result =
       (talk : Talk Session) (first : W) → talk.is_over ≡ false
       → TalkStandsFor stands w first old talk
-      → GoesOnTo stands w first new (talk_with_bytes reply talk bytes) result
+      → (inputs : List (Input Interrupt)) × (bytes_of inputs ≡ bytes)
+      × GoesOnTo stands w first new (talk_with_inputs reply talk inputs) result
 
   pub by_none : (now : Parties T W) → GoesOnBy now now [] (Ok Open)
-  by_none now talk first still so = record { all = (sym still, so); prefix = tt }
+  by_none now talk first still so =
+      ([], refl, record { all = (sym still, so); prefix = tt })
 
-  pub by_more : (old mid new : Parties T W) (one two : List ℕ)
+  by_one : (old new : Parties T W) (byte : ℕ) (result : Result Connection AnswerFault)
+      → GoesOnAt old new byte result → GoesOnBy old new (byte ∷ []) result
+  by_one old new byte result goes talk first still so =
+      let end = goes talk first still so in
+      (record { byte = byte; interrupt = end.0 } ∷ [], refl, end.1)
+
+  by_more : (old mid new : Parties T W) (one two : List ℕ)
       (result : Result Connection AnswerFault)
       → GoesOnBy old mid one (Ok Open) → GoesOnBy mid new two result
       → GoesOnBy old new (one ++ two) result
   by_more old mid new one two result before next talk first still so =
       let between = before talk first still so in
-      rw (bytes_both reply talk one two)
-      (next (talk_with_bytes reply talk one) first (sym between.all.0) between.all.1)
+      let now : Talk Session = talk_with_inputs reply talk between.0 in
+      let end = next now first (sym between.2.all.0) between.2.all.1 in (
+        between.0 ++ end.0,
+        bytes_both between.0 end.0 one two between.1 end.1,
+        rw (inputs_both reply talk between.0 end.0) end.2,
+      )
 
   -- behind the end no byte counts
   pub by_closed : (old new : Parties T W) (bytes rest : List ℕ)
       → GoesOnBy old new bytes (Ok Closed) → GoesOnBy old new (bytes ++ rest) (Ok Closed)
   by_closed old new bytes rest by talk first still so =
       let end = by talk first still so in
-      rw (
-        bytes_both reply talk bytes rest,
-        closed_bytes reply (talk_with_bytes reply talk bytes) rest (sym end.all.0),
-      ) end
+      let now : Talk Session = talk_with_inputs reply talk end.0 in (
+        end.0 ++ quiet rest,
+        bytes_both end.0 (quiet rest) bytes rest end.1 (quiet_bytes Interrupt rest),
+        rw (
+          inputs_both reply talk end.0 (quiet rest),
+          closed_inputs reply now (quiet rest) (sym end.2.all.0),
+        ) end.2,
+      )
 
   pub by_failed : (old new : Parties T W) (bytes rest : List ℕ) (fault : AnswerFault)
       (result : Result Connection AnswerFault)
@@ -233,20 +270,24 @@ module _ {T Session W : Type 0} (stands : T → Session → Type 0) (w : sink.Gh
       absurd (false≢true is)
   by_failed old new bytes rest fault (Err other) is by talk first still so =
       let end = by talk first still so in
-      let more = bytes_more reply (talk_with_bytes reply talk bytes) rest in
-      record {
-        all = tt;
-        prefix = rw (bytes_both reply talk bytes rest, more.1)
-            (prefix_of_more w.stands first new.packets.sink (talk_with_bytes reply talk bytes).put
-            more.0 end.prefix);
-      }
+      let now : Talk Session = talk_with_inputs reply talk end.0 in
+      let more = inputs_more reply now (quiet rest) in (
+        end.0 ++ quiet rest,
+        bytes_both end.0 (quiet rest) bytes rest end.1 (quiet_bytes Interrupt rest),
+        record {
+          all = tt;
+          prefix = rw (inputs_both reply talk end.0 (quiet rest), more.1)
+              (prefix_of_more w.stands first new.packets.sink now.put more.0 end.2.prefix);
+        },
+      )
 
   -- one byte of a piece more
   pub by_byte : (old mid new : Parties T W) (piece : List ℕ) (at byte : ℕ)
       (result : Result Connection AnswerFault)
       → at < length piece → byte ≡ slice_index piece at
-      → GoesOnBy old mid (take at piece) (Ok Open) → GoesOnBy mid new (byte ∷ []) result
+      → GoesOnBy old mid (take at piece) (Ok Open) → GoesOnAt mid new byte result
       → GoesOnBy old new (take (at + 1) piece) result
   by_byte old mid new piece at byte result within is before next =
       rw (take_more piece at 0 within, ← is)
-      (by_more old mid new (take at piece) (byte ∷ []) result before next)
+      (by_more old mid new (take at piece) (byte ∷ []) result before
+      (by_one mid new byte result next))

@@ -1,8 +1,8 @@
--- What more bytes add to a conversation.
-use Rattle.std.proofs.Common.{◌≡◌, ◌∙◌, ◌++◌, ℕ, true, false, List, [], ◌∷◌, refl, ap, sym, append_assoc, ⊎_elim}
+-- What comes, and what more of it adds to a conversation.
+use Rattle.std.proofs.Common.{◌≡◌, ◌∙◌, ◌++◌, ℕ, true, false, List, [], ◌∷◌, None, Option, map, refl, ap, sym, append_assoc, ⊎_elim}
 use Rattle.std.proofs.lemmas.Bool.{cases_Bool}
-use Rattle.std.proofs.lemmas.List.{append-nil}
-use Rattle.debug_link.specs.Conversation.{Answer, Talk, answer_to, answered, mark_of, marked, talk_with_byte, talk_with_bytes}
+use Rattle.std.proofs.lemmas.List.{append-nil, map-append}
+use Rattle.debug_link.specs.Conversation.{Answer, Input, Talk, answer_to, answered, bytes_of, mark_of, marked, talk_with_byte, talk_with_inputs}
 use Rattle.debug_link.specs.Link.{Message, Silence, Again, Damage, Whole, message_of}
 use Rattle.debug_link.specs.Packet.{packets_of}
 
@@ -19,13 +19,6 @@ module _ {Session : Type 0} (reply : Session → List ℕ → Answer Session) wh
   unfolding talk_with_byte
   closed_byte talk byte is = rw is refl
 
-  pub closed_bytes : (talk : Talk Session) (bytes : List ℕ) → talk.is_over ≡ true
-      → talk_with_bytes reply talk bytes ≡ talk
-  closed_bytes talk [] is = refl
-  closed_bytes talk (byte ∷ bytes) is =
-      ap (λ (one : Talk Session). talk_with_bytes reply one bytes) (closed_byte talk byte is)
-      ∙ closed_bytes talk bytes is
-
   -- what is put only grows
   pub answered_more : (talk : Talk Session) (message : Message)
       → (more : List ℕ) × ((answered reply talk message).put ≡ talk.put ++ more)
@@ -35,7 +28,7 @@ module _ {Session : Type 0} (reply : Session → List ℕ → Answer Session) wh
   answered_more talk (Whole body) =
       (packets_of (answer_to reply talk.session body).packets, refl)
 
-  byte_more : (talk : Talk Session) (byte : ℕ)
+  pub byte_more : (talk : Talk Session) (byte : ℕ)
       → (more : List ℕ) × ((talk_with_byte reply talk byte).put ≡ talk.put ++ more)
   byte_more talk byte =
       ⊎_elim
@@ -54,20 +47,52 @@ module _ {Session : Type 0} (reply : Session → List ℕ → Answer Session) wh
       ))
       (cases_Bool talk.is_over)
 
-  pub bytes_more : (talk : Talk Session) (bytes : List ℕ)
-      → (more : List ℕ) × ((talk_with_bytes reply talk bytes).put ≡ talk.put ++ more)
-  bytes_more talk [] = ([], sym (append-nil talk.put))
-  bytes_more talk (byte ∷ bytes) =
-      let first = byte_more talk byte in
-      let rest = bytes_more (talk_with_byte reply talk byte) bytes in (
+module _ {Session Interrupt : Type 0}
+    (reply : Option Interrupt → Session → List ℕ → Answer Session) where
+  pub closed_inputs : (talk : Talk Session) (inputs : List (Input Interrupt))
+      → talk.is_over ≡ true
+      → talk_with_inputs reply talk inputs ≡ talk
+  closed_inputs talk [] is = refl
+  closed_inputs talk (input ∷ inputs) is =
+      ap (λ (one : Talk Session). talk_with_inputs reply one inputs)
+      (closed_byte (reply input.interrupt) talk input.byte is)
+      ∙ closed_inputs talk inputs is
+
+  pub inputs_more : (talk : Talk Session) (inputs : List (Input Interrupt))
+      → (more : List ℕ) × ((talk_with_inputs reply talk inputs).put ≡ talk.put ++ more)
+  inputs_more talk [] = ([], sym (append-nil talk.put))
+  inputs_more talk (input ∷ inputs) =
+      let first = byte_more (reply input.interrupt) talk input.byte in
+      let rest = inputs_more (talk_with_byte (reply input.interrupt) talk input.byte) inputs in (
         first.0 ++ rest.0,
         rest.1 ∙ ap (λ (front : List ℕ). front ++ rest.0) first.1
             ∙ append_assoc talk.put first.0 rest.0,
       )
 
-  -- where bytes are cut changes nothing
-  pub bytes_both : (talk : Talk Session) (one two : List ℕ)
-      → talk_with_bytes reply talk (one ++ two)
-      ≡ talk_with_bytes reply (talk_with_bytes reply talk one) two
-  bytes_both talk [] two = refl
-  bytes_both talk (byte ∷ one) two = bytes_both (talk_with_byte reply talk byte) one two
+  -- where what comes is cut changes nothing
+  pub inputs_both : (talk : Talk Session) (one two : List (Input Interrupt))
+      → talk_with_inputs reply talk (one ++ two)
+      ≡ talk_with_inputs reply (talk_with_inputs reply talk one) two
+  inputs_both talk [] two = refl
+  inputs_both talk (input ∷ one) two =
+      inputs_both (talk_with_byte (reply input.interrupt) talk input.byte) one two
+
+module _ {Interrupt : Type 0} where
+  -- the bytes of two parts of what comes
+  pub bytes_both : (one two : List (Input Interrupt)) (first second : List ℕ)
+      → bytes_of one ≡ first → bytes_of two ≡ second
+      → bytes_of (one ++ two) ≡ first ++ second
+  bytes_both one two first second is later =
+      map-append (λ (input : Input Interrupt). input.byte) one two
+      ∙ ap (λ (front : List ℕ). front ++ bytes_of two) is
+      ∙ ap (λ (end : List ℕ). first ++ end) later
+
+-- bytes that nothing interrupts
+abbrev pub quiet : {Interrupt : Type 0} → List ℕ → List (Input Interrupt)
+quiet bytes = map (λ byte. record { byte = byte; interrupt = None }) bytes
+
+pub quiet_bytes : (Interrupt : Type 0) (bytes : List ℕ)
+    → bytes_of (quiet {Interrupt = Interrupt} bytes) ≡ bytes
+quiet_bytes Interrupt [] = refl
+quiet_bytes Interrupt (byte ∷ bytes) =
+    ap (λ (rest : List ℕ). byte ∷ rest) (quiet_bytes Interrupt bytes)

@@ -1,5 +1,5 @@
 -- A conversation: what is put for the bytes that come, whoever answers the packets.
-use Rattle.std.specs.Prelude.{ℕ, ◌++◌, List, [], ◌∷◌, Bool, false, true, codes, length, nat_lt, if◌then◌else◌}
+use Rattle.std.specs.Prelude.{◌≡◌, ℕ, ◌++◌, List, [], ◌∷◌, Option, Bool, false, true, codes, length, map, nat_lt, if◌then◌else◌}
 use Rattle.debug_link.specs.Link.{Link, Between, Message, Silence, Again, Damage, Whole, link_after, message_of}
 use Rattle.debug_link.specs.Packet.{packet_of, packets_of}
 use Rattle.debug_link.specs.declared.connection.Connection.{Connection}
@@ -86,13 +86,31 @@ unfoldable pub talk_with_byte : {Session : Type 0} → (Session → List ℕ →
 talk_with_byte reply talk byte =
     if talk.is_over then talk else answered reply (marked talk byte) (message_of talk.link byte)
 
-abbrev pub talk_with_bytes : {Session : Type 0} → (Session → List ℕ → Answer Session)
-    → Talk Session → List ℕ → Talk Session
-talk_with_bytes reply talk [] = talk
-talk_with_bytes reply talk (byte ∷ bytes) =
-    talk_with_bytes reply (talk_with_byte reply talk byte) bytes
+-- What comes: a byte, and what interrupts the answer to the packet that it ends, if anything does.
+pub record Input (Interrupt : Type 0) : Type 0 where
+  pub byte : ℕ
+  pub interrupt : Option Interrupt
 
--- the conversation of these bytes, from a session's beginning
-abbrev pub conversation : {Session : Type 0} → (Session → List ℕ → Answer Session)
-    → Session → List ℕ → Talk Session
-conversation reply session bytes = talk_with_bytes reply (first_talk session) bytes
+abbrev pub bytes_of : {Interrupt : Type 0} → List (Input Interrupt) → List ℕ
+bytes_of inputs = map (λ input. input.byte) inputs
+
+abbrev pub talk_with_inputs : {Session Interrupt : Type 0}
+    → (Option Interrupt → Session → List ℕ → Answer Session)
+    → Talk Session → List (Input Interrupt) → Talk Session
+talk_with_inputs reply talk [] = talk
+talk_with_inputs reply talk (input ∷ inputs) =
+    talk_with_inputs reply (talk_with_byte (reply input.interrupt) talk input.byte) inputs
+
+-- the conversation of what comes, from a session's beginning
+abbrev pub conversation : {Session Interrupt : Type 0}
+    → (Option Interrupt → Session → List ℕ → Answer Session)
+    → Session → List (Input Interrupt) → Talk Session
+conversation reply session inputs = talk_with_inputs reply (first_talk session) inputs
+
+-- these bytes came, and this holds of their conversation, whatever interrupted it
+abbrev pub OfSomeTalk : {Session Interrupt : Type 0}
+    → (Option Interrupt → Session → List ℕ → Answer Session)
+    → Session → List ℕ → (Talk Session → Type 0) → Type 0
+OfSomeTalk {Interrupt = Interrupt} reply session bytes holds =
+    (inputs : List (Input Interrupt)) × (bytes_of inputs ≡ bytes)
+    × holds (conversation reply session inputs)

@@ -1,12 +1,12 @@
 -- What is put into a sink of the bytes that a source gives, and why it ends.
-use Rattle.std.specs.Prelude.{◌≡◌, ◌≤◌, ◌++◌, ℕ, false, List, Result, Ok, Err, OnErr, IfOk, IsTrue}
+use Rattle.std.specs.Prelude.{◌≡◌, ◌≤◌, ◌++◌, ℕ, false, List, Option, Result, Ok, Err, OnErr, IfOk, IsTrue}
 use Rattle.outside_edge.specs.Count.{Rose}
 use Rattle.outside_edge.specs.Sink.{Takes, TakesPrefix}
 use Rattle.outside_edge.specs.declared.sink.Sink as sink
 use Rattle.source_server.specs.declared.halt.Halt.{Halt}
 use Rattle.source_server.specs.declared.halt.Halt.TheVariants.{Write, Own}
 use Rattle.source_server.specs.Responder.{Moment, Promise}
-use Rattle.debug_link.specs.Conversation.{Answer, Talk, conversation, is_closed}
+use Rattle.debug_link.specs.Conversation.{Answer, OfSomeTalk, Talk, is_closed}
 use Rattle.debug_link.specs.Reading.{ReaderStandsFor}
 use Rattle.debug_link.specs.Writing.{PacketSink}
 use Rattle.debug_link.specs.declared.answer_fault.AnswerFault.{AnswerFault}
@@ -34,14 +34,14 @@ StopsTalk w old new talk Write =
 
 -- What a sink has taken, behind bytes that a source gave: their conversation, from where the
 -- answerer's session stood.
-abbrev pub talk_promise : {W Session : Type 0} → sink.Ghosts W
-    → (Session → List ℕ → Answer Session) → Session → W → Promise W TalkEnd
+abbrev pub talk_promise : {W Session Interrupt : Type 0} → sink.Ghosts W
+    → (Option Interrupt → Session → List ℕ → Answer Session) → Session → W → Promise W TalkEnd
 talk_promise w reply session first =
     record {
-      answered = λ now bytes. PutsTalk w first now (conversation reply session bytes);
-      ended = λ now bytes. PutsTalk w first now (conversation reply session bytes);
+      answered = λ now bytes. OfSomeTalk reply session bytes (PutsTalk w first now);
+      ended = λ now bytes. OfSomeTalk reply session bytes (PutsTalk w first now);
       stopped = λ now before last why.
-          StopsTalk w first now (conversation reply session (before ++ last)) why;
+          OfSomeTalk reply session (before ++ last) (λ talk. StopsTalk w first now talk why);
     }
 
 -- within a serving, who takes part: the reader of packets, the answerer, and the packets' sink
@@ -94,14 +94,14 @@ pub record StandsBehind {T Session W : Type 0} (stands : T → Session → Type 
   pub rises : w.faults first ≤ w.faults parties.packets.sink
 
 -- what is promised of the parties
-abbrev pub parties_promise : {T Session W : Type 0} → (T → Session → Type 0) → sink.Ghosts W
-    → (Session → List ℕ → Answer Session) → TalkStart Session W
-    → Promise (Moment (PacketResponder T) (PacketSink W)) TalkEnd
+abbrev pub parties_promise : {T Session Interrupt W : Type 0} → (T → Session → Type 0)
+    → sink.Ghosts W → (Option Interrupt → Session → List ℕ → Answer Session)
+    → TalkStart Session W → Promise (Moment (PacketResponder T) (PacketSink W)) TalkEnd
 parties_promise stands w reply start =
     let talk = talk_promise w reply start.session start.sink in
     record {
-      answered = λ now bytes. StandsBehind stands w start.sink (parties_at now)
-          (conversation reply start.session bytes);
+      answered = λ now bytes. OfSomeTalk reply start.session bytes
+          (StandsBehind stands w start.sink (parties_at now));
       ended = λ now bytes. talk.ended now.edge.sink bytes;
       stopped = λ now before last why. talk.stopped now.edge.sink before last why;
     }

@@ -5,7 +5,7 @@ use outside_edge::Sink;
 
 /// One who answers the packets of a debugger.
 pub trait Answerer {
-    ghost use Rattle.std.specs.Prelude.{◌≤◌, ℕ, List, length};
+    ghost use Rattle.std.specs.Prelude.{◌≤◌, ℕ, List, Option, length};
     ghost use Rattle.debug_link.specs.Conversation.{Answer, LONGEST_BODY};
     ghost use Rattle.debug_link.specs.Writing.{Answers, CountsWriteFaults};
 
@@ -15,8 +15,11 @@ pub trait Answerer {
     /// Where its session may stand now.
     ghost stands: { Self → Session → Type 0 };
 
-    /// What it answers to a body there.
-    ghost reply: { Session → List ℕ → Answer Session };
+    /// What may interrupt an answer.
+    ghost Interrupt: { Type 0 };
+
+    /// What it answers to a body there, interrupted or not.
+    ghost reply: { Option Interrupt → Session → List ℕ → Answer Session };
 
     /// Puts its packets, each as soon as it is known, the reply at last.
     fn answer<W: Sink + Drop>(
@@ -26,7 +29,7 @@ pub trait Answerer {
     ) -> Result<Connection, AnswerFault>
         requires { length body.now ≤ LONGEST_BODY }
         ensures answers { (session : Session) → stands self.old session
-            → Answers stands W.Sink packets.old packets.new self.new (reply session body.now)
-            result }
+            → (interrupt : Option Interrupt) × Answers stands W.Sink packets.old packets.new
+            self.new (reply interrupt session body.now) result }
         ensures counts { CountsWriteFaults W.faults packets.old.sink packets.new.sink result };
 }

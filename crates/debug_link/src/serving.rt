@@ -1,7 +1,7 @@
-ghost use Rattle.std.specs.Prelude.{◌≡◌, ◌≤◌, ℕ, List, [], false, length, IfSome, option_map};
+ghost use Rattle.std.specs.Prelude.{◌≡◌, ◌≤◌, ℕ, List, [], Option, false, length, IfSome, option_map};
 ghost use Rattle.outside_edge.specs.Sink.{CountsFaults, Puts};
 ghost use Rattle.source_server.specs.Serving.{Serves};
-ghost use Rattle.debug_link.specs.Conversation.{LONGEST_BODY as longest, Talk, answer_to, mark_of, talk_with_byte, talk_with_bytes};
+ghost use Rattle.debug_link.specs.Conversation.{Input, LONGEST_BODY as longest, Talk, answer_to, bytes_of, mark_of, talk_with_byte, talk_with_inputs};
 ghost use Rattle.debug_link.specs.Link.{Message};
 ghost use Rattle.debug_link.specs.HeldBody.{short_body};
 ghost use Rattle.debug_link.specs.Reading.{heard_of};
@@ -46,9 +46,10 @@ pub fn answer_piece<A: Answerer, W: Sink + Drop>(
     ensures goes_on { (talk : Talk A.Session) (first : W) → talk.is_over ≡ false
         → TalkStandsFor A.stands W.Sink first
         (record { reader = reader.old; answerer = answerer.old; packets = packets.old }) talk
-        → GoesOnTo A.stands W.Sink first
+        → (inputs : List (Input A.Interrupt)) × (bytes_of inputs ≡ piece.now)
+        × GoesOnTo A.stands W.Sink first
         (record { reader = reader.new; answerer = answerer.new; packets = packets.new })
-        (talk_with_bytes A.reply talk piece.now) result }
+        (talk_with_inputs A.reply talk inputs) result }
     ensures counts { CountsWriteFaults W.faults packets.old.sink packets.new.sink result }
 {
     for byte in piece {
@@ -70,9 +71,9 @@ fn answer_byte<A: Answerer, W: Sink + Drop>(
     ensures goes_on { (talk : Talk A.Session) (first : W) → talk.is_over ≡ false
         → TalkStandsFor A.stands W.Sink first
         (record { reader = reader.old; answerer = answerer.old; packets = packets.old }) talk
-        → GoesOnTo A.stands W.Sink first
+        → (interrupt : Option A.Interrupt) × GoesOnTo A.stands W.Sink first
         (record { reader = reader.new; answerer = answerer.new; packets = packets.new })
-        (talk_with_byte A.reply talk byte) result }
+        (talk_with_byte (A.reply interrupt) talk byte) result }
     ensures counts { CountsWriteFaults W.faults packets.old.sink packets.new.sink result }
 {
     let heard = reader.take(byte);
@@ -108,8 +109,8 @@ fn answer_body<A: Answerer, W: Sink + Drop>(
     requires { IfSome body (λ bytes. length bytes.now ≤ longest) }
     ensures answers { (session : A.Session) (bytes : List ℕ) → A.stands answerer.old session
         → option_map (λ bytes. bytes.now) body.entry ≡ short_body bytes
-        → Answers A.stands W.Sink packets.old packets.new answerer.new
-        (answer_to A.reply session bytes) result }
+        → (interrupt : Option A.Interrupt) × Answers A.stands W.Sink packets.old packets.new
+        answerer.new (answer_to (A.reply interrupt) session bytes) result }
     ensures counts { CountsWriteFaults W.faults packets.old.sink packets.new.sink result }
 {
     match body {

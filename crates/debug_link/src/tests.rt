@@ -21,7 +21,9 @@ impl Answerer for Agreement {
     // The tests say what it answers.
     ghost stands = { λ _ _. ⊥ };
 
-    ghost reply = { λ session _. record { session = session; packets = []; connection = Open } };
+    ghost Interrupt = { Unit {0} };
+
+    ghost reply = { λ _ session _. record { session = session; packets = []; connection = Open } };
 
     fn answer<W: Sink + Drop>(
         &mut self,

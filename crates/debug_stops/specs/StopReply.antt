@@ -4,7 +4,7 @@ use Rattle.bus_signals.specs.declared.rule.Rule.{Rule}
 use Rattle.bus_signals.specs.declared.rule.Rule.TheVariants.{I1, K4, K5, K6}
 use Rattle.printed_lines.specs.Line.{word_digits}
 use Rattle.debug_stops.specs.declared.stop.Stop.{Stop}
-use Rattle.debug_stops.specs.declared.stop.Stop.TheVariants.{Plain, Stepped, Watched, Refused, End, Begin}
+use Rattle.debug_stops.specs.declared.stop.Stop.TheVariants.{Plain, Stepped, Watched, Refused, Interrupted, End, Begin}
 use Rattle.debug_stops.specs.declared.watch.WatchKind.{WatchKind}
 use Rattle.debug_stops.specs.declared.watch.WatchKind.TheVariants as watch
 
@@ -32,11 +32,13 @@ refusal_reply K5 = codes "T0a"
 refusal_reply K6 = codes "T0a"
 refusal_reply rule = codes "T0b"
 
--- else SIGTRAP: with where a watch was hit, or with where nothing is left to go to
+-- SIGINT where an interrupt came, else SIGTRAP: with where a watch was hit, or with where nothing
+-- is left to go to
 abbrev pub stop_reply : Stop → List ℕ
 stop_reply Plain = codes "T05"
 stop_reply Stepped = codes "T05"
 stop_reply (Watched hit) = watch_word hit.kind ++ hexadecimal hit.place ++ codes ";"
 stop_reply (Refused rule) = refusal_reply rule
+stop_reply Interrupted = codes "T02"
 stop_reply End = codes "T05replaylog:end;"
 stop_reply Begin = codes "T05replaylog:begin;"

@@ -1,6 +1,8 @@
 -- What is asked to stop a device: breakpoints, watches, and a number of steps.
-use Rattle.std.specs.Prelude.{ℕ, ◌==◌, ◌&&◌, ◌++◌, Bool, true, false, List, [], ◌∷◌, Option, Some, None, is_none, length, nat_le, nat_lt, not, if◌then◌else◌}
+use Rattle.std.specs.Prelude.{ℕ, ◌==◌, ◌&&◌, ◌++◌, Bool, true, false, List, [], ◌∷◌, Option, Some, None, is_none, length, nat_lt, not, if◌then◌else◌}
 use Rattle.std.specs.List.{filter, list_any}
+use Rattle.debug_stops.specs.declared.stop_change.StopChange.{StopChange}
+use Rattle.debug_stops.specs.declared.stop_change.StopChange.TheVariants.{SetBreakpoint, ClearBreakpoint, SetWatch, ClearWatch}
 use Rattle.debug_stops.specs.declared.watch.Watch.{Watch}
 use Rattle.debug_stops.specs.declared.watch.WatchKind.{WatchKind}
 use Rattle.debug_stops.specs.declared.watch.WatchKind.TheVariants.{Write, Read, Either}
@@ -64,10 +66,9 @@ abbrev pub without_watch : Stops → Watch → Stops
 without_watch stops unwanted =
     record stops { watches = filter (λ one. not (same_watch one unwanted)) stops.watches }
 
--- a place is not before the number of steps
-abbrev pub is_due_at : Option ℕ → ℕ → Bool
-is_due_at None place = false
-is_due_at (Some number) place = nat_le number place
-
-abbrev pub is_due : Stops → ℕ → Bool
-is_due stops place = is_due_at stops.until place
+-- with a breakpoint or a watch more or less, where it fits
+abbrev pub with_change : Stops → StopChange → Option Stops
+with_change stops (SetBreakpoint place) = with_breakpoint stops place
+with_change stops (ClearBreakpoint place) = Some (without_breakpoint stops place)
+with_change stops (SetWatch one) = with_watch stops one
+with_change stops (ClearWatch one) = Some (without_watch stops one)

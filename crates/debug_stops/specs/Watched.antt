@@ -1,6 +1,7 @@
 -- The accesses of a step that hit watched bytes. As GDB's manual has it, a watchpoint stops at a
 -- write of its bytes, a read watchpoint at a read, an access watchpoint at either.
 use Rattle.std.specs.Prelude.{ℕ, ◌&&◌, ◌++◌, ◌+◌, Bool, true, List, [], ◌∷◌, Option, Some, None, is_some, nat_le, nat_lt, if◌then◌else◌}
+use Rattle.std.specs.List.{list_any}
 use Rattle.word_arith.specs.declared.size.Size.TheVariants.{Word}
 use Rattle.bus_signals.specs.declared.access.Access.{Access}
 use Rattle.bus_signals.specs.declared.access.Access.TheVariants.{Fetch, Write}
@@ -71,6 +72,10 @@ hits_by_access access (one ∷ watches) =
 abbrev pub hits_by : Option Access → List Watch → List Hit
 hits_by None watches = []
 hits_by (Some access) watches = hits_by_access access watches
+
+-- an access hits a watch
+abbrev pub is_hit : List Watch → Access → Bool
+is_hit watches access = list_any (λ one. is_some (hit_by access one)) watches
 
 -- the hits of a step, in this order
 abbrev pub hits_of : SeenAccesses → List Watch → List Hit

@@ -6,10 +6,12 @@
 
 mod seen_accesses;
 mod stop;
+mod stop_change;
 mod stop_list;
 mod watch;
 
 pub use seen_accesses::SeenAccesses;
 pub use stop::Stop;
+pub use stop_change::StopChange;
 pub use stop_list::StopList;
 pub use watch::{Hit, Watch, WatchKind};

@@ -133,7 +133,7 @@ fn watched_byte(watch: Watch, access: &Access) -> Option<u16>
     }
 }
 
-fn hit_by(access: &Access, watch: Watch) -> Option<Hit>
+pub fn hit_by(access: &Access, watch: Watch) -> Option<Hit>
     ensures { result ≡ hit_by access.now watch }
 {
     if !is_of_kind(watch.kind, access) {

@@ -16,6 +16,8 @@ pub enum Stop {
     Watched(Hit),
     /// Before the instruction that breaks a rule.
     Refused(Rule),
+    /// An interrupt came on the way.
+    Interrupted,
     /// As many steps were made as are made at most.
     End,
     /// There was no cause before.
@@ -32,6 +34,7 @@ impl Stop {
             Stop::Plain | Stop::Stepped => reply.push(b"T05"),
             Stop::Watched(hit) => push_hit(&mut reply, hit),
             Stop::Refused(rule) => reply.push(refusal_reply(rule)),
+            Stop::Interrupted => reply.push(b"T02"),
             Stop::End => reply.push(b"T05replaylog:end;"),
             Stop::Begin => reply.push(b"T05replaylog:begin;"),
         }

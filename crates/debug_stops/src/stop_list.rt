@@ -1,10 +1,14 @@
 ghost use Rattle.std.specs.Prelude.{◌≡◌, ◌==◌, MatchOption, true, false, not};
 ghost use Rattle.std.specs.List.{filter};
-ghost use Rattle.debug_stops.specs.Stops.{no_stops, has_breakpoint, has_watch, is_due, is_empty, same_watch};
-ghost use Rattle.debug_stops.specs.Stops.{with_breakpoint, with_watch, without_breakpoint, without_watch};
+ghost use Rattle.debug_stops.specs.Stops.{no_stops, has_breakpoint, has_watch, is_empty, same_watch};
+ghost use Rattle.debug_stops.specs.Watched.{is_hit};
+ghost use Rattle.debug_stops.specs.Stops.{with_change};
 
+use crate::seen_accesses::hit_by;
+use crate::stop_change::StopChange;
 use crate::watch::{Watch, same_watch};
 use arrayvec::ArrayVec;
+use bus_signals::Access;
 use std::marker::Model;
 
 const MOST_BREAKPOINTS: usize = 64;
@@ -61,11 +65,19 @@ impl StopList {
         self.until = until;
     }
 
-    /// Whether a place is not before the number of steps.
-    pub fn is_due(&self, place: u64) -> bool
-        ensures { result ≡ is_due self.now place }
+    pub fn until(&self) -> Option<u64>
+        ensures { result ≡ self.now.until }
     {
-        self.until.is_some_and(|until| until <= place)
+        self.until
+    }
+
+    /// Whether an access hits a watch.
+    pub fn is_hit(&self, access: Access) -> bool
+        ensures { result ≡ is_hit self.now.watches access }
+    {
+        self.watches
+            .iter()
+            .any(|watch| hit_by(&access, *watch).is_some())
     }
 
     pub fn has_breakpoint(&self, place: u16) -> bool
@@ -80,34 +92,28 @@ impl StopList {
         self.watches.iter().any(|watch| same_watch(watch, wanted))
     }
 
-    /// Sets a breakpoint, where it fits or is held.
-    pub fn set_breakpoint(&mut self, place: u16) -> bool
-        ensures { MatchOption (with_breakpoint self.old place)
+    /// Sets or takes back a breakpoint or a watch. Whether it fits, or is held.
+    pub fn change(&mut self, change: StopChange) -> bool
+        ensures { MatchOption (with_change self.old change)
             ((result ≡ false) × (self.new ≡ self.old))
             (λ stops. (result ≡ true) × (self.new ≡ stops)) }
     {
-        self.has_breakpoint(place) || self.breakpoints.try_push(place).is_ok()
-    }
-
-    pub fn clear_breakpoint(&mut self, place: u16)
-        ensures { self.new ≡ without_breakpoint self.old place }
-    {
-        remove_breakpoint(&mut self.breakpoints, place);
-    }
-
-    /// Sets a watch, where it fits or is held.
-    pub fn set_watch(&mut self, watch: Watch) -> bool
-        ensures { MatchOption (with_watch self.old watch)
-            ((result ≡ false) × (self.new ≡ self.old))
-            (λ stops. (result ≡ true) × (self.new ≡ stops)) }
-    {
-        self.has_watch(&watch) || self.watches.try_push(watch).is_ok()
-    }
-
-    pub fn clear_watch(&mut self, unwanted: &Watch)
-        ensures { self.new ≡ without_watch self.old unwanted.now }
-    {
-        remove_watch(&mut self.watches, unwanted);
+        match change {
+            StopChange::SetBreakpoint(place) => {
+                self.has_breakpoint(place) || self.breakpoints.try_push(place).is_ok()
+            }
+            StopChange::SetWatch(watch) => {
+                self.has_watch(&watch) || self.watches.try_push(watch).is_ok()
+            }
+            StopChange::ClearBreakpoint(place) => {
+                remove_breakpoint(&mut self.breakpoints, place);
+                true
+            }
+            StopChange::ClearWatch(watch) => {
+                remove_watch(&mut self.watches, &watch);
+                true
+            }
+        }
     }
 }
 

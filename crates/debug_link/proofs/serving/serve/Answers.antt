@@ -14,7 +14,8 @@ returns-clause-serves g c = λ session stood last.
     c.args.source.now c.serve.new.source
     (record { responder = c.serve.new.responder; edge = c.serve.new.edge })
     c.serve.new.edge.sink
-    (λ bytes so. (so.talks.put, so.goes_on)) (λ bytes so. so) (λ before last why so. so)
+    (λ bytes so. (so.0, so.1, (so.2.talks.put, so.2.goes_on))) (λ bytes so. so)
+    (λ before last why so. so)
     c.serve.result
     (c.serve.ensures.serves start
     (first_stands g.A.Answerer.stands g.W.Sink g.A.Answerer.reply session
