@@ -1,0 +1,4 @@
+pub mod Between
+pub mod Scans
+pub mod Stretches
+pub mod Views

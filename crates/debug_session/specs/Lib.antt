@@ -1,8 +1,7 @@
 pub mod Cause
 pub mod Going
-pub mod Level
 pub mod Monitor
 pub mod Place
 pub mod Session
 pub mod Shown
-pub mod Watching
+pub mod Sight

@@ -1,26 +1,17 @@
 -- The commands of a user behind `monitor`, and their texts.
-use Rattle.std.specs.Prelude.{ℕ, ◌++◌, zero, suc, List, [], ◌∷◌, codes, length}
+use Rattle.std.specs.Prelude.{ℕ, ◌++◌, ◌-◌, zero, suc, List, [], codes, min}
 use Rattle.std.specs.Fmt.{decimal}
 use Rattle.printed_lines.specs.Line.{flag_digit}
-use Rattle.device_trace.specs.Logs.{aux_of, exec_of}
-use Rattle.device_trace.specs.Play.{Play}
-use Rattle.device_trace.specs.Start.{Start}
-use Rattle.device_trace.specs.Text.{play_text}
-use Rattle.device_trace.specs.Trace.{logs_after}
-use Rattle.trace_line.specs.LineText.{trace_line as step_line}
-use Rattle.clean_trace.specs.TraceText.{next_line}
 use Rattle.debug_commands.specs.Request.{most_steps}
 use Rattle.debug_commands.specs.declared.request.Request.{Request}
 use Rattle.debug_commands.specs.declared.request.Request.TheVariants.{Steps, Flags, Play as PlayText, Trace, Until, Help, Other}
-use Rattle.debug_session.specs.Place.{Run, logs_at, play_to}
+use Rattle.debug_session.specs.Sight.{Sight, StepSight, View}
 
--- the last so many lines of a trace file
-abbrev pub last_lines : Start → Play → ℕ → List ℕ
-last_lines start play zero = []
-last_lines start [] (suc lines) = []
-last_lines start (events ∷ play) (suc lines) =
-    last_lines start play lines
-    ++ step_line (length play) (next_line start (logs_after start play) events)
+-- a text of so many steps from a place on
+abbrev pub texts_from : View → (StepSight → List ℕ) → ℕ → ℕ → List ℕ
+texts_from view text place zero = []
+texts_from view text place (suc steps) =
+    text (view place).next ++ texts_from view text (suc place) steps
 
 abbrev pub help_text : List ℕ
 help_text =
@@ -30,14 +21,22 @@ help_text =
     ++ codes "monitor trace N   the last N lines of their trace file, N in 1..1000\n"
     ++ codes "monitor until N   continue and reverse-continue stop at N steps too; 0 takes this back\n"
 
-abbrev pub request_text : Run → ℕ → Request → List ℕ
-request_text run place Steps =
+abbrev pub flags_text : Sight → List ℕ
+flags_text here =
+    codes "exec " ++ flag_digit here.exec ++ codes " aux " ++ flag_digit here.aux ++ codes "\n"
+
+-- the last so many lines of a trace file
+abbrev pub last_lines : View → ℕ → ℕ → List ℕ
+last_lines view place lines =
+    texts_from view (λ step. step.trace_line) (place - lines) (min lines place)
+
+abbrev pub request_text : View → ℕ → Request → List ℕ
+request_text view place Steps =
     decimal place ++ codes " steps of " ++ decimal most_steps ++ codes "\n"
-request_text run place Flags =
-    codes "exec " ++ flag_digit (exec_of (logs_at run place))
-    ++ codes " aux " ++ flag_digit (aux_of run.start (logs_at run place)) ++ codes "\n"
-request_text run place PlayText = play_text run.start (play_to run place)
-request_text run place (Trace lines) = last_lines run.start (play_to run place) lines
-request_text run place (Until number) = []
-request_text run place Help = help_text
-request_text run place Other = codes "no such command: monitor help\n"
+request_text view place Flags = flags_text (view place)
+request_text view place PlayText =
+    texts_from view (λ step. step.lines) 0 place ++ (view place).end_line
+request_text view place (Trace lines) = last_lines view place lines
+request_text view place (Until number) = []
+request_text view place Help = help_text
+request_text view place Other = codes "no such command: monitor help\n"

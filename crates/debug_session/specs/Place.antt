@@ -1,18 +1,24 @@
--- The places of a run: what a debugger shows at a place are the device's logs after so many steps.
-use Rattle.std.specs.Prelude.{ℕ, ◌==◌, ◌&&◌, ◌||◌, Bool, false, zero, suc, not, is_some, List, Option, Some, None, if◌then◌else◌}
+-- The places of a run: what a debugger reads there are the device's logs after so many steps.
+use Rattle.std.specs.Prelude.{ℕ, ◌||◌, ◌%◌, Bool, true, false, suc, List, [], Option, Some, None, min, nat_lt, not, if◌then◌else◌}
+use Rattle.word_arith.specs.declared.size.Size.TheVariants.{Byte}
 use Rattle.bus_signals.specs.declared.bus_record.BusRecord.{BusRecord}
 use Rattle.bus_signals.specs.declared.event.Event.{Event}
-use Rattle.bus_signals.specs.declared.kind.Kind.{Kind}
-use Rattle.bus_signals.specs.Kind.{is_boot, is_cpu, is_rom}
-use Rattle.bus_signals.specs.Map.{ROM_ENTRY}
-use Rattle.part_definitions.specs.CpuRegister.{Registers, is_asleep, pc_of}
-use Rattle.part_definitions.specs.CpuState.{is_at_boundary}
-use Rattle.device_trace.specs.Logs.{Logs}
+use Rattle.bus_signals.specs.declared.kind.Kind.TheVariants.{Idle}
+use Rattle.bus_signals.specs.Map.{key_region, lies_in, stack_region}
+use Rattle.printed_lines.specs.Line.{end_line}
+use Rattle.device_trace.specs.Logs.{Logs, aux_of, exec_of}
 use Rattle.device_trace.specs.Play.{Play}
-use Rattle.device_trace.specs.Progress.{Progress, Held, Runs, InCall, last_registers}
+use Rattle.device_trace.specs.Progress.{last_registers, next_pc_of, stands_at_boundary}
+use Rattle.device_trace.specs.Signals.{number_read}
 use Rattle.device_trace.specs.Start.{Start}
 use Rattle.device_trace.specs.Step.{next_record}
+use Rattle.device_trace.specs.Text.{lines_of_step}
 use Rattle.device_trace.specs.Trace.{logs_after, play_of}
+use Rattle.trace_line.specs.LineText.{trace_line}
+use Rattle.clean_trace.specs.TraceText.{next_line}
+use Rattle.debug_commands.specs.Request.{most_steps}
+use Rattle.debug_session.specs.Sight.{Sight, StepSight, View}
+use Rattle.debug_stops.specs.Watched.{hits_of, seen_accesses}
 
 -- what a device is powered on with, and the events of each of its steps
 pub record Run : Type 0 where
@@ -29,51 +35,65 @@ logs_at run place = logs_after run.start (play_to run place)
 unfoldable pub step_at : Run → ℕ → BusRecord
 step_at run place = next_record run.start (logs_at run place) (run.events_at place)
 
-abbrev pub is_refused : BusRecord → Bool
-is_refused entry = is_some entry.reset
+-- a flag is not what it was
+abbrev pub differs : Bool → Bool → Bool
+differs true after = not after
+differs false after = after
 
-abbrev pub registers_at : Run → ℕ → Registers
-registers_at run place = last_registers (logs_at run place).progress
+abbrev pub exec_at : Run → ℕ → Bool
+exec_at run place = exec_of (logs_at run place)
 
--- the processor runs, and neither an instruction nor an interrupt entry is in progress
-abbrev pub stands_at_boundary : Progress → Bool
-stands_at_boundary Held = false
-stands_at_boundary (Runs cpu) = is_at_boundary cpu
-stands_at_boundary (InCall regs words) = false
+abbrev pub aux_at : Run → ℕ → Bool
+aux_at run place = aux_of run.start (logs_at run place)
 
-abbrev pub is_boundary : Run → ℕ → Bool
-is_boundary run place = stands_at_boundary (logs_at run place).progress
+-- a place that is neither secret nor past the last
+abbrev pub is_shown : ℕ → Bool
+is_shown at = if lies_in key_region at || lies_in stack_region at then false else nat_lt at 0x10000
 
--- at a boundary: the processor doesn't sleep, or a call of the ROM begins
-abbrev pub is_awake : Run → ℕ → Bool
-is_awake run place =
-    not (is_asleep (registers_at run place)) || (pc_of (registers_at run place) == ROM_ENTRY)
+-- the byte that a read would give
+abbrev pub shown_at : Run → ℕ → ℕ → Option ℕ
+shown_at run place at =
+    if is_shown at then Some (number_read run.start (logs_at run place) at Byte % 256) else None
 
--- an instruction, or a call of the ROM, which is one instruction here
-abbrev pub is_instruction : Kind → Bool
-is_instruction kind = is_cpu kind || is_rom kind
+unfoldable pub step_sight : Run → ℕ → StepSight
+step_sight run place =
+    record {
+      kind = (step_at run place).kind;
+      refused = (step_at run place).reset;
+      hits = hits_of (seen_accesses (step_at run place)
+          (differs (exec_at run place) (exec_at run (suc place)))
+          (differs (aux_at run place) (aux_at run (suc place))));
+      lines = lines_of_step run.start (run.events_at place) (play_to run place);
+      trace_line = trace_line place (next_line run.start (logs_at run place) (run.events_at place));
+    }
 
--- one begins with the step at a place, which may be refused
-abbrev pub begins : Run → ℕ → Bool
-begins run place = is_boundary run place && is_instruction (step_at run place).kind
+-- no step is made behind the last place
+abbrev pub no_step : StepSight
+no_step =
+    record {
+      kind = Idle;
+      refused = None;
+      hits = λ watches. [];
+      lines = [];
+      trace_line = [];
+    }
 
--- one has ended with the step before a place, or a boot has
-abbrev pub ends : Run → ℕ → Bool
-ends run zero = false
-ends run (suc before) =
-    is_boundary run (suc before)
-    && (is_instruction (step_at run before).kind || is_boot (step_at run before).kind)
+abbrev pub next_sight : Run → ℕ → StepSight
+next_sight run place = if nat_lt place most_steps then step_sight run place else no_step
 
--- the last boundary at or before a place, with no refused step since
-abbrev pub last_boundary : Run → ℕ → Option ℕ
-last_boundary run zero = None
-last_boundary run (suc before) =
-    if is_boundary run (suc before) then Some (suc before)
-    else if is_refused (step_at run before) then None
-    else last_boundary run before
+unfoldable pub sight_at : Run → ℕ → Sight
+sight_at run place =
+    record {
+      boundary = stands_at_boundary (logs_at run place).progress;
+      registers = last_registers (logs_at run place).progress;
+      level = (logs_at run place).level;
+      exec = exec_at run place;
+      aux = aux_at run place;
+      byte_at = shown_at run place;
+      end_line = end_line place (next_pc_of (logs_at run place).progress) (exec_at run place);
+      next = next_sight run place;
+    }
 
--- the last boundary before a place
-abbrev pub earlier_boundary : Run → ℕ → Option ℕ
-earlier_boundary run zero = None
-earlier_boundary run (suc before) =
-    if is_boundary run before then Some before else earlier_boundary run before
+-- a debugger goes to no place behind so many steps
+abbrev pub view_of : Run → View
+view_of run place = sight_at run (min place most_steps)

@@ -1,26 +1,26 @@
 -- What a debugger answers, from where its session stands.
-use Rattle.std.specs.Prelude.{ℕ, ◌==◌, ◌++◌, ◌-◌, true, false, zero, suc, List, [], ◌∷◌, Option, Some, None, codes, min, if◌then◌else◌}
-use Rattle.hex.specs.Hex.{encode_lower}
+use Rattle.std.specs.Prelude.{ℕ, ◌==◌, ◌++◌, ◌-◌, zero, suc, List, [], ◌∷◌, Option, Some, None, codes, is_some, if◌then◌else◌}
 use Rattle.printed_lines.specs.Line.{reset_line}
-use Rattle.device_trace.specs.Text.{lines_of_step}
 use Rattle.debug_link.specs.Console.{console}
 use Rattle.debug_link.specs.Conversation.{Answer}
 use Rattle.debug_link.specs.declared.connection.Connection.TheVariants.{Open, Closed}
 use Rattle.debug_stops.specs.StopReply.{stop_reply}
-use Rattle.debug_stops.specs.Stops.{Stops, no_stops, with_breakpoint, with_watch, without_breakpoint, without_watch}
+use Rattle.debug_stops.specs.Stops.{Stops, no_stops, with_change}
 use Rattle.debug_stops.specs.declared.stop.Stop.{Stop}
 use Rattle.debug_stops.specs.declared.stop.Stop.TheVariants as stop
 use Rattle.debug_commands.specs.Command.{command_of}
 use Rattle.debug_commands.specs.Request.{most_steps}
 use Rattle.debug_commands.specs.declared.command.Command.{Command}
 use Rattle.debug_commands.specs.declared.command.Going.{Going}
-use Rattle.debug_commands.specs.declared.command.Command.TheVariants.{Supported, LastStop, Attached, Registers, Memory, SetBreakpoint, ClearBreakpoint, SetWatch, ClearWatch, Actions, Go, BackStep, BackOn, Monitor, Detach, Kill, Refused, Unknown}
+use Rattle.debug_commands.specs.declared.command.Way.{Way}
+use Rattle.debug_commands.specs.declared.command.Way.TheVariants.{Ahead, Back}
+use Rattle.debug_commands.specs.declared.command.Command.TheVariants.{Supported, LastStop, Attached, Registers, Memory, Change, Actions, Go, Monitor, Detach, Kill, Refused, Unknown}
 use Rattle.debug_commands.specs.declared.request.Request.{Request}
 use Rattle.debug_commands.specs.declared.request.Request.TheVariants.{Until}
-use Rattle.debug_session.specs.Going.{Standing, back_to, where_to}
+use Rattle.debug_session.specs.Going.{Standing, interrupted, where_to}
 use Rattle.debug_session.specs.Monitor.{request_text}
-use Rattle.debug_session.specs.Place.{Run, is_refused, play_to, step_at}
-use Rattle.debug_session.specs.Shown.{bytes_shown, is_shown, registers_shown}
+use Rattle.debug_session.specs.Shown.{memory_body, registers_shown}
+use Rattle.debug_session.specs.Sight.{View}
 
 -- Only these change by what is asked; the run never does.
 pub record Session : Type 0 where
@@ -37,31 +37,28 @@ first_session = record {
 }
 
 -- the lines of so many steps from a place on, each in packets of its own
-abbrev pub told : Run → ℕ → ℕ → List (List ℕ)
-told run place zero = []
-told run place (suc steps) =
-    console (lines_of_step run.start (run.events_at place) (play_to run place))
-    ++ told run (suc place) steps
+abbrev pub told : View → ℕ → ℕ → List (List ℕ)
+told view place zero = []
+told view place (suc steps) = console (view place).next.lines ++ told view (suc place) steps
 
 -- the next step from a place on that is refused
-abbrev pub refused_step : Run → ℕ → ℕ → ℕ
-refused_step run place zero = place
-refused_step run place (suc steps) =
-    if is_refused (step_at run place) then place else refused_step run (suc place) steps
+abbrev pub refused_step : View → ℕ → ℕ → ℕ
+refused_step view place zero = place
+refused_step view place (suc steps) =
+    if is_some (view place).next.refused then place else refused_step view (suc place) steps
 
-abbrev pub warning_of : Run → ℕ → Stop → List (List ℕ)
-warning_of run place (stop.Refused rule) =
+-- before a refusal its own line
+abbrev pub warning : View → ℕ → Stop → List (List ℕ)
+warning view place (stop.Refused rule) =
     console (codes "stops before "
-    ++ reset_line (refused_step run place (most_steps - place)) rule)
-warning_of run place other = []
+    ++ reset_line (refused_step view place (most_steps - place)) rule)
+warning view place other = []
 
-abbrev pub warning : Run → Standing → List (List ℕ)
-warning run now = warning_of run now.place now.stop
-
--- the session at another place, with the lines of the steps up to there, and before a refusal its
--- own line
-abbrev pub lines_to : Run → ℕ → Standing → List (List ℕ)
-lines_to run place now = told run place (now.place - place) ++ warning run now
+-- forwards the lines of the steps up to another place
+abbrev pub lines_to : View → Way → ℕ → Standing → List (List ℕ)
+lines_to view Ahead place now =
+    told view place (now.place - place) ++ warning view now.place now.stop
+lines_to view Back place now = []
 
 -- one packet, and the session stays open
 abbrev pub says : Session → List ℕ → Answer Session
@@ -76,17 +73,12 @@ stands_at session now lines =
       connection = Open;
     }
 
-abbrev pub gone_on : Run → Session → Going → Answer Session
-gone_on run session going =
-    let now : Standing = where_to run session.stops session.place going in
-    stands_at session now (lines_to run session.place now)
-
--- the bytes of the memory, at most 2,048 of them; E01 where the first can't be shown
-abbrev pub memory_body : Run → ℕ → ℕ → ℕ → List ℕ
-memory_body run place first size =
-    if size == 0 then []
-    else if is_shown first then encode_lower (bytes_shown run place first (min size 2048))
-    else codes "E01"
+abbrev pub goes : View → Option ℕ → Session → Way → Going → Answer Session
+goes view interrupt session way going =
+    let now : Standing =
+    interrupted view session.place interrupt
+    (where_to view session.stops way going session.place) in
+    stands_at session now (lines_to view way session.place now)
 
 -- with other breakpoints or watches, where they fit
 abbrev pub with_stops : Session → Option Stops → Answer Session
@@ -102,11 +94,11 @@ after_request session (Until number) =
     record session { stops = record session.stops { until = until_of number } }
 after_request session request = session
 
-abbrev pub monitored : Run → Session → Request → Answer Session
-monitored run session request =
+abbrev pub monitored : View → Session → Request → Answer Session
+monitored view session request =
     record {
       session = after_request session request;
-      packets = console (request_text run session.place request) ++ codes "OK" ∷ [];
+      packets = console (request_text view session.place request) ++ codes "OK" ∷ [];
       connection = Open;
     }
 
@@ -114,33 +106,25 @@ abbrev pub closes : Session → List (List ℕ) → Answer Session
 closes session packets =
     record { session = session; packets = packets; connection = Closed }
 
-abbrev pub answer_of : Run → Session → Command → Answer Session
-answer_of run session Supported =
+-- an interrupt has a place, if one comes
+abbrev pub answer_of : View → Option ℕ → Session → Command → Answer Session
+answer_of view interrupt session Supported =
     says session (codes "PacketSize=1000;ReverseStep+;ReverseContinue+")
-answer_of run session LastStop = says session (stop_reply session.stop)
-answer_of run session Attached = says session (codes "1")
-answer_of run session Registers = says session (registers_shown run session.place)
-answer_of run session (Memory first size) =
-    says session (memory_body run session.place first size)
-answer_of run session (SetBreakpoint place) =
-    with_stops session (with_breakpoint session.stops place)
-answer_of run session (ClearBreakpoint place) =
-    with_stops session (Some (without_breakpoint session.stops place))
-answer_of run session (SetWatch one) = with_stops session (with_watch session.stops one)
-answer_of run session (ClearWatch one) =
-    with_stops session (Some (without_watch session.stops one))
-answer_of run session Actions = says session (codes "vCont;c;C;s;S;r")
-answer_of run session (Go going) = gone_on run session going
-answer_of run session BackStep =
-    stands_at session (back_to run session.stops session.place true) []
-answer_of run session BackOn =
-    stands_at session (back_to run session.stops session.place false) []
-answer_of run session (Monitor request) = monitored run session request
-answer_of run session Detach = closes session (codes "OK" ∷ [])
-answer_of run session Kill = closes session []
-answer_of run session Refused = says session (codes "E01")
-answer_of run session Unknown = says session []
+answer_of view interrupt session LastStop = says session (stop_reply session.stop)
+answer_of view interrupt session Attached = says session (codes "1")
+answer_of view interrupt session Registers = says session (registers_shown (view session.place))
+answer_of view interrupt session (Memory first size) =
+    says session (memory_body (view session.place) first size)
+answer_of view interrupt session (Change change) =
+    with_stops session (with_change session.stops change)
+answer_of view interrupt session Actions = says session (codes "vCont;c;C;s;S;r")
+answer_of view interrupt session (Go way going) = goes view interrupt session way going
+answer_of view interrupt session (Monitor request) = monitored view session request
+answer_of view interrupt session Detach = closes session (codes "OK" ∷ [])
+answer_of view interrupt session Kill = closes session []
+answer_of view interrupt session Refused = says session (codes "E01")
+answer_of view interrupt session Unknown = says session []
 
 -- the reply to a body
-unfoldable pub reply : Run → Session → List ℕ → Answer Session
-reply run session body = answer_of run session (command_of body)
+unfoldable pub reply : View → Option ℕ → Session → List ℕ → Answer Session
+reply view interrupt session body = answer_of view interrupt session (command_of body)

@@ -1,10 +1,7 @@
 -- What a debugger shows at a place.
-use Rattle.std.specs.Prelude.{ℕ, ◌||◌, ◌/◌, ◌%◌, ◌++◌, ◌∷◌, [], Bool, false, zero, suc, List, nat_lt, if◌then◌else◌}
-use Rattle.word_arith.specs.declared.size.Size.TheVariants.{Byte}
-use Rattle.bus_signals.specs.Map.{key_region, lies_in, stack_region}
-use Rattle.device_trace.specs.Signals.{number_read}
+use Rattle.std.specs.Prelude.{ℕ, ◌==◌, ◌/◌, ◌%◌, ◌++◌, ◌∷◌, [], zero, suc, List, Option, Some, None, codes, min, if◌then◌else◌}
 use Rattle.hex.specs.Hex.{encode_lower}
-use Rattle.debug_session.specs.Place.{Run, logs_at, registers_at}
+use Rattle.debug_session.specs.Sight.{Sight}
 
 -- a register has four bytes for GDB, the low one first
 abbrev pub register_bytes : ℕ → List ℕ
@@ -14,18 +11,24 @@ abbrev pub registers_bytes : List ℕ → List ℕ
 registers_bytes [] = []
 registers_bytes (word ∷ words) = register_bytes word ++ registers_bytes words
 
-abbrev pub registers_shown : Run → ℕ → List ℕ
-registers_shown run place = encode_lower (registers_bytes (registers_at run place))
-
--- the byte that a read would give; a secret place and one past the last have none
-abbrev pub is_shown : ℕ → Bool
-is_shown at = if lies_in key_region at || lies_in stack_region at then false else nat_lt at 0x10000
-
-abbrev pub byte_shown : Run → ℕ → ℕ → ℕ
-byte_shown run place at = number_read run.start (logs_at run place) at Byte % 256
+abbrev pub registers_shown : Sight → List ℕ
+registers_shown here = encode_lower (registers_bytes here.registers)
 
 -- the bytes of at most so many addresses, up to the first that has none
-abbrev pub bytes_shown : Run → ℕ → ℕ → ℕ → List ℕ
-bytes_shown run place at zero = []
-bytes_shown run place at (suc count) =
-    if is_shown at then byte_shown run place at ∷ bytes_shown run place (suc at) count else []
+abbrev pub byte_and : Option ℕ → List ℕ → List ℕ
+byte_and None bytes = []
+byte_and (Some byte) bytes = byte ∷ bytes
+
+abbrev pub bytes_shown : Sight → ℕ → ℕ → List ℕ
+bytes_shown here at zero = []
+bytes_shown here at (suc count) = byte_and (here.byte_at at) (bytes_shown here (suc at) count)
+
+-- at most 2,048 of them; E01 where the first has none
+abbrev pub bytes_or : Option ℕ → List ℕ → List ℕ
+bytes_or None bytes = codes "E01"
+bytes_or (Some byte) bytes = encode_lower bytes
+
+abbrev pub memory_body : Sight → ℕ → ℕ → List ℕ
+memory_body here first size =
+    if size == 0 then []
+    else bytes_or (here.byte_at first) (bytes_shown here first (min size 2048))
