@@ -1,8 +1,7 @@
+pub mod EarlyEnds
 pub mod FirstStops
-pub mod LastStops
 pub mod Sessions
 pub mod ShownPlays
-pub mod Standings
+pub mod StepTexts
 pub mod StepsBack
 pub mod ToldPieces
-pub mod UnderWay

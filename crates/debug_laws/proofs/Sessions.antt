@@ -1,108 +1,140 @@
 -- A session stands where it may, whatever it is asked.
-use Rattle.std.proofs.Common.{◌≡◌, ◌≤◌, ◌<◌, inl, inr, ⊎_elim, ℕ, zero, suc, Bool, true, false, List, [], ◌∷◌, Option, Some, None, length, nat_lt, ap, arith}
-use Rattle.std.specs.Prelude.{if◌then◌else◌}
-use Rattle.std.proofs.lemmas.Bool.{cases_lt}
-use Rattle.debug_link.specs.Conversation.{Answer, LONGEST_BODY, Talk, answered, first_talk, marked, talk_with_byte, talk_with_bytes}
+use Rattle.std.proofs.Common.{◌≡◌, ◌<◌, ◌≤◌, ◌+◌, ◌⊎◌, inl, inr, ⊎_elim, ℕ, Bool, true, false, List, [], ◌∷◌, Option, Some, None, length, nat_lt, refl, ap, sym, subst, arith}
+use Rattle.std.specs.Prelude.{◌==◌, ◌&&◌, ◌||◌, if◌then◌else◌, max, min, nat_le}
+use Rattle.std.proofs.lemmas.Bool.{and_parts, eqb-true, leb-true, or_cases}
+use Rattle.debug_link.specs.Conversation.{Answer, Input, LONGEST_BODY, Talk, answered, first_talk, marked, talk_with_byte, talk_with_inputs}
 use Rattle.debug_link.specs.Link.{Message, Silence, Again, Damage, Whole, message_of}
 use Rattle.debug_link.specs.declared.connection.Connection.TheVariants.{Open}
 use Rattle.debug_commands.specs.Command.{command_of}
 use Rattle.debug_commands.specs.Request.{most_steps}
 use Rattle.debug_commands.specs.declared.command.Command.{Command}
-use Rattle.debug_commands.specs.declared.command.Command.TheVariants.{BackOn, BackStep, Go, Monitor, SetBreakpoint, SetWatch}
+use Rattle.debug_commands.specs.declared.command.Command.TheVariants.{Change, Go, Monitor}
 use Rattle.debug_commands.specs.declared.command.Going.{Going}
-use Rattle.debug_commands.specs.declared.command.Going.TheVariants.{On, Range, Step}
+use Rattle.debug_commands.specs.declared.command.Way.{Way}
+use Rattle.debug_commands.specs.declared.command.Way.TheVariants.{Ahead, Back}
 use Rattle.debug_commands.specs.declared.request.Request.{Request}
 use Rattle.debug_commands.specs.declared.request.Request.TheVariants.{Until}
-use Rattle.debug_stops.specs.Stops.{Stops, with_breakpoint, with_watch}
-use Rattle.debug_session.specs.Going.{Standing, back_to, goes_again, going_on, highest_of, stepping_in, where_to}
-use Rattle.debug_session.specs.Place.{Run, is_boundary}
+use Rattle.debug_stops.specs.Stops.{Stops, with_change}
+use Rattle.debug_stops.specs.declared.stop.Stop.TheVariants.{Begin, End, Interrupted}
+use Rattle.debug_session.specs.Cause.{cause}
+use Rattle.debug_session.proofs.Between.{between-is}
+use Rattle.debug_session.specs.Going.{Standing, interrupted, lies_between, seek_of, where_to}
 use Rattle.debug_session.specs.Session.{Session, after_request, answer_of, first_session, reply, with_stops}
-use Rattle.debug_laws.specs.FirstStop.{HasEnded, HasStopped}
-use Rattle.debug_laws.specs.LastStop.{HasBegun, HasStoppedBack}
+use Rattle.debug_session.specs.Sight.{View}
+use Rattle.debug_laws.specs.FirstStop.{HasStopped}
 use Rattle.debug_laws.specs.StepBack.{MayStandAt, session_after}
-use Rattle.debug_laws.proofs.FirstStops.{stops-first}
-use Rattle.debug_laws.proofs.LastStops.{stops-last}
-use Rattle.debug_laws.proofs.Standings.{at-boundary, at-end}
+use Rattle.debug_laws.proofs.FirstStops.{stops-first, stops-last}
+use Rattle.debug_laws.proofs.StepsBack.{at-boundary}
 
-module _ (run : Run) (stops : Stops) where
-  gone-stands : (place : ℕ) (steps : Bool)
-      → MayStandAt run (going_on run stops place steps).place
-  gone-stands place steps =
-      let now : Standing = going_on run stops place steps in
+module _ (view : View) (stops : Stops) where
+  pub gone-stands : (way : Way) (going : Going) (place : ℕ) → MayStandAt view place
+      → MayStandAt view (where_to view stops way going place).place
+  gone-stands Ahead going place may =
+      let now : Standing = where_to view stops Ahead going place in
       ⊎_elim
-      (λ (before : place < most_steps).
+      (λ (stopped : HasStopped (cause view stops (seek_of view Ahead going place)) (place + 1)
+      most_steps now).
+      record {
+        behind_boot = omega (arith, stopped.from);
+        within = stopped.to;
+        settled = inr (inl (at-boundary (view now.place).boundary _ now.stop stopped.why).0);
+      })
+      (λ (ended : (now ≡ record { place = most_steps; stop = End })
+      × (place < most_steps
+      → cause view stops (seek_of view Ahead going place) most_steps ≡ None)).
+      let last : now.place ≡ most_steps = ap (λ (one : Standing). one.place) ended.0 in
+      record {
+        behind_boot = omega (arith, last, may.behind_boot, may.within);
+        within = omega (arith, last);
+        settled = inr (inr last);
+      })
+      (stops-first view stops going place may.within).stands
+  gone-stands Back going place may =
+      let now : Standing = where_to view stops Back going place in
       ⊎_elim
-      (λ (stopped : HasStopped most_steps run stops (highest_of steps run place) place place now).
-      inr (inl (at-boundary (is_boundary run now.place) _ now.stop stopped.cause).0))
-      (λ (ended : HasEnded most_steps run stops (highest_of steps run place) place place now).
-      let last : now.place ≡ most_steps = ap (λ (one : Standing). one.place) ended.at_end in
-      inr (inr (omega (arith, last))))
-      (stops-first run stops place steps (omega (arith, before))).why)
-      (λ (past : most_steps ≤ place).
-      let same : now.place ≡ place =
-      ap (λ (one : Standing). one.place) (at-end run stops place steps past) in
-      inr (inr (omega (arith, same, past))))
-      (cases_lt place most_steps)
+      (λ (stopped : (now.place < place)
+      × HasStopped (cause view stops (seek_of view Back going place)) 1 place now).
+      record {
+        behind_boot = stopped.1.from;
+        within = omega (arith, stopped.0, may.within);
+        settled = inr (inl (at-boundary (view now.place).boundary _ now.stop stopped.1.why).0);
+      })
+      (λ (begun : (now ≡ record { place = 1; stop = Begin })
+      × (1 < place → cause view stops (seek_of view Back going place) 1 ≡ None)).
+      let first : now.place ≡ 1 = ap (λ (one : Standing). one.place) begun.0 in
+      record {
+        behind_boot = omega (arith, first);
+        within = omega (arith, first, may.behind_boot, may.within);
+        settled = inl first;
+      })
+      (stops-last view stops going place).stands
 
-  back-stands : (place : ℕ) (steps : Bool)
-      → MayStandAt run (back_to run stops place steps).place
-  back-stands place steps =
-      let now : Standing = back_to run stops place steps in
-      ⊎_elim
-      (λ (stopped : HasStoppedBack run stops (highest_of steps run place) place place now).
-      inr (inl (at-boundary (is_boundary run now.place) _ now.stop stopped.cause).0))
-      (λ (begun : HasBegun run stops (highest_of steps run place) place place now).
-      let first : now.place ≡ 1 = ap (λ (one : Standing). one.place) begun.at_begin in
-      inl (omega (arith, first)))
-      (stops-last run stops place steps).why
+-- where an interrupt may end a way
+module _ (view : View) (from : ℕ) (stood : MayStandAt view from) (now : Standing)
+    (stands : MayStandAt view now.place)
+  where
+    either-stands : (test : Bool) (one : Standing) → (test ≡ true → MayStandAt view one.place)
+        → MayStandAt view (if test then one else now).place
+    either-stands true one here = here refl
+    either-stands false one here = stands
 
-  either-stands : (test : Bool) (one other : Standing) → MayStandAt run one.place
-      → MayStandAt run other.place → MayStandAt run (if test then one else other).place
-  either-stands true one other here there = here
-  either-stands false one other here there = there
+    ended-stands : (place : ℕ)
+        → (lies_between from now.place place && ((view place).boundary || (place == from))) ≡ true
+        → MayStandAt view place
+    ended-stands place is =
+        let parts =
+        and_parts (lies_between from now.place place) ((view place).boundary || (place == from))
+        is in
+        let lies = between-is from now.place place parts.0 in
+        record {
+          behind_boot = omega (arith, lies.0, stood.behind_boot, stands.behind_boot);
+          within = omega (arith, lies.1, stood.within, stands.within);
+          settled = ⊎_elim
+              (λ (here : (view place).boundary ≡ true). inr (inl here))
+              (λ (same : (place == from) ≡ true).
+              subst
+              (λ (at : ℕ). (at ≡ 1) ⊎ ((view at).boundary ≡ true) ⊎ (at ≡ most_steps))
+              (sym (eqb-true place from same)) stood.settled)
+              (or_cases (view place).boundary (place == from) parts.1);
+        }
 
-  stepped-stands : (first end turns : ℕ) (now : Standing) → MayStandAt run now.place
-      → MayStandAt run (stepping_in run stops first end turns now).place
-  stepped-stands first end zero now stands = stands
-  stepped-stands first end (suc turns) now stands =
-      let next : Standing = going_on run stops now.place true in
-      either-stands (goes_again run first end now) (stepping_in run stops first end turns next) now
-      (stepped-stands first end turns next (gone-stands now.place true)) stands
+    interrupted-stands : (interrupt : Option ℕ)
+        → MayStandAt view (interrupted view from interrupt now).place
+    interrupted-stands None = stands
+    interrupted-stands (Some place) =
+        either-stands
+        (lies_between from now.place place && ((view place).boundary || (place == from)))
+        (record { place = place; stop = Interrupted }) (ended-stands place)
 
-  led-stands : (place : ℕ) (going : Going)
-      → MayStandAt run (where_to run stops place going).place
-  led-stands place On = gone-stands place false
-  led-stands place Step = gone-stands place true
-  led-stands place (Range first end) =
-      stepped-stands first end most_steps (going_on run stops place true) (gone-stands place true)
-
-module _ (run : Run) (session : Session) (stands : MayStandAt run session.place) where
-  stops-stand : (stops : Option Stops) → MayStandAt run (with_stops session stops).session.place
+module _ (view : View) (session : Session) (stands : MayStandAt view session.place) where
+  stops-stand : (stops : Option Stops) → MayStandAt view (with_stops session stops).session.place
   stops-stand None = stands
   stops-stand (Some stops) = stands
 
-  request-stands : (request : Request) → MayStandAt run (after_request session request).place
+  request-stands : (request : Request) → MayStandAt view (after_request session request).place
   request-stands (Until number) = stands
   request-stands request = stands
 
-  pub answer-stands : (command : Command)
-      → MayStandAt run (answer_of run session command).session.place
-  answer-stands (SetBreakpoint place) = stops-stand (with_breakpoint session.stops place)
-  answer-stands (SetWatch one) = stops-stand (with_watch session.stops one)
-  answer-stands (Go going) = led-stands run session.stops session.place going
-  answer-stands BackStep = back-stands run session.stops session.place true
-  answer-stands BackOn = back-stands run session.stops session.place false
-  answer-stands (Monitor request) = request-stands request
-  answer-stands command = stands
+  answer-stands : (interrupt : Option ℕ) (command : Command)
+      → MayStandAt view (answer_of view interrupt session command).session.place
+  answer-stands interrupt (Change change) = stops-stand (with_change session.stops change)
+  answer-stands interrupt (Go way going) =
+      interrupted-stands view session.place stands
+      (where_to view session.stops way going session.place)
+      (gone-stands view session.stops way going session.place stands) interrupt
+  answer-stands interrupt (Monitor request) = request-stands request
+  answer-stands interrupt command = stands
 
-  pub reply-stands : (body : List ℕ) → MayStandAt run (reply run session body).session.place
+  reply-stands : (interrupt : Option ℕ) (body : List ℕ)
+      → MayStandAt view (reply view interrupt session body).session.place
   unfolding reply
-  reply-stands body = answer-stands (command_of body)
+  reply-stands interrupt body = answer-stands interrupt (command_of body)
 
 -- what each reply keeps of a session a conversation keeps
-module _ {Session : Type 0} (Keeps : Session → Type 0) (replies : Session → List ℕ → Answer Session)
-    (keeps : (session : Session) (body : List ℕ) → Keeps session
-    → Keeps (replies session body).session)
+module _ {Session Interrupt : Type 0} (Keeps : Session → Type 0)
+    (replies : Option Interrupt → Session → List ℕ → Answer Session)
+    (keeps : (interrupt : Option Interrupt) (session : Session) (body : List ℕ) → Keeps session
+    → Keeps (replies interrupt session body).session)
   where
     answer-either : (test : Bool) (one other : Answer Session) → Keeps one.session
         → Keeps other.session → Keeps (if test then one else other).session
@@ -114,32 +146,39 @@ module _ {Session : Type 0} (Keeps : Session → Type 0) (replies : Session → 
     talk-either true one other here there = here
     talk-either false one other here there = there
 
-    answered-keeps : (talk : Talk Session) (message : Message) → Keeps talk.session
-        → Keeps (answered replies talk message).session
-    answered-keeps talk Silence kept = kept
-    answered-keeps talk Again kept = kept
-    answered-keeps talk Damage kept = kept
-    answered-keeps talk (Whole body) kept =
+    answered-keeps : (interrupt : Option Interrupt) (talk : Talk Session) (message : Message)
+        → Keeps talk.session → Keeps (answered (replies interrupt) talk message).session
+    answered-keeps interrupt talk Silence kept = kept
+    answered-keeps interrupt talk Again kept = kept
+    answered-keeps interrupt talk Damage kept = kept
+    answered-keeps interrupt talk (Whole body) kept =
         answer-either (nat_lt LONGEST_BODY (length body))
         (record { session = talk.session; packets = [] ∷ []; connection = Open })
-        (replies talk.session body) kept (keeps talk.session body kept)
+        (replies interrupt talk.session body) kept (keeps interrupt talk.session body kept)
 
-    byte-keeps : (talk : Talk Session) (byte : ℕ) → Keeps talk.session
-        → Keeps (talk_with_byte replies talk byte).session
+    byte-keeps : (interrupt : Option Interrupt) (talk : Talk Session) (byte : ℕ)
+        → Keeps talk.session → Keeps (talk_with_byte (replies interrupt) talk byte).session
     unfolding talk_with_byte
-    byte-keeps talk byte kept =
+    byte-keeps interrupt talk byte kept =
         talk-either talk.is_over talk
-        (answered replies (marked talk byte) (message_of talk.link byte)) kept
-        (answered-keeps (marked talk byte) (message_of talk.link byte) kept)
+        (answered (replies interrupt) (marked talk byte) (message_of talk.link byte)) kept
+        (answered-keeps interrupt (marked talk byte) (message_of talk.link byte) kept)
 
-    pub bytes-keep : (bytes : List ℕ) (talk : Talk Session) → Keeps talk.session
-        → Keeps (talk_with_bytes replies talk bytes).session
-    bytes-keep [] talk kept = kept
-    bytes-keep (byte ∷ bytes) talk kept =
-        bytes-keep bytes (talk_with_byte replies talk byte) (byte-keeps talk byte kept)
+    inputs-keep : (inputs : List (Input Interrupt)) (talk : Talk Session) → Keeps talk.session
+        → Keeps (talk_with_inputs replies talk inputs).session
+    inputs-keep [] talk kept = kept
+    inputs-keep (input ∷ inputs) talk kept =
+        inputs-keep inputs (talk_with_byte (replies input.interrupt) talk input.byte)
+        (byte-keeps input.interrupt talk input.byte kept)
 
-pub session-stands : (run : Run) (bytes : List ℕ) → MayStandAt run (session_after run bytes).place
-session-stands run bytes =
-    bytes-keep (λ (session : Session). MayStandAt run session.place) (reply run)
-    (λ session body stands. reply-stands run session stands body)
-    bytes (first_talk first_session) (inl (omega arith))
+pub session-stands : (view : View) (inputs : List (Input ℕ))
+    → MayStandAt view (session_after view inputs).place
+session-stands view inputs =
+    inputs-keep (λ (session : Session). MayStandAt view session.place) (reply view)
+    (λ interrupt session body stands. reply-stands view session stands interrupt body)
+    inputs (first_talk first_session)
+    (record {
+      behind_boot = omega arith;
+      within = omega arith;
+      settled = inl refl;
+    })

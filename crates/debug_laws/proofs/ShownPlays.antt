@@ -1,9 +1,9 @@
 -- What is shown is of the play.
-use Rattle.std.proofs.Common.{◌≡◌, ◌<◌, ◌+◌, ◌%◌, ◌∙◌, ◌++◌, ⊎_elim, ℕ, zero, suc, true, false, List, [], ◌∷◌, drop, length, min, slice_index, refl, ap, sym, subst, arith, append_assoc}
+use Rattle.std.proofs.Common.{◌≡◌, ◌<◌, ◌≤◌, ◌+◌, ◌-◌, ◌%◌, ◌∙◌, ◌++◌, ⊎_elim, ℕ, zero, suc, true, false, List, [], ◌∷◌, Option, Some, None, drop, length, min, slice_index, refl, ap, sym, subst, arith}
 use Rattle.std.specs.Prelude.{◌==◌, codes, if◌then◌else◌}
 use Rattle.std.specs.Fmt.{decimal}
+use Rattle.std.proofs.Math.Nat.{min_comm, sub-add-min_cancel}
 use Rattle.std.proofs.lemmas.Bool.{cases_Bool, cond-false, cond-true, ne_eqb}
-use Rattle.std.proofs.lemmas.List.{append-nil}
 use Rattle.hex.specs.Hex.{encode_lower}
 use Rattle.word_arith.specs.declared.size.Size.TheVariants.{Byte}
 use Rattle.bus_signals.specs.declared.event.Event.{Event}
@@ -11,41 +11,33 @@ use Rattle.device_trace.specs.Logs.{Logs}
 use Rattle.device_trace.specs.Play.{Play}
 use Rattle.device_trace.specs.Signals.{number_read}
 use Rattle.device_trace.specs.Start.{Start}
-use Rattle.device_trace.specs.Trace.{logs_after, play_of}
-use Rattle.trace_line.specs.LineText.{trace_line}
-use Rattle.trace_line.specs.declared.trace_line.TraceLine.{TraceLine}
-use Rattle.clean_trace.specs.TraceText.{next_line, trace_lines, trace_text}
+use Rattle.device_trace.specs.Text.{end_line_after, lines_of, play_text}
+use Rattle.device_trace.specs.Trace.{play_of}
+use Rattle.clean_trace.specs.TraceText.{trace_text}
 use Rattle.debug_link.specs.Console.{console}
 use Rattle.debug_link.specs.Conversation.{Answer}
 use Rattle.debug_link.specs.declared.connection.Connection.TheVariants.{Open}
 use Rattle.debug_commands.specs.Request.{most_steps}
-use Rattle.debug_session.specs.Monitor.{last_lines}
-use Rattle.debug_session.specs.Place.{Run, logs_at, play_to}
-use Rattle.debug_session.specs.Session.{Session, memory_body, says}
-use Rattle.debug_session.specs.Shown.{byte_shown, bytes_shown, is_shown}
-use Rattle.debug_laws.specs.ShownPlay.{AreRead, ShowsPlay}
+use Rattle.debug_session.specs.Monitor.{flags_text as flags_here, last_lines, texts_from}
+use Rattle.debug_session.specs.Place.{Run, is_shown, logs_at, play_to, sight_at, view_of}
+use Rattle.debug_session.specs.Session.{Session, says}
+use Rattle.debug_session.specs.Shown.{byte_and, bytes_or, bytes_shown, memory_body, registers_shown}
+use Rattle.debug_session.specs.Sight.{Sight}
+use Rattle.debug_session.proofs.Views.{view-at}
+use Rattle.debug_laws.specs.ShownPlay.{AreRead, ShowsPlay, flags_text}
+use Rattle.debug_laws.proofs.StepTexts.{length-steps, lines-joined, trace-joined}
 
-length-steps : (events_at : ℕ → List Event) (steps : ℕ) → length (play_of events_at steps) ≡ steps
-length-steps events_at zero = refl
-length-steps events_at (suc steps) = ap suc (length-steps events_at steps)
-
--- the lines of a trace
-length-lines : (start : Start) (play : Play) → length (trace_lines start play) ≡ length play
-unfolding trace_lines
-length-lines start [] = refl
-length-lines start (events ∷ play) = ap suc (length-lines start play)
-
-last-of-file : (start : Start) (play : Play) (lines : ℕ)
-    → trace_text start play ≡ trace_text start (drop lines play) ++ last_lines start play lines
-unfolding trace_lines
-last-of-file start play zero = sym (append-nil (trace_text start play))
-last-of-file start [] (suc lines) = refl
-last-of-file start (events ∷ play) (suc lines) =
-    let line : TraceLine = next_line start (logs_after start play) events in
-    let earlier : List ℕ = trace_text start (drop lines play) in
-    ap (λ (number : ℕ). trace_text start play ++ trace_line number line) (length-lines start play)
-    ∙ ap (λ (text : List ℕ). text ++ trace_line (length play) line) (last-of-file start play lines)
-    ∙ append_assoc earlier (last_lines start play lines) (trace_line (length play) line)
+drop-steps : (events_at : ℕ → List Event) (lines steps : ℕ)
+    → drop lines (play_of events_at steps) ≡ play_of events_at (steps - lines)
+drop-steps events_at zero steps =
+    let all : steps ≡ steps - 0 = omega arith in
+    ap (play_of events_at) all
+drop-steps events_at (suc lines) zero =
+    let none : 0 ≡ 0 - suc lines = omega arith in
+    ap (play_of events_at) none
+drop-steps events_at (suc lines) (suc steps) =
+    let less : steps - lines ≡ suc steps - suc lines = omega arith in
+    drop-steps events_at lines steps ∙ ap (play_of events_at) less
 
 -- the bytes from an address on
 each-index : (P : ℕ → Type 0) (count : ℕ) → P 0 → ((at : ℕ) → at < count → P (suc at))
@@ -88,69 +80,124 @@ module _ (start : Start) (logs : Logs) (first : ℕ) where
       }
 
 module _ (run : Run) (place : ℕ) where
+  abbrev byte : ℕ → ℕ
+  byte at = number_read run.start (logs_at run place) at Byte % 256
+
+  byte-shown : (at : ℕ) → is_shown at ≡ true → (sight_at run place).byte_at at ≡ Some (byte at)
+  unfolding sight_at
+  byte-shown at here = cond-true (is_shown at) (Some (byte at)) None here
+
+  byte-hidden : (at : ℕ) → is_shown at ≡ false → (sight_at run place).byte_at at ≡ None
+  unfolding sight_at
+  byte-hidden at none = cond-false (is_shown at) (Some (byte at)) None none
+
   are-read : (first most : ℕ)
-      → AreRead run.start (logs_at run place) first most (bytes_shown run place first most)
+      → AreRead run.start (logs_at run place) first most
+      (bytes_shown (sight_at run place) first most)
   are-read first zero =
       none-read run.start (logs_at run place) first 0 (λ some. absurd (omega (arith, some)))
   are-read first (suc most) =
-      let byte : ℕ = byte_shown run place first in
-      let rest : List ℕ = bytes_shown run place (suc first) most in
-      let AreReadHere : List ℕ → Type 0 = AreRead run.start (logs_at run place) first (suc most) in
+      let rest : List ℕ = bytes_shown (sight_at run place) (suc first) most in
       ⊎_elim
-      (λ here. subst AreReadHere (sym (cond-true (is_shown first) (byte ∷ rest) [] here))
-      (one-more run.start (logs_at run place) first most byte rest here refl
+      (λ here. subst
+      (λ (one : Option ℕ).
+      AreRead run.start (logs_at run place) first (suc most) (byte_and one rest))
+      (sym (byte-shown first here))
+      (one-more run.start (logs_at run place) first most (byte first) rest here refl
       (are-read (suc first) most)))
-      (λ none. subst AreReadHere (sym (cond-false (is_shown first) (byte ∷ rest) [] none))
+      (λ none. subst
+      (λ (one : Option ℕ).
+      AreRead run.start (logs_at run place) first (suc most) (byte_and one rest))
+      (sym (byte-hidden first none))
       (none-read run.start (logs_at run place) first (suc most) (λ some. none)))
       (cases_Bool (is_shown first))
 
+  some-asked : (size : ℕ) (text : List ℕ) → 0 < size → (if size == 0 then [] else text) ≡ text
+  some-asked size text some =
+      cond-false (size == 0) [] text (ne_eqb size 0 (λ none. absurd (omega (arith, some, none))))
+
   body-shown : (first size : ℕ) → 0 < size → is_shown first ≡ true
-      → memory_body run place first size
-      ≡ encode_lower (bytes_shown run place first (min size 2048))
+      → memory_body (sight_at run place) first size
+      ≡ encode_lower (bytes_shown (sight_at run place) first (min size 2048))
   body-shown first size some here =
-      let text : List ℕ = encode_lower (bytes_shown run place first (min size 2048)) in
-      cond-false (size == 0) [] (if is_shown first then text else codes "E01")
-      (ne_eqb size 0 (λ none. absurd (omega (arith, some, none))))
-      ∙ cond-true (is_shown first) text (codes "E01") here
+      let bytes : List ℕ = bytes_shown (sight_at run place) first (min size 2048) in
+      some-asked size (bytes_or ((sight_at run place).byte_at first) bytes) some
+      ∙ ap (λ (one : Option ℕ). bytes_or one bytes) (byte-shown first here)
 
   body-secret : (first size : ℕ) → 0 < size → is_shown first ≡ false
-      → memory_body run place first size ≡ codes "E01"
+      → memory_body (sight_at run place) first size ≡ codes "E01"
   body-secret first size some none =
-      let text : List ℕ = encode_lower (bytes_shown run place first (min size 2048)) in
-      cond-false (size == 0) [] (if is_shown first then text else codes "E01")
-      (ne_eqb size 0 (λ nothing. absurd (omega (arith, some, nothing))))
-      ∙ cond-false (is_shown first) text (codes "E01") none
+      let bytes : List ℕ = bytes_shown (sight_at run place) first (min size 2048) in
+      some-asked size (bytes_or ((sight_at run place).byte_at first) bytes) some
+      ∙ ap (λ (one : Option ℕ). bytes_or one bytes) (byte-hidden first none)
 
-pub shows-play : (run : Run) (session : Session)
+  flags-shown : flags_here (sight_at run place) ≡ flags_text run.start (logs_at run place)
+  unfolding sight_at
+  flags-shown = refl
+
+  -- what `play` prints
+  printed : place ≤ most_steps
+      → texts_from (view_of run) (λ step. step.lines) 0 place ++ (sight_at run place).end_line
+      ≡ play_text run.start (play_to run place)
+  unfolding sight_at logs_at play_text lines_of
+  printed within =
+      ap (λ (text : List ℕ). text ++ end_line_after place (logs_at run place))
+      (sym (lines-joined run 0 place place (omega arith) within))
+      ∙ ap (λ (steps : ℕ).
+      lines_of run.start (play_to run place) ++ end_line_after steps (logs_at run place))
+      (sym (length-steps run.events_at place))
+
+  last-of-file : place ≤ most_steps → (lines : ℕ)
+      → trace_text run.start (play_to run place)
+      ≡ trace_text run.start (drop lines (play_to run place))
+      ++ last_lines (view_of run) place lines
+  last-of-file within lines =
+      let all : place ≡ min lines place + (place - lines) =
+      omega (arith, sub-add-min_cancel place lines, min_comm lines place) in
+      trace-joined run (place - lines) (min lines place) place all within
+      ∙ ap (λ (play : Play).
+      trace_text run.start play ++ last_lines (view_of run) place lines)
+      (sym (drop-steps run.events_at lines place))
+
+-- a text that is printed, and then OK
+abbrev answered : Session → List ℕ → Answer Session
+answered session text =
+    record { session = session; packets = console text ++ codes "OK" ∷ []; connection = Open }
+
+pub shows-play : (run : Run) (session : Session) → session.place ≤ most_steps
     → ShowsPlay run session (play_of run.events_at session.place)
-unfolding logs_at
-shows-play run session =
-    let play : Play = play_to run session.place in
+unfolding logs_at sight_at
+shows-play run session within =
+    let place : ℕ = session.place in
+    let here = view-at run place within in
     record {
-      registers = refl;
-      memory = λ first size some here.
+      registers = λ interrupt. ap (λ (one : Sight). says session (registers_shown one)) here;
+      memory = λ first size some is.
           record {
-            bytes = bytes_shown run session.place first (min size 2048);
-            given = ap (says session) (body-shown run session.place first size some here);
-            read = are-read run session.place first (min size 2048);
+            bytes = bytes_shown (sight_at run place) first (min size 2048);
+            given = λ interrupt.
+                ap (λ (one : Sight). says session (memory_body one first size)) here
+                ∙ ap (says session) (body-shown run place first size some is);
+            read = are-read run place first (min size 2048);
           };
-      secret = λ first size some none.
-          ap (says session) (body-secret run session.place first size some none);
-      steps = ap {B = Answer Session}
-          (λ (number : ℕ).
-          record {
-            session = session;
-            packets = console (decimal number ++ codes " steps of " ++ decimal most_steps
-                ++ codes "\n") ++ codes "OK" ∷ [];
-            connection = Open;
-          })
-          (sym (length-steps run.events_at session.place));
-      flags = refl;
-      printed = refl;
+      secret = λ first size some none interrupt.
+          ap (λ (one : Sight). says session (memory_body one first size)) here
+          ∙ ap (says session) (body-secret run place first size some none);
+      steps = λ interrupt. ap
+          (λ (number : ℕ). answered session
+          (decimal number ++ codes " steps of " ++ decimal most_steps ++ codes "\n"))
+          (sym (length-steps run.events_at place));
+      flags = λ interrupt.
+          ap (λ (one : Sight). answered session (flags_here one)) here
+          ∙ ap (answered session) (flags-shown run place);
+      printed = λ interrupt. ap
+          (λ (one : Sight). answered session
+          (texts_from (view_of run) (λ step. step.lines) 0 place ++ one.end_line)) here
+          ∙ ap (answered session) (printed run place within);
       trace = λ lines.
           record {
-            text = last_lines run.start play lines;
-            printed = refl;
-            last = last-of-file run.start play lines;
+            text = last_lines (view_of run) place lines;
+            printed = λ interrupt. refl;
+            last = last-of-file run place within lines;
           };
     }

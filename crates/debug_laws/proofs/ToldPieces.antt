@@ -3,11 +3,13 @@ use Rattle.std.proofs.Common.{◌≡◌, ◌≤◌, ◌+◌, ◌-◌, ◌∙◌,
 use Rattle.std.specs.List.{concat}
 use Rattle.std.proofs.lemmas.List.{append-nil, length-drop, map-append, take-append-drop}
 use Rattle.std.proofs.lemmas.List.Folds.{concat-append}
-use Rattle.device_trace.specs.Text.{lines_of, lines_of_step}
+use Rattle.device_trace.specs.Text.{lines_of}
 use Rattle.debug_link.specs.Console.{MOST_TEXT, console, console_bodies, text_body}
-use Rattle.debug_session.specs.Place.{Run, play_to}
+use Rattle.debug_commands.specs.Request.{most_steps}
+use Rattle.debug_session.specs.Place.{Run, play_to, view_of}
 use Rattle.debug_session.specs.Session.{told}
 use Rattle.debug_laws.specs.ToldLines.{TellsBetween}
+use Rattle.debug_laws.proofs.StepTexts.{lines-more}
 
 -- the bodies of a text are those of its pieces
 record IsCutTo (text : List ℕ) (bodies : List (List ℕ)) : Type 0 where
@@ -32,17 +34,9 @@ cut-bodies (suc most) (byte ∷ text) few =
           ∙ ap (λ (end : List ℕ). piece ++ end) more.whole;
     }
 
--- the lines of one step more
-lines-more : (run : Run) (place : ℕ)
-    → lines_of run.start (play_to run (suc place))
-    ≡ lines_of run.start (play_to run place)
-    ++ lines_of_step run.start (run.events_at place) (play_to run place)
-unfolding lines_of
-lines-more run place = refl
-
-told-pieces : (run : Run) (from steps to : ℕ) → to ≡ steps + from
-    → TellsBetween run from to (told run from steps)
-told-pieces run from zero to same =
+told-pieces : (run : Run) (from steps to : ℕ) → to ≡ steps + from → to ≤ most_steps
+    → TellsBetween run from to (told (view_of run) from steps)
+told-pieces run from zero to same within =
     let here : to ≡ from = omega (arith, same) in
     record {
       pieces = [];
@@ -50,25 +44,27 @@ told-pieces run from zero to same =
       lines = ap (λ (place : ℕ). lines_of run.start (play_to run place)) here
           ∙ sym (append-nil (lines_of run.start (play_to run from)));
     }
-told-pieces run from (suc steps) to same =
-    let step : List ℕ = lines_of_step run.start (run.events_at from) (play_to run from) in
+told-pieces run from (suc steps) to same within =
+    let step : List ℕ = (view_of run from).next.lines in
     let before : List ℕ = lines_of run.start (play_to run from) in
+    let later : List (List ℕ) = told (view_of run) (suc from) steps in
     let cut : IsCutTo step (console step) = cut-bodies (length step) step (omega arith) in
-    let more = told-pieces run (suc from) steps to (omega (arith, same)) in
+    let more = told-pieces run (suc from) steps to (omega (arith, same)) within in
     record {
       pieces = cut.pieces ++ more.pieces;
-      bodies_are = ap (λ (bodies : List (List ℕ)). bodies ++ told run (suc from) steps)
-          cut.bodies_are
+      bodies_are = ap (λ (bodies : List (List ℕ)). bodies ++ later) cut.bodies_are
           ∙ ap (λ (bodies : List (List ℕ)). map text_body cut.pieces ++ bodies) more.bodies_are
           ∙ sym (map-append text_body cut.pieces more.pieces);
       lines = more.lines
-          ∙ ap (λ (front : List ℕ). front ++ concat more.pieces) (lines-more run from)
+          ∙ ap (λ (front : List ℕ). front ++ concat more.pieces)
+          (lines-more run from (omega (arith, same, within)))
           ∙ append_assoc before step (concat more.pieces)
           ∙ ap (λ (text : List ℕ). before ++ (text ++ concat more.pieces)) cut.whole
           ∙ ap (λ (text : List ℕ). before ++ text)
           (sym (concat-append cut.pieces more.pieces));
     }
 
-pub tells-between : (run : Run) (from to : ℕ) → from ≤ to
-    → TellsBetween run from to (told run from (to - from))
-tells-between run from to later = told-pieces run from (to - from) to (omega (arith, later))
+pub tells-between : (run : Run) (from to : ℕ) → from ≤ to → to ≤ most_steps
+    → TellsBetween run from to (told (view_of run) from (to - from))
+tells-between run from to later within =
+    told-pieces run from (to - from) to (omega (arith, later)) within

@@ -1,5 +1,5 @@
+pub mod EarlyEnd
 pub mod FirstStop
-pub mod LastStop
 pub mod ShownPlay
 pub mod StepBack
 pub mod ToldLines

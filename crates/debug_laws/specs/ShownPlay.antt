@@ -1,5 +1,5 @@
 -- What is shown at a place is of the play of so many steps.
-use Rattle.std.specs.Prelude.{◌≡◌, ◌<◌, ◌≤◌, ◌++◌, ◌+◌, ◌%◌, ℕ, true, false, List, [], ◌∷◌, EachIndex, codes, drop, length, min, slice_index}
+use Rattle.std.specs.Prelude.{◌≡◌, ◌<◌, ◌≤◌, ◌++◌, ◌+◌, ◌%◌, ℕ, true, false, List, [], ◌∷◌, Option, EachIndex, codes, drop, length, min, slice_index}
 use Rattle.std.specs.Fmt.{decimal}
 use Rattle.hex.specs.Hex.{encode_lower}
 use Rattle.word_arith.specs.declared.size.Size.TheVariants.{Byte}
@@ -19,14 +19,15 @@ use Rattle.debug_commands.specs.declared.command.Command.{Command}
 use Rattle.debug_commands.specs.declared.command.Command.TheVariants.{Memory, Monitor, Registers}
 use Rattle.debug_commands.specs.declared.request.Request.{Request}
 use Rattle.debug_commands.specs.declared.request.Request.TheVariants.{Flags, Play as PlayText, Steps, Trace}
-use Rattle.debug_session.specs.Place.{Run}
+use Rattle.debug_session.specs.Place.{Run, is_shown, view_of}
 use Rattle.debug_session.specs.Session.{Session, answer_of}
-use Rattle.debug_session.specs.Shown.{is_shown, registers_bytes}
+use Rattle.debug_session.specs.Shown.{registers_bytes}
 
 -- a command is answered by these packets, and the session stays as it was
 abbrev pub Gives : Run → Session → Command → List (List ℕ) → Type 0
 Gives run session command packets =
-    answer_of run session command
+    (interrupt : Option ℕ)
+    → answer_of (view_of run) interrupt session command
     ≡ record { session = session; packets = packets; connection = Open }
 
 -- a request of the user is answered by this text, and then OK

@@ -1,49 +1,63 @@
-ghost use Rattle.std.specs.Prelude.{◌≤◌, ◌-◌, ℕ, Bool, List, true};
+ghost use Rattle.std.specs.Prelude.{◌≤◌, ◌-◌, ℕ, List, Option};
 ghost use Rattle.device_trace.specs.Trace.{play_of};
 ghost use Rattle.debug_commands.specs.Request.{most_steps};
-ghost use Rattle.debug_session.specs.Going.{back_to, going_on, highest_of};
-ghost use Rattle.debug_session.specs.Place.{Run};
+ghost use Rattle.debug_commands.specs.declared.command.Going.{Going};
+ghost use Rattle.debug_commands.specs.declared.command.Going.TheVariants.{Step};
+ghost use Rattle.debug_commands.specs.declared.command.Way.TheVariants.{Ahead, Back};
+ghost use Rattle.debug_link.specs.Conversation.{Input};
+ghost use Rattle.debug_session.specs.Cause.{cause};
+ghost use Rattle.debug_session.specs.Going.{seek_of, where_to};
+ghost use Rattle.debug_session.specs.Place.{Run, view_of};
 ghost use Rattle.debug_session.specs.Session.{Session, told};
+ghost use Rattle.debug_session.specs.Sight.{View};
 ghost use Rattle.debug_stops.specs.Stops.{Stops};
-ghost use Rattle.debug_laws.specs.FirstStop.{IsFirstStop};
-ghost use Rattle.debug_laws.specs.LastStop.{IsLastStop};
+ghost use Rattle.debug_laws.specs.EarlyEnd.{MayEndEarly};
+ghost use Rattle.debug_laws.specs.FirstStop.{IsFirstStop, IsLastStop};
 ghost use Rattle.debug_laws.specs.ShownPlay.{ShowsPlay};
 ghost use Rattle.debug_laws.specs.StepBack.{HasStepped, IsTakenBack, MayStandAt, session_after};
 ghost use Rattle.debug_laws.specs.ToldLines.{TellsBetween};
 
-/// Going forwards from a place leads to the first place behind it where there is a cause to stop,
-/// and tells this cause; where there is none it leads to the last place of all.
+/// Going forwards from a place, by whatever command, leads to the first place behind it where there
+/// is a cause to stop, and tells this cause; where there is none it leads to the last place of all.
 pub fn first_stop_is_first()
-    ensures { (run : Run) (stops : Stops) (place : ℕ) (steps : Bool)
+    ensures { (view : View) (stops : Stops) (going : Going) (place : ℕ)
         → place ≤ most_steps
-        → IsFirstStop run stops (highest_of steps run place) place
-        (going_on run stops place steps) }
+        → IsFirstStop (cause view stops (seek_of view Ahead going place)) place most_steps
+        (where_to view stops Ahead going place) }
 {}
 
 /// Going back from a place leads to the last place before it where there is a cause to stop, and
 /// tells this cause; where there is none it leads to place 1.
 pub fn last_stop_is_last()
-    ensures { (run : Run) (stops : Stops) (place : ℕ) (steps : Bool)
-        → IsLastStop run stops (highest_of steps run place) place
-        (back_to run stops place steps) }
+    ensures { (view : View) (stops : Stops) (going : Going) (place : ℕ)
+        → IsLastStop (cause view stops (seek_of view Back going place)) place
+        (where_to view stops Back going place) }
 {}
 
 /// A step back takes back a step. Where a step came to the end of an instruction, for no other
 /// cause, going back by a step leads to where this instruction began, and a step leads from there
-/// to the same place again. It is not so of a boot, nor of the RETI of a handler in which the step
-/// was made.
+/// to the same place again. It is not so of the RETI of a handler in which the step was made.
 pub fn step_is_taken_back()
-    ensures { (run : Run) (stops : Stops) (place : ℕ)
-        → MayStandAt run place
-        → HasStepped run (going_on run stops place true)
-        → IsTakenBack run stops place (going_on run stops place true)
-        (back_to run stops (going_on run stops place true).place true) }
+    ensures { (view : View) (stops : Stops) (place : ℕ)
+        → MayStandAt view place
+        → HasStepped view place (where_to view stops Ahead Step place)
+        → IsTakenBack view stops place (where_to view stops Ahead Step place)
+        (where_to view stops Back Step (where_to view stops Ahead Step place).place) }
 {}
 
-/// Whatever bytes come, a session stands where a step can be taken back: at place 1, at a boundary
+/// An interrupt ends a way at a boundary, or where it began, between there and where it would have
+/// stopped, and what is told is the lines of the steps made; or it changes nothing of the answer.
+pub fn interrupt_ends_a_way()
+    ensures { (run : Run) (session : Session) (body : List ℕ) (interrupt : Option ℕ)
+        → MayStandAt (view_of run) session.place
+        → MayEndEarly run session body interrupt }
+{}
+
+/// Whatever comes, a session stands where a step can be taken back: at place 1, at a boundary
 /// or at the last place.
 pub fn each_session_may_stand()
-    ensures { (run : Run) (bytes : List ℕ) → MayStandAt run (session_after run bytes).place }
+    ensures { (view : View) (inputs : List (Input ℕ))
+        → MayStandAt view (session_after view inputs).place }
 {}
 
 /// The registers, bytes and flags that are shown at a place are the device's behind the play of so
@@ -51,6 +65,7 @@ pub fn each_session_may_stand()
 /// this play; and none of it changes the session.
 pub fn shown_is_of_the_play()
     ensures { (run : Run) (session : Session)
+        → session.place ≤ most_steps
         → ShowsPlay run session (play_of run.events_at session.place) }
 {}
 
@@ -58,6 +73,6 @@ pub fn shown_is_of_the_play()
 /// of the steps between, no more and no less.
 pub fn told_are_the_lines_between()
     ensures { (run : Run) (from to : ℕ)
-        → from ≤ to
-        → TellsBetween run from to (told run from (to - from)) }
+        → from ≤ to → to ≤ most_steps
+        → TellsBetween run from to (told (view_of run) from (to - from)) }
 {}

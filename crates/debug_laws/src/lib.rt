@@ -7,6 +7,6 @@
 mod law;
 
 pub use law::{
-    each_session_may_stand, first_stop_is_first, last_stop_is_last, shown_is_of_the_play,
-    step_is_taken_back, told_are_the_lines_between,
+    each_session_may_stand, first_stop_is_first, interrupt_ends_a_way, last_stop_is_last,
+    shown_is_of_the_play, step_is_taken_back, told_are_the_lines_between,
 };

@@ -1,4 +1,4 @@
-use Rattle.debug_laws.proofs.LastStops.{stops-last}
+use Rattle.debug_laws.proofs.FirstStops.{stops-last}
 use Rattle.debug_laws.proofs.law.last_stop_is_last.Goals as goal
 
 pub returns : goal.returns
