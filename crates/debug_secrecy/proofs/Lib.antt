@@ -1,7 +1,7 @@
-pub mod SameRuns
-pub mod WithoutKey
-pub mod SameCauses
-pub mod Within
-pub mod SameGoing
-pub mod SameAnswers
+pub mod Boundaries
+pub mod SameAnswer
+pub mod SameHits
+pub mod SameSights
 pub mod SameTalk
+pub mod SameWay
+pub mod WithoutKey

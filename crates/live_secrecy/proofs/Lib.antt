@@ -1,3 +1,4 @@
 pub mod Later
 pub mod SameAnswer
 pub mod SameConversation
+pub mod SameRuns

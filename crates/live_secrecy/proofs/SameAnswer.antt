@@ -10,14 +10,13 @@ use Rattle.text_scan.specs.Word.{is_passed_over, words_of}
 use Rattle.text_scan.specs.declared.fault_kind.FaultKind.{FaultKind}
 use Rattle.device_trace.specs.Start.{Start}
 use Rattle.debug_session.specs.Place.{Run as PlayedRun, logs_at}
-use Rattle.debug_secrecy.proofs.SameAnswers.{bytes-same}
-use Rattle.debug_secrecy.proofs.SameRuns.{SameRuns}
 use Rattle.device_live.specs.Answer.{Answer, answer_of, or_refusal, run_of, says, standing_line, tells}
 use Rattle.device_live.specs.Conversation.{answer_to}
 use Rattle.device_live.specs.Life.{Life, lines_since}
 use Rattle.device_live.specs.LiveLine.{LiveLine, Happens, Run, Registers, Memory, live_line_of}
 use Rattle.device_live.specs.Shown.{memory_text, registers_text}
 use Rattle.live_secrecy.proofs.Later.{GoesOn, LeadsOn, goes-nowhere, happening-goes}
+use Rattle.live_secrecy.proofs.SameRuns.{SameRuns, bytes-same}
 
 -- so many steps are told alike
 since-same : {left right : PlayedRun} {most : ℕ} → SameRuns left right most
@@ -28,7 +27,7 @@ since-same same made zero bound = refl
 since-same same made (suc more) bound =
     let below : more + made < _ = omega (arith, bound) in
     let within : more + made ≤ _ = omega (arith, bound) in
-    λ i. since-same same made more within i ++ (same.steps (more + made) below).lines i
+    λ i. since-same same made more within i ++ same.lines (more + made) below i
 
 module _ (left right : Start) where
   -- the same is read in all steps of a life
@@ -103,7 +102,7 @@ module _ (left right : Start) where
         same_life = refl;
         same = λ runs.
             ap (λ (bytes : Bytes). Ok (says life (memory_text place bytes)))
-            (bytes-same runs life.steps place count (omega arith));
+            (bytes-same (runs.places life.steps (omega arith)) place count);
       }
 
   read-alike : (life : Life) (read : Result LiveLine FaultKind)

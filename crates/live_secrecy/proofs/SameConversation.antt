@@ -10,13 +10,14 @@ use Rattle.key_isolation.specs.Agreement.{ReleaseAlike, SameButKey}
 use Rattle.key_isolation.specs.Keyless.{keyless}
 use Rattle.key_isolation.proofs.Hiding.{open_start}
 use Rattle.key_isolation.proofs.TwoKeys.{one_keyless}
-use Rattle.debug_secrecy.proofs.WithoutKey.{Released, released_before, same_without_key}
+use Rattle.debug_secrecy.proofs.WithoutKey.{Released, released_before}
 use Rattle.device_live.specs.Answer.{Answer, or_refusal, run_of, standing_line}
 use Rattle.device_live.specs.Conversation.{Talk, answer_to, talk_of, with_answer, with_line}
 use Rattle.device_live.specs.Life.{Life, lived}
 use Rattle.live_secrecy.specs.Secrecy.{AnswersAlike, IsOneTalk, lived_behind}
 use Rattle.live_secrecy.proofs.Later.{GoesOn}
 use Rattle.live_secrecy.proofs.SameAnswer.{IsAnsweredAlike, answered-alike, standing-same}
+use Rattle.live_secrecy.proofs.SameRuns.{same_without_key}
 
 -- the life behind lines is that of any device
 life-same : (left right : Start) (lines : List (List ℕ))
