@@ -1,8 +1,12 @@
-pub mod Begins
-pub mod Halts
-pub mod LevelSteps
-pub mod Options
-pub mod Places
+pub mod Begun
+pub mod FirstStep
+mod Places
+mod QuietPlaces
+mod QuietWalks
 pub mod ShownBytes
+mod SilentSteps
+pub mod StretchSteps
+mod TellsSteps
+pub mod Unasked
 pub mod Views
-pub mod WalkSteps
+mod WalkSteps

@@ -1,10 +1,10 @@
 -- The step at a place, and where it leads.
-use Rattle.std.proofs.Common.{◌≡◌, ℕ, suc, refl}
+use Rattle.std.proofs.Common.{◌≡◌, ℕ, suc, length, refl}
 use Rattle.bus_signals.specs.declared.bus_record.BusRecord.{BusRecord}
 use Rattle.device_trace.specs.Logs.{Logs, progress_after, vector_of, with_events, with_record}
-use Rattle.device_trace.specs.Progress.{Held, kind_of, progress_within}
+use Rattle.device_trace.specs.Progress.{Held, access_of, kind_of, progress_within}
 use Rattle.device_trace.specs.Signals.{signals_at}
-use Rattle.device_trace.specs.Step.{next_record, record_of}
+use Rattle.device_trace.specs.Step.{access_recorded, next_record, record_of}
 use Rattle.device_trace.specs.Trace.{logs_after}
 use Rattle.debug_session.specs.Place.{Run, logs_at, step_at}
 
@@ -26,6 +26,15 @@ pub step-progress : (run : Run) (place : ℕ)
     entry.cpu entry.value
 unfolding step_at logs_at logs_after with_record with_events
 step-progress run place = refl
+
+pub step-cpu : (run : Run) (place : ℕ)
+    → let entry : BusRecord = step_at run place in
+    entry.cpu
+    ≡ access_recorded entry.reset
+    (access_of run.start (length (logs_at run place).released_words) entry.kind
+    (progress_within (logs_at run place).progress entry.kind (vector_of (heard_at run place))))
+unfolding step_at next_record record_of signals_at with_events
+step-cpu run place = refl
 
 -- at first the device is held
 pub held-first : (run : Run) → (logs_at run 0).progress ≡ Held

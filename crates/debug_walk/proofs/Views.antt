@@ -1,25 +1,20 @@
 -- What a device shows in the middle of a run is what the place has where it stands.
-use Rattle.std.proofs.Common.{◌≡◌, ◌∙◌, ℕ, suc, Bool, List, Some, refl, subst}
+use Rattle.std.proofs.Common.{◌≡◌, ℕ, suc, Bool, List, Some, subst}
 use Rattle.bus_signals.specs.TraceFlag.{Flag}
 use Rattle.bus_signals.specs.declared.bus_record.BusRecord.{BusRecord}
 use Rattle.hmac_core.specs.Hash.{Hash}
-use Rattle.device_trace.specs.Logs.{Logs}
-use Rattle.device_trace.specs.Progress.{Progress, Held, Runs, InCall, last_registers}
+use Rattle.device_trace.specs.Logs.{Logs, aux_of, exec_of}
+use Rattle.device_trace.specs.Progress.{last_registers, stands_at_boundary}
 use Rattle.device_trace.specs.Start.{Start}
 use Rattle.device_trace.specs.Trace.{last_record, logs_after, trace}
 use Rattle.play_script.specs.declared.playback.Playback.{Playback}
 use Rattle.device_core.specs.Device.{OfLive, steps_made}
-use Rattle.device_core.specs.LiveView.{is_at_boundary}
 use Rattle.device_core.specs.declared.live.Live.{Live}
 use Rattle.device_play.specs.Midway.{IsMidway}
-use Rattle.debug_session.specs.Place.{Run, is_boundary, logs_at, play_to, registers_at, stands_at_boundary, step_at}
-use Rattle.debug_walk.proofs.Options.{some-same}
+use Rattle.debug_session.specs.Place.{Run, aux_at, exec_at, logs_at, play_to, sight_at, step_at}
 
--- two definitions of one thing
-same-boundary : (progress : Progress) → is_at_boundary progress ≡ stands_at_boundary progress
-same-boundary Held = refl
-same-boundary (Runs cpu) = refl
-same-boundary (InCall regs words) = refl
+pub some-same : {A : Type 0} {one other : A} → Some one ≡ Some other → one ≡ other
+some-same same = cc (same)
 
 -- the record of the step that led to a place
 entry-at : (run : Run) (place : ℕ) (entry : BusRecord)
@@ -37,21 +32,6 @@ module _ {D G : Type 0} {hash : Hash D} {flag : Flag G} {live : Live D G} {playb
   unfolding logs_at
   at-place holds seen = seen run.start (play_to run (steps_made live)) midway.stands
 
-  pub boundary-at : (here : Bool)
-      → OfLive hash flag live (λ start play.
-      here ≡ is_at_boundary (logs_after start play).progress)
-      → here ≡ is_boundary run (steps_made live)
-  boundary-at here seen =
-      at-place (λ start logs. here ≡ is_at_boundary logs.progress) seen
-      ∙ same-boundary (logs_at run (steps_made live)).progress
-
-  pub registers-at : (registers : List ℕ)
-      → OfLive hash flag live (λ start play.
-      registers ≡ last_registers (logs_after start play).progress)
-      → registers ≡ registers_at run (steps_made live)
-  registers-at registers seen =
-      at-place (λ start logs. registers ≡ last_registers logs.progress) seen
-
   -- its last record
   pub last-entry : (place : ℕ) (entry : BusRecord)
       → steps_made live ≡ suc place
@@ -61,3 +41,35 @@ module _ {D G : Type 0} {hash : Hash D} {flag : Flag G} {live : Live D G} {playb
       entry-at run place entry
       (subst (λ count. last_record (trace run.start (play_to run count)) ≡ Some entry) made
       (last run.start (play_to run (steps_made live)) midway.stands))
+
+  pub boundary-at : (here : Bool)
+      → OfLive hash flag live (λ start play.
+      here ≡ stands_at_boundary (logs_after start play).progress)
+      → here ≡ (sight_at run (steps_made live)).boundary
+  unfolding sight_at
+  boundary-at here seen =
+      at-place (λ start logs. here ≡ stands_at_boundary logs.progress) seen
+
+  pub registers-at : (registers : List ℕ)
+      → OfLive hash flag live (λ start play.
+      registers ≡ last_registers (logs_after start play).progress)
+      → registers ≡ (sight_at run (steps_made live)).registers
+  unfolding sight_at
+  registers-at registers seen =
+      at-place (λ start logs. registers ≡ last_registers logs.progress) seen
+
+  pub level-at : (level : ℕ)
+      → OfLive hash flag live (λ start play. level ≡ (logs_after start play).level)
+      → level ≡ (sight_at run (steps_made live)).level
+  unfolding sight_at
+  level-at level seen = at-place (λ start logs. level ≡ logs.level) seen
+
+  pub exec-at : (exec : Bool)
+      → OfLive hash flag live (λ start play. exec ≡ exec_of (logs_after start play))
+      → exec ≡ exec_at run (steps_made live)
+  exec-at exec seen = at-place (λ start logs. exec ≡ exec_of logs) seen
+
+  pub aux-at : (aux : Bool)
+      → OfLive hash flag live (λ start play. aux ≡ aux_of start (logs_after start play))
+      → aux ≡ aux_at run (steps_made live)
+  aux-at aux seen = at-place (λ start logs. aux ≡ aux_of start logs) seen

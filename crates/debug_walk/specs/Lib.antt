@@ -1,5 +1,5 @@
-pub mod Halted
-pub mod Levels
+pub mod Copies
+pub mod Passing
 pub mod PlayedRun
-pub mod Seen
+pub mod Stretch
 pub mod Walk

@@ -1,43 +1,92 @@
--- A device on its way through the places of a run.
-use Rattle.std.specs.Prelude.{◌≡◌, ℕ, option_map}
+-- A device on its way through the places of a run, and what is kept of the steps since a boundary.
+use Rattle.std.specs.Prelude.{◌≡◌, ◌<◌, ◌⊎◌, ◌&&◌, ◌-◌, ℕ, Bool, true, List, [], ◌∷◌, Option, None, length, nat_le, if◌then◌else◌}
+use Rattle.std.specs.Option.{option_or}
+use Rattle.bus_signals.specs.declared.rule.Rule.{Rule}
 use Rattle.bus_signals.specs.TraceFlag.{Flag}
-use Rattle.exec_automaton.specs.declared.run_flag.RunFlag.{RunFlag}
-use Rattle.isr_flag.specs.declared.isr_flag.AuxConditions.{AuxConditions}
-use Rattle.hmac_core.specs.Hash.{Hash}
-use Rattle.play_script.specs.declared.playback.Playback.{Playback}
+use Rattle.debug_commands.specs.declared.command.Way.TheVariants.{Ahead, Back}
+use Rattle.debug_session.specs.Cause.{begins_within, behind, boots, hit_on, hits, is_due}
+use Rattle.debug_session.specs.Place.{Run, sight_at, view_of}
+use Rattle.debug_session.specs.Sight.{Sight}
+use Rattle.debug_stops.specs.Stops.{Stops}
+use Rattle.debug_stops.specs.declared.watch.Watch.{Watch}
+use Rattle.debug_walk.specs.Stretch.{stretch_from}
+use Rattle.debug_walk.specs.declared.stretch.Stretch.{Stretch}
+use Rattle.debug_walk.specs.declared.walk.Walk.{Walk}
 use Rattle.device_core.specs.Device.{steps_made}
 use Rattle.device_core.specs.declared.live.Live.{Live}
 use Rattle.device_play.specs.Midway.{IsMidway}
-use Rattle.debug_session.specs.Place.{Run, last_boundary}
-use Rattle.debug_walk.specs.Levels.{LevelsStandFor}
-use Rattle.debug_walk.specs.Seen.{IsLevelled, with_level}
-use Rattle.debug_walk.specs.declared.walk.Walk.{Walk}
+use Rattle.exec_automaton.specs.RunFlag.{flag_of_run}
+use Rattle.exec_automaton.specs.declared.run_flag.RunFlag.{RunFlag}
+use Rattle.hmac_core.specs.Hash.{Hash}
+use Rattle.part_definitions.specs.TrustedFlag.{aux}
+use Rattle.play_script.specs.declared.playback.Playback.{Playback}
+use Rattle.isr_flag.specs.declared.isr_flag.AuxConditions.{AuxConditions}
 
 -- the second flag of its device
 abbrev pub SecondFlag : Type 0
 SecondFlag = RunFlag AuxConditions
 
--- this holds of each run in whose middle a device is, and its place
-abbrev pub OfMidway :
-    {D : Type 0} → Hash D → Flag SecondFlag → Live D SecondFlag → (Run → ℕ → Type 0) → Type 0
-OfMidway hash flag live holds =
-    (run : Run) (playback : Playback)
-    → IsMidway hash flag run.start run.events_at live playback
-    → holds run (steps_made live)
+abbrev pub second_flag : Flag SecondFlag
+second_flag = flag_of_run aux
 
 -- the place where it stands
 abbrev pub place_of : {D : Type 0} → Walk D → ℕ
 place_of walk = steps_made walk.live
 
-pub record WalkStandsFor {D : Type 0} (hash : Hash D) (flag : Flag SecondFlag) (walk : Walk D)
-    (run : Run) : Type 0 where
-  pub midway : IsMidway hash flag run.start run.events_at walk.live walk.playback
-  pub levels : LevelsStandFor walk.levels run (place_of walk)
-  pub boundary : walk.boundary ≡ option_map (with_level run) (last_boundary run (place_of walk))
-  pub before_reset : IsLevelled run walk.before_reset
+-- this holds of each run in whose middle a device is, and its place
+abbrev pub OfMidway :
+    {D : Type 0} → Hash D → Live D SecondFlag → (Run → ℕ → Type 0) → Type 0
+OfMidway hash live holds =
+    (run : Run) (playback : Playback)
+    → IsMidway hash second_flag run.start run.events_at live playback
+    → holds run (steps_made live)
 
--- this holds of each run that a walk stands for, and its place
+-- its device is in the middle of a run
+abbrev pub Walks : {D : Type 0} → Hash D → Run → Walk D → Type 0
+Walks hash run walk = IsMidway hash second_flag run.start run.events_at walk.live walk.playback
+
+-- this holds of each run that it walks through, and its place
 abbrev pub OfWalk :
-    {D : Type 0} → Hash D → Flag SecondFlag → Walk D → (Run → ℕ → Type 0) → Type 0
-OfWalk hash flag walk holds =
-    (run : Run) → WalkStandsFor hash flag walk run → holds run (place_of walk)
+    {D : Type 0} → Hash D → Walk D → (Run → ℕ → Type 0) → Type 0
+OfWalk hash walk holds = (run : Run) → Walks hash run walk → holds run (place_of walk)
+
+-- the rule by which the first of them is refused that is, the script's reset too
+abbrev pub first_refused : List Sight → Option Rule
+first_refused [] = None
+first_refused (sight ∷ sights) = option_or sight.next.refused (first_refused sights)
+
+-- what is kept is that of all the steps since the last boundary
+pub record IsStretch (watches : List Watch) (run : Run) (place : ℕ) (stretch : Stretch)
+    : Type 0 where
+  pub begin : stretch.place ≡ place - length (behind (view_of run) place)
+  pub begins : (highest : ℕ) → (stretch.begins && nat_le stretch.level highest)
+      ≡ begins_within highest (behind (view_of run) place)
+  pub boot : stretch.boots ≡ boots (behind (view_of run) place)
+  pub first : stretch.first_hit ≡ hit_on Ahead (hits watches (behind (view_of run) place))
+  pub last : stretch.last_hit ≡ hit_on Back (hits watches (behind (view_of run) place))
+  pub refused : stretch.refused ≡ first_refused (behind (view_of run) place)
+
+-- the stretch to which the step at a place belongs, where this one was kept: at a boundary another
+-- begins
+abbrev pub stretch_there : Run → ℕ → Stretch → Stretch
+stretch_there run place stretch =
+    if (sight_at run place).boundary then stretch_from place (sight_at run place).level else stretch
+
+-- a walk that begins a stretch, or knows all of the one where it is
+abbrev pub IsFresh : {D : Type 0} → Run → Walk D → Type 0
+IsFresh run walk =
+    ((sight_at run (place_of walk)).boundary ≡ true)
+    ⊎ ((watches : List Watch) → IsStretch watches run (place_of walk) walk.stretch)
+
+-- what is kept says why to stop here, whatever steps were gone over: a watch, a number of steps,
+-- and where each instruction counts a step
+pub record TellsCause (stops : Stops) (asleep : Bool) (run : Run) (place : ℕ) (stretch : Stretch)
+    : Type 0 where
+  pub begun : (stretch.place ≡ 0) ⊎ (stretch.place < place)
+  pub first : stretch.first_hit
+      ≡ hit_on Ahead (hits stops.watches (behind (view_of run) place))
+  pub due : is_due stops.until stretch.place place
+      ≡ is_due stops.until (place - length (behind (view_of run) place)) place
+  pub begins : asleep ≡ true → (highest : ℕ) → (stretch.begins && nat_le stretch.level highest)
+      ≡ begins_within highest (behind (view_of run) place)
+  pub boot : asleep ≡ true → stretch.boots ≡ boots (behind (view_of run) place)

@@ -1,15 +1,14 @@
-ghost use Rattle.std.specs.Prelude.{◌≡◌, ◌<◌, ℕ, min};
+ghost use Rattle.std.specs.Prelude.{◌≡◌, ℕ, Some, min, true};
 ghost use Rattle.device_core.specs.Device.{LiveStandsFor};
-ghost use Rattle.debug_session.specs.Place.{Run, play_to, registers_at};
-ghost use Rattle.debug_session.specs.Shown.{byte_shown, bytes_shown, is_shown, registers_bytes};
-ghost use Rattle.debug_walk.specs.Halted.{OfHalted};
+ghost use Rattle.debug_session.specs.Place.{Run, is_shown, play_to, sight_at};
+ghost use Rattle.debug_session.specs.Shown.{bytes_shown, registers_bytes};
+ghost use Rattle.debug_walk.specs.Walk.{OfWalk};
 
-use crate::halted::Halted;
+use crate::walk::Walk;
 use arrayvec::ArrayVec;
 use bus_signals::{KR, TraceFlag, XS};
 use device_core::Live;
 use hmac_core::Digest32;
-use isr_flag::IsrFlag;
 
 /// The most bytes that are shown at once.
 pub const MOST_BYTES: usize = 2_048;
@@ -25,10 +24,12 @@ pub fn is_shown(place: u32) -> bool
     !KR.contains(place) && !XS.contains(place)
 }
 
+// The byte of an address that may be shown.
 fn shown_byte<D: Digest32, G: TraceFlag>(live: &Live<D, G>, at: u16) -> u8
     ensures { (run : Run) (place : ℕ)
         → LiveStandsFor D.hash G.flag live.now run.start (play_to run place)
-        → result ≡ byte_shown run place at }
+        → is_shown at ≡ true
+        → (sight_at run place).byte_at at ≡ Some result }
 {
     (live.peek(at) % 256) as u8
 }
@@ -41,7 +42,7 @@ pub fn live_bytes<D: Digest32, G: TraceFlag>(
 ) -> ArrayVec<u8, MOST_BYTES>
     ensures { (run : Run) (place : ℕ)
         → LiveStandsFor D.hash G.flag live.now run.start (play_to run place)
-        → result.items ≡ bytes_shown run place first (min size 2048) }
+        → result.items ≡ bytes_shown (sight_at run place) first (min size 2048) }
 {
     let mut bytes = ArrayVec::new();
     let count = size.min(MOST_BYTES as u32);
@@ -54,24 +55,24 @@ pub fn live_bytes<D: Digest32, G: TraceFlag>(
     bytes
 }
 
-/// Those of a device that is halted.
+/// Those of a walk's device.
 pub fn shown_bytes<D: Digest32>(
-    halted: &Halted<'_, D>,
+    walk: &Walk<'_, D>,
     first: u32,
     size: u32,
 ) -> ArrayVec<u8, MOST_BYTES>
-    ensures { OfHalted D.hash ⟦<IsrFlag as TraceFlag>⟧.flag halted.now (λ run place.
-        result.items ≡ bytes_shown run place first (min size 2048)) }
+    ensures { OfWalk D.hash walk.now (λ run place.
+        result.items ≡ bytes_shown (sight_at run place) first (min size 2048)) }
 {
-    live_bytes(halted.live(), first, size)
+    live_bytes(walk.live(), first, size)
 }
 
 /// The sixteen registers, each with four bytes, the low one first.
-pub fn shown_registers<D: Digest32>(halted: &Halted<'_, D>) -> ArrayVec<u8, 64>
-    ensures { OfHalted D.hash ⟦<IsrFlag as TraceFlag>⟧.flag halted.now (λ run place.
-        result.items ≡ registers_bytes (registers_at run place)) }
+pub fn shown_registers<D: Digest32>(walk: &Walk<'_, D>) -> ArrayVec<u8, 64>
+    ensures { OfWalk D.hash walk.now (λ run place.
+        result.items ≡ registers_bytes (sight_at run place).registers) }
 {
-    registers_bytes(halted.live().registers())
+    registers_bytes(walk.live().registers())
 }
 
 fn registers_bytes(registers: &[u16; 16]) -> ArrayVec<u8, 64>

@@ -1,70 +1,47 @@
-ghost use Rattle.std.specs.Option.{option_or};
-ghost use Rattle.std.specs.Prelude.{◌≡◌, ◌<◌, ◌+◌, ◌&&◌, option_map, if◌then◌else◌};
-ghost use Rattle.part_definitions.specs.CpuRegister.{pc_of};
-ghost use Rattle.device_core.specs.Device.{steps_made};
-ghost use Rattle.device_play.specs.Midway.{IsMidway};
+ghost use Rattle.std.specs.Prelude.{◌≡◌, ◌<◌, ◌≤◌, ◌+◌, ◌-◌, ◌⊎◌, ◌||◌, Bool, IfOk, IfSome, false, max, min, true};
+ghost use Rattle.part_definitions.specs.CpuRegister.{is_asleep, pc_of};
 ghost use Rattle.debug_commands.specs.Request.{most_steps};
-ghost use Rattle.debug_session.specs.Cause.{is_broken_at};
-ghost use Rattle.debug_session.specs.Level.{level as level_at};
-ghost use Rattle.debug_session.specs.Place.{Run, is_boundary, is_instruction, is_refused};
-ghost use Rattle.debug_session.specs.Place.{last_boundary, registers_at};
-ghost use Rattle.debug_session.specs.Watching.{differs};
-ghost use Rattle.debug_walk.specs.Seen.{IsLevelled, IsSeenAt, MayBeginAt, boundary_after, ended_level, with_level};
-ghost use Rattle.debug_walk.specs.Halted.{HaltedStandsFor, halted_at};
-ghost use Rattle.debug_walk.specs.Walk.{OfWalk, WalkStandsFor, place_of};
+ghost use Rattle.debug_session.specs.Cause.{is_awake, is_broken_at, is_due};
+ghost use Rattle.debug_session.specs.Place.{Run, differs, sight_at};
+ghost use Rattle.debug_stops.specs.Stops.{Stops, is_empty};
+ghost use Rattle.debug_walk.specs.Copies.{IsCopy};
+ghost use Rattle.debug_walk.specs.Passing.{ArePassed, AreSilent, IsCapped};
+ghost use Rattle.debug_walk.specs.Stretch.{stretch_from};
+ghost use Rattle.debug_walk.specs.Walk.{IsStretch, OfMidway, OfWalk, TellsCause, Walks, place_of, stretch_there};
+ghost use Rattle.device_core.specs.Device.{HasStepped, steps_made};
 
-use crate::breakpoint::is_at_breakpoint;
-use crate::halted::Halted;
-use crate::levels::{Levels, is_instruction};
-use crate::step_seen::{LevelPlace, StepSeen};
-use bus_signals::{BusRecord, Kind, TraceFlag};
-use debug_stops::{SeenAccesses, StopList};
+use crate::passing::Passing;
+use crate::stretch::Stretch;
+use bus_signals::ROM_ENTRY;
+use debug_commands::MOST_STEPS;
+use debug_stops::{SeenAccesses, StopList, Watch};
 use device_core::Live;
-use device_play::{TraceWatcher, play_to_shown};
+use device_play::{LineWatcher, TraceWatcher, go_quietly, play_to_shown};
 use hmac_core::Digest32;
 use isr_flag::IsrFlag;
 use play_script::Playback;
+use std::alloc::{AllocError, Global};
 
 /// A device on its way through the places of a run.
 #[derive(Drop)]
 pub struct Walk<'a, D: Digest32> {
     live: Live<D, IsrFlag>,
     playback: Playback<'a>,
-    levels: Levels,
-    boundary: Option<LevelPlace>,
-    before_reset: Option<LevelPlace>,
+    stretch: Stretch,
 }
 
 impl<'a, D: Digest32> Walk<'a, D> {
-    /// At the place of a device, which has this level, and came over a reset or not.
-    pub fn at(
-        live: Live<D, IsrFlag>,
-        playback: Playback<'a>,
-        level: u64,
-        before_reset: Option<LevelPlace>,
-    ) -> Walk<'a, D>
-        ensures stands { (run : Run)
-            → IsMidway D.hash ⟦<IsrFlag as TraceFlag>⟧.flag run.start run.events_at live
-            playback.entry
-            → level ≡ level_at run (steps_made live)
-            → MayBeginAt run (steps_made live)
-            → IsLevelled run before_reset
-            → WalkStandsFor D.hash ⟦<IsrFlag as TraceFlag>⟧.flag result run }
-        ensures place { place_of result ≡ steps_made live }
+    /// At the place of a device.
+    pub fn at(live: Live<D, IsrFlag>, playback: Playback<'a>) -> Walk<'a, D>
+        ensures live { result.live ≡ live }
+        ensures playback { result.playback ≡ playback.entry }
+        ensures begin { result.stretch ≡ stretch_from (steps_made live) result.stretch.level }
     {
-        let place = live.steps();
-        let boundary = live.is_at_boundary().then_some(LevelPlace { place, level });
-        let levels = Levels {
-            now: level,
-            begun: 0,
-            opcode: 0,
-        };
+        let stretch = Stretch::from(live.steps(), live.level());
         Walk {
             live,
             playback,
-            levels,
-            boundary,
-            before_reset,
+            stretch,
         }
     }
 
@@ -80,151 +57,265 @@ impl<'a, D: Digest32> Walk<'a, D> {
         self.live.steps()
     }
 
-    pub fn level(&self) -> u64
-        ensures { OfWalk D.hash ⟦<IsrFlag as TraceFlag>⟧.flag self.now (λ run place.
-            result ≡ level_at run place) }
+    /// Its place, without the device.
+    pub fn into_place(self) -> u64
+        ensures { result ≡ place_of self.entry }
     {
-        self.levels.now
+        self.live.steps()
     }
 
-    /// The last boundary, with no refused step since.
-    pub fn boundary(&self) -> Option<LevelPlace>
-        ensures { OfWalk D.hash ⟦<IsrFlag as TraceFlag>⟧.flag self.now (λ run place.
-            result ≡ option_map (with_level run) (last_boundary run place)) }
+    pub fn level(&self) -> u64
+        ensures { OfWalk D.hash self.now (λ run place.
+            result ≡ (sight_at run place).level) }
     {
-        self.boundary
+        self.live.level()
     }
 
     pub fn is_at_boundary(&self) -> bool
-        ensures { OfWalk D.hash ⟦<IsrFlag as TraceFlag>⟧.flag self.now (λ run place.
-            result ≡ is_boundary run place) }
+        ensures { OfWalk D.hash self.now (λ run place.
+            result ≡ (sight_at run place).boundary) }
     {
         self.live.is_at_boundary()
     }
 
     pub fn pc(&self) -> u16
-        ensures { OfWalk D.hash ⟦<IsrFlag as TraceFlag>⟧.flag self.now (λ run place.
-            result ≡ pc_of (registers_at run place)) }
+        ensures { OfWalk D.hash self.now (λ run place.
+            result ≡ pc_of (sight_at run place).registers) }
     {
         self.live.registers()[0]
     }
 
-    /// At a breakpoint, awake.
+    /// What the steps since the last boundary did.
+    pub fn stretch(&self) -> &Stretch
+        ensures { result.now ≡ self.now.stretch }
+    {
+        &self.stretch
+    }
+
+    /// Whether a breakpoint is here and the device is awake, or the number of steps is reached.
     pub fn is_broken(&self, stops: &StopList) -> bool
-        ensures { OfWalk D.hash ⟦<IsrFlag as TraceFlag>⟧.flag self.now (λ run place.
-            result ≡ is_broken_at run stops.now place) }
+        ensures { OfWalk D.hash self.now (λ run place.
+            result ≡ (is_broken_at stops.now (sight_at run place)
+            || is_due stops.now.until self.now.stretch.place place)) }
     {
-        is_at_breakpoint(&self.live, stops)
+        is_at_breakpoint(&self.live, stops) || self.stretch.reaches(self.place(), stops.until())
     }
 
-    /// Halts here.
-    pub fn halt(self) -> Halted<'a, D>
-        ensures stands { OfWalk D.hash ⟦<IsrFlag as TraceFlag>⟧.flag self.entry (λ run place.
-            HaltedStandsFor D.hash ⟦<IsrFlag as TraceFlag>⟧.flag result run) }
-        ensures place { halted_at result ≡ place_of self.entry }
+    /// Another device here, of one that is at a boundary.
+    pub fn try_clone(&self, alloc: Global) -> Result<Option<Walk<'a, D>>, AllocError>
+        ensures copy { (run : Run)
+            → Walks D.hash run self.now
+            → IfOk result (λ copy. IfSome copy (IsCopy D.hash run)) }
+        ensures place { IfOk result (λ copy. IfSome copy (λ walk.
+            place_of walk ≡ place_of self.now)) }
     {
-        let level = Some(self.levels.now);
-        Halted::new(self.live, self.playback, level, self.before_reset)
+        match &self.live {
+            Live::Running(device) if self.is_at_boundary() => {
+                let live = Live::Running(device.try_clone(alloc)?);
+                Ok(Some(Walk::at(live, self.playback)))
+            }
+            _ => Ok(None),
+        }
     }
 
-    /// Goes one step on.
-    pub fn step(self) -> (Walk<'a, D>, StepSeen)
+    // The stretch to which the next step belongs: at a boundary one begins.
+    fn begun(&self) -> Stretch
+        ensures { OfWalk D.hash self.now (λ run place.
+            result ≡ stretch_there run place self.now.stretch) }
+    {
+        if self.is_at_boundary() {
+            Stretch::from(self.place(), self.live.level())
+        } else {
+            self.stretch
+        }
+    }
+
+    /// Goes one step on, and looks at it.
+    pub fn step(self, watches: &[Watch]) -> Walk<'a, D>
         requires few { place_of self < most_steps }
-        ensures stands { OfWalk D.hash ⟦<IsrFlag as TraceFlag>⟧.flag self.entry (λ run place.
-            WalkStandsFor D.hash ⟦<IsrFlag as TraceFlag>⟧.flag result.0 run
-            × IsSeenAt result.1 run place) }
-        ensures place { place_of result.0 ≡ place_of self.entry + 1 }
+        ensures walks { (run : Run)
+            → Walks D.hash run self.entry
+            → Walks D.hash run result }
+        ensures stretch { OfWalk D.hash self.entry (λ run place.
+            (((sight_at run place).boundary ≡ true)
+            ⊎ IsStretch watches.now run place self.entry.stretch)
+            → IsStretch watches.now run (place + 1) result.stretch) }
+        ensures tells { (stops : Stops) (asleep : Bool)
+            → stops.watches ≡ watches.now
+            → OfWalk D.hash self.entry (λ run place.
+            (((sight_at run place).boundary ≡ true)
+            ⊎ TellsCause stops asleep run place self.entry.stretch)
+            → TellsCause stops asleep run (place + 1) result.stretch) }
+        ensures place { place_of result ≡ place_of self.entry + 1 }
+        ensures kept { HasStepped result.live }
     {
-        let was_boundary = self.is_at_boundary();
-        let exec = self.live.exec();
-        let aux = self.live.aux();
+        let stretch = self.begun();
         let Walk {
             live,
             mut playback,
-            levels,
-            boundary,
-            before_reset,
+            ..
         } = self;
-        let place = live.steps();
-        let live = play_to_shown::<TraceWatcher, D, IsrFlag>(live, &mut playback, place + 1);
-        let entry = *live.entry();
-        let is_boundary = live.is_at_boundary();
-        let levels = levels.after(&entry, was_boundary, is_boundary);
-        let seen = StepSeen {
-            begins: begins(was_boundary, entry.kind),
-            ended: ended_level(&entry, is_boundary, levels.begun),
-            refused: entry.reset,
-            hits: SeenAccesses::new(&entry, differs(exec, live.exec()), differs(aux, live.aux())),
-        };
-        let here = LevelPlace {
-            place: place + 1,
-            level: levels.now,
-        };
-        let walk = Walk {
+        let step = live.steps();
+        let exec = live.exec();
+        let aux = live.aux();
+        let live = play_to_shown::<TraceWatcher, D, IsrFlag>(live, &mut playback, step + 1);
+        let entry = live.entry();
+        let seen = SeenAccesses::new(entry, differs(exec, live.exec()), differs(aux, live.aux()));
+        let stretch = stretch.with(step, entry, &seen, watches);
+        Walk {
             live,
             playback,
-            levels,
-            boundary: boundary_after(boundary, &entry, is_boundary, here),
-            before_reset: before_last_reset(before_reset, &entry, boundary),
-        };
-        (walk, seen)
+            stretch,
+        }
+    }
+
+    /// Goes on over steps that stop nothing, behind one that was looked at, up to a place at most.
+    pub fn go_quietly(self, passing: &Passing<'_>, end: u64) -> Walk<'a, D>
+        requires few { end ≤ most_steps }
+        ensures walks { (run : Run)
+            → Walks D.hash run self.entry
+            → Walks D.hash run result }
+        ensures within { (place_of self.entry ≤ place_of result)
+            × (place_of result ≤ max end (place_of self.entry)) }
+        ensures tells { OfWalk D.hash self.entry (λ run place.
+            TellsCause passing.now.stops.now passing.now.asleep run place self.entry.stretch
+            → TellsCause passing.now.stops.now passing.now.asleep run (place_of result)
+            result.stretch) }
+        ensures quiet { OfWalk D.hash self.entry (λ run place.
+            TellsCause passing.now.stops.now passing.now.asleep run place self.entry.stretch
+            → ArePassed passing.now.stops.now passing.now.asleep run place (place_of result)) }
+    {
+        let place = self.place();
+        let end = quiet_end(passing.stops().until(), self.stretch.place, place, end);
+        if self.stretch.first_hit.is_some() || end <= place {
+            return self;
+        }
+        let Walk {
+            live,
+            playback,
+            stretch,
+        } = self;
+        let live = go_quietly(live, &playback, passing, end);
+        let stretch = quiet_stretch(stretch, place, &live);
+        Walk {
+            live,
+            playback,
+            stretch,
+        }
+    }
+
+    /// Plays on up to a step that has a line or events, or to a place.
+    pub fn play(self, end: u64) -> Walk<'a, D>
+        requires more { place_of self < end }
+        requires few { end ≤ most_steps }
+        ensures walks { (run : Run)
+            → Walks D.hash run self.entry
+            → Walks D.hash run result }
+        ensures within { (place_of self.entry < place_of result) × (place_of result ≤ end) }
+        ensures silent { OfWalk D.hash self.entry (λ run place.
+            AreSilent run place (place_of result - 1)) }
+        ensures tells { (stops : Stops)
+            → is_empty stops ≡ true
+            → OfWalk D.hash self.entry (λ run place.
+            (((sight_at run place).boundary ≡ true)
+            ⊎ TellsCause stops false run place self.entry.stretch)
+            → TellsCause stops false run (place_of result) result.stretch) }
+    {
+        let stretch = self.begun();
+        let Walk {
+            live,
+            mut playback,
+            ..
+        } = self;
+        let live = play_to_shown::<LineWatcher, D, IsrFlag>(live, &mut playback, end);
+        Walk {
+            live,
+            playback,
+            stretch,
+        }
+    }
+
+    /// Plays on up to a place, to the last one at most.
+    pub fn play_up_to(mut self, place: u64) -> Walk<'a, D>
+        ensures walks { (run : Run)
+            → Walks D.hash run self.entry
+            → Walks D.hash run result }
+        ensures place { place_of self.entry ≤ min place most_steps
+            → place_of result ≡ min place most_steps }
+    {
+        let end = place.min(MOST_STEPS);
+        while self.place() < end {
+            self = self.play(end);
+        }
+        self
+    }
+
+    /// Plays on up to a boundary that is not before a place, or up to another place.
+    pub fn play_to_boundary(self, place: u64, end: u64) -> Walk<'a, D>
+        ensures { (run : Run)
+            → Walks D.hash run self.entry
+            → Walks D.hash run result }
+    {
+        let mut walk = self.play_up_to(place);
+        let end = end.min(MOST_STEPS);
+        while !walk.is_at_boundary() && walk.place() < end {
+            let next = walk.place() + 1;
+            walk = walk.play(next);
+        }
+        walk
     }
 }
 
-/// Whether a flag is not what it was.
-pub fn differs(before: bool, after: bool) -> bool
+// Where a row of steps from a place on ends, in a stretch that began earlier: where the number of
+// steps is reached at the latest, and at once where it was reached within the stretch.
+fn quiet_end(until: Option<u64>, begin: u64, place: u64, end: u64) -> u64
+    ensures within { place < result → result ≤ end }
+    ensures capped { place < result → IsCapped until begin result }
+{
+    match until {
+        Some(until) if place < until => until.min(end),
+        Some(until) if begin < until => place,
+        _ => end,
+    }
+}
+
+// What is kept behind a row of steps from a place on.
+fn quiet_stretch<D: Digest32>(stretch: Stretch, place: u64, live: &Live<D, IsrFlag>) -> Stretch
+    ensures stays { steps_made live.now ≡ place → result ≡ stretch }
+    ensures goes { place < steps_made live.now → result ≡ stretch_from place result.level }
+{
+    if live.steps() == place {
+        stretch
+    } else {
+        Stretch::from(place, live.level())
+    }
+}
+
+// Whether a flag is not what it was.
+fn differs(before: bool, after: bool) -> bool
     ensures { result ≡ differs before after }
 {
     before != after
 }
 
-// An instruction begins, or a call of the ROM.
-fn begins(was_boundary: bool, kind: Kind) -> bool
-    ensures { result ≡ (was_boundary && is_instruction kind) }
+// CPUOFF is bit 4 of SR: the processor sleeps.
+fn is_asleep(registers: &[u16; 16]) -> bool
+    ensures { result ≡ is_asleep registers.now }
 {
-    was_boundary && is_instruction(kind)
+    registers[2] / 16 % 2 == 1
 }
 
-// The level at which something began that ended with the step of a record.
-fn ended_level(entry: &BusRecord, at_boundary: bool, begun: u64) -> Option<u64>
-    ensures { result ≡ ended_level entry.now at_boundary begun }
+// The processor doesn't sleep, or a call of the ROM begins.
+fn is_awake<D: Digest32>(live: &Live<D, IsrFlag>) -> bool
+    ensures { OfMidway D.hash live.now (λ run place. result ≡ is_awake (sight_at run place)) }
 {
-    if at_boundary && (is_instruction(entry.kind) || matches!(entry.kind, Kind::Boot)) {
-        Some(begun)
-    } else {
-        None
-    }
+    let registers = live.registers();
+    !is_asleep(registers) || registers[0] == ROM_ENTRY
 }
 
-// The last boundary behind a step, with no refused step since.
-fn boundary_after(
-    before: Option<LevelPlace>,
-    entry: &BusRecord,
-    at_boundary: bool,
-    here: LevelPlace,
-) -> Option<LevelPlace>
-    ensures { result ≡ boundary_after before entry.now at_boundary here }
+fn is_at_breakpoint<D: Digest32>(live: &Live<D, IsrFlag>, stops: &StopList) -> bool
+    ensures { OfMidway D.hash live.now (λ run place.
+        result ≡ is_broken_at stops.now (sight_at run place)) }
 {
-    if at_boundary {
-        Some(here)
-    } else if entry.reset.is_some() {
-        None
-    } else {
-        before
-    }
-}
-
-// A boundary before the last reset behind a step, where there was one before the step.
-fn before_last_reset(
-    before: Option<LevelPlace>,
-    entry: &BusRecord,
-    boundary: Option<LevelPlace>,
-) -> Option<LevelPlace>
-    ensures { result ≡ (if is_refused entry.now then option_or boundary before else before) }
-{
-    if entry.reset.is_some() {
-        boundary.or(before)
-    } else {
-        before
-    }
+    is_awake(live) && stops.has_breakpoint(live.registers()[0])
 }

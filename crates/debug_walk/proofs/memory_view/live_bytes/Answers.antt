@@ -1,7 +1,8 @@
 use Rattle.std.proofs.Common.{◌≡◌, ◌≤◌, ◌<◌, ◌+◌, ◌-◌, ◌∙◌, ◌⊎◌, inl, inr, ⊎_elim, ap, refl, sym, arith}
 use Rattle.std.proofs.lemmas.Bool.{cases_lt}
+use Rattle.debug_session.specs.Place.{sight_at}
 use Rattle.debug_session.specs.Shown.{bytes_shown}
-use Rattle.debug_walk.proofs.ShownBytes.{all-shown, shown-end, shown-more}
+use Rattle.debug_walk.proofs.ShownBytes.{all-shown, none-there, shown-end, shown-more}
 use Rattle.debug_walk.proofs.memory_view.live_bytes.Goals as goal
 
 pub loop-at-init : goal.loop-at-init
@@ -25,24 +26,28 @@ loop-at-preserved g c =
     record {
       size = omega (arith, c.push.ensures.len, c.loop-at.invariant.size, c.loop-at.auto.at);
       bytes = λ run place stands.
+          let here = sight_at run place in
           rw (c.push.ensures.items, less)
-          (shown-more run place c.loop-at.bytes.items (bytes_shown run place first count) at
-          (count - (at - first)) c.shown_byte.result (sym c.if-not-is_shown.ensures) some
-          (c.shown_byte.ensures run place stands) (c.loop-at.invariant.bytes run place stands));
+          (shown-more here c.loop-at.bytes.items (bytes_shown here first count) at
+          (count - (at - first)) c.shown_byte.result some
+          (c.shown_byte.ensures run place stands (sym c.if-not-is_shown.ensures))
+          (c.loop-at.invariant.bytes run place stands));
     }
 
 pub returns-then-not-is_shown : goal.returns-then-not-is_shown
 returns-then-not-is_shown g c = λ run place stands.
+    let here = sight_at run place in
     let at = c.loop-at.at in
     let first = c.args.first in
     let count = c.min-count.result in
-    shown-end run place c.loop-at.bytes.items (bytes_shown run place first count) at
-    (count - (at - first)) (inl (sym c.if-not-is_shown.ensures))
+    shown-end here c.loop-at.bytes.items (bytes_shown here first count) at
+    (count - (at - first)) (inl (none-there run place at (sym c.if-not-is_shown.ensures)))
     (c.loop-at.invariant.bytes run place stands)
-    ∙ ap (bytes_shown run place first) c.min-count.ensures
+    ∙ ap (bytes_shown here first) c.min-count.ensures
 
 pub returns : goal.returns
 returns g c = λ run place stands.
+    let here = sight_at run place in
     let at = c.loop-at.at in
     let first = c.args.first in
     let count = c.min-count.result in
@@ -50,7 +55,7 @@ returns g c = λ run place stands.
     ⊎_elim
     (λ less. inr (omega (arith, less, c.loop-at-test.false, c.saturating_add-at-end.ensures)))
     (λ past. inl past) (cases_lt at 65536) in
-    shown-end run place c.loop-at.bytes.items (bytes_shown run place first count) at
-    (count - (at - first)) (all-shown first count at c.loop-at.auto.at ends)
+    shown-end here c.loop-at.bytes.items (bytes_shown here first count) at
+    (count - (at - first)) (all-shown run place first count at c.loop-at.auto.at ends)
     (c.loop-at.invariant.bytes run place stands)
-    ∙ ap (bytes_shown run place first) c.min-count.ensures
+    ∙ ap (bytes_shown here first) c.min-count.ensures

@@ -1,6 +1,6 @@
 use Rattle.std.proofs.Common.{◌≡◌, ◌-◌, ◌++◌, ℕ, length}
 use Rattle.device_core.specs.Device.{LiveStandsFor}
-use Rattle.debug_session.specs.Place.{Run, play_to}
+use Rattle.debug_session.specs.Place.{Run, play_to, sight_at}
 use Rattle.debug_session.specs.Shown.{bytes_shown}
 use Rattle.debug_walk.proofs.memory_view.live_bytes.Given as goal
 
@@ -9,6 +9,6 @@ invariant-loop-at g l = record {
   size : length l.bytes.items ≡ l.at - l.first;
   bytes : (run : Run) (place : ℕ)
       → LiveStandsFor g.D.Digest32.hash g.G.TraceFlag.flag l.live run.start (play_to run place)
-      → l.bytes.items ++ bytes_shown run place l.at (l.count - (l.at - l.first))
-      ≡ bytes_shown run place l.first l.count;
+      → l.bytes.items ++ bytes_shown (sight_at run place) l.at (l.count - (l.at - l.first))
+      ≡ bytes_shown (sight_at run place) l.first l.count;
 }

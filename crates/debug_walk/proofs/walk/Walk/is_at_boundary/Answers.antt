@@ -2,5 +2,4 @@ use Rattle.debug_walk.proofs.Views.{boundary-at}
 use Rattle.debug_walk.proofs.walk.Walk.is_at_boundary.Goals as goal
 
 pub returns : goal.returns
-returns g c = λ run is.
-    boundary-at run is.midway c.is_at_boundary.result c.is_at_boundary.ensures
+returns g c = λ run walks. boundary-at run walks c.is_at_boundary.result c.is_at_boundary.ensures

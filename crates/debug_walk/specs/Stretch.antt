@@ -1,0 +1,36 @@
+-- What is kept of the steps since a boundary, from step to step.
+use Rattle.std.specs.Prelude.{ℕ, ◌==◌, ◌&&◌, ◌||◌, Bool, false, List, None}
+use Rattle.std.specs.Option.{option_or}
+use Rattle.bus_signals.specs.Kind.{is_boot, is_cpu, is_rom}
+use Rattle.bus_signals.specs.declared.bus_record.BusRecord.{BusRecord}
+use Rattle.bus_signals.specs.declared.kind.Kind.{Kind}
+use Rattle.debug_stops.specs.Watched.{first_hit, hits_of, last_hit}
+use Rattle.debug_stops.specs.declared.seen_accesses.SeenAccesses.{SeenAccesses}
+use Rattle.debug_stops.specs.declared.watch.Watch.{Watch}
+use Rattle.debug_walk.specs.declared.stretch.Stretch.{Stretch}
+
+abbrev pub is_instruction : Kind → Bool
+is_instruction kind = is_cpu kind || is_rom kind
+
+abbrev pub stretch_from : ℕ → ℕ → Stretch
+stretch_from place level =
+    record {
+      place = place;
+      level = level;
+      begins = false;
+      boots = false;
+      first_hit = None;
+      last_hit = None;
+      refused = None;
+    }
+
+-- with the step of this record, before which so many were made
+abbrev pub stretch_with : Stretch → ℕ → BusRecord → SeenAccesses → List Watch → Stretch
+stretch_with before step entry seen watches =
+    record before {
+      begins = before.begins || (step == before.place && is_instruction entry.kind);
+      boots = is_boot entry.kind;
+      first_hit = option_or before.first_hit (first_hit (hits_of seen watches));
+      last_hit = last_hit before.last_hit (hits_of seen watches);
+      refused = option_or before.refused entry.reset;
+    }
