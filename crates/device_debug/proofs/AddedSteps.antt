@@ -1,21 +1,50 @@
 -- The texts of steps that are added to a text for the console, one after the other.
-use Rattle.std.proofs.Common.{◌≡◌, ◌≤◌, ◌<◌, ◌-◌, ◌∙◌, ◌++◌, ℕ, suc, List, Result, IsErr, ap, sym, subst, arith}
+use Rattle.std.proofs.Common.{◌≡◌, ◌≤◌, ◌<◌, ◌+◌, ◌-◌, ◌∙◌, ◌++◌, ℕ, zero, suc, List, Result, IsErr, ap, sym, subst, arith, append_assoc}
+use Rattle.std.proofs.lemmas.List.{append-nil}
 use Rattle.outside_edge.specs.declared.sink.Sink as sink
 use Rattle.debug_link.specs.Console.{AddsText, HasAdded}
 use Rattle.debug_link.specs.Writing.{PacketSink}
 use Rattle.debug_link.proofs.AddedText.{PutsPrefix, added_both, added_none, adds_failed_in, prefix_less}
-use Rattle.debug_session.specs.Place.{Run}
-use Rattle.device_debug.specs.StepText.{text_at, texts_from}
-use Rattle.device_debug.specs.declared.step_text.StepText.{StepText}
-use Rattle.device_debug.proofs.StepTexts.{texts-both, texts-more}
+use Rattle.debug_session.specs.Monitor.{texts_from}
+use Rattle.debug_session.specs.Sight.{StepSight, View}
 
-module _ {W : Type 0} (w : sink.Ghosts W) (kind : StepText) (run : Run) where
+module _ (view : View) (text_of : StepSight → List ℕ) where
+  -- the text of one step more
+  texts-more : (from steps place : ℕ) → place ≡ steps + from
+      → texts_from view text_of from (suc steps)
+      ≡ texts_from view text_of from steps ++ text_of (view place).next
+  texts-more from zero place is =
+      let same : from ≡ place = omega (arith, is) in
+      append-nil (text_of (view from).next) ∙ ap (λ (at : ℕ). text_of (view at).next) same
+  texts-more from (suc steps) place is =
+      ap (λ (rest : List ℕ). text_of (view from).next ++ rest)
+      (texts-more (suc from) steps place (omega (arith, is)))
+      ∙ sym (append_assoc (text_of (view from).next) (texts_from view text_of (suc from) steps)
+      (text_of (view place).next))
+
+  -- the texts of a way that is cut in two
+  texts-both : (from one two all mid : ℕ) → all ≡ one + two → mid ≡ one + from
+      → texts_from view text_of from all
+      ≡ texts_from view text_of from one ++ texts_from view text_of mid two
+  texts-both from zero two all mid sum at =
+      let same : all ≡ two = omega (arith, sum) in
+      let here : from ≡ mid = omega (arith, at) in
+      ap (texts_from view text_of from) same
+      ∙ ap (λ (place : ℕ). texts_from view text_of place two) here
+  texts-both from (suc one) two zero mid sum at = absurd (omega (arith, sum))
+  texts-both from (suc one) two (suc all) mid sum at =
+      ap (λ (rest : List ℕ). text_of (view from).next ++ rest)
+      (texts-both (suc from) one two all mid (omega (arith, sum)) (omega (arith, at)))
+      ∙ sym (append_assoc (text_of (view from).next) (texts_from view text_of (suc from) one)
+      (texts_from view text_of mid two))
+
+module _ {W : Type 0} (w : sink.Ghosts W) (view : View) (text_of : StepSight → List ℕ) where
   -- the texts of the steps from one place to another were added, on the way to a third one
   pub record IsAddedTo (old now : PacketSink W) (rest rest_now : List ℕ) (from until place : ℕ)
       : Type 0 where
     pub passed : from ≤ place
     pub within : place ≤ until
-    pub added : HasAdded w old now rest (texts_from kind run from (place - from)) rest_now
+    pub added : HasAdded w old now rest (texts_from view text_of from (place - from)) rest_now
 
   pub no_step_added : (now : PacketSink W) (rest : List ℕ) (from until place : ℕ)
       → place ≡ from → from ≤ until → IsAddedTo now now rest rest from until place
@@ -29,45 +58,45 @@ module _ {W : Type 0} (w : sink.Ghosts W) (kind : StepText) (run : Run) where
 
   pub one_step_added : (old mid new : PacketSink W) (rest rest_mid rest_new text : List ℕ)
       (from until place next : ℕ)
-      → place < until → next ≡ suc place → text ≡ text_at kind run place
+      → place < until → next ≡ suc place → text ≡ text_of (view place).next
       → IsAddedTo old mid rest rest_mid from until place → HasAdded w mid new rest_mid text rest_new
       → IsAddedTo old new rest rest_new from until next
   one_step_added old mid new rest rest_mid rest_new text from until place next below after is first
       step =
       let count : next - from ≡ suc (place - from) = omega (arith, first.passed, after) in
-      let whole : texts_from kind run from (next - from)
-      ≡ texts_from kind run from (place - from) ++ text =
-      ap (texts_from kind run from) count
-      ∙ texts-more kind run from (place - from) place (omega (arith, first.passed))
-      ∙ ap (λ (one : List ℕ). texts_from kind run from (place - from) ++ one) (sym is) in
+      let whole : texts_from view text_of from (next - from)
+      ≡ texts_from view text_of from (place - from) ++ text =
+      ap (texts_from view text_of from) count
+      ∙ texts-more view text_of from (place - from) place (omega (arith, first.passed))
+      ∙ ap (λ (one : List ℕ). texts_from view text_of from (place - from) ++ one) (sym is) in
       record {
         passed = omega (arith, first.passed, after);
         within = omega (arith, below, after);
         added = rw whole
-            (added_both w old mid new rest (texts_from kind run from (place - from)) rest_mid text
+            (added_both w old mid new rest (texts_from view text_of from (place - from)) rest_mid text
             rest_new first.added step);
       }
 
   pub all_added : (old new : PacketSink W) (rest rest_new : List ℕ) (from until place : ℕ)
       → until ≤ place → IsAddedTo old new rest rest_new from until place
-      → HasAdded w old new rest (texts_from kind run from (until - from)) rest_new
+      → HasAdded w old new rest (texts_from view text_of from (until - from)) rest_new
   all_added old new rest rest_new from until place end so =
       let same : place ≡ until = omega (arith, so.within, end) in
-      subst (λ (one : ℕ). HasAdded w old new rest (texts_from kind run from (one - from)) rest_new)
+      subst (λ (one : ℕ). HasAdded w old new rest (texts_from view text_of from (one - from)) rest_new)
       same so.added
 
   -- a call failed at the step of a place
   pub step_failed : {V E : Type 0} (old mid new : PacketSink W) (rest rest_mid rest_new : List ℕ)
       (from until place : ℕ) (result : Result V E)
       → IsErr result → place < until → IsAddedTo old mid rest rest_mid from until place
-      → ((more : List ℕ) → PutsPrefix w mid new (rest_mid ++ text_at kind run place ++ more))
-      → AddsText w old new rest (texts_from kind run from (until - from)) rest_new result
+      → ((more : List ℕ) → PutsPrefix w mid new (rest_mid ++ text_of (view place).next ++ more))
+      → AddsText w old new rest (texts_from view text_of from (until - from)) rest_new result
   step_failed old mid new rest rest_mid rest_new from until place result is below first prefix =
       let left : ℕ = until - suc place in
-      let later : List ℕ = texts_from kind run (suc place) left in
+      let later : List ℕ = texts_from view text_of (suc place) left in
       adds_failed_in w old mid new rest rest_mid rest_new
-      (texts_from kind run from (place - from)) (text_at kind run place ++ later)
-      (texts_from kind run from (until - from)) result is
-      (texts-both kind run from (place - from) (suc left) (until - from) place
+      (texts_from view text_of from (place - from)) (text_of (view place).next ++ later)
+      (texts_from view text_of from (until - from)) result is
+      (texts-both view text_of from (place - from) (suc left) (until - from) place
       (omega (arith, first.passed, below)) (omega (arith, first.passed)))
-      first.added (prefix_less w mid new rest_mid (text_at kind run place) later prefix)
+      first.added (prefix_less w mid new rest_mid (text_of (view place).next) later prefix)

@@ -1,120 +1,366 @@
--- What was put on the way is a prefix of all that will be, wherever the walk stops.
-use Rattle.std.proofs.Common.{◌≡◌, ◌≤◌, ◌<◌, ◌-◌, ◌∙◌, ◌++◌, ℕ, zero, suc, Bool, true, false, List, [], Option, Some, None, refl, ap, sym, subst, arith, append_assoc, append-nil, nat_lt, option_map, ⊎_elim}
-use Rattle.std.specs.Prelude.{IfSome, if◌then◌else◌}
-use Rattle.std.proofs.lemmas.Bool.{cases_Bool, ltb-true}
+-- A walk forwards stops at the first place with a cause, and sees a refusal behind it.
+use Rattle.std.proofs.Common.{◌≡◌, ◌≤◌, ◌<◌, ◌+◌, ◌-◌, ◌∙◌, ◌⊎◌, inl, inr, ⊎_elim, ℕ, zero, suc, Bool, true, false, List, [], ◌∷◌, Option, Some, None, length, is_some, refl, ap, sym, subst, arith}
+use Rattle.std.specs.Prelude.{nat_lt, if◌then◌else◌}
+use Rattle.std.proofs.lemmas.Bool.{cases_Bool, cases_lt, cond-false, cond-true, false≢true, lt-ltb, ltb-true}
 use Rattle.bus_signals.specs.declared.rule.Rule.{Rule}
+use Rattle.debug_commands.specs.Request.{most_steps}
+use Rattle.debug_commands.specs.declared.command.Way.TheVariants.{Ahead}
 use Rattle.debug_stops.specs.Stops.{Stops}
 use Rattle.debug_stops.specs.declared.stop.Stop.{Stop}
-use Rattle.debug_stops.specs.declared.stop.Stop.TheVariants.{Refused}
-use Rattle.debug_session.specs.Cause.{forward_cause, refusal_from}
-use Rattle.debug_session.specs.Going.{Standing, first_stop, standing_at}
-use Rattle.debug_session.specs.Place.{Run, is_boundary, last_boundary}
-use Rattle.debug_session.specs.Session.{told}
-use Rattle.debug_walk.specs.declared.step_seen.StepSeen.{StepSeen}
-use Rattle.device_debug.specs.GrownText.{GrownText}
-use Rattle.device_debug.specs.Telling.{bodies_of, step_bodies}
-use Rattle.device_debug.specs.declared.way.Way.{Way}
-use Rattle.device_debug.proofs.OnWay.{IsOnWay, at-boundary, or_refused}
-use Rattle.device_debug.proofs.Told.{IsTold, told-both, told-step}
+use Rattle.debug_stops.specs.declared.stop.Stop.TheVariants.{End, Refused}
+use Rattle.debug_stops.specs.declared.watch.Hit.{Hit}
+use Rattle.debug_session.specs.Cause.{Step, ahead, behind, cause, cause_here, hit_on, hits, is_plain, refusal, refusal_or, steps_over, stop_of}
+use Rattle.debug_session.specs.Going.{Standing, first_stop}
+use Rattle.debug_session.specs.Session.{refused_step}
+use Rattle.debug_session.specs.Sight.{Sight, View}
+use Rattle.debug_session.proofs.Scans.{first-at, first-none}
+use Rattle.device_debug.specs.Ahead.{last_boundary, place_past, seek_ahead}
 
--- where a walk stops is not before its place
-standing-behind : (place least : ℕ) (stop : Option Stop) (later : Standing)
-    → least ≤ place → least ≤ later.place → least ≤ (standing_at place stop later).place
-standing-behind place least (Some stop) later here behind = here
-standing-behind place least None later here behind = behind
+-- a cause that goes before a refusal
+stops-before : (hit : Option Hit) (plain steps : Bool) (rule : Option Rule) (stop : Stop)
+    → stop_of hit plain steps None ≡ Some stop → stop_of hit plain steps rule ≡ Some stop
+stops-before (Some hit) plain steps rule stop is = is
+stops-before None true steps rule stop is = is
+stops-before None false true rule stop is = is
+stops-before None false false rule stop is = absurd (cc (is))
 
-pub first-behind : (run : Run) (stops : Stops) (highest : Option ℕ) (from place left : ℕ)
-    → place ≤ (first_stop run stops highest from place left).place
-first-behind run stops highest from place zero = omega arith
-first-behind run stops highest from place (suc left) =
-    standing-behind (suc place) place (forward_cause run stops highest from (suc place) left)
-    (first_stop run stops highest from (suc place) left) (omega arith)
-    (omega (arith, first-behind run stops highest from (suc place) left))
+-- and a refusal where there is none
+stops-refused : (hit : Option Hit) (plain steps : Bool) (rule : Rule)
+    → stop_of hit plain steps None ≡ None
+    → stop_of hit plain steps (Some rule) ≡ Some (Refused rule)
+stops-refused (Some hit) plain steps rule none = absurd (cc (none))
+stops-refused None true steps rule none = absurd (cc (none))
+stops-refused None false true rule none = absurd (cc (none))
+stops-refused None false false rule none = refl
 
--- and with steps left it is behind it
-first-past : (run : Run) (stops : Stops) (highest : Option ℕ) (from place left : ℕ)
-    → suc place ≤ (first_stop run stops highest from place (suc left)).place
-first-past run stops highest from place left =
-    standing-behind (suc place) (suc place)
-    (forward_cause run stops highest from (suc place) left)
-    (first_stop run stops highest from (suc place) left) (omega arith)
-    (first-behind run stops highest from (suc place) left)
+some-or-none : (rule : Option Rule) → (rule ≡ None) ⊎ ((one : Rule) × (rule ≡ Some one))
+some-or-none None = inl refl
+some-or-none (Some rule) = inr (rule, refl)
 
--- some are the first of all
-abbrev pub IsAhead : List (List ℕ) → List (List ℕ) → Type 0
-IsAhead put all = (rest : List (List ℕ)) × (all ≡ put ++ rest)
+either-boundary : (here : Bool) (one other : Option Stop) → (here ≡ true → one ≡ other)
+    → (if here then one else None) ≡ (if here then other else None)
+either-boundary true one other same = same refl
+either-boundary false one other same = refl
 
-module _ (run : Run) (from place : ℕ) (put waiting : List (List ℕ)) where
-  told-ahead : (to : ℕ) → put ++ waiting ≡ told run from (place - from)
-      → from ≤ place → place ≤ to
-      → IsAhead put (told run from (to - from))
-  told-ahead to whole passed ahead = (
-    waiting ++ told run place (to - place),
-    told-both run from (place - from) (to - place) (to - from) place (omega arith) (omega arith)
-        ∙ ap (λ (front : List (List ℕ)). front ++ told run place (to - place)) (sym whole)
-        ∙ append_assoc put waiting (told run place (to - place)),
-  )
+pub at-boundary : (here : Bool) (one : Option Stop) (stop : Stop)
+    → (if here then one else None) ≡ Some stop → here ≡ true
+at-boundary true one stop is = refl
+at-boundary false one stop is = absurd (cc (is))
 
-  past-ahead : (past : Bool) (at : ℕ) (refusal : Option Rule) (first : Standing)
-      → (past ≡ true → put ≡ told run from (at - from))
-      → put ++ waiting ≡ told run from (place - from) → from ≤ place → place ≤ first.place
-      → IsAhead put (told run from
-      ((if past then standing_at at (option_map Refused refusal) first else first).place - from))
-  past-ahead true at (Some rule) first until whole passed ahead =
-      ([], sym (append-nil put ∙ until refl))
-  past-ahead true at None first until whole passed ahead =
-      told-ahead first.place whole passed ahead
-  past-ahead false at refusal first until whole passed ahead =
-      told-ahead first.place whole passed ahead
+past-parts : (from place at : ℕ) → place_past from place ≡ Some at → (from < at) × (place ≡ at)
+past-parts from place at is =
+    ⊎_elim
+    (λ (past : nat_lt from place ≡ true).
+    let same : place ≡ at = cc (rw past at is) in
+    (omega (arith, ltb-true from place past, same), same))
+    (λ (not_past : nat_lt from place ≡ false). absurd (cc (rw not_past at is)))
+    (cases_Bool (nat_lt from place))
 
-  waits-ahead : (last : Option ℕ) (refusal : Option Rule) (first : Standing)
-      → IfSome last (λ at. from < at → put ≡ told run from (at - from))
-      → put ++ waiting ≡ told run from (place - from) → from ≤ place → place ≤ first.place
-      → IsAhead put (told run from ((or_refused from last refusal first).place - from))
-  waits-ahead None refusal first until whole passed ahead =
-      told-ahead first.place whole passed ahead
-  waits-ahead (Some at) refusal first until whole passed ahead =
-      past-ahead (nat_lt from at) at refusal first (λ is. until (ltb-true from at is)) whole
-      passed ahead
+told-behind : (rule : Option Rule) (told : Rule) (later : Option Rule)
+    → refusal_or rule None ≡ Some told → refusal_or rule later ≡ Some told
+told-behind (Some rule) told later is = is
+told-behind None told later is = absurd (cc (is))
 
-module _ (run : Run) (stops : Stops) (highest : Option ℕ) (from : ℕ) (way : Way)
-    (place : ℕ) (stands : Standing) (waiting : List GrownText) (put : List (List ℕ)) where
-  abbrev IsAheadOf : List (List ℕ) → Standing → Type 0
-  IsAheadOf bodies now = IsAhead bodies (told run from (now.place - from))
+told-some : (rule : Option Rule) (told : Rule) → refusal_or rule None ≡ Some told
+    → is_some rule ≡ true
+told-some (Some rule) told is = refl
+told-some None told is = absurd (cc (is))
 
-  pub way-ahead : (left : ℕ) → IsOnWay run stops highest from way place left stands
-      → IsTold run from place waiting put
-      → IsAhead put (told run from (stands.place - from))
-  way-ahead left on so =
-      subst (IsAheadOf put) (sym on.waits)
-      (waits-ahead run from place put (bodies_of waiting) (last_boundary run place)
-      (refusal_from run place left) (first_stop run stops highest from place left) so.until
-      so.all on.passed (first-behind run stops highest from place left))
+module _ (view : View) (from : ℕ) where
+  -- the rule that is told of a step
+  abbrev pub told_at : ℕ → Option Rule
+  told_at step = refusal_or (view step).next.refused None
 
-  -- and of a step more
-  pub step-ahead : (left : ℕ) (seen : StepSeen) (more later : List (List ℕ))
-      → IsOnWay run stops highest from way place (suc left) stands
-      → IsTold run from place waiting put
-      → more ++ later ≡ bodies_of waiting ++ step_bodies run place
-      → (is_boundary run (suc place) ≡ true → later ≡ [])
-      → (is_boundary run (suc place) ≡ false → more ≡ [])
-      → IsAhead (put ++ more) (told run from (stands.place - from))
-  step-ahead left seen more later on so whole none_waits none_put =
+  abbrev NoneSince : ℕ → ℕ → Type 0
+  NoneSince at until = (one : ℕ) → at < one → one ≤ until → (view one).boundary ≡ false
+
+  abbrev later_at : ℕ → ℕ → List Sight
+  later_at here steps = if (view (suc here)).boundary then [] else ahead view (suc here) steps
+
+  last-here : (at : ℕ) → from < at → (view at).boundary ≡ true
+      → last_boundary view from at ≡ Some at
+  last-here zero past here = absurd (omega (arith, past))
+  last-here (suc before) past here =
+      cond-true (view (suc before)).boundary (place_past from (suc before))
+      (if is_some (view before).next.refused then None else last_boundary view from before) here
+      ∙ cond-true (nat_lt from (suc before)) (Some (suc before)) None
+      (lt-ltb from (suc before) past)
+
+  last-behind : (here at : ℕ) → (view (suc here)).boundary ≡ false
+      → (view here).next.refused ≡ None → last_boundary view from here ≡ Some at
+      → last_boundary view from (suc here) ≡ Some at
+  last-behind here at none unrefused is =
+      cond-false (view (suc here)).boundary (place_past from (suc here))
+      (if is_some (view here).next.refused then None else last_boundary view from here) none
+      ∙ ap (λ (rule : Option Rule). if is_some rule then None else last_boundary view from here)
+      unrefused
+      ∙ is
+
+  -- a step ahead of a boundary is refused before the next one
+  record IsRefusedAhead (at last : ℕ) (rule : Rule) : Type 0 where
+    step : ℕ
+    from_here : at ≤ step
+    within : step < last
+    told : told_at step ≡ Some rule
+    boundary_is : last_boundary view from step ≡ Some at
+    none_since : NoneSince at step
+
+  since-more : (at here : ℕ) → (view (suc here)).boundary ≡ false → NoneSince at here
+      → NoneSince at (suc here)
+  since-more at here none since =
+      λ one past until. ⊎_elim
+      (λ (less : one < suc here). since one past (omega (arith, less)))
+      (λ (over : suc here ≤ one).
+      let same : suc here ≡ one = omega (arith, over, until) in
+      subst (λ (place : ℕ). (view place).boundary ≡ false) same none)
+      (cases_lt one (suc here))
+
+  search-ahead : (steps here at : ℕ) (rule : Rule) → at ≤ here
+      → last_boundary view from here ≡ Some at → NoneSince at here
+      → refusal (ahead view here steps) ≡ Some rule
+      → IsRefusedAhead at (steps + here) rule
+  search-ahead zero here at rule behind_is boundary_is since is = absurd (cc (is))
+  search-ahead (suc steps) here at rule behind_is boundary_is since is =
       ⊎_elim
-      (λ here.
-      let first : Standing = first_stop run stops highest from place (suc left) in
-      let none : later ≡ [] = none_waits here in
-      let passed : from ≤ suc place = omega (arith, on.passed) in
-      let now : IsTold run from (suc place) [] (put ++ more) =
-      told-step run from place waiting [] put more later so on.passed whole none none_waits
-      none_put in
-      subst (IsAheadOf (put ++ more))
-      (sym (at-boundary run stops highest from way place left stands on seen here))
-      (told-ahead run from (suc place) (put ++ more) [] first.place now.all passed
-      (first-past run stops highest from place left)))
-      (λ away.
-      let bare : put ++ more ≡ put =
-      ap (λ (rest : List (List ℕ)). put ++ rest) (none_put away) ∙ append-nil put in
-      subst (λ (bodies : List (List ℕ)). IsAheadOf bodies stands) (sym bare)
-      (way-ahead (suc left) on so))
-      (cases_Bool (is_boundary run (suc place)))
+      (λ (none : (view here).next.refused ≡ None).
+      let deeper : refusal (later_at here steps) ≡ Some rule =
+      subst
+      (λ (one : Option Rule). refusal_or one (refusal (later_at here steps)) ≡ Some rule)
+      none is in
+      ⊎_elim
+      (λ (ends : (view (suc here)).boundary ≡ true).
+      absurd (cc (sym deeper ∙ ap refusal
+      (cond-true (view (suc here)).boundary [] (ahead view (suc here) steps) ends))))
+      (λ (goes : (view (suc here)).boundary ≡ false).
+      let more = search-ahead steps (suc here) at rule (omega (arith, behind_is))
+      (last-behind here at goes none boundary_is) (since-more at here goes since)
+      (sym (ap refusal
+      (cond-false (view (suc here)).boundary [] (ahead view (suc here) steps) goes)) ∙ deeper) in
+      record {
+        step = more.step;
+        from_here = more.from_here;
+        within = omega (arith, more.within);
+        told = more.told;
+        boundary_is = more.boundary_is;
+        none_since = more.none_since;
+      })
+      (cases_Bool (view (suc here)).boundary))
+      (λ (some : (one : Rule) × ((view here).next.refused ≡ Some one)).
+      record {
+        step = here;
+        from_here = behind_is;
+        within = omega arith;
+        told = subst (λ (one : Option Rule). refusal_or one None ≡ Some rule) (sym some.1)
+            (subst
+            (λ (one : Option Rule). refusal_or one (refusal (later_at here steps)) ≡ Some rule)
+            some.1 is);
+        boundary_is = boundary_is;
+        none_since = since;
+      })
+      (some-or-none (view here).next.refused)
+
+  -- a refusal is told ahead of the last boundary before it
+  pub record TellsAhead (at last step : ℕ) (rule : Rule) : Type 0 where
+    pub past : from < at
+    pub from_here : at ≤ step
+    pub settled : (view at).boundary ≡ true
+    pub none_since : NoneSince at step
+    pub told : refusal (ahead view at (last - at)) ≡ Some rule
+    pub number : refused_step view at (last - at) ≡ step
+
+  told-at : (here steps at last step : ℕ) (rule : Rule) → last ≡ steps + here → here ≤ step
+      → (view here).boundary ≡ true → place_past from here ≡ Some at
+      → refusal (ahead view here steps) ≡ Some rule → refused_step view here steps ≡ step
+      → NoneSince here step
+      → TellsAhead at last step rule
+  told-at here steps at last step rule same behind_is settled is told number since =
+      let parts = past-parts from here at is in
+      let count : steps ≡ last - here = omega (arith, same) in
+      subst (λ (one : ℕ). TellsAhead one last step rule) parts.1
+      (record {
+        past = omega (arith, parts.0, parts.1);
+        from_here = behind_is;
+        settled = settled;
+        none_since = since;
+        told = subst (λ (one : ℕ). refusal (ahead view here one) ≡ Some rule) count told;
+        number = subst (λ (one : ℕ). refused_step view here one ≡ step) count number;
+      })
+
+  search-back : (here steps at last step : ℕ) (rule : Rule) → last ≡ steps + here → here ≤ step
+      → last_boundary view from here ≡ Some at
+      → refusal (ahead view here steps) ≡ Some rule → refused_step view here steps ≡ step
+      → NoneSince here step
+      → TellsAhead at last step rule
+  search-back zero steps at last step rule same behind_is is told number since =
+      absurd (cc (is))
+  search-back (suc before) steps at last step rule same behind_is is told number since =
+      let earlier : Option ℕ =
+      if is_some (view before).next.refused then None else last_boundary view from before in
+      ⊎_elim
+      (λ (here : (view (suc before)).boundary ≡ true).
+      told-at (suc before) steps at last step rule same behind_is here
+      (sym (cond-true (view (suc before)).boundary (place_past from (suc before)) earlier here)
+      ∙ is)
+      told number since)
+      (λ (goes : (view (suc before)).boundary ≡ false).
+      let there : earlier ≡ Some at =
+      sym (cond-false (view (suc before)).boundary (place_past from (suc before)) earlier goes)
+      ∙ is in
+      ⊎_elim
+      (λ (none : (view before).next.refused ≡ None).
+      search-back before (suc steps) at last step rule (omega (arith, same))
+      (omega (arith, behind_is))
+      (subst
+      (λ (one : Option Rule).
+      (if is_some one then None else last_boundary view from before) ≡ Some at) none there)
+      (ap (λ (one : Option Rule). refusal_or one (refusal (later_at before steps))) none
+      ∙ ap refusal
+      (cond-false (view (suc before)).boundary [] (ahead view (suc before) steps) goes)
+      ∙ told)
+      (ap (λ (one : Option Rule).
+      if is_some one then before else refused_step view (suc before) steps) none
+      ∙ number)
+      (λ one past until. ⊎_elim
+      (λ (next : suc before < one). since one next until)
+      (λ (not_next : one ≤ suc before).
+      let here : suc before ≡ one = omega (arith, not_next, past) in
+      subst (λ (place : ℕ). (view place).boundary ≡ false) here goes)
+      (cases_lt (suc before) one)))
+      (λ (some : (one : Rule) × ((view before).next.refused ≡ Some one)).
+      absurd (cc (subst
+      (λ (one : Option Rule).
+      (if is_some one then None else last_boundary view from before) ≡ Some at) some.1 there)))
+      (some-or-none (view before).next.refused))
+      (cases_Bool (view (suc before)).boundary)
+
+  pub tells-ahead : (step at last : ℕ) (rule : Rule) → step < last
+      → last_boundary view from step ≡ Some at → told_at step ≡ Some rule
+      → TellsAhead at last step rule
+  tells-ahead step at last rule within is told =
+      let steps : ℕ = last - suc step in
+      let same : last ≡ suc steps + step = omega (arith, within) in
+      search-back step (suc steps) at last step rule same (omega arith) is
+      (told-behind (view step).next.refused rule (refusal (later_at step steps)) told)
+      (cond-true (is_some (view step).next.refused) step (refused_step view (suc step) steps)
+      (told-some (view step).next.refused rule told))
+      (λ one past until. absurd (omega (arith, past, until)))
+
+-- on the way from a place
+module _ (view : View) (stops : Stops) (step : Option Step) (from : ℕ) where
+  abbrev pub cause_at : ℕ → Option Stop
+  cause_at = cause view stops (seek_ahead step)
+
+  -- whatever lies ahead
+  abbrev pub cause_by : ℕ → Option Stop
+  cause_by at = cause_here stops (seek_ahead step) at (view at) (behind view at) []
+
+  abbrev hit_at : ℕ → Option Hit
+  hit_at at = hit_on Ahead (hits stops.watches (behind view at))
+
+  abbrev plain_at : ℕ → Bool
+  plain_at at = is_plain stops (view at) (at - length (behind view at)) at
+
+  abbrev over_at : ℕ → Bool
+  over_at at = steps_over step (view at) (behind view at)
+
+  abbrev refusal_at : ℕ → Option Rule
+  refusal_at at = refusal (ahead view at (most_steps - at))
+
+  -- nothing to stop for was met before a place, and none of the steps before another one is refused
+  -- ahead of a boundary on the way
+  pub record IsClear (until place : ℕ) : Type 0 where
+    pub here : (at : ℕ) → from < at → at < until → cause_by at ≡ None
+    pub unrefused : (one : ℕ) (rule : Rule) → from ≤ one → one < place
+        → told_at view from one ≡ Some rule → last_boundary view from one ≡ None
+
+  with-refusal : (here : Bool) (hit : Option Hit) (plain over : Bool) (rule : Option Rule)
+      (stop : Stop)
+      → (if here then stop_of hit plain over None else None) ≡ Some stop
+      → (if here then stop_of hit plain over rule else None) ≡ Some stop
+  with-refusal true hit plain over rule stop is = stops-before hit plain over rule stop is
+  with-refusal false hit plain over rule stop is = absurd (cc (is))
+
+  refused-here : (here : Bool) (hit : Option Hit) (plain over : Bool) (rule : Rule)
+      → here ≡ true
+      → (if here then stop_of hit plain over None else None) ≡ None
+      → (if here then stop_of hit plain over (Some rule) else None) ≡ Some (Refused rule)
+  refused-here true hit plain over rule is none = stops-refused hit plain over rule none
+  refused-here false hit plain over rule is none = absurd (false≢true is)
+
+  -- no refusal lies ahead of a boundary behind which there is another one on the way
+  none-ahead : (until place at end : ℕ) → IsClear until place → from < at
+      → (view at).boundary ≡ true → end ≤ place
+      → ((at < end) × ((view end).boundary ≡ true)) ⊎ (end ≡ most_steps)
+      → refusal_at at ≡ None
+  none-ahead until place at end clear past here within ends =
+      ⊎_elim
+      (λ (none : refusal_at at ≡ None). none)
+      (λ (some : (rule : Rule) × (refusal_at at ≡ Some rule)).
+      let found = search-ahead view from (most_steps - at) at at some.0 (omega arith)
+      (last-here view from at past here) (λ one after before. absurd (omega (arith, after, before)))
+      some.1 in
+      let early : found.step < end = ⊎_elim
+      (λ (next : (at < end) × ((view end).boundary ≡ true)). ⊎_elim
+      (λ (less : found.step < end). less)
+      (λ (over : end ≤ found.step).
+      absurd (false≢true (sym (found.none_since end next.0 over) ∙ next.1)))
+      (cases_lt found.step end))
+      (λ (last : end ≡ most_steps). omega (arith, last, found.within, found.from_here))
+      ends in
+      absurd (cc (sym found.boundary_is
+      ∙ clear.unrefused found.step some.0 (omega (arith, past, found.from_here))
+      (omega (arith, early, within)) found.told)))
+      (some-or-none (refusal_at at))
+
+  pub none-at : (until place at end : ℕ) → IsClear until place → from < at → at < until
+      → end ≤ place
+      → ((at < end) × ((view end).boundary ≡ true)) ⊎ (end ≡ most_steps)
+      → cause_at at ≡ None
+  none-at until place at end clear past before within ends =
+      either-boundary (view at).boundary
+      (stop_of (hit_at at) (plain_at at) (over_at at) (refusal_at at))
+      (stop_of (hit_at at) (plain_at at) (over_at at) None)
+      (λ here. ap (stop_of (hit_at at) (plain_at at) (over_at at))
+      (none-ahead until place at end clear past here within ends))
+      ∙ clear.here at past before
+
+  -- it stops where it has to, whatever lies ahead
+  pub stops-here : (place : ℕ) (stop : Stop) → from < place → place ≤ most_steps
+      → IsClear place place → cause_by place ≡ Some stop
+      → first_stop cause_at from (most_steps - from) ≡ record { place = place; stop = stop }
+  stops-here place stop past within clear is =
+      let here : (view place).boundary ≡ true = at-boundary (view place).boundary _ stop is in
+      first-at cause_at place stop
+      (with-refusal (view place).boundary (hit_at place) (plain_at place) (over_at place)
+      (refusal_at place) stop is)
+      (most_steps - from) from past (omega (arith, within, past))
+      (λ at after before. none-at place place at place clear after before (omega arith)
+      (inl (before, here)))
+
+  -- or before a step that is refused
+  pub stops-before-refusal : (one at : ℕ) (rule : Rule) → one < most_steps
+      → IsClear (suc one) one → told_at view from one ≡ Some rule
+      → last_boundary view from one ≡ Some at
+      → first_stop cause_at from (most_steps - from) ≡ record { place = at; stop = Refused rule }
+  stops-before-refusal one at rule within clear told is =
+      let tells = tells-ahead view from one at most_steps rule within is told in
+      first-at cause_at at (Refused rule)
+      (ap (λ (refused : Option Rule).
+      if (view at).boundary then stop_of (hit_at at) (plain_at at) (over_at at) refused else None)
+      tells.told
+      ∙ refused-here (view at).boundary (hit_at at) (plain_at at) (over_at at) rule tells.settled
+      (clear.here at tells.past (omega (arith, tells.from_here))))
+      (most_steps - from) from tells.past
+      (omega (arith, tells.past, tells.from_here, within))
+      (λ earlier after before.
+      none-at (suc one) one earlier at clear after (omega (arith, before, tells.from_here))
+      tells.from_here (inl (before, tells.settled)))
+
+  -- or at the last place of all
+  pub stops-nowhere : from ≤ most_steps → IsClear (suc most_steps) most_steps
+      → first_stop cause_at from (most_steps - from)
+      ≡ record { place = most_steps; stop = End }
+  stops-nowhere within clear =
+      first-none cause_at (most_steps - from) from most_steps (omega (arith, within))
+      (λ at after until. none-at (suc most_steps) most_steps at most_steps clear after
+      (omega (arith, until)) (omega arith) (inr refl))

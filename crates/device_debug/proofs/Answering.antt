@@ -2,7 +2,6 @@
 use Rattle.std.proofs.Common.{◌≡◌, ◌∙◌, ℕ, Bool, true, false, List, [], ◌∷◌, Option, Some, None, Result, Ok, Err, IsErr, refl, ap, sym, subst}
 use Rattle.std.specs.Prelude.{MatchOption, codes, if◌then◌else◌}
 use Rattle.std.proofs.lemmas.Option.{same_Some}
-use Rattle.bus_signals.specs.TraceFlag.{Flag}
 use Rattle.hmac_core.specs.Hash.{Hash}
 use Rattle.outside_edge.specs.Sink.{Takes, TakesPrefix}
 use Rattle.outside_edge.specs.declared.sink.Sink as sink
@@ -16,48 +15,49 @@ use Rattle.debug_commands.specs.Command.{command_of}
 use Rattle.debug_commands.specs.declared.request.Request.{Request}
 use Rattle.debug_commands.specs.declared.request.Request.TheVariants.{Until}
 use Rattle.debug_link.proofs.Bodies.{put_none}
-use Rattle.debug_session.specs.Place.{Run}
+use Rattle.debug_session.specs.Place.{Run, view_of}
 use Rattle.debug_session.specs.Session.{Session, after_request, answer_of, closes, reply, says, with_stops}
 use Rattle.debug_stops.specs.Stops.{Stops}
 use Rattle.debug_walk.specs.PlayedRun.{played_run}
-use Rattle.debug_walk.specs.Halted.{OfHalted}
-use Rattle.debug_walk.specs.Walk.{SecondFlag}
-use Rattle.debug_walk.specs.declared.halted.Halted.{Halted}
-use Rattle.device_debug.specs.Forwards.{HaltedAt}
-use Rattle.device_debug.specs.Session.{DebuggerStandsFor, GivesBy, RunSession, StandsInRun, in_run, run_reply}
+use Rattle.debug_walk.specs.Walk.{OfWalk}
+use Rattle.debug_walk.specs.declared.walk.Walk.{Walk}
+use Rattle.device_debug.specs.Going.{StandsAt}
+use Rattle.device_debug.specs.Session.{DebuggerStandsFor, Gives, MayGive, RunSession, StandsInRun, in_run, run_at, run_reply}
 use Rattle.device_debug.specs.declared.debugger.Debugger.{Debugger}
+use Rattle.device_debug.specs.declared.run_debugger.RunDebugger.{RunDebugger}
 use Rattle.device_debug.proofs.Answered.{all-answered, half-answered, half-put, none-answered, one-put}
 
-module _ {D : Type 0} (hash : Hash D) (flag : Flag SecondFlag) where
+module _ {D : Type 0} (hash : Hash D) where
   -- its device is halted there
-  pub halted-here : (debugger : Debugger D) (session : Session) (halted : Halted D)
-      → debugger.halted ≡ Some halted → DebuggerStandsFor hash flag debugger session
-      → HaltedAt hash flag (played_run hash flag debugger.run) session.place halted
+  pub halted-here : (debugger : Debugger D) (session : Session) (halted : Walk D)
+      → debugger.halted ≡ Some halted → DebuggerStandsFor hash debugger session
+      → StandsAt hash (run_at hash debugger) session.place halted
   halted-here debugger session halted is stands =
-      subst (λ (one : Halted D).
-      HaltedAt hash flag (played_run hash flag debugger.run) session.place one)
+      subst (λ (one : Walk D).
+      StandsAt hash (run_at hash debugger) session.place one)
       (same_Some stands.halted halted (sym stands.halted_is ∙ is)) stands.stands
 
   -- so what holds of the device's place holds of the session's
-  pub holds-here : (debugger : Debugger D) (session : Session) (halted : Halted D)
+  pub holds-here : (debugger : Debugger D) (session : Session) (halted : Walk D)
       (holds : Run → ℕ → Type 0)
-      → debugger.halted ≡ Some halted → DebuggerStandsFor hash flag debugger session
-      → OfHalted hash flag halted holds → holds (played_run hash flag debugger.run) session.place
+      → debugger.halted ≡ Some halted → DebuggerStandsFor hash debugger session
+      → OfWalk hash halted holds → holds (run_at hash debugger) session.place
   holds-here debugger session halted holds is stands of_halted =
       let here = halted-here debugger session halted is stands in
-      subst (λ (place : ℕ). holds (played_run hash flag debugger.run) place) here.place_is
-      (of_halted (played_run hash flag debugger.run) here.stands)
+      subst (λ (place : ℕ). holds (run_at hash debugger) place) here.place_is
+      (of_halted (run_at hash debugger) here.walks)
 
   -- with other stops it stands for a session with other stops
   pub other-stops : (debugger : Debugger D) (session : Session) (one other : Stops)
-      → one ≡ other → DebuggerStandsFor hash flag debugger session
-      → DebuggerStandsFor hash flag (record debugger { stops = one })
+      → one ≡ other → DebuggerStandsFor hash debugger session
+      → DebuggerStandsFor hash (record debugger { stops = one })
       (record session { stops = other })
   other-stops debugger session one other same stands =
       record {
         halted = stands.halted;
         halted_is = stands.halted_is;
         stands = stands.stands;
+        track = stands.track;
         stops = same;
         stop = stands.stop;
       }
@@ -65,20 +65,20 @@ module _ {D : Type 0} (hash : Hash D) (flag : Flag SecondFlag) where
   -- a request that is no `until` changes nothing of its session
   pub no-until : (debugger : Debugger D) (session : Session) (request : Request)
       → ((number : ℕ) → request ≡ Until number → ⊥)
-      → DebuggerStandsFor hash flag debugger session
-      → DebuggerStandsFor hash flag debugger (after_request session request)
+      → DebuggerStandsFor hash debugger session
+      → DebuggerStandsFor hash debugger (after_request session request)
   no-until debugger session (Until number) other stands = absurd (other number refl)
   no-until debugger session request other stands = stands
 
-module _ {D W : Type 0} (hash : Hash D) (flag : Flag SecondFlag) (w : sink.Ghosts W) where
+module _ {D W : Type 0} (hash : Hash D) (w : sink.Ghosts W) where
   -- one packet is put
   pub said : (old new : PacketSink W) (debugger : Debugger D) (body : List ℕ)
       → Takes w.stands old.sink new.sink (packet_of body) → new.last ≡ packet_of body
-      → GivesBy hash flag w old new debugger debugger (λ session. says session body) (Ok Open)
+      → Gives hash w old new debugger debugger (λ session. says session body) (Ok Open)
   said old new debugger body takes last =
       record {
         answers = λ session stands.
-            all-answered (DebuggerStandsFor hash flag) w old new debugger (says session body) stands
+            all-answered (DebuggerStandsFor hash) w old new debugger (says session body) stands
             (one-put w old new body takes last);
         same_run = refl;
       }
@@ -87,11 +87,11 @@ module _ {D W : Type 0} (hash : Hash D) (flag : Flag SecondFlag) (w : sink.Ghost
   pub half-said : (old new : PacketSink W) (debugger : Debugger D) (body : List ℕ)
       (result : Result Connection AnswerFault)
       → IsErr result → TakesPrefix w.stands old.sink new.sink (packet_of body)
-      → GivesBy hash flag w old new debugger debugger (λ session. says session body) result
+      → Gives hash w old new debugger debugger (λ session. says session body) result
   half-said old new debugger body result is prefix =
       record {
         answers = λ session stands.
-            half-answered (DebuggerStandsFor hash flag) w old new debugger (says session body)
+            half-answered (DebuggerStandsFor hash) w old new debugger (says session body)
             result is (half-put w old new body prefix);
         same_run = refl;
       }
@@ -99,23 +99,47 @@ module _ {D W : Type 0} (hash : Hash D) (flag : Flag SecondFlag) (w : sink.Ghost
   -- nothing is put
   pub none-said : (same : PacketSink W) (old new : Debugger D) (answer : Session → Answer Session)
       (result : Result Connection AnswerFault)
-      → IsErr result → new.run ≡ old.run → GivesBy hash flag w same same old new answer result
+      → IsErr result → new.track.run ≡ old.track.run → Gives hash w same same old new answer result
   none-said same old new answer result is run =
       record {
         answers = λ session stands.
-            none-answered (DebuggerStandsFor hash flag) w same new (answer session) result is;
+            none-answered (DebuggerStandsFor hash) w same new (answer session) result is;
         same_run = run;
+      }
+
+  pub may-fail : (same : PacketSink W) (old new : Debugger D)
+      (answer : Option ℕ → Session → Answer Session) (result : Result Connection AnswerFault)
+      → IsErr result → new.track.run ≡ old.track.run
+      → MayGive hash w same same old new answer result
+  may-fail same old new answer result is run =
+      record {
+        answers = λ session stands. (
+          None,
+          none-answered (DebuggerStandsFor hash) w same new (answer None session) result is,
+        );
+        same_run = run;
+      }
+
+  -- an answer that nothing interrupts
+  pub uninterrupted : (old new : PacketSink W) (before after : Debugger D)
+      (answer : Session → Answer Session) (result : Result Connection AnswerFault)
+      → Gives hash w old new before after answer result
+      → MayGive hash w old new before after (λ interrupt. answer) result
+  uninterrupted old new before after answer result gives =
+      record {
+        answers = λ session stands. (None, gives.answers session stands);
+        same_run = gives.same_run;
       }
 
   -- the connection is closed behind a packet, and without one
   pub closed-behind : (old new : PacketSink W) (debugger : Debugger D) (body : List ℕ)
       → Takes w.stands old.sink new.sink (packet_of body) → new.last ≡ packet_of body
-      → GivesBy hash flag w old new debugger debugger (λ session. closes session (body ∷ []))
+      → Gives hash w old new debugger debugger (λ session. closes session (body ∷ []))
       (Ok Closed)
   closed-behind old new debugger body takes last =
       record {
         answers = λ session stands.
-            all-answered (DebuggerStandsFor hash flag) w old new debugger
+            all-answered (DebuggerStandsFor hash) w old new debugger
             (closes session (body ∷ [])) stands (one-put w old new body takes last);
         same_run = refl;
       }
@@ -123,21 +147,21 @@ module _ {D W : Type 0} (hash : Hash D) (flag : Flag SecondFlag) (w : sink.Ghost
   pub half-closed : (old new : PacketSink W) (debugger : Debugger D) (body : List ℕ)
       (result : Result Connection AnswerFault)
       → IsErr result → TakesPrefix w.stands old.sink new.sink (packet_of body)
-      → GivesBy hash flag w old new debugger debugger (λ session. closes session (body ∷ [])) result
+      → Gives hash w old new debugger debugger (λ session. closes session (body ∷ [])) result
   half-closed old new debugger body result is prefix =
       record {
         answers = λ session stands.
-            half-answered (DebuggerStandsFor hash flag) w old new debugger
+            half-answered (DebuggerStandsFor hash) w old new debugger
             (closes session (body ∷ [])) result is (half-put w old new body prefix);
         same_run = refl;
       }
 
   pub closed-silently : (same : PacketSink W) (debugger : Debugger D)
-      → GivesBy hash flag w same same debugger debugger (λ session. closes session []) (Ok Closed)
+      → Gives hash w same same debugger debugger (λ session. closes session []) (Ok Closed)
   closed-silently same debugger =
       record {
         answers = λ session stands.
-            all-answered (DebuggerStandsFor hash flag) w same same debugger (closes session [])
+            all-answered (DebuggerStandsFor hash) w same same debugger (closes session [])
             stands (put_none w same);
         same_run = refl;
       }
@@ -146,18 +170,18 @@ module _ {D W : Type 0} (hash : Hash D) (flag : Flag SecondFlag) (w : sink.Ghost
   pub behind-change : (old new : PacketSink W) (before changed after : Debugger D)
       (change : Session → Session) (answer said : Session → Answer Session)
       (result : Result Connection AnswerFault)
-      → changed.run ≡ before.run
-      → ((session : Session) → DebuggerStandsFor hash flag before session
-      → DebuggerStandsFor hash flag changed (change session))
-      → ((session : Session) → DebuggerStandsFor hash flag before session
+      → changed.track.run ≡ before.track.run
+      → ((session : Session) → DebuggerStandsFor hash before session
+      → DebuggerStandsFor hash changed (change session))
+      → ((session : Session) → DebuggerStandsFor hash before session
       → said (change session) ≡ answer session)
-      → GivesBy hash flag w old new changed after said result
-      → GivesBy hash flag w old new before after answer result
+      → Gives hash w old new changed after said result
+      → Gives hash w old new before after answer result
   behind-change old new before changed after change answer said result run stands same gives =
       record {
         answers = λ session here.
             subst (λ (one : Answer Session).
-            Answers (DebuggerStandsFor hash flag) w old new after one result) (same session here)
+            Answers (DebuggerStandsFor hash) w old new after one result) (same session here)
             (gives.answers (change session) (stands session here));
         same_run = gives.same_run ∙ run;
       }
@@ -165,61 +189,44 @@ module _ {D W : Type 0} (hash : Hash D) (flag : Flag SecondFlag) (w : sink.Ghost
   -- what was put is what the session has to say
   pub said-so : (old new : PacketSink W) (debugger after : Debugger D) (body : List ℕ)
       (text : Session → List ℕ) (result : Result Connection AnswerFault)
-      → ((session : Session) → DebuggerStandsFor hash flag debugger session → body ≡ text session)
-      → GivesBy hash flag w old new debugger after (λ session. says session body) result
-      → GivesBy hash flag w old new debugger after (λ session. says session (text session)) result
+      → ((session : Session) → DebuggerStandsFor hash debugger session → body ≡ text session)
+      → Gives hash w old new debugger after (λ session. says session body) result
+      → Gives hash w old new debugger after (λ session. says session (text session)) result
   said-so old new debugger after body text result same gives =
       behind-change old new debugger debugger after (λ session. session)
       (λ session. says session (text session)) (λ session. says session body) result refl
       (λ session stands. stands)
       (λ session stands. ap (λ (one : List ℕ). says session one) (same session stands)) gives
 
-  -- it was said that the stops changed
-  pub stops-changed : (old new : PacketSink W) (debugger after : Debugger D) (stops : Stops)
-      (asked : Stops → Stops) (result : Result Connection AnswerFault)
-      → stops ≡ asked debugger.stops
-      → GivesBy hash flag w old new (record debugger { stops = stops }) after
-      (λ session. says session (codes "OK")) result
-      → GivesBy hash flag w old new debugger after
-      (λ session. with_stops session (Some (asked session.stops))) result
-  stops-changed old new debugger after stops asked result is gives =
-      behind-change old new debugger (record debugger { stops = stops }) after
-      (λ session. record session { stops = asked session.stops })
-      (λ session. with_stops session (Some (asked session.stops)))
-      (λ session. says session (codes "OK")) result refl
-      (λ session stands. other-stops hash flag debugger session stops (asked session.stops)
-      (is ∙ ap asked stands.stops) stands)
-      (λ session stands. refl) gives
-
-  -- or that they couldn't
+  -- it was said that the stops couldn't change
   stops-kept : (old new : PacketSink W) (debugger after : Debugger D) (stops : Stops)
       (asked : Stops → Option Stops) (result : Result Connection AnswerFault)
       → asked debugger.stops ≡ None → stops ≡ debugger.stops
-      → GivesBy hash flag w old new (record debugger { stops = stops }) after
+      → Gives hash w old new (record debugger { stops = stops }) after
       (λ session. says session (codes "E01")) result
-      → GivesBy hash flag w old new debugger after
+      → Gives hash w old new debugger after
       (λ session. with_stops session (asked session.stops)) result
   stops-kept old new debugger after stops asked result none is gives =
       behind-change old new debugger (record debugger { stops = stops }) after
       (λ session. session) (λ session. with_stops session (asked session.stops))
       (λ session. says session (codes "E01")) result refl
-      (λ session stands. other-stops hash flag debugger session stops session.stops
+      (λ session stands. other-stops hash debugger session stops session.stops
       (is ∙ stands.stops) stands)
       (λ session stands. ap (with_stops session) (sym none ∙ ap asked stands.stops)) gives
 
   stops-fit : (old new : PacketSink W) (debugger after : Debugger D) (stops found : Stops)
       (asked : Stops → Option Stops) (result : Result Connection AnswerFault)
       → asked debugger.stops ≡ Some found → stops ≡ found
-      → GivesBy hash flag w old new (record debugger { stops = stops }) after
+      → Gives hash w old new (record debugger { stops = stops }) after
       (λ session. says session (codes "OK")) result
-      → GivesBy hash flag w old new debugger after
+      → Gives hash w old new debugger after
       (λ session. with_stops session (asked session.stops)) result
   stops-fit old new debugger after stops found asked result some is gives =
       behind-change old new debugger (record debugger { stops = stops }) after
       (λ session. record session { stops = found })
       (λ session. with_stops session (asked session.stops))
       (λ session. says session (codes "OK")) result refl
-      (λ session stands. other-stops hash flag debugger session stops found is stands)
+      (λ session stands. other-stops hash debugger session stops found is stands)
       (λ session stands. ap (with_stops session) (sym some ∙ ap asked stands.stops)) gives
 
   -- it was said whether they did
@@ -229,9 +236,9 @@ module _ {D W : Type 0} (hash : Hash D) (flag : Flag SecondFlag) (w : sink.Ghost
       → asked debugger.stops ≡ found
       → MatchOption found ((is_set ≡ false) × (stops ≡ debugger.stops))
       (λ other. (is_set ≡ true) × (stops ≡ other))
-      → GivesBy hash flag w old new (record debugger { stops = stops }) after
+      → Gives hash w old new (record debugger { stops = stops }) after
       (λ session. says session (if is_set then codes "OK" else codes "E01")) result
-      → GivesBy hash flag w old new debugger after
+      → Gives hash w old new debugger after
       (λ session. with_stops session (asked session.stops)) result
   stops-said old new debugger after stops asked None is_set result found is gives =
       stops-kept old new debugger after stops asked result found is.1 (rw is.0 at gives)
@@ -242,47 +249,59 @@ module _ {D W : Type 0} (hash : Hash D) (flag : Flag SecondFlag) (w : sink.Ghost
       (asked : Stops → Option Stops) (is_set : Bool) (result : Result Connection AnswerFault)
       → MatchOption (asked debugger.stops) ((is_set ≡ false) × (stops ≡ debugger.stops))
       (λ other. (is_set ≡ true) × (stops ≡ other))
-      → GivesBy hash flag w old new (record debugger { stops = stops }) after
+      → Gives hash w old new (record debugger { stops = stops }) after
       (λ session. says session (if is_set then codes "OK" else codes "E01")) result
-      → GivesBy hash flag w old new debugger after
+      → Gives hash w old new debugger after
       (λ session. with_stops session (asked session.stops)) result
   stops-asked old new debugger after stops asked is_set result is gives =
       stops-said old new debugger after stops asked (asked debugger.stops) is_set result refl is
       gives
 
-  -- what is answered is answered in its run
-  answered-in_run : (old new : PacketSink W) (before after : Debugger D)
-      (answer : Run → Session → Answer Session) (result : Result Connection AnswerFault)
-      → GivesBy hash flag w old new before after
-      (λ session. answer (played_run hash flag before.run) session) result
-      → (now : RunSession) → StandsInRun hash flag before now
-      → Answers (StandsInRun hash flag) w old new after
-      (in_run now.run (answer now.run now.session)) result
-  answered-in_run old new before after answer (Ok connection) gives now stands =
-      let Is : Run → Type 0 = λ (run : Run). Answers (DebuggerStandsFor hash flag) w old new after
-      (answer run now.session) (Ok connection) in
-      let answers = subst Is stands.0 (gives.answers now.session stands.1) in
-      record {
-        all = record {
-          connection_is = answers.all.connection_is;
-          stood = (ap (played_run hash flag) gives.same_run ∙ stands.0, answers.all.stood);
-          puts = answers.all.puts;
-        };
-        prefix = tt;
-      }
-  answered-in_run old new before after answer (Err fault) gives now stands =
-      let Is : Run → Type 0 = λ (run : Run). Answers (DebuggerStandsFor hash flag) w old new after
-      (answer run now.session) (Err fault) in
-      record { all = tt; prefix = (subst Is stands.0 (gives.answers now.session stands.1)).prefix }
+  module _ {I : Type 0} (old new : PacketSink W) (before after : RunDebugger D I)
+      (same_run : after.debugger.track.run ≡ before.debugger.track.run)
+    where
+      -- what is answered is answered in its run
+      answered-in_run : (answer : Run → Session → Answer Session)
+          (result : Result Connection AnswerFault) (now : RunSession)
+          → StandsInRun hash before now
+          → Answers (DebuggerStandsFor hash) w old new after.debugger
+          (answer (run_at hash before.debugger) now.session) result
+          → Answers (StandsInRun hash) w old new after
+          (in_run now.run (answer now.run now.session)) result
+      answered-in_run answer (Ok connection) now stands is =
+          let answers = subst
+          (λ (run : Run). Answers (DebuggerStandsFor hash) w old new after.debugger
+          (answer run now.session) (Ok connection)) stands.0 is in
+          record {
+            all = record {
+              connection_is = answers.all.connection_is;
+              stood = (ap (played_run hash) same_run ∙ stands.0, answers.all.stood);
+              puts = answers.all.puts;
+            };
+            prefix = tt;
+          }
+      answered-in_run answer (Err fault) now stands is =
+          record {
+            all = tt;
+            prefix = (subst
+                (λ (run : Run). Answers (DebuggerStandsFor hash) w old new after.debugger
+                (answer run now.session) (Err fault)) stands.0 is).prefix;
+          }
 
   -- and so a body is
-  pub replied : (old new : PacketSink W) (before after : Debugger D) (body : List ℕ)
-      (result : Result Connection AnswerFault)
-      → GivesBy hash flag w old new before after
-      (λ session. answer_of (played_run hash flag before.run) session (command_of body)) result
-      → (now : RunSession) → StandsInRun hash flag before now
-      → Answers (StandsInRun hash flag) w old new after (run_reply now body) result
+  pub replied : {I : Type 0} (old new : PacketSink W) (before after : RunDebugger D I)
+      (body : List ℕ) (result : Result Connection AnswerFault)
+      → MayGive hash w old new before.debugger after.debugger
+      (λ interrupt session.
+      answer_of (view_of (run_at hash before.debugger)) interrupt session (command_of body)) result
+      → (now : RunSession) → StandsInRun hash before now
+      → (interrupt : Option ℕ)
+      × Answers (StandsInRun hash) w old new after (run_reply interrupt now body) result
   unfolding reply
   replied old new before after body result gives now stands =
-      answered-in_run old new before after
-      (λ run session. answer_of run session (command_of body)) result gives now stands
+      let one = gives.answers now.session stands.1 in (
+        one.0,
+        answered-in_run old new before after gives.same_run
+            (λ run session. answer_of (view_of run) one.0 session (command_of body)) result now stands
+            one.1,
+      )

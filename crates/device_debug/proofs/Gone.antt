@@ -1,7 +1,6 @@
 -- What a debugger answers from another place, and behind lines that it told.
-use Rattle.std.proofs.Common.{◌≡◌, ◌≤◌, ◌∙◌, ℕ, List, [], Some, Result, Ok, Err, IsErr, refl, ap, sym, subst}
+use Rattle.std.proofs.Common.{◌≡◌, ◌≤◌, ◌-◌, ◌∙◌, ℕ, List, [], Option, Some, Result, Ok, Err, IsErr, refl, ap, sym, subst}
 use Rattle.std.specs.Prelude.{codes}
-use Rattle.bus_signals.specs.TraceFlag.{Flag}
 use Rattle.hmac_core.specs.Hash.{Hash}
 use Rattle.outside_edge.specs.declared.sink.Sink as sink
 use Rattle.debug_link.specs.Console.{console}
@@ -10,21 +9,30 @@ use Rattle.debug_link.specs.Writing.{Answers, PacketSink, PutsPackets}
 use Rattle.debug_link.specs.declared.answer_fault.AnswerFault.{AnswerFault}
 use Rattle.debug_link.specs.declared.connection.Connection.{Connection}
 use Rattle.debug_commands.specs.Request.{most_steps}
+use Rattle.debug_commands.specs.declared.command.Going.{Going}
+use Rattle.debug_commands.specs.declared.command.Way.{Way}
+use Rattle.debug_commands.specs.declared.command.Way.TheVariants.{Ahead, Back}
 use Rattle.debug_commands.specs.declared.request.Request.{Request}
 use Rattle.debug_commands.specs.declared.request.Request.TheVariants.{Until}
-use Rattle.debug_session.specs.Going.{Standing}
+use Rattle.debug_session.specs.Cause.{Step, cause}
+use Rattle.debug_session.specs.Going.{Standing, first_stop, interrupted, last_stop, step_of, where_to}
 use Rattle.debug_session.specs.Monitor.{request_text}
-use Rattle.debug_session.specs.Place.{Run}
+use Rattle.debug_session.specs.Place.{Run, sight_at, view_of}
 use Rattle.debug_session.specs.Session.{Session, after_request, lines_to, monitored, says, stands_at}
+use Rattle.debug_session.specs.Sight.{Sight}
+use Rattle.debug_session.proofs.Views.{view-at}
 use Rattle.debug_stops.specs.StopReply.{stop_reply}
 use Rattle.debug_stops.specs.Stops.{Stops}
 use Rattle.debug_stops.specs.declared.stop.Stop.{Stop}
+use Rattle.debug_walk.specs.Copies.{TrackStandsFor}
 use Rattle.debug_walk.specs.PlayedRun.{played_run}
-use Rattle.debug_walk.specs.Halted.{HaltedStandsFor, halted_at}
-use Rattle.debug_walk.specs.Walk.{SecondFlag}
-use Rattle.debug_walk.specs.declared.halted.Halted.{Halted}
-use Rattle.device_debug.specs.Forwards.{GoesTo, HaltedAt, HasHalted}
-use Rattle.device_debug.specs.Session.{DebuggerStandsFor, GivesBy}
+use Rattle.debug_walk.specs.Walk.{OfWalk, Walks, place_of}
+use Rattle.debug_walk.specs.declared.track.Track.{Track}
+use Rattle.debug_walk.specs.declared.walk.Walk.{Walk}
+use Rattle.device_debug.specs.Ahead.{seek_ahead}
+use Rattle.device_debug.specs.Back.{seek_back}
+use Rattle.device_debug.specs.Going.{GoesOn, HasArrived, StandsAt}
+use Rattle.device_debug.specs.Session.{DebuggerStandsFor, Gives, MayGive, run_at, view_in}
 use Rattle.device_debug.specs.declared.debugger.Debugger.{Debugger}
 use Rattle.device_debug.proofs.Answered.{answered-behind, failed-before}
 use Rattle.device_debug.proofs.Answering.{halted-here}
@@ -35,178 +43,313 @@ place-kept : (session : Session) (request : Request)
 place-kept session (Until number) = refl
 place-kept session request = refl
 
-module _ {D W : Type 0} (hash : Hash D) (flag : Flag SecondFlag) (w : sink.Ghosts W) where
+module _ {D W : Type 0} (hash : Hash D) (w : sink.Ghosts W) where
   -- why it stands where it stands now
-  pub stood : (old new : PacketSink W) (debugger : Debugger D) (halted : Halted D) (stop : Stop)
+  pub stood : (old new : PacketSink W) (debugger : Debugger D) (halted : Walk D) (stop : Stop)
       (now : Standing) (session : Session) (body : List ℕ) (result : Result Connection AnswerFault)
       → body ≡ stop_reply stop
-      → HasHalted hash flag (played_run hash flag debugger.run) halted stop now
+      → HasArrived hash (run_at hash debugger) now halted stop
+      → TrackStandsFor hash debugger.track (run_at hash debugger)
       → debugger.stops ≡ session.stops
-      → GivesBy hash flag w old new (record debugger { halted = Some halted; stop = stop })
+      → Gives hash w old new (record debugger { halted = Some halted; stop = stop })
       (record debugger { halted = Some halted; stop = stop }) (λ session. says session body) result
-      → Answers (DebuggerStandsFor hash flag) w old new
+      → Answers (DebuggerStandsFor hash) w old new
       (record debugger { halted = Some halted; stop = stop }) (stands_at session now []) result
-  stood old new debugger halted stop now session body result is arrived stops gives =
+  stood old new debugger halted stop now session body result is arrived track stops gives =
       let there : Session = record session { place = now.place; stop = now.stop } in
       let same : body ≡ stop_reply now.stop = is ∙ ap stop_reply arrived.stop_is in
       subst
-      (λ (one : List ℕ). Answers (DebuggerStandsFor hash flag) w old new
+      (λ (one : List ℕ). Answers (DebuggerStandsFor hash) w old new
       (record debugger { halted = Some halted; stop = stop }) (says there one) result) same
       (gives.answers there (record {
         halted = halted;
         halted_is = refl;
         stands = arrived.stands;
+        track = track;
         stops = stops;
         stop = arrived.stop_is;
       }))
 
   -- it stands there, wherever its device was halted
-  abbrev pub StandsThere : PacketSink W → PacketSink W → Debugger D → Debugger D → Halted D × Stop
+  abbrev pub StandsThere : PacketSink W → PacketSink W → Debugger D → Debugger D → Walk D → Stop
       → Result Connection AnswerFault → Type 0
-  StandsThere old new debugger after end result =
-      (now : Standing)
-      → HasHalted hash flag (played_run hash flag debugger.run) end.0 end.1 now
-      → (session : Session)
+  StandsThere old new debugger after halted stop result =
+      (now : Standing) (session : Session)
+      → HasArrived hash (run_at hash debugger) now halted stop
+      → TrackStandsFor hash debugger.track (run_at hash debugger)
       → debugger.stops ≡ session.stops
-      → Answers (DebuggerStandsFor hash flag) w old new after (stands_at session now []) result
+      → Answers (DebuggerStandsFor hash) w old new after (stands_at session now []) result
 
-  -- going on leads to a place, by the stops and the place before
-  abbrev pub GoesFrom : PacketSink W → PacketSink W → Debugger D → Halted D → (Stops → ℕ → Standing)
-      → Result (Halted D × Stop) AnswerFault → Type 0
-  GoesFrom old new debugger halted to end =
-      (place : ℕ) → HaltedAt hash flag (played_run hash flag debugger.run) place halted
-      → GoesTo (HasHalted hash flag (played_run hash flag debugger.run)) w old new
-      (played_run hash flag debugger.run) place
-      (to debugger.stops place) end
+  -- where it goes to, by an interrupt, the stops and the place before
+  abbrev pub To : Type 0
+  To = Option ℕ → Stops → ℕ → Standing
 
-  abbrev pub gone_to : Debugger D → (Stops → ℕ → Standing) → Session → Stops → Answer Session
-  gone_to debugger to session stops =
-      stands_at session (to stops session.place)
-      (lines_to (played_run hash flag debugger.run) session.place (to stops session.place))
+  -- a track that stays one of its run
+  abbrev pub StaysTrack : Debugger D → Debugger D → Type 0
+  StaysTrack old new =
+      TrackStandsFor hash old.track (run_at hash old)
+      → TrackStandsFor hash new.track (run_at hash old)
 
-  -- it went on
-  pub went-on : (old mid new : PacketSink W) (debugger after : Debugger D) (halted : Halted D)
-      (to : Stops → ℕ → Standing) (end : Halted D × Stop) (result : Result Connection AnswerFault)
-      → debugger.halted ≡ Some halted
-      → GoesFrom old mid debugger halted to (Ok end)
-      → StandsThere mid new debugger after end result
-      → after.run ≡ debugger.run
-      → GivesBy hash flag w old new debugger after
-      (λ session. gone_to debugger to session session.stops) result
-  went-on old mid new debugger after halted to end result is goes stands run_is =
-      record {
-        answers = λ session here.
-            let run : Run = played_run hash flag debugger.run in
-            let now : Standing = to debugger.stops session.place in
-            let way = goes session.place (halted-here hash flag debugger session halted is here) in
-            subst
-            (λ (stops : Stops). Answers (DebuggerStandsFor hash flag) w old new after
-            (gone_to debugger to session stops) result)
-            here.stops
-            (answered-behind (DebuggerStandsFor hash flag) w old mid new after
-            (stands_at session now []) (lines_to run session.place now) result way.put
-            (stands now way.arrived session here.stops));
-        same_run = run_is;
-      }
+  module _ (debugger mid after : Debugger D) (halted : Walk D) (to : To)
+      (is : debugger.halted ≡ Some halted)
+      (same_run : mid.track.run ≡ debugger.track.run) (same_stops : mid.stops ≡ debugger.stops)
+      (stays : (session : Session) → DebuggerStandsFor hash debugger session
+      → TrackStandsFor hash mid.track (run_at hash debugger))
+      (after_run : after.track.run ≡ mid.track.run)
+    where
+      abbrev run : Run
+      run = run_at hash debugger
+
+      mid-run : run_at hash mid ≡ run
+      mid-run = ap (played_run hash) same_run
+
+      stands-there : (old new : PacketSink W) (end : Walk D) (stop : Stop)
+          (result : Result Connection AnswerFault) (session : Session) (now : Standing)
+          → DebuggerStandsFor hash debugger session
+          → StandsThere old new mid after end stop result
+          → HasArrived hash run now end stop
+          → Answers (DebuggerStandsFor hash) w old new after (stands_at session now []) result
+      stands-there old new end stop result session now here there arrived =
+          there now session
+          (subst (λ (one : Run). HasArrived hash one now end stop) (sym mid-run) arrived)
+          (subst (λ (one : Run). TrackStandsFor hash mid.track one) (sym mid-run)
+          (stays session here))
+          (same_stops ∙ here.stops)
+
+      -- it went on
+      pub went-on : (old between new : PacketSink W) (end : Walk D) (stop : Stop)
+          (result : Result Connection AnswerFault)
+          → ((session : Session) → DebuggerStandsFor hash debugger session
+          → (interrupt : Option ℕ)
+          × GoesOn hash w old between run session.place
+          (to interrupt debugger.stops session.place) (Ok (end, stop)))
+          → StandsThere between new mid after end stop result
+          → MayGive hash w old new debugger after
+          (λ interrupt session. stands_at session (to interrupt session.stops session.place)
+          (lines_to (view_of run) Ahead session.place
+          (to interrupt session.stops session.place))) result
+      went-on old between new end stop result goes there =
+          record {
+            answers = λ session here.
+                let way = goes session here in
+                let now : Standing = to way.0 debugger.stops session.place in (
+                  way.0,
+                  subst
+                      (λ (stops : Stops). Answers (DebuggerStandsFor hash) w old new after
+                      (stands_at session (to way.0 stops session.place)
+                      (lines_to (view_of run) Ahead session.place (to way.0 stops session.place)))
+                      result)
+                      here.stops
+                      (answered-behind (DebuggerStandsFor hash) w old between new after
+                      (stands_at session now []) (lines_to (view_of run) Ahead session.place now) result
+                      way.1.put
+                      (stands-there between new end stop result session now here there
+                      way.1.arrived)),
+                );
+            same_run = after_run ∙ same_run;
+          }
+
+      -- it went back
+      pub went-back : (old new : PacketSink W) (end : Walk D) (stop : Stop)
+          (result : Result Connection AnswerFault)
+          → ((session : Session) → DebuggerStandsFor hash debugger session
+          → (interrupt : Option ℕ)
+          × HasArrived hash run (to interrupt debugger.stops session.place) end stop)
+          → StandsThere old new mid after end stop result
+          → MayGive hash w old new debugger after
+          (λ interrupt session. stands_at session (to interrupt session.stops session.place) [])
+          result
+      went-back old new end stop result goes there =
+          record {
+            answers = λ session here.
+                let way = goes session here in (
+                  way.0,
+                  subst
+                      (λ (stops : Stops). Answers (DebuggerStandsFor hash) w old new after
+                      (stands_at session (to way.0 stops session.place) []) result)
+                      here.stops
+                      (stands-there old new end stop result session
+                      (to way.0 debugger.stops session.place) here there way.1),
+                );
+            same_run = after_run ∙ same_run;
+          }
 
   -- it failed on its way
-  pub failed-on : (old new : PacketSink W) (debugger after : Debugger D) (halted : Halted D)
-      (to : Stops → ℕ → Standing) (fault : AnswerFault) (result : Result Connection AnswerFault)
+  pub failed-on : (old new : PacketSink W) (debugger after : Debugger D) (to : To)
+      (fault : AnswerFault) (result : Result Connection AnswerFault)
       → IsErr result
-      → debugger.halted ≡ Some halted
-      → GoesFrom old new debugger halted to (Err fault)
-      → after.run ≡ debugger.run
-      → GivesBy hash flag w old new debugger after
-      (λ session. gone_to debugger to session session.stops) result
-  failed-on old new debugger after halted to fault result failed is goes run_is =
+      → ((session : Session) → DebuggerStandsFor hash debugger session
+      → (interrupt : Option ℕ)
+      × GoesOn hash w old new (run_at hash debugger) session.place
+      (to interrupt debugger.stops session.place) (Err fault))
+      → after.track.run ≡ debugger.track.run
+      → MayGive hash w old new debugger after
+      (λ interrupt session. stands_at session (to interrupt session.stops session.place)
+      (lines_to (view_in hash debugger) Ahead session.place
+      (to interrupt session.stops session.place)))
+      result
+  failed-on old new debugger after to fault result failed goes run_is =
       record {
         answers = λ session here.
-            let run : Run = played_run hash flag debugger.run in
-            let now : Standing = to debugger.stops session.place in
-            let way = goes session.place (halted-here hash flag debugger session halted is here) in
-            subst
-            (λ (stops : Stops). Answers (DebuggerStandsFor hash flag) w old new after
-            (gone_to debugger to session stops) result)
-            here.stops
-            (failed-before (DebuggerStandsFor hash flag) w old new after
-            (stands_at session now []) (lines_to run session.place now) result failed way.prefix);
+            let way = goes session here in
+            let now : Standing = to way.0 debugger.stops session.place in (
+              way.0,
+              subst
+                  (λ (stops : Stops). Answers (DebuggerStandsFor hash) w old new after
+                  (stands_at session (to way.0 stops session.place)
+                  (lines_to (view_in hash debugger) Ahead session.place
+                  (to way.0 stops session.place)))
+                  result)
+                  here.stops
+                  (failed-before (DebuggerStandsFor hash) w old new after
+                  (stands_at session now []) (lines_to (view_in hash debugger) Ahead session.place now)
+                  result failed way.1.prefix),
+            );
         same_run = run_is;
       }
 
-  -- it went back
-  pub went-back : (old new : PacketSink W) (debugger after : Debugger D) (halted : Halted D)
-      (to : Stops → ℕ → Standing) (end : Halted D × Stop) (result : Result Connection AnswerFault)
-      → debugger.halted ≡ Some halted
-      → ((place : ℕ) → HaltedAt hash flag (played_run hash flag debugger.run) place halted
-      → HasHalted hash flag (played_run hash flag debugger.run) end.0 end.1
-      (to debugger.stops place))
-      → StandsThere old new debugger after end result
-      → after.run ≡ debugger.run
-      → GivesBy hash flag w old new debugger after
-      (λ session. stands_at session (to session.stops session.place) []) result
-  went-back old new debugger after halted to end result is goes stands run_is =
-      record {
-        answers = λ session here.
-            subst
-            (λ (stops : Stops). Answers (DebuggerStandsFor hash flag) w old new after
-            (stands_at session (to stops session.place) []) result)
-            here.stops
-            (stands (to debugger.stops session.place)
-            (goes session.place (halted-here hash flag debugger session halted is here)) session
-            here.stops);
-        same_run = run_is;
-      }
+  -- a device that goes from where its session stands
+  module _ (debugger : Debugger D) (halted : Walk D) (track : Track D) (stops : Stops)
+      (step : Option Step) (going : Going) (level : ℕ)
+      (is : debugger.halted ≡ Some halted) (track_is : track ≡ debugger.track)
+      (stops_is : stops ≡ debugger.stops) (step_is : step ≡ step_of going level)
+      (level_is : OfWalk hash halted (λ run place. level ≡ (sight_at run place).level))
+      (session : Session) (stands : DebuggerStandsFor hash debugger session)
+    where
+      abbrev here-run : Run
+      here-run = run_at hash debugger
+
+      here : StandsAt hash here-run session.place halted
+      here = halted-here hash debugger session halted is stands
+
+      track-here : TrackStandsFor hash track here-run
+      track-here = subst (λ (one : Track D). TrackStandsFor hash one here-run) (sym track_is)
+          stands.track
+
+      same-step : step ≡ step_of going (view_of here-run session.place).level
+      same-step =
+          step_is
+          ∙ ap (step_of going)
+          (level_is here-run here.walks
+          ∙ ap (λ (at : ℕ). (sight_at here-run at).level) here.place_is
+          ∙ ap (λ (sight : Sight). sight.level)
+          (sym (view-at here-run session.place here.within)))
+
+      pub stays-as : (new : Track D)
+          → ((run : Run) → TrackStandsFor hash track run → Walks hash run halted
+          → TrackStandsFor hash new run)
+          → TrackStandsFor hash new here-run
+      stays-as new stays = stays here-run track-here here.walks
+
+      -- where it goes to from there
+      abbrev pub ends-at : Way → Option ℕ → Standing
+      ends-at way interrupt =
+          interrupted (view_of here-run) session.place interrupt
+          (where_to (view_of here-run) debugger.stops way going session.place)
+
+      pub goes-as : (old new : PacketSink W) (result : Result (Walk D × Stop) AnswerFault)
+          → ((run : Run) (place : ℕ) → TrackStandsFor hash track run
+          → StandsAt hash run place halted
+          → (interrupt : Option ℕ)
+          × GoesOn hash w old new run place
+          (interrupted (view_of run) place interrupt
+          (first_stop (cause (view_of run) stops (seek_ahead step)) place (most_steps - place)))
+          result)
+          → (interrupt : Option ℕ)
+          × GoesOn hash w old new here-run session.place (ends-at Ahead interrupt) result
+      goes-as old new result goes =
+          subst
+          (λ (one : Option Step). (interrupt : Option ℕ)
+          × GoesOn hash w old new here-run session.place
+          (interrupted (view_of here-run) session.place interrupt
+          (first_stop (cause (view_of here-run) debugger.stops (seek_ahead one)) session.place
+          (most_steps - session.place))) result)
+          same-step
+          (subst
+          (λ (one : Stops). (interrupt : Option ℕ)
+          × GoesOn hash w old new here-run session.place
+          (interrupted (view_of here-run) session.place interrupt
+          (first_stop (cause (view_of here-run) one (seek_ahead step)) session.place
+          (most_steps - session.place))) result)
+          stops_is (goes here-run session.place track-here here))
+
+      pub goes-back-as : (end : Walk D) (stop : Stop)
+          → ((run : Run) (from : ℕ) → TrackStandsFor hash track run
+          → StandsAt hash run from halted
+          → (interrupt : Option ℕ)
+          × HasArrived hash run
+          (interrupted (view_of run) from interrupt
+          (last_stop (cause (view_of run) stops (seek_back step from)) from)) end stop)
+          → (interrupt : Option ℕ) × HasArrived hash here-run (ends-at Back interrupt) end stop
+      goes-back-as end stop goes =
+          subst
+          (λ (one : Option Step). (interrupt : Option ℕ)
+          × HasArrived hash here-run
+          (interrupted (view_of here-run) session.place interrupt
+          (last_stop (cause (view_of here-run) debugger.stops (seek_back one session.place))
+          session.place)) end stop)
+          same-step
+          (subst
+          (λ (one : Stops). (interrupt : Option ℕ)
+          × HasArrived hash here-run
+          (interrupted (view_of here-run) session.place interrupt
+          (last_stop (cause (view_of here-run) one (seek_back step session.place)) session.place))
+          end stop)
+          stops_is (goes here-run session.place track-here here))
 
   -- it told what a user asked for, after the request was kept
-  abbrev pub TellsRequest : {V : Type 0} → PacketSink W → PacketSink W → Debugger D → Halted D
+  abbrev pub TellsRequest : {V : Type 0} → PacketSink W → PacketSink W → Debugger D → Walk D
       → Request → Result V AnswerFault → Type 0
   TellsRequest old new debugger halted request result =
-      HaltedStandsFor hash flag halted (played_run hash flag debugger.run)
-      → halted_at halted ≤ most_steps
-      → PutsPackets w old new
-      (console (request_text (played_run hash flag debugger.run) (halted_at halted) request)) result
+      (run : Run)
+      → TrackStandsFor hash debugger.track run
+      → Walks hash run halted
+      → place_of halted ≤ most_steps
+      → PutsPackets w old new (console (request_text (view_of run) (place_of halted) request))
+      result
 
   abbrev pub KeepsRequest : Debugger D → Debugger D → Request → Type 0
   KeepsRequest debugger kept request =
-      (session : Session) → DebuggerStandsFor hash flag debugger session
-      → DebuggerStandsFor hash flag kept (after_request session request)
+      (session : Session) → DebuggerStandsFor hash debugger session
+      → DebuggerStandsFor hash kept (after_request session request)
 
   tells-here : {V : Type 0} (old new : PacketSink W) (debugger kept : Debugger D)
-      (halted : Halted D) (request : Request) (result : Result V AnswerFault) (session : Session)
-      → kept.run ≡ debugger.run → kept.halted ≡ Some halted
-      → DebuggerStandsFor hash flag kept (after_request session request)
+      (halted : Walk D) (request : Request) (result : Result V AnswerFault) (session : Session)
+      → kept.track.run ≡ debugger.track.run → kept.halted ≡ Some halted
+      → DebuggerStandsFor hash kept (after_request session request)
       → TellsRequest old new kept halted request result
       → PutsPackets w old new
-      (console (request_text (played_run hash flag debugger.run) session.place request)) result
+      (console (request_text (view_in hash debugger) session.place request)) result
   tells-here old new debugger kept halted request result session run_is is stands tells =
       let there : Session = after_request session request in
-      let here = halted-here hash flag kept there halted is stands in
-      let same : halted_at halted ≡ session.place = here.place_is ∙ place-kept session request in
+      let here : StandsAt hash (run_at hash kept) there.place halted =
+      halted-here hash kept there halted is stands in
+      let same : place_of halted ≡ session.place = here.place_is ∙ place-kept session request in
       subst
-      (λ (run : Run). PutsPackets w old new (console (request_text run session.place request))
-      result)
-      (ap (played_run hash flag) run_is)
+      (λ (run : Run). PutsPackets w old new
+      (console (request_text (view_of run) session.place request)) result)
+      (ap (played_run hash) run_is)
       (subst
       (λ (place : ℕ). PutsPackets w old new
-      (console (request_text (played_run hash flag kept.run) place request)) result) same
-      (tells here.stands
-      (subst (λ (place : ℕ). place ≤ most_steps) (sym here.place_is) here.settled.0)))
+      (console (request_text (view_in hash kept) place request)) result) same
+      (tells (run_at hash kept) stands.track here.walks
+      (subst (λ (place : ℕ). place ≤ most_steps) (sym here.place_is) here.within)))
 
   pub told-request : {V : Type 0} (old mid new : PacketSink W) (debugger kept : Debugger D)
-      (halted : Halted D) (request : Request) (value : V) (result : Result Connection AnswerFault)
-      → kept.run ≡ debugger.run → kept.halted ≡ Some halted
+      (halted : Walk D) (request : Request) (value : V) (result : Result Connection AnswerFault)
+      → kept.track.run ≡ debugger.track.run → kept.halted ≡ Some halted
       → KeepsRequest debugger kept request
       → TellsRequest old mid kept halted request (Ok value)
-      → GivesBy hash flag w mid new kept kept (λ session. says session (codes "OK")) result
-      → GivesBy hash flag w old new debugger kept
-      (λ session. monitored (played_run hash flag debugger.run) session request) result
+      → Gives hash w mid new kept kept (λ session. says session (codes "OK")) result
+      → Gives hash w old new debugger kept
+      (λ session. monitored (view_in hash debugger) session request) result
   told-request old mid new debugger kept halted request value result run_is is keeps tells gives =
       record {
         answers = λ session stands.
             let there : Session = after_request session request in
-            answered-behind (DebuggerStandsFor hash flag) w old mid new kept
+            answered-behind (DebuggerStandsFor hash) w old mid new kept
             (says there (codes "OK"))
-            (console (request_text (played_run hash flag debugger.run) session.place request))
+            (console (request_text (view_in hash debugger) session.place request))
             result
             (tells-here old mid debugger kept halted request (Ok value) session run_is is
             (keeps session stands) tells).all
@@ -215,21 +358,21 @@ module _ {D W : Type 0} (hash : Hash D) (flag : Flag SecondFlag) (w : sink.Ghost
       }
 
   pub request-failed : {V : Type 0} (old new : PacketSink W) (debugger kept : Debugger D)
-      (halted : Halted D) (request : Request) (fault : AnswerFault)
+      (halted : Walk D) (request : Request) (fault : AnswerFault)
       (result : Result Connection AnswerFault)
       → IsErr result
-      → kept.run ≡ debugger.run → kept.halted ≡ Some halted
+      → kept.track.run ≡ debugger.track.run → kept.halted ≡ Some halted
       → KeepsRequest debugger kept request
       → TellsRequest {V = V} old new kept halted request (Err fault)
-      → GivesBy hash flag w old new debugger kept
-      (λ session. monitored (played_run hash flag debugger.run) session request) result
+      → Gives hash w old new debugger kept
+      (λ session. monitored (view_in hash debugger) session request) result
   request-failed {V} old new debugger kept halted request fault result failed run_is is keeps
       tells =
       record {
         answers = λ session stands.
-            failed-before (DebuggerStandsFor hash flag) w old new kept
+            failed-before (DebuggerStandsFor hash) w old new kept
             (says (after_request session request) (codes "OK"))
-            (console (request_text (played_run hash flag debugger.run) session.place request))
+            (console (request_text (view_in hash debugger) session.place request))
             result failed
             (tells-here {V = V} old new debugger kept halted request (Err fault) session run_is is
             (keeps session stands) tells).prefix;

@@ -1,131 +1,196 @@
 -- The lines that were told on the way, and those that wait.
-use Rattle.std.proofs.Common.{◌≡◌, ◌≤◌, ◌<◌, ◌+◌, ◌-◌, ◌∙◌, ◌++◌, ◌⊎◌, inl, inr, ⊎_elim, ℕ, zero, suc, Bool, true, false, List, [], Option, Some, None, refl, ap, sym, subst, arith, append_assoc}
-use Rattle.std.specs.Prelude.{IfSome, if◌then◌else◌}
-use Rattle.std.proofs.lemmas.Bool.{cases_lt}
+use Rattle.std.proofs.Common.{◌≡◌, ◌≤◌, ◌<◌, ◌+◌, ◌-◌, ◌∙◌, ◌++◌, ◌⊎◌, inl, inr, ⊎_elim, ℕ, zero, suc, true, false, List, [], refl, ap, sym, subst, arith, append_assoc}
+use Rattle.std.proofs.lemmas.Bool.{cases_Bool, cases_lt, false≢true}
 use Rattle.std.proofs.lemmas.List.{append-nil}
-use Rattle.debug_walk.proofs.Options.{none-is-some, some-same}
-use Rattle.debug_session.specs.Place.{Run, is_boundary, is_refused, last_boundary, step_at}
-use Rattle.debug_session.specs.Session.{refused_step, told}
-use Rattle.device_debug.specs.Telling.{bodies_of, step_bodies}
+use Rattle.debug_link.specs.Console.{console}
+use Rattle.debug_session.specs.Session.{told}
+use Rattle.debug_session.specs.Sight.{View}
 use Rattle.device_debug.specs.GrownText.{GrownText}
+use Rattle.device_debug.specs.Telling.{bodies_of}
 
--- the lines of one step more
-pub told-more : (run : Run) (from steps place : ℕ) → place ≡ steps + from
-    → told run from (suc steps) ≡ told run from steps ++ step_bodies run place
-told-more run from zero place is =
-    let same : place ≡ from = omega (arith, is) in rw same (append-nil (step_bodies run from))
-told-more run from (suc steps) place is =
-    ap (λ (rest : List (List ℕ)). step_bodies run from ++ rest)
-    (told-more run (suc from) steps place (omega (arith, is)))
-    ∙ sym (append_assoc (step_bodies run from) (told run (suc from) steps) (step_bodies run place))
+module _ (view : View) where
+  abbrev pub step_told : ℕ → List (List ℕ)
+  step_told place = console (view place).next.lines
 
--- where the last boundary is, from the place before
-pub last-cases : (here refused : Bool) (last : Option ℕ) (before at : ℕ)
-    → (if here then Some (suc before) else if refused then None else last) ≡ Some at
-    → ((here ≡ true) × (at ≡ suc before))
-    ⊎ ((here ≡ false) × (refused ≡ false) × (last ≡ Some at))
-last-cases true refused last before at is = inl (refl, sym (some-same is))
-last-cases false true last before at is = absurd (none-is-some is)
-last-cases false false last before at is = inr (refl, refl, is)
+  -- the lines of one step more
+  told-more : (from steps place : ℕ) → place ≡ steps + from
+      → told view from (suc steps) ≡ told view from steps ++ step_told place
+  told-more from zero place is =
+      let same : from ≡ place = omega (arith, is) in
+      append-nil (step_told from) ∙ ap step_told same
+  told-more from (suc steps) place is =
+      ap (λ (rest : List (List ℕ)). step_told from ++ rest)
+      (told-more (suc from) steps place (omega (arith, is)))
+      ∙ sym (append_assoc (step_told from) (told view (suc from) steps) (step_told place))
 
--- there is a boundary
-pub boundary-of : (run : Run) (place at : ℕ) → last_boundary run place ≡ Some at
-    → is_boundary run at ≡ true
-boundary-of run zero at is = absurd (none-is-some is)
-boundary-of run (suc before) at is =
-    ⊎_elim (λ now. rw now.1 now.0) (λ earlier. boundary-of run before at earlier.2)
-    (last-cases (is_boundary run (suc before)) (is_refused (step_at run before))
-    (last_boundary run before) before at is)
+  -- the lines of a way that is cut in two
+  pub told-both : (from one two all mid : ℕ) → all ≡ one + two → mid ≡ one + from
+      → told view from all ≡ told view from one ++ told view mid two
+  told-both from zero two all mid sum at =
+      let same : all ≡ two = omega (arith, sum) in
+      let here : from ≡ mid = omega (arith, at) in
+      ap (told view from) same ∙ ap (λ (place : ℕ). told view place two) here
+  told-both from (suc one) two zero mid sum at = absurd (omega (arith, sum))
+  told-both from (suc one) two (suc all) mid sum at =
+      ap (λ (rest : List (List ℕ)). step_told from ++ rest)
+      (told-both (suc from) one two all mid (omega (arith, sum)) (omega (arith, at)))
+      ∙ sym (append_assoc (step_told from) (told view (suc from) one) (told view mid two))
 
--- since the last boundary no step was refused
-pub unrefused-since : (run : Run) (place at step : ℕ) → last_boundary run place ≡ Some at
-    → at ≤ step → step < place → is_refused (step_at run step) ≡ false
-unrefused-since run zero at step is from below = absurd (omega (arith, below))
-unrefused-since run (suc before) at step is from below = ⊎_elim
-    (λ here. absurd (omega (arith, here.1, from, below)))
-    (λ earlier. ⊎_elim
-    (λ less. unrefused-since run before at step earlier.2 from less)
-    (λ over.
-    let same : step ≡ before = omega (arith, over, below) in rw same earlier.1)
-    (cases_lt step before))
-    (last-cases (is_boundary run (suc before)) (is_refused (step_at run before))
-    (last_boundary run before) before at is)
+  module _ (from : ℕ) where
+    -- the lines up to the last boundary on the way were put, or none
+    pub record IsPut (place : ℕ) (put : List (List ℕ)) : Type 0 where
+      pub at : ℕ
+      pub from_at : from ≤ at
+      pub at_place : at ≤ place
+      pub settled : (at ≡ from) ⊎ ((view at).boundary ≡ true)
+      pub none_since : (one : ℕ) → at < one → one ≤ place → (view one).boundary ≡ false
+      pub is : put ≡ told view from (at - from)
 
--- the step that is refused next
-pub refused-is : (run : Run) (place steps left step : ℕ) → step ≡ steps + place
-    → ((earlier : ℕ) → place ≤ earlier → earlier < step
-    → is_refused (step_at run earlier) ≡ false)
-    → is_refused (step_at run step) ≡ true → steps < left
-    → refused_step run place left ≡ step
-refused-is run place zero zero step same none is few = absurd (omega (arith, few))
-refused-is run place zero (suc left) step same none is few =
-    let here : step ≡ place = omega (arith, same) in
-    let refused : is_refused (step_at run place) ≡ true =
-    subst (λ (one : ℕ). is_refused (step_at run one) ≡ true) here is in rw refused (sym here)
-refused-is run place (suc steps) zero step same none is few = absurd (omega (arith, few))
-refused-is run place (suc steps) (suc left) step same none is few =
-    rw (none place (omega arith) (omega (arith, same)))
-    (refused-is run (suc place) steps left step (omega (arith, same))
-    (λ earlier from below. none earlier (omega (arith, from)) below) is (omega (arith, few)))
+    -- and those since wait
+    pub record IsTold (place : ℕ) (waiting : List GrownText) (put : List (List ℕ)) : Type 0 where
+      pub so_far : IsPut place put
+      pub waits : bodies_of waiting ≡ told view so_far.at (place - so_far.at)
 
--- what was put of the lines of the steps from one place to another, while bytes that were sent wait
-pub record IsTold (run : Run) (from place : ℕ) (waiting : List GrownText)
-    (put : List (List ℕ)) : Type 0 where
-  pub all : put ++ bodies_of waiting ≡ told run from (place - from)
-  pub until : IfSome (last_boundary run place) (λ at. from < at → put ≡ told run from (at - from))
+    pub told-first : IsTold from [] []
+    told-first =
+        let none : 0 ≡ from - from = omega arith in
+        record {
+          so_far = record {
+            at = from;
+            from_at = omega arith;
+            at_place = omega arith;
+            settled = inl refl;
+            none_since = λ one after until. absurd (omega (arith, after, until));
+            is = ap (told view from) none;
+          };
+          waits = ap (told view from) none;
+        }
 
-module _ (run : Run) (from place : ℕ) (put more : List (List ℕ)) where
-  abbrev UntilAt : Option ℕ → List (List ℕ) → Type 0
-  UntilAt last bodies = IfSome last (λ at. from < at → bodies ≡ told run from (at - from))
+    module _ (place : ℕ) (waiting : List GrownText) (put more later : List (List ℕ))
+        (so : IsTold place waiting put)
+        (whole : more ++ later ≡ bodies_of waiting ++ step_told place)
+        (none_waits : (view (suc place)).boundary ≡ true → later ≡ [])
+        (none_put : (view (suc place)).boundary ≡ false → more ≡ [])
+      where
+        abbrev at : ℕ
+        at = so.so_far.at
 
-  nothing-more : (last : Option ℕ) → more ≡ [] → UntilAt last put → UntilAt last (put ++ more)
-  nothing-more None none until = tt
-  nothing-more (Some at) none until = λ passed. rw none (append-nil put ∙ until passed)
+        since : more ++ later ≡ told view at (suc place - at)
+        since =
+            let next : suc (place - at) ≡ suc place - at = omega (arith, so.so_far.at_place) in
+            whole
+            ∙ ap (λ (front : List (List ℕ)). front ++ step_told place) so.waits
+            ∙ sym (told-more at (place - at) place (omega (arith, so.so_far.at_place)))
+            ∙ ap (told view at) next
 
-  until-next : (here refused : Bool) (last : Option ℕ)
-      → (here ≡ true → put ++ more ≡ told run from (suc place - from))
-      → (here ≡ false → more ≡ [])
-      → UntilAt last put
-      → UntilAt (if here then Some (suc place) else if refused then None else last) (put ++ more)
-  until-next true refused last all none until = λ passed. all refl
-  until-next false true last all none until = tt
-  until-next false false last all none until = nothing-more last (none refl) until
+        put-all : (view (suc place)).boundary ≡ true → IsPut (suc place) (put ++ more)
+        put-all here =
+            record {
+              at = suc place;
+              from_at = omega (arith, so.so_far.from_at, so.so_far.at_place);
+              at_place = omega arith;
+              settled = inr here;
+              none_since = λ one after until. absurd (omega (arith, after, until));
+              is = ap (λ (front : List (List ℕ)). front ++ more) so.so_far.is
+                  ∙ ap (λ (rest : List (List ℕ)). told view from (at - from) ++ rest)
+                  (sym (append-nil more)
+                  ∙ ap (λ (rest : List (List ℕ)). more ++ rest) (sym (none_waits here)) ∙ since)
+                  ∙ sym (told-both from (at - from) (suc place - at) (suc place - from) at
+                  (omega (arith, so.so_far.from_at, so.so_far.at_place))
+                  (omega (arith, so.so_far.from_at)));
+            }
 
--- behind a step
-pub told-step : (run : Run) (from place : ℕ) (waiting new : List GrownText)
-    (put more later : List (List ℕ))
-    → IsTold run from place waiting put → from ≤ place
-    → more ++ later ≡ bodies_of waiting ++ step_bodies run place
-    → later ≡ bodies_of new
-    → (is_boundary run (suc place) ≡ true → later ≡ [])
-    → (is_boundary run (suc place) ≡ false → more ≡ [])
-    → IsTold run from (suc place) new (put ++ more)
-told-step run from place waiting new put more later is passed whole waits none_waits none_put =
-    let step : List (List ℕ) = step_bodies run place in
-    let next : suc place - from ≡ suc (place - from) = omega (arith, passed) in
-    let all : (put ++ more) ++ later ≡ told run from (suc place - from) =
-    append_assoc put more later
-    ∙ ap (λ (rest : List (List ℕ)). put ++ rest) whole
-    ∙ sym (append_assoc put (bodies_of waiting) step)
-    ∙ ap (λ (front : List (List ℕ)). front ++ step) is.all
-    ∙ sym (told-more run from (place - from) place (omega (arith, passed)))
-    ∙ ap (told run from) (sym next) in
-    record {
-      all = rw (← waits) all;
-      until = until-next run from place put more (is_boundary run (suc place))
-          (is_refused (step_at run place)) (last_boundary run place)
-          (λ here. sym (append-nil (put ++ more)) ∙ rw (none_waits here) at all)
-          none_put is.until;
-    }
+        put-none : (view (suc place)).boundary ≡ false → IsPut (suc place) (put ++ more)
+        put-none none =
+            record {
+              at = at;
+              from_at = so.so_far.from_at;
+              at_place = omega (arith, so.so_far.at_place);
+              settled = so.so_far.settled;
+              none_since = λ one after until. ⊎_elim
+                  (λ (less : one < suc place).
+                  so.so_far.none_since one after (omega (arith, less)))
+                  (λ (over : suc place ≤ one).
+                  let same : suc place ≡ one = omega (arith, over, until) in
+                  subst (λ (there : ℕ). (view there).boundary ≡ false) same none)
+                  (cases_lt one (suc place));
+              is = ap (λ (rest : List (List ℕ)). put ++ rest) (none_put none)
+                  ∙ append-nil put ∙ so.so_far.is;
+            }
 
--- the lines of a way that is cut in two
-pub told-both : (run : Run) (from one two all mid : ℕ) → all ≡ one + two → mid ≡ one + from
-    → told run from all ≡ told run from one ++ told run mid two
-told-both run from zero two all mid sum at =
-    let same : all ≡ two = omega (arith, sum) in
-    let here : mid ≡ from = omega (arith, at) in rw (same, here) refl
-told-both run from (suc one) two zero mid sum at = absurd (omega (arith, sum))
-told-both run from (suc one) two (suc all) mid sum at =
-    ap (λ (rest : List (List ℕ)). step_bodies run from ++ rest)
-    (told-both run (suc from) one two all mid (omega (arith, sum)) (omega (arith, at)))
-    ∙ sym (append_assoc (step_bodies run from) (told run (suc from) one) (told run mid two))
+        -- behind a step, whatever waits
+        pub put-step : IsPut (suc place) (put ++ more)
+        put-step = ⊎_elim put-all put-none (cases_Bool (view (suc place)).boundary)
+
+        -- and what does
+        pub told-step : (new : List GrownText) → later ≡ bodies_of new
+            → IsTold (suc place) new (put ++ more)
+        unfolding put-all put-none
+        told-step new waits =
+            ⊎_elim
+            (λ (here : (view (suc place)).boundary ≡ true).
+            let none : 0 ≡ suc place - suc place = omega arith in
+            record {
+              so_far = put-all here;
+              waits = sym waits ∙ none_waits here ∙ ap (told view (suc place)) none;
+            })
+            (λ (none : (view (suc place)).boundary ≡ false).
+            record {
+              so_far = put-none none;
+              waits = sym waits
+                  ∙ ap (λ (front : List (List ℕ)). front ++ later) (sym (none_put none)) ∙ since;
+            })
+            (cases_Bool (view (suc place)).boundary)
+
+    -- behind steps without lines
+    told-silent : (place : ℕ) (put : List (List ℕ)) → IsTold place [] put
+        → (view place).next.lines ≡ [] → IsTold (suc place) [] put
+    told-silent place put is silent =
+        subst (IsTold (suc place) []) (append-nil put)
+        (told-step place [] put [] [] is
+        (sym (ap (λ (lines : List ℕ). console lines) silent))
+        (λ here. refl) (λ none. refl) [] refl)
+
+    pub told-on : (steps place next : ℕ) (put : List (List ℕ)) → next ≡ steps + place
+        → IsTold place [] put
+        → ((at : ℕ) → place ≤ at → at < next → (view at).next.lines ≡ [])
+        → IsTold next [] put
+    told-on zero place next put same is silent =
+        let here : place ≡ next = omega (arith, same) in
+        subst (λ (at : ℕ). IsTold at [] put) here is
+    told-on (suc steps) place next put same is silent =
+        told-on steps (suc place) next put (omega (arith, same))
+        (told-silent place put is (silent place (omega arith) (omega (arith, same))))
+        (λ at after before. silent at (omega (arith, after)) before)
+
+    -- what was put at the last boundary on the way
+    pub put-until : (place at : ℕ) (put : List (List ℕ)) → IsPut place put → from < at
+        → at ≤ place → (view at).boundary ≡ true
+        → ((one : ℕ) → at < one → one ≤ place → (view one).boundary ≡ false)
+        → put ≡ told view from (at - from)
+    put-until place at put so past within here none =
+        ⊎_elim
+        (λ (less : so.at < at). absurd (false≢true (sym (so.none_since at less within) ∙ here)))
+        (λ (over : at ≤ so.at). ⊎_elim
+        (λ (more : at < so.at). ⊎_elim
+        (λ (first : so.at ≡ from). absurd (omega (arith, first, more, past)))
+        (λ (there : (view so.at).boundary ≡ true).
+        absurd (false≢true (sym (none so.at more so.at_place) ∙ there)))
+        so.settled)
+        (λ (not_more : so.at ≤ at).
+        let same : so.at ≡ at = omega (arith, over, not_more) in
+        so.is ∙ ap (λ (one : ℕ). told view from (one - from)) same)
+        (cases_lt at so.at))
+        (cases_lt so.at at)
+
+    -- and what was where the way stands at a boundary
+    pub put-here : (place : ℕ) (put : List (List ℕ)) → IsPut place put
+        → (view place).boundary ≡ true → put ≡ told view from (place - from)
+    put-here place put so here =
+        ⊎_elim
+        (λ (less : so.at < place).
+        absurd (false≢true (sym (so.none_since place less (omega arith)) ∙ here)))
+        (λ (over : place ≤ so.at).
+        let same : so.at ≡ place = omega (arith, over, so.at_place) in
+        so.is ∙ ap (λ (one : ℕ). told view from (one - from)) same)
+        (cases_lt so.at place)

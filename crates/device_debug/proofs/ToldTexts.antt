@@ -4,7 +4,6 @@ use Rattle.std.specs.Prelude.{IsErr, OnOk, is_ok, if◌then◌else◌}
 use Rattle.std.proofs.lemmas.Bool.{cases_Bool, false≢true}
 use Rattle.std.proofs.lemmas.List.{take_more, take-append-drop}
 use Rattle.std.proofs.lemmas.Result.{on_ok_weaker}
-use Rattle.bus_signals.specs.TraceFlag.{Flag}
 use Rattle.hmac_core.specs.Hash.{Hash}
 use Rattle.outside_edge.specs.Sink.{TakesPrefix}
 use Rattle.outside_edge.specs.declared.sink.Sink as sink
@@ -16,8 +15,8 @@ use Rattle.debug_link.specs.Console.{console}
 use Rattle.debug_link.specs.Packet.{packets_of}
 use Rattle.debug_link.specs.Writing.{HasPut, PacketSink, PutsPackets}
 use Rattle.debug_link.proofs.Bodies.{put_both, put_none, puts_behind, puts_failed, puts_less}
-use Rattle.debug_session.specs.Place.{Run, is_boundary}
-use Rattle.debug_walk.specs.Walk.{SecondFlag, WalkStandsFor, place_of}
+use Rattle.debug_session.specs.Place.{Run, sight_at}
+use Rattle.debug_walk.specs.Walk.{SecondFlag, Walks, place_of, second_flag}
 use Rattle.debug_walk.specs.declared.walk.Walk.{Walk}
 use Rattle.device_debug.specs.GrownText.{GrownText}
 use Rattle.device_debug.specs.Telling.{TellsStep, bodies_of, step_bodies}
@@ -123,13 +122,13 @@ module _ {W : Type 0} (w : sink.Ghosts W) where
         none_waits = λ here. absurd (false≢true (sym away ∙ here));
         none_put = λ same. refl;
       })
-      (cases_Bool (is_boundary run (suc step)))
+      (cases_Bool ((sight_at run (suc step)).boundary))
 
   -- at a boundary all is put
   pub tells-all : {V E : Type 0} (old new : PacketSink W) (waiting mid left : List GrownText)
       (run : Run) (step : ℕ) (result : Result V E)
       → bodies_of mid ≡ bodies_of waiting ++ step_bodies run step
-      → is_boundary run (suc step) ≡ true
+      → (sight_at run (suc step)).boundary ≡ true
       → PutsPackets w old new (bodies_of mid) result → OnOk result (left ≡ [])
       → TellsStep w old new waiting left run step result
   tells-all old new waiting mid left run step result whole here puts emptied =
@@ -148,7 +147,7 @@ module _ {W : Type 0} (w : sink.Ghosts W) where
   pub tells-later : {V E : Type 0} (now : PacketSink W) (waiting mid : List GrownText) (run : Run)
       (step : ℕ) (value : V)
       → bodies_of mid ≡ bodies_of waiting ++ step_bodies run step
-      → is_boundary run (suc step) ≡ false
+      → (sight_at run (suc step)).boundary ≡ false
       → TellsStep {E = E} w now now waiting mid run step (Ok value)
   tells-later now waiting mid run step value whole away =
       record {
@@ -163,11 +162,11 @@ module _ {W : Type 0} (w : sink.Ghosts W) where
       }
 
 -- the last step of a walk, as its device stands for it
-pub last-stands : {D : Type 0} {hash : Hash D} {flag : Flag SecondFlag} (run : Run)
-    (walk : Walk D) (live : Live D SecondFlag) (step : ℕ)
-    → live ≡ walk.live → WalkStandsFor hash flag walk run → place_of walk ≡ suc step
-    → LiveStandsFor hash flag live run.start (play_of run.events_at (suc step))
-last-stands {hash = hash} {flag = flag} run walk live step same walks made =
+pub last-stands : {D : Type 0} {hash : Hash D} (run : Run) (walk : Walk D)
+    (live : Live D SecondFlag) (step : ℕ)
+    → live ≡ walk.live → Walks hash run walk → place_of walk ≡ suc step
+    → LiveStandsFor hash second_flag live run.start (play_of run.events_at (suc step))
+last-stands {hash = hash} run walk live step same walks made =
     rw same
-    (subst (λ (steps : ℕ). LiveStandsFor hash flag walk.live run.start
-    (play_of run.events_at steps)) made walks.midway.stands)
+    (subst (λ (steps : ℕ). LiveStandsFor hash second_flag walk.live run.start
+    (play_of run.events_at steps)) made walks.stands)

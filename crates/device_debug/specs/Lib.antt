@@ -1,12 +1,8 @@
-pub mod Forwards
+pub mod Ahead
+pub mod Back
+pub mod Going
 pub mod GrownText
-pub mod NearLevel
-pub mod NearStop
-pub mod NearStops
-pub mod NearWay
+pub mod Seek
 pub mod Session
-pub mod Skim
 pub mod StepText
 pub mod Telling
-pub mod Way
-pub mod WayBack

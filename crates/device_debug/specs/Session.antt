@@ -1,35 +1,34 @@
 -- A debugger that stands where its session stands.
-use Rattle.std.specs.Prelude.{◌≡◌, ℕ, List, Result, Some}
-use Rattle.bus_signals.specs.TraceFlag.{Flag}
-use Rattle.part_definitions.specs.TrustedFlag.{aux}
-use Rattle.exec_automaton.specs.RunFlag.{flag_of_run}
+use Rattle.std.specs.Prelude.{◌≡◌, ℕ, List, Option, Result, Some}
 use Rattle.hmac_core.specs.Hash.{Hash}
 use Rattle.outside_edge.specs.declared.sink.Sink as sink
 use Rattle.debug_link.specs.Conversation.{Answer}
 use Rattle.debug_link.specs.Writing.{Answers, PacketSink}
 use Rattle.debug_link.specs.declared.answer_fault.AnswerFault.{AnswerFault}
 use Rattle.debug_link.specs.declared.connection.Connection.{Connection}
-use Rattle.debug_session.specs.Place.{Run}
+use Rattle.debug_session.specs.Place.{Run, view_of}
 use Rattle.debug_session.specs.Session.{Session, reply}
+use Rattle.debug_session.specs.Sight.{View}
+use Rattle.debug_walk.specs.Copies.{TrackStandsFor}
 use Rattle.debug_walk.specs.PlayedRun.{played_run}
-use Rattle.debug_walk.specs.Walk.{SecondFlag}
-use Rattle.debug_walk.specs.declared.halted.Halted.{Halted}
-use Rattle.device_debug.specs.Forwards.{HaltedAt}
+use Rattle.debug_walk.specs.declared.walk.Walk.{Walk}
+use Rattle.device_debug.specs.Going.{StandsAt}
 use Rattle.device_debug.specs.declared.debugger.Debugger.{Debugger}
-
--- the second flag of a debugger's device
-abbrev pub second_flag : Flag SecondFlag
-second_flag = flag_of_run aux
+use Rattle.device_debug.specs.declared.run_debugger.RunDebugger.{RunDebugger}
 
 -- the run that it goes through
-abbrev pub run_of : {D : Type 0} → Hash D → Debugger D → Run
-run_of hash debugger = played_run hash second_flag debugger.run
+abbrev pub run_at : {D : Type 0} → Hash D → Debugger D → Run
+run_at hash debugger = played_run hash debugger.track.run
 
-pub record DebuggerStandsFor {D : Type 0} (hash : Hash D) (flag : Flag SecondFlag)
-    (debugger : Debugger D) (session : Session) : Type 0 where
-  pub halted : Halted D
+abbrev pub view_in : {D : Type 0} → Hash D → Debugger D → View
+view_in hash debugger = view_of (run_at hash debugger)
+
+pub record DebuggerStandsFor {D : Type 0} (hash : Hash D) (debugger : Debugger D)
+    (session : Session) : Type 0 where
+  pub halted : Walk D
   pub halted_is : debugger.halted ≡ Some halted
-  pub stands : HaltedAt hash flag (played_run hash flag debugger.run) session.place halted
+  pub stands : StandsAt hash (run_at hash debugger) session.place halted
+  pub track : TrackStandsFor hash debugger.track (run_at hash debugger)
   pub stops : debugger.stops ≡ session.stops
   pub stop : debugger.stop ≡ session.stop
 
@@ -46,25 +45,30 @@ in_run run answer =
       connection = answer.connection;
     }
 
-abbrev pub run_reply : RunSession → List ℕ → Answer RunSession
-run_reply now body = in_run now.run (reply now.run now.session body)
+abbrev pub run_reply : Option ℕ → RunSession → List ℕ → Answer RunSession
+run_reply interrupt now body =
+    in_run now.run (reply (view_of now.run) interrupt now.session body)
 
-abbrev pub StandsInRun : {D : Type 0} → Hash D → Flag SecondFlag → Debugger D → RunSession → Type 0
-StandsInRun hash flag debugger now =
-    (played_run hash flag debugger.run ≡ now.run)
-    × DebuggerStandsFor hash flag debugger now.session
+abbrev pub StandsInRun : {D I : Type 0} → Hash D → RunDebugger D I → RunSession → Type 0
+StandsInRun hash it now =
+    (run_at hash it.debugger ≡ now.run) × DebuggerStandsFor hash it.debugger now.session
 
 -- wherever a debugger's session stands, this is answered, and the run stays as it is
-pub record GivesBy {D W : Type 0} (hash : Hash D) (flag : Flag SecondFlag) (w : sink.Ghosts W)
+pub record Gives {D W : Type 0} (hash : Hash D) (w : sink.Ghosts W)
     (packets packets_new : PacketSink W) (old new : Debugger D) (answer : Session → Answer Session)
     (result : Result Connection AnswerFault) : Type 0 where
   pub answers : (session : Session)
-      → DebuggerStandsFor hash flag old session
-      → Answers (DebuggerStandsFor hash flag) w packets packets_new new (answer session) result
-  pub same_run : new.run ≡ old.run
+      → DebuggerStandsFor hash old session
+      → Answers (DebuggerStandsFor hash) w packets packets_new new (answer session) result
+  pub same_run : new.track.run ≡ old.track.run
 
-abbrev pub Gives : {D W : Type 0} → Hash D → sink.Ghosts W → PacketSink W → PacketSink W
-    → Debugger D → Debugger D → (Session → Answer Session) → Result Connection AnswerFault
-    → Type 0
-Gives hash w packets packets_new old new answer result =
-    GivesBy hash second_flag w packets packets_new old new answer result
+-- wherever it stands, this is answered, where it is interrupted so or not at all
+pub record MayGive {D W : Type 0} (hash : Hash D) (w : sink.Ghosts W)
+    (packets packets_new : PacketSink W) (old new : Debugger D)
+    (answer : Option ℕ → Session → Answer Session) (result : Result Connection AnswerFault)
+    : Type 0 where
+  pub answers : (session : Session)
+      → DebuggerStandsFor hash old session
+      → (interrupt : Option ℕ)
+      × Answers (DebuggerStandsFor hash) w packets packets_new new (answer interrupt session) result
+  pub same_run : new.track.run ≡ old.track.run

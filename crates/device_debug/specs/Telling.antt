@@ -2,17 +2,15 @@
 use Rattle.std.specs.Prelude.{◌≡◌, ◌++◌, ℕ, suc, true, false, List, [], ◌∷◌, Result, OnErr, OnOk}
 use Rattle.outside_edge.specs.Sink.{TakesPrefix}
 use Rattle.outside_edge.specs.declared.sink.Sink as sink
-use Rattle.device_trace.specs.Text.{lines_of_step}
 use Rattle.debug_link.specs.Console.{console}
 use Rattle.debug_link.specs.Packet.{packets_of}
 use Rattle.debug_link.specs.Writing.{HasPut, PacketSink}
-use Rattle.debug_session.specs.Place.{Run, is_boundary, play_to}
+use Rattle.debug_session.specs.Place.{Run, sight_at, step_sight}
 use Rattle.device_debug.specs.GrownText.{GrownText}
 
 -- the packets of the lines of a step
 abbrev pub step_bodies : Run → ℕ → List (List ℕ)
-step_bodies run step =
-    console (lines_of_step run.start (run.events_at step) (play_to run step))
+step_bodies run step = console (step_sight run step).lines
 
 -- and of texts that wait
 abbrev pub bodies_of : List GrownText → List (List ℕ)
@@ -30,5 +28,5 @@ pub record TellsStep {W V E : Type 0} (w : sink.Ghosts W) (old new : PacketSink 
   pub has_put : OnOk result (HasPut w old new put)
   pub prefix : OnErr result (TakesPrefix w.stands old.sink new.sink (packets_of put))
   pub waits : OnOk result (later ≡ bodies_of waiting_new)
-  pub none_waits : is_boundary run (suc step) ≡ true → later ≡ []
-  pub none_put : is_boundary run (suc step) ≡ false → put ≡ []
+  pub none_waits : (sight_at run (suc step)).boundary ≡ true → later ≡ []
+  pub none_put : (sight_at run (suc step)).boundary ≡ false → put ≡ []

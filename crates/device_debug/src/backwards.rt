@@ -1,101 +1,232 @@
-ghost use Rattle.std.specs.Prelude.{◌≡◌, ◌≤◌, ℕ, Bool, IfOk};
+ghost use Rattle.std.specs.Prelude.{◌≡◌, ◌≤◌, ◌<◌, ◌-◌, ◌⊎◌, ℕ, IfOk, None, Option, false, length, max, nat_lt, true, if◌then◌else◌};
+ghost use Rattle.std.specs.Option.{option_or};
 ghost use Rattle.debug_commands.specs.Request.{most_steps};
-ghost use Rattle.debug_session.specs.Going.{back_to, highest_of};
-ghost use Rattle.debug_walk.specs.Halted.{IsLevelAt};
-ghost use Rattle.debug_walk.specs.PlayedRun.{played_run};
-ghost use Rattle.device_debug.specs.Forwards.{HaltedAt, HasHalted};
-ghost use Rattle.device_debug.specs.WayBack.{IsStanding};
+ghost use Rattle.debug_session.specs.Cause.{behind, cause, is_due, is_plain, refusal_or, stop_of};
+ghost use Rattle.debug_session.specs.Going.{interrupted, last_stop};
+ghost use Rattle.debug_session.specs.Place.{Run, sight_at, view_of};
+ghost use Rattle.debug_walk.specs.Copies.{IsBefore, IsBegun, TrackStandsFor};
+ghost use Rattle.debug_walk.specs.Passing.{ArePassed};
+ghost use Rattle.debug_walk.specs.Walk.{IsStretch, OfWalk, TellsCause, Walks, place_of};
+ghost use Rattle.device_core.specs.Device.{HasStepped};
+ghost use Rattle.device_debug.specs.Going.{HasArrived, StandsAt};
+ghost use Rattle.device_debug.specs.Seek.{step_in, steps_by};
+ghost use Rattle.device_debug.specs.Back.{IsLastBehind, placed, seek_back};
+ghost use Rattle.part_definitions.specs.CpuRegister.{pc_of};
 
-use crate::near_stop::near_stop;
-use crate::way_back::{Found, WayBack};
-use bus_signals::TraceFlag;
+use crate::interrupts::Interrupts;
+use crate::seek::{Seek, stop_of};
+use bus_signals::Kind;
 use debug_commands::MOST_STEPS;
-use debug_stops::{Stop, StopList};
-use debug_walk::{Halted, LevelPlace, Run};
+use debug_stops::{Stop, StopList, Watch};
+use debug_walk::{Passing, Stretch, Track, Walk};
 use hmac_core::Digest32;
-use isr_flag::IsrFlag;
-use std::alloc::{AllocError, Global};
+use std::alloc::AllocError;
 
-/// Goes back to the last place before this one where a device has to stop; where `steps` also to
-/// the last beginning of an instruction of no higher level. Else it stands at place 1.
-pub fn go_back<'a, D: Digest32>(
-    alloc: Global,
-    run: &Run<'a>,
-    stops: &StopList,
-    now: Halted<'a, D>,
-    steps: bool,
-) -> Result<(Halted<'a, D>, Stop), AllocError>
-    ensures { (place : ℕ)
-        → HaltedAt D.hash ⟦<IsrFlag as TraceFlag>⟧.flag
-        (played_run D.hash ⟦<IsrFlag as TraceFlag>⟧.flag run.now) place now.entry
-        → IfOk result (λ end. HasHalted D.hash ⟦<IsrFlag as TraceFlag>⟧.flag
-        (played_run D.hash ⟦<IsrFlag as TraceFlag>⟧.flag run.now) end.0 end.1
-        (back_to (played_run D.hash ⟦<IsrFlag as TraceFlag>⟧.flag run.now) stops.now place steps)) }
-{
-    let place = now.place();
-    let level = now.level();
-    let before_reset = now.before_reset();
-    drop(now);
-    if steps {
-        if let Some(near) = near_stop(alloc, run, stops, place, level, before_reset)? {
-            return Ok(near);
-        }
-    }
-    let highest = highest_of::<D>(alloc, run, place, level, steps)?;
-    let found = last_found::<D>(alloc, run, stops, place, highest)?;
-    let halted = run.halt_at(alloc, found.at.place, Some(found.at.level))?;
-    Ok((halted, found.stop))
-}
+// Behind so many steps most causes lie; it is looked at eight times as many, if there is none.
+const NEAR: u64 = 4_096;
 
-// Where a step back stops too: at the level of the place from which it goes, or below.
-fn highest_of<D: Digest32>(
-    alloc: Global,
-    run: &Run<'_>,
+// A place where a device may have to stop.
+#[derive(Clone, Copy)]
+struct Place {
     place: u64,
-    level: Option<u64>,
-    steps: bool,
-) -> Result<Option<u64>, AllocError>
-    ensures { IfOk result (λ highest. place ≤ most_steps
-        → IsLevelAt (played_run D.hash ⟦<IsrFlag as TraceFlag>⟧.flag run.now) place level
-        → highest ≡ highest_of steps (played_run D.hash ⟦<IsrFlag as TraceFlag>⟧.flag run.now)
-        place) }
+    pc: u16,
+    is_broken: bool,
+}
+
+/// Goes back to the last place before this one where a device has to stop, else to place 1; an
+/// interrupt leaves it where it is.
+pub fn go_back<'a, D: Digest32, I: Interrupts>(
+    track: &mut Track<'a, D>,
+    stops: &StopList,
+    walk: Walk<'a, D>,
+    seek: &Seek,
+    interrupts: &mut I,
+) -> Result<(Walk<'a, D>, Stop), AllocError>
+    ensures goes { (run : Run) (from : ℕ)
+        → TrackStandsFor D.hash track.old run
+        → StandsAt D.hash run from walk.entry
+        → IfOk result (λ end. (interrupt : Option ℕ) × HasArrived D.hash run
+        (interrupted (view_of run) from interrupt
+        (last_stop (cause (view_of run) stops.now (seek_back (step_in seek.now) from)) from))
+        end.0 end.1) }
+    ensures stays { (run : Run)
+        → TrackStandsFor D.hash track.old run
+        → TrackStandsFor D.hash track.new run }
+    ensures same_run { track.new.run ≡ track.old.run }
 {
-    if !steps {
-        return Ok(None);
+    let end = walk.place().min(MOST_STEPS);
+    if end <= 1 {
+        return Ok((track.first()?, Stop::Begin));
     }
-    match level {
-        Some(level) => Ok(Some(level)),
-        None => Ok(Some(run.level_at::<D>(alloc, place)?)),
+    let mut last = end - 1;
+    let mut distance = NEAR;
+    loop {
+        let near = track.walk_near(last, distance)?;
+        let begin = near.place();
+        if let Some((place, stop)) = last_cause(track, stops, near, last, end, seek) {
+            return Ok((track.walk_to(place)?, stop));
+        }
+        if begin == 0 {
+            return Ok((track.first()?, Stop::Begin));
+        }
+        if interrupts.have_come() {
+            return Ok((walk, Stop::Interrupted));
+        }
+        last = begin;
+        distance = distance.saturating_mul(8);
     }
 }
 
-// Where that is, and why. A device plays up to the place from which to go back.
-fn last_found<D: Digest32>(
-    alloc: Global,
-    run: &Run<'_>,
+// The last place with a cause behind that of a walk, up to a place, for who comes from another one.
+fn last_cause<'a, D: Digest32>(
+    track: &mut Track<'a, D>,
     stops: &StopList,
+    mut walk: Walk<'a, D>,
+    last: u64,
     from: u64,
-    highest: Option<u64>,
-) -> Result<Found, AllocError>
-    ensures { IfOk result (λ found. (steps : Bool)
-        → from ≤ most_steps
-        → highest ≡ highest_of steps (played_run D.hash ⟦<IsrFlag as TraceFlag>⟧.flag run.now) from
-        → IsStanding (played_run D.hash ⟦<IsrFlag as TraceFlag>⟧.flag run.now) found
-        (back_to (played_run D.hash ⟦<IsrFlag as TraceFlag>⟧.flag run.now) stops.now from steps)) }
+    seek: &Seek,
+) -> Option<(u64, Stop)>
+    requires few { from ≤ most_steps }
+    ensures found { (run : Run)
+        → IsBegun D.hash run walk.entry
+        → IsBefore last walk.entry
+        → last < from
+        → IsLastBehind (cause (view_of run) stops.now (seek_back (step_in seek.now) from))
+        (place_of walk.entry) last result }
+    ensures stays { (run : Run)
+        → Walks D.hash run walk.entry
+        → TrackStandsFor D.hash track.old run
+        → TrackStandsFor D.hash track.new run }
+    ensures same_run { track.new.run ≡ track.old.run }
 {
-    let mut way = WayBack::new(highest);
-    let end = from.min(MOST_STEPS);
-    let mut walk = run.walk_to::<D>(alloc, LevelPlace { place: 0, level: 0 })?;
-    for place in 0..end {
-        way.pass(&walk, stops);
-        let here = LevelPlace {
-            place,
-            level: walk.level(),
-        };
-        let boundary = walk.boundary();
-        let (next, seen) = walk.step();
-        walk = next;
-        way.see(here, boundary, &seen, stops);
+    let begin = walk.place();
+    let mut distance = last.saturating_sub(begin) / 8;
+    let mut found = None;
+    let mut here = place_here(&walk, stops);
+    while walk.place() < from && here.place <= last {
+        walk = to_boundary(walk, stops.watches(), from);
+        found = found_before(here, begin, walk.stretch(), seek, found);
+        walk = over_sleep(walk, stops, from);
+        here = place_here(&walk, stops);
+        distance = leave_near(track, &walk, last, distance);
     }
-    Ok(way.found_or_begin())
+    found
+}
+
+// Goes to the next boundary, or up to a place.
+fn to_boundary<'a, D: Digest32>(mut walk: Walk<'a, D>, watches: &[Watch], end: u64) -> Walk<'a, D>
+    requires more { place_of walk < end }
+    requires few { end ≤ most_steps }
+    ensures walks { (run : Run)
+        → Walks D.hash run walk.entry
+        → Walks D.hash run result }
+    ensures within { (place_of walk.entry < place_of result) × (place_of result ≤ end) }
+    ensures stretch { OfWalk D.hash walk.entry (λ run place.
+        (((sight_at run place).boundary ≡ true)
+        ⊎ IsStretch watches.now run place walk.entry.stretch)
+        → IsStretch watches.now run (place_of result) result.stretch) }
+    ensures passes_none { OfWalk D.hash walk.entry (λ run place. (at : ℕ)
+        → place < at → at < place_of result → (sight_at run at).boundary ≡ false) }
+    ensures ends { OfWalk D.hash walk.entry (λ run place.
+        (place_of result ≡ end) ⊎ ((sight_at run (place_of result)).boundary ≡ true)) }
+    ensures kept { HasStepped result.live }
+{
+    walk = walk.step(watches);
+    while !walk.is_at_boundary() && walk.place() < end {
+        walk = walk.step(watches);
+    }
+    walk
+}
+
+// Leaves a copy so many steps before a place, and tells how many steps before it the next one is
+// to be.
+fn leave_near<'a, D: Digest32>(
+    track: &mut Track<'a, D>,
+    walk: &Walk<'a, D>,
+    last: u64,
+    distance: u64,
+) -> u64
+    ensures stays { (run : Run)
+        → Walks D.hash run walk.now
+        → TrackStandsFor D.hash track.old run
+        → TrackStandsFor D.hash track.new run }
+    ensures same_run { track.new.run ≡ track.old.run }
+{
+    let place = walk.place();
+    if distance < 8 || place >= last || last - place > distance {
+        return distance;
+    }
+    track.copies.leave_near(walk);
+    distance / 8
+}
+
+// Goes on over steps of sleep behind a first one, up to a place.
+fn over_sleep<'a, D: Digest32>(walk: Walk<'a, D>, stops: &StopList, end: u64) -> Walk<'a, D>
+    requires few { end ≤ most_steps }
+    requires stepped { HasStepped walk.live }
+    ensures walks { (run : Run)
+        → Walks D.hash run walk.entry
+        → Walks D.hash run result }
+    ensures within { (place_of walk.entry ≤ place_of result)
+        × (place_of result ≤ max end (place_of walk.entry)) }
+    ensures tells { OfWalk D.hash walk.entry (λ run place.
+        TellsCause stops.now true run place walk.entry.stretch
+        → TellsCause stops.now true run (place_of result) result.stretch) }
+    ensures passed { OfWalk D.hash walk.entry (λ run place.
+        TellsCause stops.now true run place walk.entry.stretch
+        → ArePassed stops.now true run place (place_of result)) }
+{
+    if walk.live().entry().kind == Kind::Idle {
+        walk.go_quietly(&Passing::new(stops, true), end)
+    } else {
+        walk
+    }
+}
+
+fn place_here<D: Digest32>(walk: &Walk<'_, D>, stops: &StopList) -> Place
+    ensures place { result.place ≡ place_of walk.now }
+    ensures pc { OfWalk D.hash walk.now (λ run place.
+        result.pc ≡ pc_of (sight_at run place).registers) }
+    ensures broken { OfWalk D.hash walk.now (λ run place.
+        is_due stops.now.until walk.now.stretch.place place
+        ≡ is_due stops.now.until (place - length (behind (view_of run) place)) place
+        → result.is_broken ≡ is_plain stops.now (sight_at run place)
+        (place - length (behind (view_of run) place)) place) }
+{
+    Place {
+        place: walk.place(),
+        pc: walk.pc(),
+        is_broken: walk.is_broken(stops),
+    }
+}
+
+// Why a device that goes back stops at a place, before this stretch.
+fn cause_before(here: Place, stretch: &Stretch, seek: &Seek) -> Option<(u64, Stop)>
+    ensures { result ≡ placed here.place (stop_of stretch.now.last_hit here.is_broken
+        (steps_by (step_in seek.now) stretch.now here.pc) (refusal_or stretch.now.refused None)) }
+{
+    let is_step = seek.is_step(stretch, here.pc);
+    let stop = stop_of(stretch.last_hit, here.is_broken, is_step, stretch.refusal())?;
+    Some((here.place, stop))
+}
+
+// Likewise with those that were found before it, where it is not where the way begins.
+fn found_before(
+    here: Place,
+    begin: u64,
+    stretch: &Stretch,
+    seek: &Seek,
+    found: Option<(u64, Stop)>,
+) -> Option<(u64, Stop)>
+    ensures { result ≡ (if nat_lt begin here.place
+        then option_or (placed here.place (stop_of stretch.now.last_hit here.is_broken
+        (steps_by (step_in seek.now) stretch.now here.pc) (refusal_or stretch.now.refused None)))
+        found
+        else found) }
+{
+    if here.place > begin {
+        cause_before(here, stretch, seek).or(found)
+    } else {
+        found
+    }
 }

@@ -1,149 +1,80 @@
-ghost use Rattle.std.specs.Prelude.{◌≡◌, ◌≤◌, ◌<◌, ◌++◌, ℕ, codes, IfOk, IsTrue};
+ghost use Rattle.std.specs.Prelude.{◌≡◌, ◌<◌, ◌≤◌, ◌⊎◌, ◌++◌, ◌-◌, ◌+◌, ℕ, [], Option, codes, IfOk, None, false, is_some, suc, true, if◌then◌else◌};
 ghost use Rattle.debug_commands.specs.Request.{most_steps};
 ghost use Rattle.debug_link.specs.Console.{console};
 ghost use Rattle.debug_link.specs.Writing.{CountsWriteFaults, PutsPackets};
-ghost use Rattle.debug_session.specs.Going.{goes_again, going_on, where_to};
-ghost use Rattle.debug_session.specs.Level.{level};
-ghost use Rattle.debug_stops.specs.declared.stop.Stop.TheVariants.{Refused, Stepped};
+ghost use Rattle.debug_session.specs.Cause.{cause, refusal_or, told_rule};
+ghost use Rattle.debug_session.specs.Going.{first_stop, interrupted};
+ghost use Rattle.debug_session.specs.Place.{Run, sight_at, view_of};
+ghost use Rattle.debug_walk.specs.Copies.{TrackStandsFor};
+ghost use Rattle.debug_walk.specs.Walk.{OfWalk, TellsCause, Walks, place_of};
+ghost use Rattle.debug_walk.specs.Passing.{ArePassed, AreSilent};
+ghost use Rattle.device_core.specs.Device.{HasStepped};
+ghost use Rattle.device_debug.specs.Going.{GoesOn, StandsAt};
+ghost use Rattle.device_debug.specs.Ahead.{is_asked, last_boundary, place_past, refused_at, seek_ahead};
+ghost use Rattle.device_debug.specs.Seek.{step_in};
 ghost use Rattle.printed_lines.specs.Line.{reset_line};
-ghost use Rattle.debug_walk.specs.PlayedRun.{played_run};
-ghost use Rattle.debug_walk.specs.Seen.{MayBeginAt};
-ghost use Rattle.debug_walk.specs.Walk.{OfWalk, place_of};
-ghost use Rattle.device_debug.specs.Forwards.{GoesOnTo, GoesTo, HaltedAt, HasArrived, HasHalted, WalkStandsAt};
-ghost use Rattle.device_debug.specs.Forwards.{stops_at_steps, turns_again};
 
 use crate::grown_text::{GrownText, grown};
-use crate::skim::skim;
+use crate::interrupts::Interrupts;
+use crate::look::Look;
+use crate::seek::{Seek, cause_here};
 use crate::waiting_lines::WaitingLines;
-use crate::way::Way;
-use bus_signals::{Rule, TraceFlag};
-use debug_commands::{Going, MOST_STEPS};
+use bus_signals::Rule;
+use debug_commands::MOST_STEPS;
 use debug_link::{AnswerFault, PacketWriter, put_text};
 use debug_stops::{Stop, StopList};
-use debug_walk::{Halted, LevelPlace, Run, Walk};
+use debug_walk::{Passing, Track, Walk};
+use device_core::StepLine;
 use hmac_core::Digest32;
-use isr_flag::IsrFlag;
 use outside_edge::{Sink, put_all};
 use report_text::print_reset;
-use std::alloc::Global;
+use std::alloc::{AllocError, Global};
 
 /// Goes on to the first place behind this one where a device has to stop, and tells the lines of
 /// the steps made.
-pub fn go_on<'a, D: Digest32, W: Sink + Drop>(
-    alloc: Global,
-    run: &Run<'a>,
-    stops: &StopList,
-    halted: Halted<'a, D>,
-    going: Going,
-    packets: &mut PacketWriter<W>,
-) -> Result<(Halted<'a, D>, Stop), AnswerFault>
-    ensures goes_on { (place : ℕ)
-        → HaltedAt D.hash ⟦<IsrFlag as TraceFlag>⟧.flag
-        (played_run D.hash ⟦<IsrFlag as TraceFlag>⟧.flag run.now) place halted.entry
-        → GoesTo (HasHalted D.hash ⟦<IsrFlag as TraceFlag>⟧.flag
-        (played_run D.hash ⟦<IsrFlag as TraceFlag>⟧.flag run.now)) W.Sink packets.old packets.new
-        (played_run D.hash ⟦<IsrFlag as TraceFlag>⟧.flag run.now) place
-        (where_to (played_run D.hash ⟦<IsrFlag as TraceFlag>⟧.flag run.now) stops.now place going)
-        result }
-    ensures counts { CountsWriteFaults W.faults packets.old.sink packets.new.sink result }
-{
-    if halted.place() >= MOST_STEPS {
-        return Ok((halted, Stop::End));
-    }
-    if !stops_at_steps(going) && stops.is_empty() {
-        return skim(alloc, run, halted, packets);
-    }
-    let walk = run.walk_from(alloc, halted)?;
-    let (walk, stop) = walk_on(alloc, run, stops, walk, going, packets)?;
-    Ok((walk.halt(), stop))
-}
-
-// Likewise, with a look at each step.
-fn walk_on<'a, D: Digest32, W: Sink + Drop>(
-    alloc: Global,
-    run: &Run<'a>,
+pub fn go_on<'a, D: Digest32, I: Interrupts, W: Sink + Drop>(
+    track: &mut Track<'a, D>,
     stops: &StopList,
     mut walk: Walk<'a, D>,
-    going: Going,
+    seek: &Seek,
+    interrupts: &mut I,
     packets: &mut PacketWriter<W>,
 ) -> Result<(Walk<'a, D>, Stop), AnswerFault>
-    ensures goes_on { (place : ℕ)
-        → WalkStandsAt D.hash ⟦<IsrFlag as TraceFlag>⟧.flag
-        (played_run D.hash ⟦<IsrFlag as TraceFlag>⟧.flag run.now) place walk.entry
-        → GoesTo (HasArrived D.hash ⟦<IsrFlag as TraceFlag>⟧.flag
-        (played_run D.hash ⟦<IsrFlag as TraceFlag>⟧.flag run.now)) W.Sink packets.old packets.new
-        (played_run D.hash ⟦<IsrFlag as TraceFlag>⟧.flag run.now) place
-        (where_to (played_run D.hash ⟦<IsrFlag as TraceFlag>⟧.flag run.now) stops.now place going)
-        result }
+    ensures goes_on { (run : Run) (place : ℕ)
+        → TrackStandsFor D.hash track.old run
+        → StandsAt D.hash run place walk.entry
+        → (interrupt : Option ℕ) × GoesOn D.hash W.Sink packets.old packets.new run place
+        (interrupted (view_of run) place interrupt
+        (first_stop (cause (view_of run) stops.now (seek_ahead (step_in seek.now))) place
+        (most_steps - place))) result }
+    ensures stays { (run : Run)
+        → TrackStandsFor D.hash track.old run
+        → Walks D.hash run walk.entry
+        → TrackStandsFor D.hash track.new run }
+    ensures same_run { track.new.run ≡ track.old.run }
     ensures counts { CountsWriteFaults W.faults packets.old.sink packets.new.sink result }
 {
-    let steps = stops_at_steps(going);
-    loop {
-        let (next, stop) = go_once(alloc, run, stops, walk, steps, packets)?;
-        if !turns_again(&next, stop, going) {
-            return Ok((next, stop));
-        }
-        walk = next;
-    }
-}
-
-fn stops_at_steps(going: Going) -> bool
-    ensures { result ≡ stops_at_steps going }
-{
-    !matches!(going, Going::On)
-}
-
-// Whether it stepped to a place in the range that it is to leave, and goes on.
-fn turns_again<D: Digest32>(walk: &Walk<'_, D>, stop: Stop, going: Going) -> bool
-    ensures again { OfWalk D.hash ⟦<IsrFlag as TraceFlag>⟧.flag walk.now (λ run place.
-        result ≡ turns_again run going place stop) }
-    ensures stepped { IsTrue result → stop ≡ Stepped }
-{
-    match (stop, going) {
-        (Stop::Stepped, Going::Range(first, end)) => is_within(walk, first, end),
-        _ => false,
-    }
-}
-
-fn is_within<D: Digest32>(walk: &Walk<'_, D>, first: u32, end: u32) -> bool
-    ensures { OfWalk D.hash ⟦<IsrFlag as TraceFlag>⟧.flag walk.now (λ run place.
-        result ≡ goes_again run first end (record { place = place; stop = Stepped })) }
-{
-    let pc = u32::from(walk.pc());
-    first <= pc && pc < end
-}
-
-fn go_once<'a, D: Digest32, W: Sink + Drop>(
-    alloc: Global,
-    run: &Run<'a>,
-    stops: &StopList,
-    mut walk: Walk<'a, D>,
-    steps: bool,
-    packets: &mut PacketWriter<W>,
-) -> Result<(Walk<'a, D>, Stop), AnswerFault>
-    ensures goes_on { (place : ℕ)
-        → WalkStandsAt D.hash ⟦<IsrFlag as TraceFlag>⟧.flag
-        (played_run D.hash ⟦<IsrFlag as TraceFlag>⟧.flag run.now) place walk.entry
-        → GoesTo (HasArrived D.hash ⟦<IsrFlag as TraceFlag>⟧.flag
-        (played_run D.hash ⟦<IsrFlag as TraceFlag>⟧.flag run.now)) W.Sink packets.old packets.new
-        (played_run D.hash ⟦<IsrFlag as TraceFlag>⟧.flag run.now) place
-        (going_on (played_run D.hash ⟦<IsrFlag as TraceFlag>⟧.flag run.now) stops.now place steps)
-        result }
-    ensures goes_far { IfOk result (λ end. end.1 ≡ Stepped → place_of walk.entry < place_of end.0) }
-    ensures within { IfOk result (λ end. end.1 ≡ Stepped → place_of end.0 ≤ most_steps) }
-    ensures counts { CountsWriteFaults W.faults packets.old.sink packets.new.sink result }
-{
-    let mut way = Way::new(&walk, stops, steps);
-    let mut waiting = WaitingLines::new(alloc);
+    let from = walk.place();
+    let mut look = Look::new(from);
+    let mut waiting = WaitingLines::new(track.alloc());
     while walk.place() < MOST_STEPS {
-        let before = walk.boundary();
-        let (next, seen) = walk.step();
-        walk = next;
-        if let Some((at, rule)) = way.refusal(before, seen.refused) {
-            return stop_before(alloc, run, at, walk.place() - 1, rule, packets);
+        if look.ends_way(interrupts, &walk) {
+            return Ok((walk, Stop::Interrupted));
+        }
+        track.copies.leave(&walk);
+        let next = track.copies.next().min(look.next());
+        let end = pass_end(&walk, &waiting, next);
+        walk = pass(walk, stops, seek, end);
+        if let Some((at, rule)) = refused_behind(track, &walk, from)? {
+            tell_refusal(track.alloc(), walk.place() - 1, rule, packets)?;
+            return Ok((track.walk_to(at)?, Stop::Refused(rule)));
         }
         waiting.tell_step(&walk, packets)?;
-        if let Some(stop) = way.stop_after(&walk, &seen, stops) {
+        if let Some(stop) = cause_here(&walk, stops, seek) {
+            return Ok((walk, stop));
+        }
+        walk = rest(walk, stops, seek, &waiting, next);
+        if let Some(stop) = cause_here(&walk, stops, seek) {
             return Ok((walk, stop));
         }
     }
@@ -151,32 +82,179 @@ fn go_once<'a, D: Digest32, W: Sink + Drop>(
     Ok((walk, Stop::End))
 }
 
-// Stops at a place before a step that is refused, and tells of it.
-fn stop_before<'a, D: Digest32, W: Sink + Drop>(
-    alloc: Global,
-    run: &Run<'a>,
-    at: LevelPlace,
-    step: u64,
-    rule: Rule,
-    packets: &mut PacketWriter<W>,
-) -> Result<(Walk<'a, D>, Stop), AnswerFault>
-    ensures stops { at.place ≤ most_steps
-        → at.level ≡ level (played_run D.hash ⟦<IsrFlag as TraceFlag>⟧.flag run.now) at.place
-        → MayBeginAt (played_run D.hash ⟦<IsrFlag as TraceFlag>⟧.flag run.now) at.place
-        → GoesOnTo (HasArrived D.hash ⟦<IsrFlag as TraceFlag>⟧.flag
-        (played_run D.hash ⟦<IsrFlag as TraceFlag>⟧.flag run.now)) W.Sink packets.old packets.new
-        (console (codes "stops before " ++ reset_line step rule))
-        (record { place = at.place; stop = Refused rule }) result }
-    ensures refused { IfOk result (λ end. end.1 ≡ Refused rule) }
-    ensures counts { CountsWriteFaults W.faults packets.old.sink packets.new.sink result }
+// How far a device may go: to where a copy or a look is due; where lines wait, to the next step.
+fn pass_end<D: Digest32>(walk: &Walk<'_, D>, waiting: &WaitingLines, next: u64) -> u64
+    requires few { place_of walk.now < most_steps }
+    ensures more { place_of walk.now < result }
+    ensures within { result ≤ most_steps }
+    ensures waits { (waiting.now ≡ []) ⊎ (result ≡ place_of walk.now + 1) }
 {
-    tell_refusal(alloc, step, rule, packets)?;
-    let walk = run.walk_to(alloc, at)?;
-    Ok((walk, Stop::Refused(rule)))
+    if waiting.is_empty() {
+        next.max(walk.place() + 1).min(MOST_STEPS)
+    } else {
+        walk.place() + 1
+    }
 }
 
-/// Tells of a step before which a device stops.
-pub fn tell_refusal<W: Sink + Drop>(
+// One step, which is looked at; where nothing is asked, more up to a line.
+fn pass<'a, D: Digest32>(walk: Walk<'a, D>, stops: &StopList, seek: &Seek, end: u64) -> Walk<'a, D>
+    requires more { place_of walk < end }
+    requires few { end ≤ most_steps }
+    ensures walks { (run : Run)
+        → Walks D.hash run walk.entry
+        → Walks D.hash run result }
+    ensures within { (place_of walk.entry < place_of result) × (place_of result ≤ end) }
+    ensures silent { OfWalk D.hash walk.entry (λ run place.
+        AreSilent run place (place_of result - 1)) }
+    ensures unasked { (is_asked stops.now (step_in seek.now) ≡ false)
+        ⊎ (place_of result ≡ place_of walk.entry + 1) }
+    ensures tells { OfWalk D.hash walk.entry (λ run place.
+        (((sight_at run place).boundary ≡ true)
+        ⊎ TellsCause stops.now (is_some (step_in seek.now)) run place walk.entry.stretch)
+        → TellsCause stops.now (is_some (step_in seek.now)) run (place_of result)
+        result.stretch) }
+{
+    if is_asked(stops, seek) {
+        walk.step(stops.watches())
+    } else {
+        walk.play(end)
+    }
+}
+
+// Steps in a row behind it, up to where a copy or a look is due; none where one is due already, or
+// lines wait.
+fn rest<'a, D: Digest32>(
+    walk: Walk<'a, D>,
+    stops: &StopList,
+    seek: &Seek,
+    waiting: &WaitingLines,
+    next: u64,
+) -> Walk<'a, D>
+    requires few { place_of walk ≤ most_steps }
+    ensures walks { (run : Run)
+        → Walks D.hash run walk.entry
+        → Walks D.hash run result }
+    ensures within { (place_of walk.entry ≤ place_of result) × (place_of result ≤ most_steps) }
+    ensures waits { (waiting.now ≡ []) ⊎ (place_of result ≡ place_of walk.entry) }
+    ensures tells { OfWalk D.hash walk.entry (λ run place.
+        TellsCause stops.now (is_some (step_in seek.now)) run place walk.entry.stretch
+        → TellsCause stops.now (is_some (step_in seek.now)) run (place_of result)
+        result.stretch) }
+    ensures passed { OfWalk D.hash walk.entry (λ run place.
+        TellsCause stops.now (is_some (step_in seek.now)) run place walk.entry.stretch
+        → ArePassed stops.now (is_some (step_in seek.now)) run place (place_of result)) }
+{
+    if !is_asked(stops, seek) || !waiting.is_empty() {
+        return walk;
+    }
+    let end = next.max(walk.place()).min(MOST_STEPS);
+    walk.go_quietly(&Passing::new(stops, seek.is_for_step()), end)
+}
+
+// Whether a step, a breakpoint, a watch or a number of steps is looked for.
+fn is_asked(stops: &StopList, seek: &Seek) -> bool
+    ensures { result ≡ is_asked stops.now (step_in seek.now) }
+{
+    seek.is_for_step() || !stops.is_empty()
+}
+
+// Where a device stops before its last step, if that was refused, and the rule.
+fn refused_behind<D: Digest32>(
+    track: &Track<'_, D>,
+    walk: &Walk<'_, D>,
+    from: u64,
+) -> Result<Option<(u64, Rule)>, AllocError>
+    requires stepped { 0 < place_of walk.now }
+    requires few { place_of walk.now ≤ most_steps }
+    ensures { (run : Run)
+        → TrackStandsFor D.hash track.now run
+        → Walks D.hash run walk.now
+        → IfOk result (λ found. found ≡ refused_at (view_of run) from (place_of walk.now - 1)) }
+{
+    match refusal_of(walk) {
+        Some(rule) => {
+            let at = last_boundary(track, walk.place() - 1, from)?;
+            Ok(at.map(|at| (at, rule)))
+        }
+        None => Ok(None),
+    }
+}
+
+// The rule by which the last step was refused, if it is told.
+fn refusal_of<D: Digest32>(walk: &Walk<'_, D>) -> Option<Rule>
+    requires { place_of walk.now ≤ most_steps }
+    ensures { OfWalk D.hash walk.now (λ run place. (before : ℕ)
+        → place ≡ before + 1
+        → result ≡ refusal_or (sight_at run before).next.refused None) }
+{
+    match walk.live().line() {
+        Some(StepLine::Reset(rule)) => told_rule(rule),
+        Some(StepLine::Sent(_)) => None,
+        Some(StepLine::Report(_)) => None,
+        Some(StepLine::Denied(_)) => None,
+        None => None,
+    }
+}
+
+// The script's reset stops nothing.
+fn told_rule(rule: Rule) -> Option<Rule>
+    ensures { result ≡ told_rule rule }
+{
+    Some(rule).filter(|rule| *rule != Rule::X0)
+}
+
+// The last boundary up to a place, if no step since was refused and it lies behind another place.
+fn last_boundary<D: Digest32>(
+    track: &Track<'_, D>,
+    until: u64,
+    from: u64,
+) -> Result<Option<u64>, AllocError>
+    requires { until ≤ most_steps }
+    ensures { (run : Run)
+        → TrackStandsFor D.hash track.now run
+        → IfOk result (λ last. last ≡ last_boundary (view_of run) from until) }
+{
+    let mut walk = track.walk_before(until + 1)?;
+    let mut last = boundary_past(&walk, from);
+    while walk.place() < until {
+        walk = walk.step(&[]);
+        last = boundary_behind(&walk, from, last);
+    }
+    Ok(last)
+}
+
+// Behind one more step.
+fn boundary_behind<D: Digest32>(walk: &Walk<'_, D>, from: u64, last: Option<u64>) -> Option<u64>
+    requires stepped { HasStepped walk.now.live }
+    requires few { place_of walk.now ≤ most_steps }
+    ensures { OfWalk D.hash walk.now (λ run place. (before : ℕ)
+        → place ≡ suc before
+        → result ≡ (if (sight_at run place).boundary then place_past from place
+        else if is_some (sight_at run before).next.refused then None else last)) }
+{
+    if walk.is_at_boundary() {
+        boundary_past(walk, from)
+    } else if walk.live().entry().reset.is_some() {
+        None
+    } else {
+        last
+    }
+}
+
+// The place of a walk at a boundary, if it lies behind another one.
+fn boundary_past<D: Digest32>(walk: &Walk<'_, D>, from: u64) -> Option<u64>
+    ensures { OfWalk D.hash walk.now (λ run place.
+        result ≡ (if (sight_at run place).boundary then place_past from place else None)) }
+{
+    if walk.is_at_boundary() && walk.place() > from {
+        Some(walk.place())
+    } else {
+        None
+    }
+}
+
+// Tells of a step before which a device stops.
+fn tell_refusal<W: Sink + Drop>(
     alloc: Global,
     step: u64,
     rule: Rule,

@@ -1,6 +1,6 @@
 //! A debugger's view of a play: GDB drives the device, forwards and backwards.
 //!
-//! A [`Debugger`] stands at a place of a run, which is a number of steps, and answers the packets
+//! A [`RunDebugger`] stands at a place of a run, which is a number of steps, and answers the packets
 //! of GDB: what is shown are the registers, bytes and flags after these steps, and only the place,
 //! the breakpoints, the watches and `until` change by what is asked.
 #![tactic(auto)]
@@ -9,16 +9,13 @@ mod backwards;
 mod debugger;
 mod forwards;
 mod grown_text;
+mod interrupts;
+mod look;
 mod monitor;
-mod near_level;
-mod near_place;
-mod near_stop;
-mod near_stops;
-mod near_way;
-mod skim;
+mod run_debugger;
+mod seek;
 mod step_text;
 mod waiting_lines;
-mod way;
-mod way_back;
 
-pub use debugger::Debugger;
+pub use interrupts::Interrupts;
+pub use run_debugger::RunDebugger;

@@ -1,25 +1,25 @@
-ghost use Rattle.std.specs.Prelude.{◌≡◌, ◌≤◌, ◌-◌, IfErr, IfOk};
+ghost use Rattle.std.specs.Prelude.{◌≡◌, ◌≤◌, ◌-◌, ◌++◌, IfErr, IfOk};
 ghost use Rattle.debug_commands.specs.Request.{most_steps};
-ghost use Rattle.debug_commands.specs.declared.request.Request.TheVariants.{Flags, Play, Steps, Trace};
+ghost use Rattle.debug_commands.specs.declared.request.Request.TheVariants.{Steps};
 ghost use Rattle.debug_link.specs.Console.{AddsText, console};
 ghost use Rattle.debug_link.specs.Writing.{CountsWriteFaults, PutsPackets};
 ghost use Rattle.debug_link.specs.declared.answer_fault.AnswerFault.TheVariants.{Memory};
-ghost use Rattle.debug_session.specs.Monitor.{request_text};
-ghost use Rattle.debug_session.specs.Place.{Run as PlayedRun, play_to};
+ghost use Rattle.debug_session.specs.Monitor.{flags_text, request_text};
+ghost use Rattle.debug_session.specs.Place.{Run, sight_at, view_of};
+ghost use Rattle.debug_session.specs.Sight.{View};
+ghost use Rattle.debug_walk.specs.Copies.{TrackStandsFor};
 ghost use Rattle.debug_walk.specs.PlayedRun.{played_run};
-ghost use Rattle.debug_walk.specs.Halted.{HaltedStandsFor, OfHalted, halted_at};
-ghost use Rattle.device_play.specs.Accounts.{end_line_of};
-ghost use Rattle.device_debug.specs.StepText.{texts_from};
+ghost use Rattle.debug_walk.specs.Walk.{OfWalk, Walks, place_of};
+ghost use Rattle.debug_session.specs.Monitor.{texts_from};
+ghost use Rattle.device_debug.specs.StepText.{text_in};
 
 use crate::grown_text::{GrownText, grown};
 use crate::step_text::StepText;
-use bus_signals::TraceFlag;
 use debug_commands::{MOST_STEPS, Request};
 use debug_link::{AnswerFault, ConsoleText, PacketWriter, put_text};
-use debug_walk::{Halted, Run};
-use device_play::{TraceWatcher, play_to_shown, print_end_of};
+use debug_walk::{Track, Walk};
+use device_play::print_end_of;
 use hmac_core::Digest32;
-use isr_flag::IsrFlag;
 use line_buffer::{LineBuffer, flag_digit};
 use outside_edge::Sink;
 use std::alloc::Global;
@@ -33,25 +33,31 @@ monitor until N   continue and reverse-continue stop at N steps too; 0 takes thi
 
 /// Tells what a user asks for, of a device that stands at a place.
 pub fn tell<'a, D: Digest32, W: Sink + Drop>(
-    alloc: Global,
-    run: &Run<'a>,
-    halted: &Halted<'a, D>,
+    track: &Track<'a, D>,
+    halted: &Walk<'a, D>,
     request: Request,
     packets: &mut PacketWriter<W>,
 ) -> Result<(), AnswerFault>
-    ensures tells { HaltedStandsFor D.hash ⟦<IsrFlag as TraceFlag>⟧.flag halted.now
-        (played_run D.hash ⟦<IsrFlag as TraceFlag>⟧.flag run.now)
-        → halted_at halted.now ≤ most_steps
+    ensures tells { (run : Run)
+        → TrackStandsFor D.hash track.now run
+        → Walks D.hash run halted.now
+        → place_of halted.now ≤ most_steps
         → PutsPackets W.Sink packets.old packets.new
-        (console (request_text (played_run D.hash ⟦<IsrFlag as TraceFlag>⟧.flag run.now)
-        (halted_at halted.now) request)) result }
+        (console (request_text (view_of run) (place_of halted.now) request)) result }
     ensures counts { CountsWriteFaults W.faults packets.old.sink packets.new.sink result }
 {
+    let place = halted.place();
     match request {
-        Request::Steps => tell_text(steps_line(halted.place()).as_slice(), packets),
+        Request::Steps => tell_text(steps_line(place).as_slice(), packets),
         Request::Flags => tell_text(flags_line(halted).as_slice(), packets),
-        Request::Play => tell_play(alloc, run, halted, packets),
-        Request::Trace(lines) => tell_trace::<D, W>(alloc, run, halted.place(), lines, packets),
+        Request::Play => {
+            let end = end_text(track.alloc(), halted)?;
+            tell_steps(track, 0, place, StepText::Lines, end.as_slice(), packets)
+        }
+        Request::Trace(lines) => {
+            let first = place.saturating_sub(lines);
+            tell_steps(track, first, place, StepText::Trace, b"", packets)
+        }
         Request::Until(_) => Ok(()),
         Request::Help => tell_text(HELP, packets),
         Request::Other => tell_text(b"no such command: monitor help\n", packets),
@@ -68,7 +74,7 @@ fn tell_text<W: Sink + Drop>(text: &[u8], packets: &mut PacketWriter<W>) -> Resu
 }
 
 fn steps_line(place: u64) -> LineBuffer
-    ensures { (run : PlayedRun) → result ≡ request_text run place Steps }
+    ensures { (view : View) → result ≡ request_text view place Steps }
 {
     let mut line = LineBuffer::new();
     line.push_decimal(place);
@@ -78,9 +84,8 @@ fn steps_line(place: u64) -> LineBuffer
     line
 }
 
-fn flags_line<D: Digest32>(halted: &Halted<'_, D>) -> LineBuffer
-    ensures { OfHalted D.hash ⟦<IsrFlag as TraceFlag>⟧.flag halted.now (λ run place.
-        result ≡ request_text run place Flags) }
+fn flags_line<D: Digest32>(halted: &Walk<'_, D>) -> LineBuffer
+    ensures { OfWalk D.hash halted.now (λ run place. result ≡ flags_text (sight_at run place)) }
 {
     let mut line = LineBuffer::new();
     line.push(b"exec ");
@@ -91,41 +96,10 @@ fn flags_line<D: Digest32>(halted: &Halted<'_, D>) -> LineBuffer
     line
 }
 
-// Tells what `play` prints.
-fn tell_play<'a, D: Digest32, W: Sink + Drop>(
-    alloc: Global,
-    run: &Run<'a>,
-    halted: &Halted<'a, D>,
-    packets: &mut PacketWriter<W>,
-) -> Result<(), AnswerFault>
-    ensures tells { HaltedStandsFor D.hash ⟦<IsrFlag as TraceFlag>⟧.flag halted.now
-        (played_run D.hash ⟦<IsrFlag as TraceFlag>⟧.flag run.now)
-        → halted_at halted.now ≤ most_steps
-        → PutsPackets W.Sink packets.old packets.new
-        (console (request_text (played_run D.hash ⟦<IsrFlag as TraceFlag>⟧.flag run.now)
-        (halted_at halted.now) Play)) result }
-    ensures counts { CountsWriteFaults W.faults packets.old.sink packets.new.sink result }
-{
-    let end = end_text(alloc, halted)?;
-    let mut text = ConsoleText::new();
-    add_texts::<D, W>(
-        alloc,
-        run,
-        0,
-        halted.place(),
-        StepText::Lines,
-        &mut text,
-        packets,
-    )?;
-    text.add(end.as_slice(), packets)?;
-    text.finish(packets)?;
-    Ok(())
-}
-
 // The end line of `play`.
-fn end_text<D: Digest32>(alloc: Global, halted: &Halted<'_, D>) -> Result<GrownText, AnswerFault>
-    ensures text { IfOk result (λ text. OfHalted D.hash ⟦<IsrFlag as TraceFlag>⟧.flag halted.now
-        (λ run place. text.bytes ≡ end_line_of run.start (play_to run place))) }
+fn end_text<D: Digest32>(alloc: Global, halted: &Walk<'_, D>) -> Result<GrownText, AnswerFault>
+    ensures text { IfOk result (λ text. OfWalk D.hash halted.now
+        (λ run place. text.bytes ≡ (sight_at run place).end_line)) }
     ensures fault { IfErr result (λ fault. fault ≡ Memory) }
 {
     let mut text = GrownText::new(alloc);
@@ -133,40 +107,33 @@ fn end_text<D: Digest32>(alloc: Global, halted: &Halted<'_, D>) -> Result<GrownT
     Ok(text)
 }
 
-// Tells the last so many lines of the trace file.
-fn tell_trace<D: Digest32, W: Sink + Drop>(
-    alloc: Global,
-    run: &Run<'_>,
-    place: u64,
-    lines: u64,
+// Tells what there is to tell of each step from one place on up to another, as they are played once
+// more, and an end.
+fn tell_steps<D: Digest32, W: Sink + Drop>(
+    track: &Track<'_, D>,
+    from: u64,
+    until: u64,
+    kind: StepText,
+    end: &[u8],
     packets: &mut PacketWriter<W>,
 ) -> Result<(), AnswerFault>
-    ensures tells { place ≤ most_steps
+    ensures tells { (run : Run)
+        → TrackStandsFor D.hash track.now run
+        → from ≤ until → until ≤ most_steps
         → PutsPackets W.Sink packets.old packets.new
-        (console (request_text (played_run D.hash ⟦<IsrFlag as TraceFlag>⟧.flag run.now) place
-        (Trace lines))) result }
+        (console (texts_from (view_of run) (text_in kind) from (until - from) ++ end.now)) result }
     ensures counts { CountsWriteFaults W.faults packets.old.sink packets.new.sink result }
 {
     let mut text = ConsoleText::new();
-    let first = place.saturating_sub(lines);
-    add_texts::<D, W>(
-        alloc,
-        run,
-        first,
-        place,
-        StepText::Trace,
-        &mut text,
-        packets,
-    )?;
+    add_texts(track, from, until, kind, &mut text, packets)?;
+    text.add(end, packets)?;
     text.finish(packets)?;
     Ok(())
 }
 
-// Adds what there is to tell of each step from one place on up to another, as they are played once
-// more.
+// Adds what there is to tell of each of these steps to a text.
 fn add_texts<D: Digest32, W: Sink + Drop>(
-    alloc: Global,
-    run: &Run<'_>,
+    track: &Track<'_, D>,
     from: u64,
     until: u64,
     kind: StepText,
@@ -175,16 +142,16 @@ fn add_texts<D: Digest32, W: Sink + Drop>(
 ) -> Result<(), AnswerFault>
     ensures adds { from ≤ until → until ≤ most_steps
         → AddsText W.Sink packets.old packets.new text.old
-        (texts_from kind (played_run D.hash ⟦<IsrFlag as TraceFlag>⟧.flag run.now) from
-        (until - from)) text.new result }
+        (texts_from (view_of (played_run D.hash track.now.run)) (text_in kind) from (until - from))
+        text.new result }
     ensures counts { CountsWriteFaults W.faults packets.old.sink packets.new.sink result }
 {
-    let (mut live, mut playback) = run.live_at::<D>(alloc, from)?;
+    let mut walk = track.walk_anew(from)?;
     let end = until.min(MOST_STEPS);
-    while live.steps() < end {
-        let step = live.steps();
-        live = play_to_shown::<TraceWatcher, D, IsrFlag>(live, &mut playback, step + 1);
-        let more = kind.of(alloc, step, &live)?;
+    while walk.place() < end {
+        let step = walk.place();
+        walk = walk.step(&[]);
+        let more = kind.of(track.alloc(), step, walk.live())?;
         text.add(more.as_slice(), packets)?;
     }
     Ok(())

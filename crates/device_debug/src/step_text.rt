@@ -1,15 +1,15 @@
 ghost use Rattle.std.specs.Prelude.{◌≡◌, suc, IfErr, IfOk};
 ghost use Rattle.debug_link.specs.declared.answer_fault.AnswerFault.TheVariants.{Memory};
-ghost use Rattle.debug_session.specs.Place.{Run};
+ghost use Rattle.debug_session.specs.Place.{Run, step_sight};
+ghost use Rattle.debug_walk.specs.Walk.{second_flag};
 ghost use Rattle.device_core.specs.Device.{HasStepped, LiveStandsFor};
 ghost use Rattle.device_trace.specs.Trace.{play_of};
 ghost use Rattle.device_play.specs.Watching.{PlaysSome};
 ghost use Rattle.outside_edge.specs.Sink.{Puts};
-ghost use Rattle.device_debug.specs.StepText.{text_at};
+ghost use Rattle.device_debug.specs.StepText.{text_in};
 ghost use Rattle.device_debug.specs.declared.step_text.StepText.TheVariants.{Trace};
 
 use crate::grown_text::{GrownText, grown};
-use bus_signals::TraceFlag;
 use debug_link::AnswerFault;
 use device_core::Live;
 use device_play::{last_trace_line, print_last_step};
@@ -38,11 +38,11 @@ impl StepText {
     ) -> Result<GrownText, AnswerFault>
         requires stepped { self ≡ Trace → HasStepped live.now }
         requires plays { self ≡ Trace
-            → PlaysSome D.hash ⟦<IsrFlag as TraceFlag>⟧.flag live.now }
+            → PlaysSome D.hash second_flag live.now }
         ensures text { IfOk result (λ text. (run : Run)
-            → LiveStandsFor D.hash ⟦<IsrFlag as TraceFlag>⟧.flag live.now run.start
+            → LiveStandsFor D.hash second_flag live.now run.start
             (play_of run.events_at (suc step))
-            → text.bytes ≡ text_at self run step) }
+            → text.bytes ≡ text_in self (step_sight run step)) }
         ensures fault { IfErr result (λ fault. fault ≡ Memory) }
     {
         let mut text = GrownText::new(alloc);
@@ -59,11 +59,11 @@ impl StepText {
     ) -> Result<(), Failed>
         requires stepped { self ≡ Trace → HasStepped live.now }
         requires plays { self ≡ Trace
-            → PlaysSome D.hash ⟦<IsrFlag as TraceFlag>⟧.flag live.now }
+            → PlaysSome D.hash second_flag live.now }
         ensures { (run : Run)
-            → LiveStandsFor D.hash ⟦<IsrFlag as TraceFlag>⟧.flag live.now run.start
+            → LiveStandsFor D.hash second_flag live.now run.start
             (play_of run.events_at (suc step))
-            → Puts ⟦<GrownText as Sink>⟧.stands text.old text.new (text_at self run step) result }
+            → Puts ⟦<GrownText as Sink>⟧.stands text.old text.new (text_in self (step_sight run step)) result }
     {
         match self {
             StepText::Lines => print_last_step(step, live, text),

@@ -1,4 +1,4 @@
-ghost use Rattle.std.specs.Prelude.{◌≡◌, ◌<◌, ◌-◌, ◌++◌, [], IfErr, OnOk};
+ghost use Rattle.std.specs.Prelude.{◌≡◌, ◌==◌, ◌<◌, ◌-◌, ◌++◌, [], IfErr, OnOk, length};
 ghost use Rattle.debug_link.specs.Console.{console};
 ghost use Rattle.debug_link.specs.Writing.{CountsWriteFaults, PutsPackets};
 ghost use Rattle.debug_link.specs.declared.answer_fault.AnswerFault.TheVariants.{Memory};
@@ -7,11 +7,9 @@ ghost use Rattle.device_debug.specs.Telling.{TellsStep, bodies_of};
 
 use crate::grown_text::GrownText;
 use crate::step_text::StepText;
-use bus_signals::TraceFlag;
 use debug_link::{AnswerFault, PacketWriter, put_text};
 use debug_walk::Walk;
 use hmac_core::Digest32;
-use isr_flag::IsrFlag;
 use outside_edge::Sink;
 use std::alloc::Global;
 use std::marker::Model;
@@ -43,6 +41,12 @@ impl WaitingLines {
         }
     }
 
+    pub fn is_empty(&self) -> bool
+        ensures { result ≡ (length self.now == 0) }
+    {
+        self.texts.is_empty()
+    }
+
     /// Takes the lines of the last step, and tells those that need not wait.
     pub fn tell_step<D: Digest32, W: Sink + Drop>(
         &mut self,
@@ -50,7 +54,7 @@ impl WaitingLines {
         packets: &mut PacketWriter<W>,
     ) -> Result<(), AnswerFault>
         requires { 0 < place_of walk.now }
-        ensures tells { OfWalk D.hash ⟦<IsrFlag as TraceFlag>⟧.flag walk.now (λ run place.
+        ensures tells { OfWalk D.hash walk.now (λ run place.
             TellsStep W.Sink packets.old packets.new self.old self.new run (place - 1) result) }
         ensures counts { CountsWriteFaults W.faults packets.old.sink packets.new.sink result }
     {

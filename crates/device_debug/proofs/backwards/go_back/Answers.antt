@@ -1,41 +1,126 @@
-use Rattle.std.proofs.Common.{◌≡◌, ◌∙◌, ◌≤◌, ℕ, Bool, true, Some, sym, subst, arith}
+use Rattle.std.proofs.Common.{◌≡◌, ◌≤◌, ◌<◌, ◌∙◌, ⊎_elim, subst, sym, arith}
 use Rattle.debug_commands.specs.Request.{most_steps}
-use Rattle.debug_session.specs.Going.{back_to}
-use Rattle.debug_session.specs.Place.{Run}
-use Rattle.debug_walk.specs.PlayedRun.{played_run}
-use Rattle.debug_walk.specs.Seen.{IsLevelled}
-use Rattle.device_debug.specs.Forwards.{HasHalted}
-use Rattle.device_debug.specs.NearStop.{HasSteppedBack}
-use Rattle.device_debug.proofs.BackTo.{gone-back, level-here}
-use Rattle.device_debug.proofs.SecondFlag.{second_flag}
+use Rattle.debug_walk.specs.Walk.{place_of}
+use Rattle.device_debug.specs.Seek.{step_in}
+use Rattle.device_debug.proofs.Arrived.{back-begun, back-found, back-interrupted, back-none}
+use Rattle.device_debug.proofs.Back.{NoneBehind, none-further}
 use Rattle.device_debug.proofs.backwards.go_back.Goals as goal
 
-pub returns-in-Some : goal.returns-in-Some
-returns-in-Some g c = λ place at.
-    let run : Run = played_run g.D.Digest32.hash second_flag c.args.run.now in
-    let same : c.place-place.result ≡ place = c.place-place.ensures ∙ at.place_is in
-    let within : c.place-place.result ≤ most_steps = omega (arith, same, at.settled.0) in
-    let known = level-here run c.args.now c.place-place.result c.level-level.result
-    c.place-place.ensures c.level-level.ensures at.stands.level in
-    let gone : HasSteppedBack g.D.Digest32.hash run c.args.stops.now c.place-place.result
-    c.level-level.result (Some c.in-Some.near) =
-    subst (HasSteppedBack g.D.Digest32.hash run c.args.stops.now c.place-place.result
-    c.level-level.result) c.in-Some.is
-    (c.in_ok-near.ensures (subst (IsLevelled run) (sym c.before_reset-before_reset.ensures)
-    at.stands.before_reset)) in
-    subst (λ (steps : Bool). HasHalted g.D.Digest32.hash second_flag run c.in-Some.near.0
-    c.in-Some.near.1 (back_to run c.args.stops.now place steps)) (sym c.if-steps.true)
-    (subst (λ (from : ℕ). HasHalted g.D.Digest32.hash second_flag run c.in-Some.near.0
-    c.in-Some.near.1 (back_to run c.args.stops.now from true)) same (gone within known))
+pub returns-then-end-le1-clause-goes : goal.returns-then-end-le1-clause-goes
+returns-then-end-le1-clause-goes g c = λ run from track stands.
+    back-begun g.D.Digest32.hash run c.args.stops.now (step_in c.args.seek.now) from
+    c.min-end.result (omega (arith, c.min-end.ensures, c.place.ensures, stands.place_is, stands.within)) c.in_ok-first.field-0
+    (omega (arith, c.if-end-le1.true)) (c.in_ok-first.ensures.begins run track)
+    c.in_ok-first.ensures.place
 
-pub returns : goal.returns
-returns g c = λ place at.
-    let run : Run = played_run g.D.Digest32.hash second_flag c.args.run.now in
-    let same : c.place-place.result ≡ place = c.place-place.ensures ∙ at.place_is in
-    let within : c.place-place.result ≤ most_steps = omega (arith, same, at.settled.0) in
-    let known = level-here run c.args.now c.place-place.result c.level-level.result
-    c.place-place.ensures c.level-level.ensures at.stands.level in
-    gone-back run c.args.stops.now place c.place-place.result c.in_ok-halted.halted same
-    at.settled.0 c.args.steps c.in_ok-found.found
-    (c.in_ok-found.ensures c.args.steps within (c.in_ok-highest.ensures within known))
-    c.in_ok-halted.ensures.stands c.in_ok-halted.ensures.place
+pub returns-in_err-near-clause-stays : goal.returns-in_err-near-clause-stays
+returns-in_err-near-clause-stays g c = λ run track.
+    c.walk_near.ensures.stays run (c.loop-walk.invariant.stays run track)
+
+pub returns-in_err-walk_to-clause-stays : goal.returns-in_err-walk_to-clause-stays
+returns-in_err-walk_to-clause-stays g c = λ run track.
+    let near = c.loop-walk.invariant.stays run track in
+    c.last_cause.ensures.stays run (c.in_ok-near.ensures.begins run near).walks
+    (c.in_ok-near.ensures.stays run near)
+
+pub returns-in-Some-clause-goes : goal.returns-in-Some-clause-goes
+returns-in-Some-clause-goes g c = λ run from track stands.
+    let stops = c.args.stops.now in
+    let step = step_in c.args.seek.now in
+    let near = c.loop-walk.invariant.stays run track in
+    let begun = c.in_ok-near.ensures.begins run near in
+    let within : c.min-end.result ≤ most_steps = omega (arith, c.min-end.ensures) in
+    let before = c.loop-walk.invariant.before in
+    let piece = c.in-Some.ensures.found run begun c.in_ok-near.ensures.before before in
+    back-found g.D.Digest32.hash run stops step from c.min-end.result
+    (omega (arith, c.min-end.ensures, c.place.ensures, stands.place_is, stands.within)) c.in_ok-walk_to.field-0 (place_of c.in_ok-near.near)
+    c.loop-walk.last c.in-Some.place c.in-Some.stop within before piece
+    (c.loop-walk.invariant.none run track)
+    (c.in_ok-walk_to.ensures run
+    (c.last_cause.ensures.stays run begun.walks (c.in_ok-near.ensures.stays run near))
+    (omega (arith, piece.1, before, within)))
+
+pub returns-in-Some-clause-stays : goal.returns-in-Some-clause-stays
+returns-in-Some-clause-stays g c = λ run track.
+    let near = c.loop-walk.invariant.stays run track in
+    c.last_cause.ensures.stays run (c.in_ok-near.ensures.begins run near).walks
+    (c.in_ok-near.ensures.stays run near)
+
+pub returns-in_err-first-2-clause-stays : goal.returns-in_err-first-2-clause-stays
+returns-in_err-first-2-clause-stays g c = λ run track.
+    let near = c.loop-walk.invariant.stays run track in
+    c.last_cause.ensures.stays run (c.in_ok-near.ensures.begins run near).walks
+    (c.in_ok-near.ensures.stays run near)
+
+pub returns-then-begin-eq0-clause-goes : goal.returns-then-begin-eq0-clause-goes
+returns-then-begin-eq0-clause-goes g c = λ run from track stands.
+    let stops = c.args.stops.now in
+    let step = step_in c.args.seek.now in
+    let near = c.loop-walk.invariant.stays run track in
+    let begun = c.in_ok-near.ensures.begins run near in
+    let last = c.loop-walk.last in
+    let place = place_of c.in_ok-near.near in
+    let track-there = c.last_cause.ensures.stays run begun.walks (c.in_ok-near.ensures.stays run near) in
+    back-none g.D.Digest32.hash run stops step from c.min-end.result
+    (omega (arith, c.min-end.ensures, c.place.ensures, stands.place_is, stands.within)) c.in_ok-first-2.field-0 place
+    (omega (arith, c.place-begin.ensures, c.if-begin-eq0.true))
+    (none-further run stops step c.min-end.result place last
+    (c.in_default.ensures.found run begun c.in_ok-near.ensures.before
+    c.loop-walk.invariant.before)
+    (c.loop-walk.invariant.none run track))
+    (c.in_ok-first-2.ensures.begins run track-there) c.in_ok-first-2.ensures.place
+
+pub returns-then-begin-eq0-clause-stays : goal.returns-then-begin-eq0-clause-stays
+returns-then-begin-eq0-clause-stays g c = λ run track.
+    let near = c.loop-walk.invariant.stays run track in
+    c.last_cause.ensures.stays run (c.in_ok-near.ensures.begins run near).walks
+    (c.in_ok-near.ensures.stays run near)
+
+pub loop-walk-preserved : goal.loop-walk-preserved
+loop-walk-preserved g c =
+    let stops = c.args.stops.now in
+    let step = step_in c.args.seek.now in
+    let last = c.loop-walk.last in
+    let place = place_of c.in_ok-near.near in
+    record {
+      before = ⊎_elim
+          (λ (first : place ≡ 0). omega (
+            arith,
+            first,
+            c.place-begin.ensures,
+            c.loop-walk.invariant.before,
+          ))
+          (λ (less : place < last). omega (
+            arith,
+            less,
+            c.place-begin.ensures,
+            c.loop-walk.invariant.before,
+          ))
+          c.in_ok-near.ensures.before;
+      same_run = c.last_cause.ensures.same_run
+          ∙ c.in_ok-near.ensures.same_run ∙ c.loop-walk.invariant.same_run;
+      stays = λ run track.
+          let near = c.loop-walk.invariant.stays run track in
+          c.last_cause.ensures.stays run (c.in_ok-near.ensures.begins run near).walks
+          (c.in_ok-near.ensures.stays run near);
+      none = λ run track.
+          let near = c.loop-walk.invariant.stays run track in
+          subst (NoneBehind run stops step c.min-end.result) (sym c.place-begin.ensures)
+          (none-further run stops step c.min-end.result place last
+          (c.in_default.ensures.found run (c.in_ok-near.ensures.begins run near)
+          c.in_ok-near.ensures.before c.loop-walk.invariant.before)
+          (c.loop-walk.invariant.none run track));
+    }
+
+pub returns-then-have_come-clause-goes : goal.returns-then-have_come-clause-goes
+returns-then-have_come-clause-goes g c = λ run from track stands.
+    back-interrupted g.D.Digest32.hash run c.args.stops.now (step_in c.args.seek.now) from
+    c.min-end.result
+    (omega (arith, c.min-end.ensures, c.place.ensures, stands.place_is, stands.within))
+    c.args.walk stands
+
+pub returns-then-have_come-clause-stays : goal.returns-then-have_come-clause-stays
+returns-then-have_come-clause-stays g c = λ run track.
+    let near = c.loop-walk.invariant.stays run track in
+    c.last_cause.ensures.stays run (c.in_ok-near.ensures.begins run near).walks
+    (c.in_ok-near.ensures.stays run near)

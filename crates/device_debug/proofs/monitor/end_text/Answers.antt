@@ -1,16 +1,20 @@
-use Rattle.std.proofs.Common.{ap}
-use Rattle.debug_session.specs.Place.{play_to}
-use Rattle.debug_walk.specs.Halted.{halted_at}
+use Rattle.std.proofs.Common.{◌∙◌, ℕ, ap}
+use Rattle.debug_session.specs.Place.{logs_at, play_to, sight_at}
+use Rattle.debug_walk.specs.Walk.{place_of}
+use Rattle.printed_lines.specs.Line.{end_line}
+use Rattle.device_trace.specs.Logs.{exec_of}
+use Rattle.device_trace.specs.Progress.{next_pc_of}
+use Rattle.device_play.proofs.IdlePlay.{length-play_of}
 use Rattle.device_debug.specs.GrownText.{GrownText}
 use Rattle.device_debug.proofs.GrownTexts.{grown-all}
-use Rattle.device_debug.proofs.StepTexts.{halted-stands}
-use Rattle.device_debug.proofs.SecondFlag.{second_flag}
 use Rattle.device_debug.proofs.monitor.end_text.Goals as goal
 
 pub returns-clause-text : goal.returns-clause-text
-returns-clause-text g c = λ run stands.
+unfolding logs_at sight_at
+returns-clause-text g c = λ run walks.
+    let place = place_of c.args.halted.now in
     grown-all _ _ _ _ (ap (λ (one : GrownText). one.bytes) c.new-text.ensures)
     c.in_ok-grown.ensures.same
-    (c.print_end_of.ensures.puts run.start (play_to run (halted_at c.args.halted.now))
-    (halted-stands g.D.Digest32.hash second_flag run c.args.halted.now c.live.result.now
-    c.live.ensures stands))
+    (c.print_end_of.ensures.puts run.start (play_to run place) (rw c.live.ensures walks.stands))
+    ∙ ap (λ (steps : ℕ). end_line steps (next_pc_of (logs_at run place).progress)
+    (exec_of (logs_at run place))) (length-play_of run.events_at place)

@@ -1,10 +1,12 @@
 use Rattle.std.proofs.Common.{sym}
+use Rattle.debug_session.specs.Place.{step_sight}
 use Rattle.device_trace.specs.Trace.{play_of}
 use Rattle.device_play.proofs.IdlePlay.{length-play_of}
 use Rattle.device_debug.proofs.StepTexts.{traced-text}
 use Rattle.device_debug.proofs.step_text.StepText.print.Goals as goal
 
 pub returns-in-Lines : goal.returns-in-Lines
+unfolding step_sight
 returns-in-Lines g c = λ run stands.
     rw c.in-Lines.is
     (c.print_last_step.ensures.puts run.start (run.events_at c.args.step)

@@ -1,5 +1,5 @@
 use Rattle.std.proofs.Common.{◌≡◌, ◌-◌, ◌∙◌, ◌++◌, ℕ, List, suc, true, false, ap, arith, sym}
-use Rattle.debug_session.specs.Place.{is_boundary}
+use Rattle.debug_session.specs.Place.{sight_at}
 use Rattle.debug_walk.specs.Walk.{place_of}
 use Rattle.device_debug.specs.Telling.{bodies_of, step_bodies}
 use Rattle.device_debug.proofs.AnswerCounts.{counts-memory}
@@ -34,8 +34,8 @@ pub returns-then-is_at_boundary-clause-tells : goal.returns-then-is_at_boundary-
 returns-then-is_at_boundary-clause-tells g c = λ run walks.
     let step : ℕ = place_of c.args.walk.now - 1 in
     let made : place_of c.args.walk.now ≡ suc step = omega (arith, c.requires) in
-    let here : is_boundary run (suc step) ≡ true =
-    ap (is_boundary run) (sym made) ∙ sym (c.is_at_boundary.ensures run walks)
+    let here : (sight_at run (suc step)).boundary ≡ true =
+    ap (λ (at : ℕ). (sight_at run at).boundary) (sym made) ∙ sym (c.is_at_boundary.ensures run walks)
     ∙ c.if-is_at_boundary.true in
     let whole : bodies_of c.keep.new.self
     ≡ bodies_of c.args.self.now ++ step_bodies run step =
@@ -52,8 +52,8 @@ pub returns-else-is_at_boundary-clause-tells : goal.returns-else-is_at_boundary-
 returns-else-is_at_boundary-clause-tells g c = λ run walks.
     let step : ℕ = place_of c.args.walk.now - 1 in
     let made : place_of c.args.walk.now ≡ suc step = omega (arith, c.requires) in
-    let away : is_boundary run (suc step) ≡ false =
-    ap (is_boundary run) (sym made) ∙ sym (c.is_at_boundary.ensures run walks)
+    let away : (sight_at run (suc step)).boundary ≡ false =
+    ap (λ (at : ℕ). (sight_at run at).boundary) (sym made) ∙ sym (c.is_at_boundary.ensures run walks)
     ∙ c.if-is_at_boundary.false in
     let whole : bodies_of c.keep.new.self
     ≡ bodies_of c.args.self.now ++ step_bodies run step =

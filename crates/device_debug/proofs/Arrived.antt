@@ -1,0 +1,116 @@
+-- A walk that stands where going back leads.
+use Rattle.std.proofs.Common.{◌≡◌, ◌≤◌, ◌<◌, inl, ℕ, true, Option, Some, None, refl, subst, sym, arith}
+use Rattle.hmac_core.specs.Hash.{Hash}
+use Rattle.debug_commands.specs.Request.{most_steps}
+use Rattle.debug_session.specs.Cause.{Step}
+use Rattle.debug_session.specs.Going.{Standing, interrupted, last_stop}
+use Rattle.debug_session.specs.Place.{Run, sight_at, view_of}
+use Rattle.debug_session.specs.Sight.{Sight}
+use Rattle.debug_session.proofs.Scans.{last-none}
+use Rattle.debug_session.proofs.Views.{view-at}
+use Rattle.debug_stops.specs.Stops.{Stops}
+use Rattle.debug_stops.specs.declared.stop.Stop.{Stop}
+use Rattle.debug_stops.specs.declared.stop.Stop.TheVariants.{Begin, Interrupted}
+use Rattle.debug_walk.specs.Copies.{IsAt, IsBegun}
+use Rattle.debug_walk.specs.Walk.{place_of}
+use Rattle.debug_walk.specs.declared.walk.Walk.{Walk}
+use Rattle.device_debug.specs.Back.{IsLastBehind}
+use Rattle.device_debug.specs.Going.{HasArrived, StandsAt}
+use Rattle.device_debug.proofs.Ahead.{at-boundary}
+use Rattle.device_debug.proofs.Back.{NoneBehind, cause_back, found-last, found-none}
+use Rattle.device_debug.proofs.Interrupted.{interrupted-here}
+
+module _ {D : Type 0} (hash : Hash D) (run : Run) where
+  arrives-first : (now : Standing) (walk : Walk D) → now ≡ record { place = 1; stop = Begin }
+      → IsBegun hash run walk → place_of walk ≡ 1 → HasArrived hash run now walk Begin
+  arrives-first now walk is begun place_is =
+      subst (λ (one : Standing). HasArrived hash run one walk Begin) (sym is)
+      (record {
+        stands = record {
+          walks = begun.walks;
+          place_is = place_is;
+          within = omega arith;
+          settled = inl begun.fresh;
+        };
+        stop_is = refl;
+      })
+
+  arrives-there : (now : Standing) (walk : Walk D) (place : ℕ) (stop : Stop)
+      → now ≡ record { place = place; stop = stop }
+      → IsAt hash run place walk → place ≤ most_steps → (view_of run place).boundary ≡ true
+      → HasArrived hash run now walk stop
+  arrives-there now walk place stop is at within here =
+      subst (λ (one : Standing). HasArrived hash run one walk stop) (sym is)
+      (record {
+        stands = record {
+          walks = at.walks;
+          place_is = at.place_is;
+          within = within;
+          settled = inl (inl (subst (λ (one : ℕ). (sight_at run one).boundary ≡ true)
+              (sym at.place_is)
+              (subst (λ (sight : Sight). sight.boundary ≡ true) (view-at run place within) here)));
+        };
+        stop_is = refl;
+      })
+
+  module _ (stops : Stops) (step : Option Step) (from end : ℕ) (same : end ≡ from) where
+    abbrev aim : Standing
+    aim = last_stop (cause_back run stops step from) from
+
+    abbrev pub ArrivesBack : Walk D → Stop → Type 0
+    ArrivesBack walk stop =
+        (interrupt : Option ℕ)
+        × HasArrived hash run (interrupted (view_of run) from interrupt aim) walk stop
+
+    -- an interrupt left it where it is
+    pub back-interrupted : (walk : Walk D) → StandsAt hash run from walk
+        → ArrivesBack walk Interrupted
+    back-interrupted walk stands = (
+      Some from,
+      subst (λ (one : Standing). HasArrived hash run one walk Interrupted)
+          (sym (interrupted-here (view_of run) from aim))
+          (record { stands = stands; stop_is = refl }),
+    )
+
+    of-end : (walk : Walk D) (stop : Stop)
+        → HasArrived hash run (last_stop (cause_back run stops step end) end) walk stop
+        → ArrivesBack walk stop
+    of-end walk stop arrived = (
+      None,
+      subst
+          (λ (one : ℕ). HasArrived hash run (last_stop (cause_back run stops step one) one) walk
+          stop)
+          same arrived,
+    )
+
+    -- there is no place before it
+    pub back-begun : (walk : Walk D) → end ≤ 1 → IsBegun hash run walk → place_of walk ≡ 1
+        → ArrivesBack walk Begin
+    back-begun walk few begun place_is =
+        of-end walk Begin
+        (arrives-first (last_stop (cause_back run stops step end) end) walk
+        (last-none (cause_back run stops step end) end
+        (λ at late before. absurd (omega (arith, late, before, few)))) begun place_is)
+
+    -- none has a cause
+    pub back-none : (walk : Walk D) (begin : ℕ) → begin ≡ 0
+        → NoneBehind run stops step end begin → IsBegun hash run walk → place_of walk ≡ 1
+        → ArrivesBack walk Begin
+    back-none walk begin none_left none begun place_is =
+        of-end walk Begin
+        (arrives-first (last_stop (cause_back run stops step end) end) walk
+        (found-none run stops step end
+        (subst (NoneBehind run stops step end) none_left none)) begun place_is)
+
+    -- the last with a cause
+    pub back-found : (walk : Walk D) (begin last place : ℕ) (stop : Stop) → end ≤ most_steps
+        → last < end
+        → IsLastBehind (cause_back run stops step end) begin last (Some (place, stop))
+        → NoneBehind run stops step end last → IsAt hash run place walk
+        → ArrivesBack walk stop
+    back-found walk begin last place stop within before piece none at =
+        of-end walk stop
+        (arrives-there (last_stop (cause_back run stops step end) end) walk place stop
+        (found-last run stops step end begin last (place, stop) before piece none) at
+        (omega (arith, piece.1, before, within))
+        (at-boundary (view_of run place).boundary _ stop piece.2))

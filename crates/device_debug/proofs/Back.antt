@@ -1,0 +1,237 @@
+-- What a walk looks at of a way, in pieces, is what going back looks for.
+use Rattle.std.proofs.Common.{◌≡◌, ◌≤◌, ◌<◌, ◌+◌, ◌-◌, ◌∙◌, ◌⊎◌, inl, inr, ⊎_elim, ℕ, zero, suc, Bool, true, false, List, [], ◌∷◌, ◌++◌, Option, Some, None, length, refl, ap, sym, subst, arith}
+use Rattle.std.specs.Prelude.{◌&&◌, ◌||◌, IfSome, nat_le, not, if◌then◌else◌}
+use Rattle.std.specs.Option.{option_or}
+use Rattle.std.proofs.lemmas.Bool.{and_right, cases_Bool, cases_lt, cond-true, cond-false, false≢true}
+use Rattle.bus_signals.specs.declared.kind.Kind.{Kind}
+use Rattle.bus_signals.specs.declared.kind.Kind.TheVariants.{Idle}
+use Rattle.bus_signals.specs.declared.rule.Rule.{Rule}
+use Rattle.bus_signals.specs.Kind.{is_boot, is_cpu, is_rom}
+use Rattle.part_definitions.specs.CpuRegister.{pc_of}
+use Rattle.debug_commands.specs.Request.{most_steps}
+use Rattle.debug_commands.specs.declared.command.Way.TheVariants.{Ahead, Back}
+use Rattle.debug_stops.specs.Stops.{Stops}
+use Rattle.debug_stops.specs.Watched.{last_hit}
+use Rattle.debug_stops.specs.declared.stop.Stop.{Stop}
+use Rattle.debug_stops.specs.declared.watch.Hit.{Hit}
+use Rattle.debug_session.specs.Cause.{Step, ahead, begins_within, behind, boots, cause, hit_on, hits, is_plain, is_within, refusal, refusal_or, steps_over, stop_of}
+use Rattle.debug_session.specs.Going.{Standing, last_stop}
+use Rattle.debug_session.specs.Place.{Run, sight_at, view_of}
+use Rattle.debug_session.specs.Sight.{Sight, View}
+use Rattle.debug_session.proofs.Scans.{last-at, last-none}
+use Rattle.debug_session.proofs.Stretches.{ahead-behind}
+use Rattle.debug_session.proofs.Views.{view-at}
+use Rattle.debug_stops.specs.declared.stop.Stop.TheVariants.{Begin}
+use Rattle.debug_walk.specs.Passing.{IsPassed, Sleeps}
+use Rattle.debug_walk.specs.Walk.{IsStretch, first_refused}
+use Rattle.debug_walk.specs.declared.stretch.Stretch.{Stretch}
+use Rattle.device_debug.specs.Back.{IsLastBehind, placed, seek_back}
+use Rattle.device_debug.specs.Seek.{steps_by}
+
+-- the last place with a cause, of those behind a place and before another one
+module _ (cause : ℕ → Option Stop) (begin : ℕ) where
+  abbrev pub Covers : ℕ → Option (ℕ × Stop) → Type 0
+  Covers until None = (at : ℕ) → begin < at → at < until → cause at ≡ None
+  Covers until (Some found) =
+      (begin < found.0) × (found.0 < until) × (cause found.0 ≡ Some found.1)
+      × ((at : ℕ) → found.0 < at → at < until → cause at ≡ None)
+
+  -- no cause further on
+  pub covers-on : (until end : ℕ) (found : Option (ℕ × Stop)) → until ≤ end
+      → ((at : ℕ) → begin < at → until ≤ at → at < end → cause at ≡ None)
+      → Covers until found → Covers end found
+  covers-on until end None later none covers =
+      λ at past before. ⊎_elim (λ (less : at < until). covers at past less)
+      (λ (over : until ≤ at). none at past over before) (cases_lt at until)
+  covers-on until end (Some found) later none covers = (
+    covers.0,
+    omega (arith, covers.1, later),
+    covers.2,
+    λ at past before. ⊎_elim (λ (less : at < until). covers.3 at past less)
+        (λ (over : until ≤ at). none at (omega (arith, past, covers.0)) over before)
+        (cases_lt at until),
+  )
+
+  -- and one place more
+  pub covers-here : (here : ℕ) (stop : Option Stop) (found : Option (ℕ × Stop)) → begin < here
+      → cause here ≡ stop → Covers here found
+      → Covers (suc here) (option_or (placed here stop) found)
+  covers-here here (Some stop) found past is covers =
+      (past, omega arith, is, λ at after before. absurd (omega (arith, after, before)))
+  covers-here here None found past is covers =
+      covers-on here (suc here) found (omega arith)
+      (λ at after over before.
+      let same : here ≡ at = omega (arith, over, before) in
+      subst (λ (one : ℕ). cause one ≡ None) same is)
+      covers
+
+  pub covers-all : (until last : ℕ) (found : Option (ℕ × Stop)) → last < until
+      → IfSome found (λ one. one.0 ≤ last) → Covers until found
+      → IsLastBehind cause begin last found
+  covers-all until last None past early covers =
+      λ at after within. covers at after (omega (arith, within, past))
+  covers-all until last (Some found) past early covers =
+      (covers.0, early, covers.2, λ at after within. covers.3 at after (omega (arith, within, past)))
+
+  pub covers-none : Covers begin None
+  covers-none = λ at after before. absurd (omega (arith, after, before))
+
+pub early-or : (last here : ℕ) (stop : Option Stop) (found : Option (ℕ × Stop)) → here ≤ last
+    → IfSome found (λ one. one.0 ≤ last)
+    → IfSome (option_or (placed here stop) found) (λ one. one.0 ≤ last)
+early-or last here (Some stop) found within early = within
+early-or last here None found within early = early
+
+-- where the processor sleeps from a boundary to the next there is none
+none-of : (one other : Bool) → (one && false && other) ≡ false
+none-of true other = refl
+none-of false other = refl
+
+begins-none : (highest : ℕ) (here : Sight) → here.next.kind ≡ Idle
+    → begins_within highest (here ∷ []) ≡ false
+begins-none highest here idle =
+    ap (λ (kind : Kind).
+    here.boundary && (is_cpu kind || is_rom kind) && nat_le here.level highest) idle
+    ∙ none-of (here.boundary) (nat_le here.level highest)
+
+pub idle-over : (one : Option Step) (here sight : Sight) → sight.next.kind ≡ Idle
+    → steps_over one here (sight ∷ []) ≡ false
+idle-over None here sight idle = refl
+idle-over (Some one) here sight idle =
+    ap (λ (kind : Kind).
+    (is_boot kind || begins_within one.highest (sight ∷ []))
+    && not (is_within one (pc_of here.registers))) idle
+    ∙ ap (λ (begins : Bool). begins && not (is_within one (pc_of here.registers)))
+    (begins-none one.highest sight idle)
+
+pub plain-none : (here plain : Bool) → (here && plain) ≡ false → here ≡ true → plain ≡ false
+plain-none true plain none is = none
+plain-none false plain none is = absurd (false≢true is)
+
+refused-more : (refused first later : Option Rule)
+    → refusal_or first None ≡ later
+    → refusal_or (option_or refused first) None ≡ refusal_or refused later
+refused-more (Some rule) first later same = refl
+refused-more None first later same = same
+
+module _ (run : Run) (stops : Stops) (step : Option Step) (from : ℕ) where
+  abbrev pub view : View
+  view = view_of run
+
+  abbrev pub cause_back : ℕ → Option Stop
+  cause_back = cause view stops (seek_back step from)
+
+  abbrev pub plain_at : ℕ → Bool
+  plain_at at = is_plain stops (view at) (at - length (behind view at)) at
+
+  -- at a boundary, by what lies ahead of it
+  abbrev cause_with : Sight → ℕ → List Sight → Option Stop
+  cause_with here at after =
+      stop_of (hit_on Back (hits stops.watches after)) (plain_at at) (steps_over step here after)
+      (refusal after)
+
+  cause-ahead : (at : ℕ) (after : List Sight) → (view at).boundary ≡ true
+      → ahead view at (from - at) ≡ after → cause_back at ≡ cause_with (view at) at after
+  cause-ahead at after here is =
+      cond-true (view at).boundary (cause_with (view at) at (ahead view at (from - at))) None here
+      ∙ ap (cause_with (view at) at) is
+
+  pub no-boundary : (at : ℕ) → (view at).boundary ≡ false → cause_back at ≡ None
+  no-boundary at none =
+      cond-false (view at).boundary (cause_with (view at) at (ahead view at (from - at))) None none
+
+  refused-told : (sights : List Sight) → refusal_or (first_refused sights) None ≡ refusal sights
+  refused-told [] = refl
+  refused-told (sight ∷ sights) = refused-more sight.next.refused (first_refused sights) (refusal sights) (refused-told sights)
+
+  -- what is kept of a stretch is what a step goes over
+  steps-same : (one : Option Step) (stretch : Stretch) (here : Sight) (between : List Sight)
+      → ((highest : ℕ) → (stretch.begins && nat_le stretch.level highest)
+      ≡ begins_within highest between)
+      → stretch.boots ≡ boots between
+      → steps_by one stretch (pc_of here.registers) ≡ steps_over one here between
+  steps-same None stretch here between begins boot = refl
+  steps-same (Some one) stretch here between begins boot =
+      λ i. (boot i || begins one.highest i) && not (is_within one (pc_of here.registers))
+
+  abbrev pub cause_kept : Bool → Sight → Stretch → Option Stop
+  cause_kept plain here stretch =
+      stop_of stretch.last_hit plain (steps_by step stretch (pc_of here.registers))
+      (refusal_or stretch.refused None)
+
+  -- so the cause at a boundary is what was kept of the steps up to the next one
+  pub cause-behind : (here until : ℕ) (stretch : Stretch) (plain : Bool)
+      → (view here).boundary ≡ true → here < until → until ≤ from
+      → ((at : ℕ) → here < at → at < until → (view at).boundary ≡ false)
+      → (until ≡ from) ⊎ ((view until).boundary ≡ true)
+      → plain ≡ plain_at here
+      → IsStretch stops.watches run until stretch
+      → cause_back here ≡ cause_kept plain (view here) stretch
+  cause-behind here until stretch plain settled before within none ends is kept =
+      let way : List Sight = behind view until in
+      let count : from ≡ from - here + here = omega (arith, before, within) in
+      let all : ahead view here (from - here) ≡ way =
+      ahead-behind view here until (from - here) before (omega (arith, within, count))
+      (inr settled) none
+      (⊎_elim (λ (last : until ≡ from). inl (omega (arith, last, count)))
+      (λ (end : (view until).boundary ≡ true). inr end) ends) in
+      cause-ahead here way settled all
+      ∙ sym (λ i. stop_of (kept.last i) (is i)
+      (steps-same step stretch (view here) way kept.begins kept.boot i)
+      ((ap (λ (rule : Option Rule). refusal_or rule None) kept.refused ∙ refused-told way) i))
+
+  pub passed-none : (at : ℕ) → at < from → from ≤ most_steps → IsPassed stops true run at
+      → cause_back at ≡ None
+  passed-none at before within passed =
+      let sleeps : Sleeps run at = passed.sleeps refl in
+      let here : sight_at run at ≡ view at = sym (view-at run at (omega (arith, before, within))) in
+      let next : sight_at run (suc at) ≡ view (suc at) =
+      sym (view-at run (suc at) (omega (arith, before, within))) in
+      let settled : (view at).boundary ≡ true =
+      subst (λ (one : Sight). one.boundary ≡ true) here sleeps.from in
+      let ends : (view (suc at)).boundary ≡ true =
+      subst (λ (one : Sight). one.boundary ≡ true) next sleeps.to in
+      let idle : (view at).next.kind ≡ Idle =
+      subst (λ (one : Sight). one.next.kind ≡ Idle) here sleeps.idle in
+      let unhit : (view at).next.hits stops.watches ≡ [] =
+      subst (λ (one : Sight). one.next.hits stops.watches ≡ []) here passed.unhit in
+      let unrefused : (view at).next.refused ≡ None =
+      subst (λ (one : Sight). one.next.refused ≡ None) here passed.silent.unrefused in
+      let plain : plain_at at ≡ false =
+      plain-none (view at).boundary (plain_at at)
+      (subst
+      (λ (one : Sight).
+      (one.boundary && is_plain stops one (at - length (behind view at)) at) ≡ false)
+      here passed.plain)
+      settled in
+      let steps : ℕ = from - suc at in
+      let count : from - at ≡ suc steps = omega (arith, before) in
+      let all : ahead view at (from - at) ≡ view at ∷ [] =
+      ap (ahead view at) count
+      ∙ ap (λ (later : List Sight). view at ∷ later)
+      (cond-true (view (suc at)).boundary [] (ahead view (suc at) steps) ends) in
+      cause-ahead at (view at ∷ []) settled all
+      ∙ (λ i. stop_of (last_hit None (unhit i ++ [])) (plain i) (idle-over step (view at) (view at) idle i)
+      (refusal_or (unrefused i) None))
+
+  -- the pieces of the way, joined
+  abbrev pub NoneBehind : ℕ → Type 0
+  NoneBehind last = (at : ℕ) → last < at → at < from → cause_back at ≡ None
+
+  pub none-further : (begin last : ℕ) → IsLastBehind cause_back begin last None → NoneBehind last
+      → NoneBehind begin
+  none-further begin last piece none =
+      λ at past before. ⊎_elim (λ (later : last < at). none at later before)
+      (λ (within : at ≤ last). piece at past within) (cases_lt last at)
+
+  pub found-last : (begin last : ℕ) (found : ℕ × Stop) → last < from
+      → IsLastBehind cause_back begin last (Some found) → NoneBehind last
+      → last_stop cause_back from ≡ record { place = found.0; stop = found.1 }
+  found-last begin last found before piece none =
+      last-at cause_back found.0 found.1 piece.2 (omega (arith, piece.0)) from
+      (omega (arith, piece.1, before))
+      (λ at past early. ⊎_elim (λ (later : last < at). none at later early)
+      (λ (within : at ≤ last). piece.3 at past within) (cases_lt last at))
+
+  pub found-none : NoneBehind 0 → last_stop cause_back from ≡ record { place = 1; stop = Begin }
+  found-none none = last-none cause_back from (λ at late before. none at (omega (arith, late)) before)

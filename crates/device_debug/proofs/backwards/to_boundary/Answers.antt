@@ -1,0 +1,33 @@
+use Rattle.std.proofs.Common.{◌≡◌, ◌≤◌, ◌<◌, ◌∙◌, inr, ⊎_elim, ℕ, false, subst, sym, arith}
+use Rattle.std.proofs.lemmas.Bool.{cases_lt}
+use Rattle.debug_session.specs.Place.{sight_at}
+use Rattle.debug_walk.specs.Walk.{IsStretch, place_of}
+use Rattle.device_debug.proofs.backwards.to_boundary.Goals as goal
+
+pub loop-walk-preserved : goal.loop-walk-preserved
+loop-walk-preserved g c =
+    let at = c.loop-walk in
+    let next = c.step-walk-in-loop-walk in
+    record {
+      walks = λ run walks. next.ensures.walks run (at.invariant.walks run walks);
+      within = (
+        omega (arith, at.invariant.within.0, next.ensures.place),
+        omega (arith, next.ensures.place, c.if-place-end.true, c.place.ensures),
+      );
+      stretch = λ run walks begun.
+          subst (λ (place : ℕ). IsStretch c.args.watches.now run place next.result.stretch)
+          (sym next.ensures.place)
+          (next.ensures.stretch run (at.invariant.walks run walks)
+          (inr (at.invariant.stretch run walks begun)));
+      passes_none = λ run walks one past before.
+          let here : (sight_at run (place_of at.walk)).boundary ≡ false =
+          sym (c.loop-walk-test.ensures run (at.invariant.walks run walks)) in
+          ⊎_elim
+          (λ (less : one < place_of at.walk). at.invariant.passes_none run walks one past less)
+          (λ (over : place_of at.walk ≤ one).
+          let same : place_of at.walk ≡ one =
+          omega (arith, over, before, next.ensures.place) in
+          subst (λ (place : ℕ). (sight_at run place).boundary ≡ false) same here)
+          (cases_lt one (place_of at.walk));
+      kept = next.ensures.kept;
+    }

@@ -1,7 +1,0 @@
-use Rattle.device_debug.proofs.Answering.{replied}
-use Rattle.device_debug.proofs.debugger.DebuggerAnswerer.answer.Goals as goal
-
-pub returns-clause-answers : goal.returns-clause-answers
-returns-clause-answers g c =
-    replied _ _ _ _ _ c.args.self.now _ c.args.body.now _
-    (rw c.read_command.ensures at c.answer_command.ensures.gives)

@@ -1,0 +1,36 @@
+-- Going forwards.
+use Rattle.std.specs.Prelude.{ℕ, ◌||◌, Bool, zero, suc, not, Option, Some, None, is_some, nat_lt, if◌then◌else◌}
+use Rattle.bus_signals.specs.declared.rule.Rule.{Rule}
+use Rattle.debug_commands.specs.Request.{most_steps}
+use Rattle.debug_commands.specs.declared.command.Way.TheVariants.{Ahead}
+use Rattle.debug_session.specs.Cause.{Seek, Step, refusal_or}
+use Rattle.debug_session.specs.Sight.{View}
+use Rattle.debug_stops.specs.Stops.{Stops, is_empty}
+
+abbrev pub seek_ahead : Option Step → Seek
+seek_ahead step = record { way = Ahead; last = most_steps; step = step }
+
+-- a step, a breakpoint, a watch or a number of steps is looked for
+abbrev pub is_asked : Stops → Option Step → Bool
+is_asked stops step = is_some step || not (is_empty stops)
+
+abbrev pub place_past : ℕ → ℕ → Option ℕ
+place_past from place = if nat_lt from place then Some place else None
+
+-- the last boundary up to a place, if no step since was refused and it lies behind another place:
+-- before a refusal at this place a debugger that comes from the other one stops there
+abbrev pub last_boundary : View → ℕ → ℕ → Option ℕ
+last_boundary view from zero = None
+last_boundary view from (suc before) =
+    if (view (suc before)).boundary then place_past from (suc before)
+    else if is_some (view before).next.refused then None
+    else last_boundary view from before
+
+-- that boundary, and the rule, if the step there is refused by one that is told
+abbrev pub both_of : Option ℕ → Option Rule → Option (ℕ × Rule)
+both_of (Some at) (Some rule) = Some (at, rule)
+both_of at rule = None
+
+abbrev pub refused_at : View → ℕ → ℕ → Option (ℕ × Rule)
+refused_at view from step =
+    both_of (last_boundary view from step) (refusal_or (view step).next.refused None)

@@ -1,0 +1,39 @@
+-- A walk that went to where a debugger stops.
+use Rattle.std.specs.Prelude.{◌≡◌, ◌≤◌, ◌⊎◌, ℕ, Result, IfOk, OnErr, OnOk}
+use Rattle.debug_commands.specs.Request.{most_steps}
+use Rattle.debug_link.specs.Packet.{packets_of}
+use Rattle.debug_link.specs.Writing.{HasPut, PacketSink}
+use Rattle.debug_link.specs.declared.answer_fault.AnswerFault.{AnswerFault}
+use Rattle.debug_commands.specs.declared.command.Way.TheVariants.{Ahead}
+use Rattle.debug_session.specs.Going.{Standing}
+use Rattle.debug_session.specs.Place.{Run, view_of}
+use Rattle.debug_session.specs.Session.{lines_to}
+use Rattle.debug_stops.specs.declared.stop.Stop.{Stop}
+use Rattle.debug_walk.specs.Walk.{IsFresh, Walks, place_of}
+use Rattle.debug_walk.specs.declared.walk.Walk.{Walk}
+use Rattle.hmac_core.specs.Hash.{Hash}
+use Rattle.outside_edge.specs.Sink.{TakesPrefix}
+use Rattle.outside_edge.specs.declared.sink.Sink as sink
+
+-- a walk that stands at this place of a run, and may go on there, or is at the end
+pub record StandsAt {D : Type 0} (hash : Hash D) (run : Run)
+    (place : ℕ) (walk : Walk D) : Type 0 where
+  pub walks : Walks hash run walk
+  pub place_is : place_of walk ≡ place
+  pub within : place ≤ most_steps
+  pub settled : IsFresh run walk ⊎ (place ≡ most_steps)
+
+-- it stands where a debugger goes to, and for that reason
+pub record HasArrived {D : Type 0} (hash : Hash D) (run : Run)
+    (now : Standing) (walk : Walk D) (stop : Stop) : Type 0 where
+  pub stands : StandsAt hash run now.place walk
+  pub stop_is : stop ≡ now.stop
+
+-- it went on from a place, and the lines of the steps between were put, or a prefix of them
+pub record GoesOn {D W : Type 0} (hash : Hash D) (w : sink.Ghosts W)
+    (old new : PacketSink W) (run : Run) (place : ℕ) (now : Standing)
+    (result : Result (Walk D × Stop) AnswerFault) : Type 0 where
+  pub arrived : IfOk result (λ end. HasArrived hash run now end.0 end.1)
+  pub put : OnOk result (HasPut w old new (lines_to (view_of run) Ahead place now))
+  pub prefix : OnErr result (TakesPrefix w.stands old.sink new.sink
+      (packets_of (lines_to (view_of run) Ahead place now)))
