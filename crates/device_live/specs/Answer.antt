@@ -10,7 +10,7 @@ use Rattle.device_trace.specs.Logs.{exec_of}
 use Rattle.device_trace.specs.Progress.{last_registers, next_pc_of}
 use Rattle.device_trace.specs.Start.{Start}
 use Rattle.device_trace.specs.Trace.{logs_after}
-use Rattle.debug_session.specs.Place.{Run as PlayedRun}
+use Rattle.debug_session.specs.Place.{Run as PlayedRun, sight_at}
 use Rattle.debug_session.specs.Shown.{bytes_shown}
 use Rattle.device_live.specs.Life.{Life, events_in, lines_since, lived, with_happening, with_steps}
 use Rattle.device_live.specs.LiveLine.{LiveLine, Happens, Run, Registers, Memory}
@@ -39,7 +39,7 @@ run_of start life = record { start = start; events_at = events_in life }
 
 abbrev pub memory_line : Start → Life → ℕ → ℕ → Bytes
 memory_line start life place count =
-    memory_text place (bytes_shown (run_of start life) life.steps place count)
+    memory_text place (bytes_shown (sight_at (run_of start life) life.steps) place count)
 
 -- nothing is said, or this of the life as it is
 abbrev pub silent : Life → Answer
