@@ -1,7 +1,6 @@
 -- The run that a debugger is given is that of its files.
-use Rattle.std.proofs.Common.{◌≡◌, ◌∙◌, ℕ, List, refl, ap, arith}
+use Rattle.std.proofs.Common.{◌≡◌, ℕ, List, [], refl, subst, arith}
 use Rattle.std.proofs.lemmas.List.{append-nil}
-use Rattle.bus_signals.specs.TraceFlag.{Flag}
 use Rattle.hmac_core.specs.Hash.{Hash}
 use Rattle.mem_map.specs.Image.{byte_in, image_byte}
 use Rattle.mem_map.specs.declared.image.Image.{Image}
@@ -16,42 +15,37 @@ use Rattle.source_server.proofs.ServedPieces.{none_served}
 use Rattle.debug_link.specs.Serving.{talk_promise}
 use Rattle.debug_link.specs.declared.talk_end.TalkEnd.TheVariants.{Memory}
 use Rattle.debug_session.specs.Place.{Run}
-use Rattle.debug_session.specs.Session.{first_session}
 use Rattle.debug_walk.specs.PlayedRun.{played_run}
-use Rattle.debug_walk.specs.Walk.{SecondFlag}
+use Rattle.debug_walk.specs.Walk.{second_flag}
 use Rattle.debug_walk.specs.declared.run.Run.{Run as GivenRun}
-use Rattle.device_debug.specs.Session.{DebuggerStandsFor, StandsInRun, run_reply}
-use Rattle.device_debug.specs.declared.debugger.Debugger.{Debugger}
+use Rattle.device_debug.specs.Session.{StandsInRun, run_reply}
+use Rattle.device_debug.specs.declared.run_debugger.RunDebugger.{RunDebugger}
 use Rattle.debug_cli.specs.Begun.{first_of}
 
--- the run of these files, by any digest and any second flag
-abbrev pub files_run :
-    {D G : Type 0} → Hash D → Flag G → List ℕ → Image → List TimedEvent → Run
-files_run hash flag key image script =
+-- the run of these files, by any digest
+abbrev pub files_run : {D : Type 0} → Hash D → List ℕ → Image → List TimedEvent → Run
+files_run hash key image script =
     record {
-      start = with_key flag.value hash.digest_of key (image_byte (byte_in image));
+      start = with_key second_flag.value hash.digest_of key (image_byte (byte_in image));
       events_at = events_of script;
     }
 
-played-files : {D G : Type 0} (hash : Hash D) (flag : Flag G) (run : GivenRun) (key : List ℕ)
-    (image : Image) (script : List TimedEvent)
+played-files : {D : Type 0} (hash : Hash D) (run : GivenRun) (key : List ℕ) (image : Image)
+    (script : List TimedEvent)
     → run.key.now ≡ key → run.image.now ≡ image → run.script.now ≡ script
-    → played_run hash flag run ≡ files_run hash flag key image script
-played-files hash flag run key image script key_is image_is script_is =
+    → played_run hash run ≡ files_run hash key image script
+played-files hash run key image script key_is image_is script_is =
     rw (← key_is, ← image_is, ← script_is) refl
 
 -- a debugger of this run stands where its first session does
-pub stands-first : {D : Type 0} (hash : Hash D) (flag : Flag SecondFlag) (debugger : Debugger D)
-    (run : GivenRun) (key : List ℕ) (image : Image) (script : List TimedEvent)
-    → debugger.run ≡ run
+pub stands-first : {D I : Type 0} (hash : Hash D) (debugger : RunDebugger D I) (run : GivenRun)
+    (key : List ℕ) (image : Image) (script : List TimedEvent)
     → run.key.now ≡ key → run.image.now ≡ image → run.script.now ≡ script
-    → DebuggerStandsFor hash flag debugger first_session
-    → StandsInRun hash flag debugger (first_of (files_run hash flag key image script))
-stands-first hash flag debugger run key image script run_is key_is image_is script_is stands = (
-  ap (λ (given : GivenRun). played_run hash flag given) run_is
-      ∙ played-files hash flag run key image script key_is image_is script_is,
-  stands,
-)
+    → StandsInRun hash debugger (first_of (played_run hash run))
+    → StandsInRun hash debugger (first_of (files_run hash key image script))
+stands-first hash debugger run key image script key_is image_is script_is stands =
+    subst (λ (one : Run). StandsInRun hash debugger (first_of one))
+    (played-files hash run key image script key_is image_is script_is) stands
 
 -- nothing was taken and put: there was no memory for a debugger
 pub none-served : {R W : Type 0} (r : source.Ghosts R) (w : sink.Ghosts W) (run : Run)
@@ -59,4 +53,4 @@ pub none-served : {R W : Type 0} (r : source.Ghosts R) (w : sink.Ghosts W) (run 
     → Serves r (talk_promise w run_reply (first_of run) sink) source source sink (Own Memory)
 none-served r w run source sink =
     none_served r (talk_promise w run_reply (first_of run) sink) source sink (halt.Own Memory)
-    (0, omega arith, λ before holds. rw (append-nil before) holds)
+    ([], refl, (0, omega arith, λ before holds. rw (append-nil before) holds))

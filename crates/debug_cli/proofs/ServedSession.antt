@@ -128,7 +128,7 @@ module _ {R W : Type 0} (r : source.Ghosts R) (w : sink.Ghosts W) (old new : Por
       → status ≡ Words → ⊥
   served-words (Debugs run) has =
       ends-words talk_status talk-end r w (debug_promise w run old.sink) old new
-      (λ before last so. so.1) status has
+      (λ before last so. so.2.1) status has
   served-words (Lives start) (inr none) = λ is. cc (none.0, is)
   served-words (Lives start) (inl has) =
       ends-words (λ error. Memory) (λ error. inr refl) r w (life_promise w start old.sink) old new
@@ -138,7 +138,7 @@ module _ {R W : Type 0} (r : source.Ghosts R) (w : sink.Ghosts W) (old new : Por
       → KeepsLimit r old.source new.source (status ≡ Spent)
   served-limit (Debugs run) has =
       ends-limit talk_status talk-end r w (debug_promise w run old.sink) old new
-      (λ before last so. so.1) status has
+      (λ before last so. so.2.1) status has
   served-limit (Lives start) (inr none) =
       record {
         few = rw none.1 (omega arith);
@@ -155,7 +155,7 @@ module _ {R W : Type 0} (r : source.Ghosts R) (w : sink.Ghosts W) (old new : Por
       → IsEnd status
   served-whole (Debugs run) bytes has =
       ends-whole talk_status talk-end r w (debug_promise w run old.sink) old new
-      (λ before last so. so.1) status bytes has
+      (λ before last so. so.2.1) status bytes has
   served-whole (Lives start) bytes (inr none) = λ is few no_source no_sink. inr none.0
   served-whole (Lives start) bytes (inl has) =
       ends-whole (λ error. Memory) (λ error. inr refl) r w (life_promise w start old.sink) old new
@@ -167,7 +167,7 @@ module _ {R W : Type 0} (r : source.Ghosts R) (w : sink.Ghosts W) (old new : Por
       → IsFault status → ⊥
   served-fault (Debugs run) has =
       ends-fault talk_status talk-end r w (debug_promise w run old.sink) old new
-      (λ before last so. so.1) status has
+      (λ before last so. so.2.1) status has
   served-fault (Lives start) (inr none) =
       λ no_source no_sink. no-fault (λ is. cc (none.0, is)) (λ is. cc (none.0, is))
   served-fault (Lives start) (inl has) =

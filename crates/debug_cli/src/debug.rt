@@ -8,7 +8,7 @@ use crate::answer_status::served_status;
 use crate::session_end::SessionEnd;
 use debug_link::{PacketWriter, serve};
 use debug_walk::Run;
-use device_debug::Debugger;
+use device_debug::{Interrupts, RunDebugger};
 use hmac_core::Sha256Digest;
 use input_files::{File, Image, Inputs, Key, Script, Status};
 use outside_edge::{Shelf, Sink, Source};
@@ -37,12 +37,13 @@ pub fn debug_files(arguments: &[String]) -> Option<DebugFiles<'_>>
 }
 
 /// Runs `debug` with these files.
-pub fn run_debug<S: Shelf, R: Source, W: Sink + Drop>(
+pub fn run_debug<S: Shelf, R: Source, W: Sink + Drop, I: Interrupts + Drop>(
     alloc: Global,
     files: &DebugFiles<'_>,
     shelf: &mut S,
     source: &mut R,
     sink: W,
+    interrupts: I,
 ) -> (Status, W)
     ensures { IsSessionAnswer S.Shelf R.Source W.Sink shelf.old shelf.new
         (record { source = source.old; sink = sink })
@@ -51,17 +52,18 @@ pub fn run_debug<S: Shelf, R: Source, W: Sink + Drop>(
         result.0 }
 {
     match files.read::<SessionEnd, S>(alloc, shelf) {
-        Ok(values) => serve_run(alloc, &values, source, sink),
+        Ok(values) => serve_run(alloc, &values, source, sink, interrupts),
         Err(refusal) => (Status::of_refusal(refusal), sink),
     }
 }
 
 // Answers the packets of a source from the beginning of the run that these files say.
-fn serve_run<R: Source, W: Sink + Drop>(
+fn serve_run<R: Source, W: Sink + Drop, I: Interrupts + Drop>(
     alloc: Global,
     values: &FileValues,
     source: &mut R,
     sink: W,
+    interrupts: I,
 ) -> (Status, W)
     ensures served { HasServed R.Source W.Sink
         (Debugs (run_with values.now.0 (byte_in values.now.1.0) values.now.1.1))
@@ -72,7 +74,7 @@ fn serve_run<R: Source, W: Sink + Drop>(
 {
     let (key, (image, script)) = values;
     let run = Run::new(key, image, script);
-    let Ok(debugger) = Debugger::<Sha256Digest>::new(alloc, run) else {
+    let Ok(debugger) = RunDebugger::<Sha256Digest, I>::new(alloc, run, interrupts) else {
         return (Status::Memory, sink);
     };
     let mut packets = PacketWriter::new(sink);

@@ -3,9 +3,11 @@
 #![tactic(auto)]
 
 mod help_text;
+mod interrupt_file;
 mod version;
 
 use crate::help_text::HELP;
+use crate::interrupt_file::InterruptFile;
 use crate::version::VERSION;
 use debug_cli::run::run;
 use input_files::{OwnTexts, Program, Status, run_program};
@@ -50,7 +52,9 @@ impl Program for Server<'_> {
         let mut shelf = FileShelf::new(SystemFiles::new(self.rt));
         let mut source = StdSource::new(self.rt.reader());
         let sink = StdSink::new(io::writer(self.rt));
-        let (status, _) = run(self.rt.alloc(), arguments, &mut shelf, &mut source, sink);
+        let interrupts = InterruptFile::new(self.rt);
+        let alloc = self.rt.alloc();
+        let (status, _) = run(alloc, arguments, &mut shelf, &mut source, sink, interrupts);
         status
     }
 }

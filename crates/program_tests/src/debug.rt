@@ -4,6 +4,7 @@
 ghost use Rattle.std.specs.Prelude.{◌≤◌};
 
 use debug_cli::run::run;
+use device_debug::Interrupts;
 use input_files::{BadFile, Status};
 use outside_edge::{MemShelf, MemSink, MemSource, NeverFailShelf, NeverFailSink, NeverFailSource};
 use std::alloc::{AllocError, Global};
@@ -38,6 +39,36 @@ registers c006 0000 0000 0000 0000 0000 0000 0000 0000 0000 0000 0000 0000 0000 
 refused 4 Order\nrefused 5 Order\nat 6 pc c006 exec 0\nmemory 0020 3412\nrefused 8 Word\n\
 end 6 pc c006 exec 0\n";
 
+// From place 1 the first look for an interrupt is due behind 65,536 steps: `monitor until 200000`,
+// `continue` twice, `monitor steps`, and the end.
+const WAY_AHEAD: &[u8] = b"$qRcmd,756e74696c20323030303030#53$c#63$c#63$qRcmd,7374657073#34$k#6b";
+
+// One that is interrupted goes on to where it would have stopped.
+const WAY_AHEAD_ANSWERS: &[u8] = b"+$OK#9a+$O747820342034310a#b0$T02#b6+$T05#b9\
++$O323030303030207374657073206f662031303030303030300a#8c$OK#9a+";
+
+// Going back from place 5,000 the first look is due behind 4,096 steps: `monitor until 5000`,
+// `continue`, then twice `reverse-continue` and `monitor steps`, and the end.
+const WAY_BACK: &[u8] = b"$qRcmd,756e74696c2035303030#90$c#63\
+$bc#c5$qRcmd,7374657073#34$bc#c5$qRcmd,7374657073#34$k#6b";
+
+// One that is interrupted stays where it was.
+const WAY_BACK_ANSWERS: &[u8] = b"+$OK#9a+$O747820342034310a#b0$T05#b9\
++$T02#b6+$O35303030207374657073206f662031303030303030300a#c9$OK#9a\
++$T05replaylog:begin;#02+$O31207374657073206f662031303030303030300a#9c$OK#9a+";
+
+// An interrupt that the look of this number finds, from 1 on; none at 0.
+#[derive(Drop)]
+struct AtLook(u64);
+
+impl Interrupts for AtLook {
+    fn have_come(&mut self) -> bool {
+        let has_come = self.0 == 1;
+        self.0 = self.0.saturating_sub(1);
+        has_come
+    }
+}
+
 // What is answered to these words and put, with this script and this input, of which so many bytes
 // come in one call, where the calls of source and sink of these numbers fail.
 fn served(
@@ -51,6 +82,20 @@ fn served(
 ) -> Result<(Status, Vec<u8>), AllocError>
     requires { 1 ≤ most }
 {
+    let source = MemSource::new(input.to_vec(alloc)?, most, unread.to_vec(alloc)?);
+    let sink = MemSink::new(Vec::new(alloc), 1_000, 64, unwritten.to_vec(alloc)?)?;
+    served_over(alloc, words, script, source, sink, AtLook(0))
+}
+
+// Likewise over this source and this sink, and with this interrupt.
+fn served_over(
+    alloc: Global,
+    words: &[&str],
+    script: &str,
+    mut source: MemSource,
+    sink: MemSink,
+    interrupt: AtLook,
+) -> Result<(Status, Vec<u8>), AllocError> {
     let files = [
         ("image", IMAGE.as_bytes()),
         ("script", script.as_bytes()),
@@ -59,9 +104,7 @@ fn served(
     ];
     let words = arguments(alloc, words)?;
     let mut shelf = MemShelf::new(named_files(alloc, &files)?, 4_096, Vec::new(alloc));
-    let mut source = MemSource::new(input.to_vec(alloc)?, most, unread.to_vec(alloc)?);
-    let sink = MemSink::new(Vec::new(alloc), 1_000, 64, unwritten.to_vec(alloc)?)?;
-    let (status, sink) = run(alloc, &words, &mut shelf, &mut source, sink);
+    let (status, sink) = run(alloc, &words, &mut shelf, &mut source, sink, interrupt);
     Ok((status, sink.held().to_vec(alloc)?))
 }
 
@@ -71,6 +114,19 @@ fn packets_are_answered(rt: HostRuntime) -> Result<(), Fail> {
         let (status, text) = served(rt.alloc(), &WORDS, "", PACKETS, most, &[], &[])?;
         assert_eq!(rt; status, Status::Done);
         assert_eq!(rt; text.as_slice(), ANSWERS);
+    }
+    Ok(())
+}
+
+#[test]
+fn an_interrupt_ends_a_way(rt: HostRuntime) -> Result<(), Fail> {
+    let alloc = rt.alloc();
+    for (input, answers) in [(WAY_AHEAD, WAY_AHEAD_ANSWERS), (WAY_BACK, WAY_BACK_ANSWERS)] {
+        let source = MemSource::new(input.to_vec(alloc)?, 4_096, Vec::new(alloc));
+        let sink = MemSink::new(Vec::new(alloc), 1_000, 64, Vec::new(alloc))?;
+        let (status, text) = served_over(alloc, &WORDS, "", source, sink, AtLook(1))?;
+        assert_eq!(rt; status, Status::Done);
+        assert_eq!(rt; text.as_slice(), answers);
     }
     Ok(())
 }
@@ -142,7 +198,8 @@ fn over_those_that_never_fail_all_is_answered(rt: HostRuntime) -> Result<(), Fai
     let words = arguments(alloc, &WORDS)?;
     let mut shelf = NeverFailShelf::new(named_files(alloc, &files)?, 7);
     let mut source = NeverFailSource::new(PACKETS.to_vec(alloc)?, 3);
-    let (status, _) = run(alloc, &words, &mut shelf, &mut source, NeverFailSink::new());
+    let sink = NeverFailSink::new();
+    let (status, _) = run(alloc, &words, &mut shelf, &mut source, sink, AtLook(0));
     match status {
         Status::ReadFault | Status::WriteFault => unreachable!(),
         status => assert_eq!(rt; status, Status::Done),

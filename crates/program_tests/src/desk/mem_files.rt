@@ -139,18 +139,12 @@ impl MemoryFiles<MemMemory> for MemFiles {
 
     fn open(&mut self, _name: &str) -> Result<MemMemory, MemoryFileFault> {
         self.refuse()?;
-        match self.copy() {
-            Ok(memory) => Ok(memory),
-            Err(_) => Err(MemoryFileFault::OutOfMemory),
-        }
+        self.copy().map_err(|_| MemoryFileFault::OutOfMemory)
     }
 
     fn make(&mut self, _name: &str, desk: &[u8]) -> Result<MemMemory, MemoryFileFault> {
         self.refuse()?;
-        match self.made(desk) {
-            Ok(memory) => Ok(memory),
-            Err(_) => Err(MemoryFileFault::OutOfMemory),
-        }
+        self.made(desk).map_err(|_| MemoryFileFault::OutOfMemory)
     }
 
     fn close(&mut self, memory: MemMemory) {

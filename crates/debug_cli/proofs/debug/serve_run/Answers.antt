@@ -15,10 +15,9 @@ returns-in_default-clause-served g c =
 pub returns-clause-served : goal.returns-clause-served
 returns-clause-served g c =
     let stands =
-    stands-first _ _ _ c.new-run.result c.args.values.now.0 c.args.values.now.1.0
-    c.args.values.now.1.1
-    c.in-Ok.ensures.0 c.new-run.ensures.key c.new-run.ensures.image c.new-run.ensures.script
-    c.in-Ok.ensures.1 in
+    stands-first _ c.in-Ok.debugger c.new-run.result c.args.values.now.0 c.args.values.now.1.0
+    c.args.values.now.1.1 c.new-run.ensures.key c.new-run.ensures.image c.new-run.ensures.script
+    c.in-Ok.ensures in
     record {
       ended = c.serve-served.result;
       answer = c.served_status.ensures;
