@@ -11,7 +11,8 @@ use Rattle.text_scan.specs.declared.fault_kind.FaultKind.TheVariants.{Order, Pla
 use Rattle.desk_memory.specs.Entry.{Entry, Home, home_of, last_in, owner_in, with_entries, with_entry}
 use Rattle.desk_memory.specs.Moving.{adopted, adoption_fault, arrived, arriving, at_home, entries_of, has_not_come, is_behind, is_gone_to, is_here, is_needed, is_new_in, is_of_other, moved_lines}
 use Rattle.desk_memory.proofs.Noted.{entry_is_last, last_of_more}
-use Rattle.many_desks.proofs.Worlds.{same_bytes, other_bytes}
+use Rattle.report_text.proofs.ReportWords.{other_bytes}
+use Rattle.many_desks.proofs.Worlds.{same_bytes}
 
 pub last_has : (P : Entry → Type 0) (entries : List Entry) (name : List ℕ) (last : Entry)
     → All P entries → last_in entries name ≡ Some last → P last

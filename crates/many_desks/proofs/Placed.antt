@@ -20,7 +20,8 @@ use Rattle.many_desks.specs.Act.{Act, Adopts, AreAllowed, IsMove, MayAdopt, MayS
 use Rattle.many_desks.specs.Law.{IsLeft, StartsAt, entry_of_one, lines_in, note_of}
 use Rattle.many_desks.proofs.Adopted.{AreAt, adopted_elsewhere, adopted_last, last_has, last_of_own, moved_are_alike, moved_last, not_behind}
 use Rattle.many_desks.proofs.Token.{IsBehind, IsPlaced, SpeaksRightly, View, comes, goes, serves, speaks_rightly, stays}
-use Rattle.many_desks.proofs.Worlds.{changed_memory, other_bytes, other_memory, same_bytes, same_or_other}
+use Rattle.report_text.proofs.ReportWords.{other_bytes}
+use Rattle.many_desks.proofs.Worlds.{changed_memory, other_memory, same_bytes, same_or_other}
 
 abbrev pub view_of : World → List ℕ → View
 view_of world name desk = last_in (world desk) name

@@ -26,7 +26,8 @@ use Rattle.many_desks.proofs.KeyPairs.{owner_stands, stood_or_added, unowned}
 use Rattle.many_desks.proofs.OneName.{keys_are_sound}
 use Rattle.many_desks.proofs.Placed.{MovedTo, departed_last, placed, view_of}
 use Rattle.many_desks.proofs.Token.{IsBehind, others_behind}
-use Rattle.many_desks.proofs.Worlds.{changed_memory, other_bytes, other_memory, same_bytes, same_or_other}
+use Rattle.report_text.proofs.ReportWords.{other_bytes}
+use Rattle.many_desks.proofs.Worlds.{changed_memory, other_memory, same_bytes, same_or_other}
 
 -- a key that is noted is that of a device of the desk
 record IsOfDevice (desk : DeskFields) (mark : List ℕ) : Type 0 where

@@ -26,7 +26,8 @@ use Rattle.many_desks.proofs.Adopted.{last_has, last_of_own, more_last, or_else,
 use Rattle.many_desks.proofs.KeyPairs.{both}
 use Rattle.many_desks.proofs.Placed.{departed_last, none_gone}
 use Rattle.many_desks.proofs.Through.{home_through}
-use Rattle.many_desks.proofs.Worlds.{changed_memory, other_bytes, other_memory, same_or_other}
+use Rattle.report_text.proofs.ReportWords.{other_bytes}
+use Rattle.many_desks.proofs.Worlds.{changed_memory, other_memory, same_or_other}
 
 -- the lines go by the device's own entries
 own_lines_same : (name : List ℕ) (entries other : List Entry)

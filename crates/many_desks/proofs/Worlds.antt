@@ -3,6 +3,7 @@ use Rattle.std.proofs.Common.{◌≡◌, ◌⊎◌, ℕ, List, true, false, refl
 use Rattle.std.specs.Str.{bytes_eq}
 use Rattle.std.proofs.lemmas.Bool.{cases_Bool}
 use Rattle.std.proofs.lemmas.Slice.Eq.{bytes_eq-Decides}
+use Rattle.report_text.proofs.ReportWords.{other_bytes}
 use Rattle.desk_memory.specs.Entry.{Entry}
 use Rattle.many_desks.specs.Act.{World, with_memory}
 
@@ -14,12 +15,6 @@ same_or_other one other = elim (cases_Bool (bytes_eq one other)) [
 
 pub same_bytes : (one other : List ℕ) → one ≡ other → bytes_eq one other ≡ true
 same_bytes one other same = (bytes_eq-Decides one other).1 same
-
-pub other_bytes : (one other : List ℕ) → (one ≡ other → ⊥) → bytes_eq one other ≡ false
-other_bytes one other apart = elim (cases_Bool (bytes_eq one other)) [
-  | inl hit ↦ absurd (apart ((bytes_eq-Decides one other).0 hit))
-  | inr miss ↦ miss
-]
 
 pub changed_memory : (world : World) (desk : List ℕ) (entries : List Entry)
     → with_memory world desk entries desk ≡ entries

@@ -196,11 +196,11 @@ reads-denied step decision within denies =
       number_of-decision decision denies,
     ) refl)
 
-verdict_told :
+pub verdict_told :
     (verdict : Verdict) → value_named verdict_names (verdict_name verdict) ≡ Some verdict
 verdict_told = search rules
 
-plain-verdict : (verdict : Verdict) → IsPlainWord (verdict_name verdict)
+pub plain-verdict : (verdict : Verdict) → IsPlainWord (verdict_name verdict)
 plain-verdict = search rules
 
 reads-verdict : (number : ℕ) (verdict : Verdict) → number < 2 ^ 32

@@ -11,8 +11,8 @@ use Rattle.text_scan.specs.WordValue.{number_of}
 use Rattle.text_scan.proofs.NamedWord.{value_of-name}
 use Rattle.text_scan.proofs.PlainWords.{ArePlain, decimal_of-decimal, plain-decimal, words_of-join}
 use Rattle.line_buffer.specs.LineLaw.{ArePieces}
-use Rattle.report_verifier.specs.declared.verdict.Verdict.{Verdict}
-use Rattle.report_verifier.specs.VerdictName.{verdict_name, verdict_names}
+use Rattle.report_text.proofs.ReadLines.{plain-verdict, verdict_told}
+use Rattle.report_verifier.specs.VerdictName.{verdict_names}
 use Rattle.desk_memory.specs.declared.answer.Answer.{Answer}
 use Rattle.desk_memory.specs.declared.answer.Answer.TheVariants.{Stale, Bad, Spent, Requested, Judged}
 use Rattle.desk_memory.specs.AnswerRead.{answer_of, answer_with, most_number}
@@ -31,10 +31,6 @@ count-read number rest is =
 kind-told : (kind : FaultKind) → value_named fault_names (fault_name kind) ≡ Some kind
 kind-told = search rules
 
-verdict-told :
-    (verdict : Verdict) → value_named verdict_names (verdict_name verdict) ≡ Some verdict
-verdict-told = search rules
-
 pub answer-read : (answer : Answer) → is_short_answer answer ≡ true
     → answer_of (answer_words answer) ≡ Ok (answer, [])
 unfolding answer_of answer_with
@@ -43,7 +39,7 @@ answer-read (Bad kind) few = rw (value_of-name fault_names kind [] (kind-told ki
 answer-read Spent few = refl
 answer-read (Requested count) few = rw (count-read count [] few) refl
 answer-read (Judged verdict) few =
-    rw (value_of-name verdict_names verdict [] (verdict-told verdict)) refl
+    rw (value_of-name verdict_names verdict [] (verdict_told verdict)) refl
 
 -- the words are plain
 
@@ -54,16 +50,13 @@ short-plain number is =
 kind-plain : (kind : FaultKind) → IsPlainWord (fault_name kind)
 kind-plain = search rules
 
-verdict-plain : (verdict : Verdict) → IsPlainWord (verdict_name verdict)
-verdict-plain = search rules
-
 answer-plain : (answer : Answer) → is_short_answer answer ≡ true
     → ArePlain (answer_words answer)
 answer-plain Stale is = ((omega arith, refl), tt)
 answer-plain (Bad kind) is = ((omega arith, refl), (kind-plain kind, tt))
 answer-plain Spent is = ((omega arith, refl), tt)
 answer-plain (Requested count) is = ((omega arith, refl), (short-plain count is, tt))
-answer-plain (Judged verdict) is = ((omega arith, refl), (verdict-plain verdict, tt))
+answer-plain (Judged verdict) is = ((omega arith, refl), (plain-verdict verdict, tt))
 
 pub answer-are : (answer : Answer) → is_short_answer answer ≡ true
     → ArePieces (answer_words answer)
