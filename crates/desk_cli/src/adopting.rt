@@ -86,10 +86,7 @@ fn taken(
     if let Some(fault) = first_refused(desk, entries, lines) {
         return Err(Status::Bad(BadFile::States(fault)));
     }
-    match arriving(alloc, entries, lines.entries()) {
-        Ok(arriving) => Ok(arriving),
-        Err(_) => Err(Status::Memory),
-    }
+    arriving(alloc, entries, lines.entries()).map_err(|_| Status::Memory)
 }
 
 // The first of the lines that a desk does not take into a memory with these entries.

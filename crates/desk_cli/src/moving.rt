@@ -132,18 +132,13 @@ fn leaving(
 {
     let device = names.device.as_bytes();
     let to = names.desk.as_bytes();
-    let gone = match departing(alloc, desk, to, last_of(entries, device)) {
-        Ok(gone) => gone,
-        Err(status) => return Err(status),
-    };
+    let gone = departing(alloc, desk, to, last_of(entries, device))?;
     let home = match &gone {
         Some(gone) => gone.home(),
         None => home_in(entries, device),
     };
-    match lines_at(alloc, home, device, entries) {
-        Ok(lines) => Ok((gone, lines)),
-        Err(_) => Err(Status::Memory),
-    }
+    let lines = lines_at(alloc, home, device, entries).map_err(|_| Status::Memory)?;
+    Ok((gone, lines))
 }
 
 // The entry by which the device of a last entry goes from one desk to another, `None` where it is
@@ -177,10 +172,10 @@ fn departing(
         moves,
         gone: Some(to),
     };
-    match Entry::new(alloc, last.name(), last.mark(), last.state(), home) {
-        Ok(gone) => Ok(Some(gone)),
-        Err(_) => Err(Status::Memory),
-    }
+    let gone = Entry::new(alloc, last.name(), last.mark(), last.state(), home).map_err(
+        |_| Status::Memory,
+    )?;
+    Ok(Some(gone))
 }
 
 // The entries of the device of a name, each with this home.

@@ -44,10 +44,8 @@ pub fn read_numbered(alloc: Global, text: &[u8]) -> Result<NumberedEntries, Text
     ensures { Reads result (numbered_entries_of text.now) }
 {
     let entries = read_states(alloc, text)?;
-    match said_numbers(alloc, text) {
-        Ok(numbers) => Ok(NumberedEntries { entries, numbers }),
-        Err(error) => Err(TextFault::Memory(error)),
-    }
+    let numbers = said_numbers(alloc, text).map_err(TextFault::Memory)?;
+    Ok(NumberedEntries { entries, numbers })
 }
 
 // The numbers of the lines that say something.

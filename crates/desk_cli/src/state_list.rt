@@ -59,10 +59,9 @@ impl StateList {
         ensures { TakesLine result self.new (with_new_entry self.old entry) }
     {
         check_entry(&self.entries, &entry)?;
-        match self.entries.push(entry) {
-            Ok(()) => Ok(()),
-            Err(error) => Err(WordFault::Memory(error.into())),
-        }
+        self.entries
+            .push(entry)
+            .map_err(|error| WordFault::Memory(error.into()))
     }
 }
 

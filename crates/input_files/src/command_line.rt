@@ -2,7 +2,7 @@ ghost use Rattle.std.specs.Prelude.{◌≡◌, Ok};
 ghost use Rattle.input_files.specs.CommandLine.{Gives, refused_words};
 
 use crate::status::Status;
-use std::alloc::{AllocError, Global};
+use std::alloc::Global;
 use std::env::Args;
 use std::io;
 
@@ -11,10 +11,8 @@ use std::io;
 pub fn arguments_of(alloc: Global, words: io::Result<Args>) -> Result<Vec<String>, Status>
     ensures { Gives words result }
 {
-    match words {
-        Ok(words) => behind_name(alloc, words),
-        Err(error) => Err(refused_words(error.kind())),
-    }
+    let words = words.map_err(|error| refused_words(error.kind()))?;
+    behind_name(alloc, words)
 }
 
 // The words behind the first.
@@ -22,10 +20,7 @@ fn behind_name(alloc: Global, mut words: Args) -> Result<Vec<String>, Status>
     ensures { Gives (Ok words) result }
 {
     let _name = words.next();
-    match words.collect(alloc) {
-        Ok(arguments) => Ok(arguments),
-        Err(AllocError) => Err(Status::Memory),
-    }
+    words.collect(alloc).map_err(|_| Status::Memory)
 }
 
 fn refused_words(kind: io::ErrorKind) -> Status

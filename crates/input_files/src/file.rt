@@ -62,9 +62,8 @@ fn refusal_of<K: Kind>(fault: FileFault) -> Refusal
 fn parse<K: Kind>(alloc: Global, bytes: Vec<u8>) -> Result<K::Value, Refusal>
     ensures { ParsesAs K.kind K.meaning bytes.items result }
 {
-    match K::parse(alloc, bytes) {
-        Ok(value) => Ok(value),
-        Err(TextFault::At(fault)) => Err(Refusal::Bad(K::refusal(fault))),
-        Err(TextFault::Memory(_)) => Err(Refusal::Memory),
-    }
+    K::parse(alloc, bytes).map_err(|fault| match fault {
+        TextFault::At(fault) => Refusal::Bad(K::refusal(fault)),
+        TextFault::Memory(_) => Refusal::Memory,
+    })
 }

@@ -1,12 +1,11 @@
 -- Why an open or a making fails, from one step to the next.
-use Rattle.std.proofs.Common.{◌≡◌, ℕ, ◌≤◌, Result, Ok, Err, subst, inl, inr, arith}
-use Rattle.std.specs.Prelude.{IfErr, IfOk}
+use Rattle.std.proofs.Common.{◌≡◌, ℕ, ◌≤◌, subst, inl, inr, arith}
 use Rattle.sqlite_store.specs.declared.error.OpenError.{OpenError}
 use Rattle.sqlite_store.specs.declared.error.OpenError.TheVariants.{OutOfMemory, Io, Full, Refused}
 use Rattle.sqlite_store.specs.Opening.{FailsToOpen}
 use Rattle.sqlite_wal.specs.Files.{IsHuge}
 use Rattle.sqlite_wal.specs.Opening.{RefusesLog}
-use Rattle.sqlite_wal.specs.Outcome.{HasCause, OnlyIf}
+use Rattle.sqlite_wal.specs.Outcome.{HasCause}
 use Rattle.sqlite_wal.specs.Recovery.{Image}
 use Rattle.sqlite_wal.specs.declared.error.Error.{Error}
 use Rattle.sqlite_wal.specs.declared.error.Error.TheVariants as wal
@@ -69,27 +68,3 @@ why_more a b Limit image why fault.Place so h = absurd h
 why_more a b Limit image why fault.Missing so h = absurd h
 why_more a b Limit image why fault.InUse so h = absurd h
 why_more a b Limit image why fault.HotJournal so h = absurd h
-
--- why the database could not be looked at
-pub from_blank : (a b c : ℕ) (X : Type 0) (read image : Image) (why : MemoryFileFault → Type 0)
-    (e : Error) → a ≤ b → read ≡ image
-    → HasCause b c (OnlyIf wal.Full (X × IsHuge stored_page read)) e
-    → opening.FailsToOpen a c (IsHuge stored_page image) why (fault_of_probe e)
-from_blank a b c X read image why (wal.Io e) less same h = omega (arith, h)
-from_blank a b c X read image why wal.OutOfMemory less same h = tt
-from_blank a b c X read image why wal.Full less same h = subst (IsHuge stored_page) same h.1.1
-from_blank a b c X read image why wal.Corrupt less same h = let is = h.0 in absurd (cc)
-from_blank a b c X read image why wal.Closed less same h = let is = h.0 in absurd (cc)
-from_blank a b c X read image why wal.NoSuchPage less same h = let is = h.0 in absurd (cc)
-from_blank a b c X read image why wal.Exists less same h = let is = h.0 in absurd (cc)
-
--- an answer, or a refusal, that is more
-pub ok_more : {X Y : Type 0} (result : Result X Y) (P Q : X → Type 0)
-    → ((x : X) → P x → Q x) → IfOk result P → IfOk result Q
-ok_more (Ok x) P Q so h = so x h
-ok_more (Err y) P Q so h = h
-
-pub err_more : {X Y : Type 0} (result : Result X Y) (P Q : Y → Type 0)
-    → ((y : Y) → P y → Q y) → IfErr result P → IfErr result Q
-err_more (Ok x) P Q so h = h
-err_more (Err y) P Q so h = so y h

@@ -77,10 +77,7 @@ fn unopened<D: Disk>(
     ensures size { IfOk result (λ it. (state_of it).page_size ≡ page_size) }
     ensures schema { IfOk result (λ it. wanted_by it ≡ memory_schema) }
 {
-    let pager = match Pager::new(alloc, files, size, Options::new(seed)) {
-        Ok(pager) => pager,
-        Err(AllocFailed { value }) => return Err(value),
-    };
+    let pager = Pager::new(alloc, files, size, Options::new(seed)).map_err(|failed| failed.value)?;
     match Unopened::with_sums(alloc, pager, &[device_table(), desk_table()], true) {
         Ok(unopened) => Ok(unopened),
         Err(AllocFailed { value }) => Err(value.close()),

@@ -32,10 +32,7 @@ pub fn open_files<D: Disk + Drop>(
         (image_of D.Disk files) memory.store memory.desk.items memory.entries.items) }
     ensures refused { IfErr result (λ e. IsRefused WhyUnopened IsSpared files e.0 e.1) }
 {
-    let store = match open_store(alloc, files, seed) {
-        Ok(store) => store,
-        Err((fault, left)) => return Err((fault, left)),
-    };
+    let store = open_store(alloc, files, seed)?;
     match StoreMemory::open(alloc, store) {
         Ok(memory) => Ok(memory),
         Err((fault, store)) => Err((table_fault(fault), Left::Store(store))),
@@ -58,10 +55,7 @@ pub fn make_files<D: Disk + Drop>(
         → IsMadeOver (image_of D.Disk files) memory.store) }
     ensures refused { IfErr result (λ e. IsRefused WhyUnmade IsKept files e.0 e.1) }
 {
-    let store = match make_store(alloc, files, seed) {
-        Ok(store) => store,
-        Err((fault, left)) => return Err((fault, left)),
-    };
+    let store = make_store(alloc, files, seed)?;
     match StoreMemory::make(alloc, store, desk, (seed % VERSIONS + 1) as u32) {
         Ok(memory) => Ok(memory),
         Err((fault, store)) => Err((table_fault(fault), Left::Store(store))),
@@ -92,10 +86,7 @@ pub fn open_memory<D: Disk + Drop, P: MemoryPlaces<D>>(
         Ok(files) => files,
         Err(fault) => return Err((fault, None)),
     };
-    let seed = match places.seed() {
-        Ok(seed) => seed,
-        Err(fault) => return Err((fault, None)),
-    };
+    let seed = places.seed().map_err(|fault| (fault, None))?;
     match open_files(alloc, files, seed) {
         Ok(memory) => Ok(memory),
         Err((fault, left)) => Err((fault, Some(left))),
@@ -125,10 +116,7 @@ pub fn make_memory<D: Disk + Drop, P: MemoryPlaces<D>>(
         Ok(files) => files,
         Err(fault) => return Err((fault, None)),
     };
-    let seed = match places.seed() {
-        Ok(seed) => seed,
-        Err(fault) => return Err((fault, None)),
-    };
+    let seed = places.seed().map_err(|fault| (fault, None))?;
     match make_files(alloc, files, desk, seed) {
         Ok(memory) => Ok(memory),
         Err((fault, left)) => Err((fault, Some(left))),

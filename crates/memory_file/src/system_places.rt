@@ -62,9 +62,7 @@ impl<S: Start> MemoryPlaces<FileFrom<S>> for SystemPlaces<'_, S> {
     }
 
     fn seed(&mut self) -> Result<u64, MemoryFileFault> {
-        match RandomState::new(self.runtime) {
-            Ok(state) => Ok(state.hash_one(&0u8)),
-            Err(_) => Err(MemoryFileFault::Place),
-        }
+        let state = RandomState::new(self.runtime).map_err(|_| MemoryFileFault::Place)?;
+        Ok(state.hash_one(&0u8))
     }
 }

@@ -52,10 +52,7 @@ impl<'a> Task<'a> for Work {
 
     // It reads no file. What it goes on with is drawn.
     fn read<S: Shelf>(&self, alloc: Global, _shelf: &mut S) -> Result<Load, Refusal> {
-        match load_of(alloc, self.seed) {
-            Ok(load) => Ok(load),
-            Err(AllocError) => Err(Refusal::Memory),
-        }
+        load_of(alloc, self.seed).map_err(|_| Refusal::Memory)
     }
 
     // The load is played before the first byte. What is kept of its text are the counts of its

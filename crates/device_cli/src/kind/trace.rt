@@ -27,10 +27,7 @@ impl Kind for Trace {
     }
 
     fn parse(_alloc: Global, bytes: Vec<u8>) -> Result<Audited, TextFault> {
-        match audit_file(&bytes) {
-            Ok(audited) => Ok(audited),
-            Err(fault) => Err(TextFault::At(fault)),
-        }
+        audit_file(&bytes).map_err(TextFault::At)
     }
 
     fn refusal(fault: FaultAt) -> BadFile {

@@ -5,13 +5,13 @@ use Rattle.std.specs.Prelude.{IsTrue}
 use Rattle.memory_file.specs.Begun.{IsBegun}
 use Rattle.memory_file.specs.Held.{IsKept}
 use Rattle.memory_file.specs.Table.{page_size}
-use Rattle.memory_file.proofs.FailLemmas.{err_more, ok_more}
+use Rattle.std.proofs.lemmas.Result.{IfErr-weaker, IfOk-weaker}
 use Rattle.memory_file.proofs.StepLemmas.{given_through, refused_as, refused_kept, refused_through}
 use Rattle.memory_file.proofs.memory_store.make_tables.Goals as goal
 
 pub returns-then-is_blank-clause-refused : goal.returns-then-is_blank-clause-refused
 returns-then-is_blank-clause-refused g c =
-    err_more c.create_tables.result _ _ (λ e refused. refused_as IsKept _ _ c.args.files e.0 e.1
+    IfErr-weaker c.create_tables.result _ _ (λ e refused. refused_as IsKept _ _ c.args.files e.0 e.1
     (λ clean may. inl ((c.requires.blank clean).0 c.if-is_blank.true)) refused)
     c.create_tables.ensures.refused
 
@@ -24,7 +24,7 @@ returns-in-Err-None-default-clause-given g c =
     true≢false (sym ((c.requires.blank clean).1 blank) ∙ c.if-is_blank.false) in
     let lacks : IsBegun files begun =
     rw c.in-Err-None-default.field-0-0-is at c.in-Err-None-default.ensures.lacks in
-    ok_more c.create_tables-in-Err-None-default.result _ _
+    IfOk-weaker c.create_tables-in-Err-None-default.result _ _
     (λ store given. given_through files begun c.requires.size something lacks store given)
     c.create_tables-in-Err-None-default.ensures.given
 
@@ -37,7 +37,7 @@ returns-in-Err-None-default-clause-refused g c =
     true≢false (sym ((c.requires.blank clean).1 blank) ∙ c.if-is_blank.false) in
     let lacks : IsBegun files begun =
     rw c.in-Err-None-default.field-0-0-is at c.in-Err-None-default.ensures.lacks in
-    err_more c.create_tables-in-Err-None-default.result _ _
+    IfErr-weaker c.create_tables-in-Err-None-default.result _ _
     (λ e refused. refused_through files begun c.requires.size something lacks e.0 e.1 refused)
     c.create_tables-in-Err-None-default.ensures.refused
 

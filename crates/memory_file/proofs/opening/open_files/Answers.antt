@@ -11,14 +11,14 @@ use Rattle.memory_file.specs.Opening.{WhyUnopened, faults_of, image_of}
 use Rattle.memory_file.proofs.TableRead.{can_be_founded, finds_rows, from_table, has_entries, has_tables, is_foreign, is_unfounded}
 use Rattle.memory_file.proofs.opening.open_files.Goals as goal
 
-pub returns-in-Ok-open-clause-opened : goal.returns-in-Ok-open-clause-opened
-returns-in-Ok-open-clause-opened g c clean =
-    let store = c.in-Ok.store in
-    let memory = c.in-Ok-open.memory in
+pub returns-in-Ok-clause-opened : goal.returns-in-Ok-clause-opened
+returns-in-Ok-clause-opened g c clean =
+    let store = c.in_ok-store.store in
+    let memory = c.in-Ok.memory in
     let image = image_of g.D.Disk c.args.files in
-    let opened = c.in-Ok-open.ensures in
+    let opened = c.in-Ok.ensures in
     let early : IsClean (view store) = omega (arith, opened.clean) in
-    let finds = c.in-Ok.ensures.given.found (clean_of _ early) in
+    let finds = c.in_ok-store.ensures.given.found (clean_of _ early) in
     let read = opened.found clean in
     record {
       holds = λ held h.
@@ -26,40 +26,40 @@ returns-in-Ok-open-clause-opened g c clean =
           read;
       opened = has_entries image (view store).trees finds
           (memory.desk.items, memory.entries.items, opened.sized, read);
-      fits = c.in-Ok.ensures.fits (clean_of _ early);
+      fits = c.in_ok-store.ensures.fits (clean_of _ early);
       settled = λ db may.
           subst (λ t. IsMemoryOf t memory.desk.items memory.entries.items)
           (sym (opened.committed clean db may)) read;
       counts = λ held h db may.
           opened.committed clean db may
           ∙ ap (λ (t : Trees). counted (counted t)) (finds.holds held h);
-      shielded = opened.shield (c.in-Ok.ensures.given.guarded (clean_of _ early));
+      shielded = opened.shield (c.in_ok-store.ensures.given.guarded (clean_of _ early));
       copied = opened.copied;
     }
 
-pub returns-in-Err-open-clause-refused : goal.returns-in-Err-open-clause-refused
-returns-in-Err-open-clause-refused g c =
-    let store = c.in-Ok.store in
+pub returns-in-Err-clause-refused : goal.returns-in-Err-clause-refused
+returns-in-Err-clause-refused g c =
+    let store = c.in_ok-store.store in
     let image = image_of g.D.Disk c.args.files in
-    let given = c.in-Ok.ensures.given in
-    let kept = c.in-Err-open.ensures.kept in
+    let given = c.in_ok-store.ensures.given in
+    let kept = c.in-Err.ensures.kept in
     record {
       cause = λ clean.
-          let now : IsClean (view c.in-Err-open.store) = no_doubt _ clean in
+          let now : IsClean (view c.in-Err.store) = no_doubt _ clean in
           let early : IsClean (view store) = omega (arith, kept.clean, now) in
           let finds = given.found (clean_of _ early) in
           let counts : faults_of g.D.Disk c.args.files ≤ faults store =
           omega (arith, given.counts (clean_of _ early)) in
           rw c.table_fault.ensures (from_table _ _ _ (view store) _ _ _ (WhyUnopened image)
-          c.in-Err-open.fault counts (given.ready.is_open early)
+          c.in-Err.fault counts (given.ready.is_open early)
           (λ foreign. is_foreign image (view store).trees finds
           (foreign (has_tables store given.schema)))
           (λ unfounded. ∥∥₁_map
           (can_be_founded image (view store).trees finds
           (given.replays (clean_of _ early)) unfounded) (is_unfounded image))
-          (λ founded. founded) (c.in-Err-open.ensures.reason now));
+          (λ founded. founded) (c.in-Err.ensures.reason now));
       spared = λ clean db may.
-          let now : IsClean (view c.in-Err-open.store) = no_doubt _ clean in
+          let now : IsClean (view c.in-Err.store) = no_doubt _ clean in
           let early : IsClean (view store) = omega (arith, kept.clean, now) in
           finds_rows image (view store).trees (given.found (clean_of _ early)) db
           (elim (kept.outcomes now db may) [
