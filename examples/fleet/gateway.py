@@ -101,16 +101,27 @@ def living(image, device):
     return device.life[1]
 
 
+def told(alive, request):
+    """What a device tells that is sent a request."""
+    lines = alive.run(STEPS_BETWEEN)
+    alive.rx(request.message[:36])
+    lines += alive.run(STEPS_BETWEEN)
+    alive.rx(request.message[36:])
+    return lines + alive.run(STEPS_AFTER)
+
+
 def attested(image, device):
     """The report of a device on the request that came; None where it makes none."""
     _, _, _, challenge, count, _, token = device.reply.split()
     request = foldgneiss.Request(bytes.fromhex(challenge), int(count), bytes.fromhex(token))
-    alive, lines = living(image, device), []
-    for part, steps in ((b"", STEPS_BETWEEN), (request.message[:36], STEPS_BETWEEN),
-                        (request.message[36:], STEPS_AFTER)):
-        if part:
-            alive.rx(part)
-        lines += alive.run(steps)
+    try:
+        lines = told(living(image, device), request)
+    except foldgneiss.Failure as failure:
+        # A process that was killed is a device whose power is cut: it lives anew.
+        if failure.status >= 0:
+            raise
+        device.life = None
+        return None
     return next((f"{line}" for line in lines if isinstance(line, foldgneiss.Report)), None)
 
 
