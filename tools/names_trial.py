@@ -261,8 +261,8 @@ def statements(trial, text):
 
 def laws(trial, text):
     """The table has each law; a file of laws that stands alone stands for all of them."""
-    named, alone = {*SPAN.findall(text)}, {*re.findall(r"`(\w+/src/law\.rt)`(?!:)", text)}
-    for path in sorted(glob.glob(f"{ROOT}/crates/*/src/law.rt")):
+    named, alone = {*SPAN.findall(text)}, {*re.findall(r"`(\w+/src/\w*law\.rt)`(?!:)", text)}
+    for path in sorted(glob.glob(f"{ROOT}/crates/*/src/*law.rt")):
         name = "/".join(path.split("/")[-3:])
         for law in re.findall(r"^pub fn (\w+)\(\)", read(path).decode(), re.M):
             trial.tries += 1

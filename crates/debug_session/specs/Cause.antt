@@ -6,14 +6,14 @@ use Rattle.bus_signals.specs.declared.rule.Rule.TheVariants.{X0}
 use Rattle.bus_signals.specs.Kind.{is_boot, is_cpu, is_rom}
 use Rattle.bus_signals.specs.Map.{ROM_ENTRY}
 use Rattle.part_definitions.specs.CpuRegister.{is_asleep, pc_of}
-use Rattle.debug_stops.specs.Stops.{Stops, has_breakpoint}
-use Rattle.debug_stops.specs.Watched.{first_hit, last_hit}
-use Rattle.debug_stops.specs.declared.stop.Stop.{Stop}
-use Rattle.debug_stops.specs.declared.stop.Stop.TheVariants.{Plain, Stepped, Watched, Refused}
-use Rattle.debug_stops.specs.declared.watch.Hit.{Hit}
-use Rattle.debug_stops.specs.declared.watch.Watch.{Watch}
-use Rattle.debug_commands.specs.declared.command.Way.{Way}
-use Rattle.debug_commands.specs.declared.command.Way.TheVariants.{Ahead, Back}
+use Rattle.debug_session.specs.Stops.{Stops, has_breakpoint}
+use Rattle.debug_session.specs.Watched.{first_hit, last_hit}
+use Rattle.debug_session.specs.declared.stop.Stop.{Stop}
+use Rattle.debug_session.specs.declared.stop.Stop.TheVariants.{Plain, Stepped, Watched, Refused}
+use Rattle.debug_session.specs.declared.watch.Hit.{Hit}
+use Rattle.debug_session.specs.declared.watch.Watch.{Watch}
+use Rattle.debug_session.specs.declared.command.Way.{Way}
+use Rattle.debug_session.specs.declared.command.Way.TheVariants.{Ahead, Back}
 use Rattle.debug_session.specs.Sight.{Sight, View}
 
 -- where a step stops, too: it leads over instructions of this level at most, to a PC that is not in

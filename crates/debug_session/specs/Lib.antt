@@ -1,3 +1,10 @@
+pub mod StopReply
+pub mod Stops
+pub mod Watched
+pub mod Action
+pub mod Command
+pub mod Number
+pub mod Request
 pub mod Cause
 pub mod Going
 pub mod Monitor

@@ -14,11 +14,11 @@ use Rattle.device_trace.specs.Start.{Start}
 use Rattle.device_trace.specs.Step.{next_record}
 use Rattle.device_trace.specs.Text.{lines_of_step}
 use Rattle.device_trace.specs.Trace.{logs_after, play_of}
-use Rattle.trace_line.specs.LineText.{trace_line}
-use Rattle.clean_trace.specs.TraceText.{next_line}
-use Rattle.debug_commands.specs.Request.{most_steps}
+use Rattle.trace_files.specs.LineText.{trace_line}
+use Rattle.trace_files.specs.TraceText.{next_line}
+use Rattle.debug_session.specs.Request.{most_steps}
 use Rattle.debug_session.specs.Sight.{Sight, StepSight, View}
-use Rattle.debug_stops.specs.Watched.{hits_of, seen_accesses}
+use Rattle.debug_session.specs.Watched.{hits_of, seen_accesses}
 
 -- what a device is powered on with, and the events of each of its steps
 pub record Run : Type 0 where

@@ -4,19 +4,19 @@ use Rattle.printed_lines.specs.Line.{reset_line}
 use Rattle.debug_link.specs.Console.{console}
 use Rattle.debug_link.specs.Conversation.{Answer}
 use Rattle.debug_link.specs.declared.connection.Connection.TheVariants.{Open, Closed}
-use Rattle.debug_stops.specs.StopReply.{stop_reply}
-use Rattle.debug_stops.specs.Stops.{Stops, no_stops, with_change}
-use Rattle.debug_stops.specs.declared.stop.Stop.{Stop}
-use Rattle.debug_stops.specs.declared.stop.Stop.TheVariants as stop
-use Rattle.debug_commands.specs.Command.{command_of}
-use Rattle.debug_commands.specs.Request.{most_steps}
-use Rattle.debug_commands.specs.declared.command.Command.{Command}
-use Rattle.debug_commands.specs.declared.command.Going.{Going}
-use Rattle.debug_commands.specs.declared.command.Way.{Way}
-use Rattle.debug_commands.specs.declared.command.Way.TheVariants.{Ahead, Back}
-use Rattle.debug_commands.specs.declared.command.Command.TheVariants.{Supported, LastStop, Attached, Registers, Memory, Change, Actions, Go, Monitor, Detach, Kill, Refused, Unknown}
-use Rattle.debug_commands.specs.declared.request.Request.{Request}
-use Rattle.debug_commands.specs.declared.request.Request.TheVariants.{Until}
+use Rattle.debug_session.specs.StopReply.{stop_reply}
+use Rattle.debug_session.specs.Stops.{Stops, no_stops, with_change}
+use Rattle.debug_session.specs.declared.stop.Stop.{Stop}
+use Rattle.debug_session.specs.declared.stop.Stop.TheVariants as stop
+use Rattle.debug_session.specs.Command.{command_of}
+use Rattle.debug_session.specs.Request.{most_steps}
+use Rattle.debug_session.specs.declared.command.Command.{Command}
+use Rattle.debug_session.specs.declared.command.Going.{Going}
+use Rattle.debug_session.specs.declared.command.Way.{Way}
+use Rattle.debug_session.specs.declared.command.Way.TheVariants.{Ahead, Back}
+use Rattle.debug_session.specs.declared.command.Command.TheVariants.{Supported, LastStop, Attached, Registers, Memory, Change, Actions, Go, Monitor, Detach, Kill, Refused, Unknown}
+use Rattle.debug_session.specs.declared.request.Request.{Request}
+use Rattle.debug_session.specs.declared.request.Request.TheVariants.{Until}
 use Rattle.debug_session.specs.Going.{Standing, interrupted, where_to}
 use Rattle.debug_session.specs.Monitor.{request_text}
 use Rattle.debug_session.specs.Shown.{memory_body, registers_shown}

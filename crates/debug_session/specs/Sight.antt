@@ -3,8 +3,8 @@ use Rattle.std.specs.Prelude.{ℕ, Bool, List, Option}
 use Rattle.bus_signals.specs.declared.kind.Kind.{Kind}
 use Rattle.bus_signals.specs.declared.rule.Rule.{Rule}
 use Rattle.part_definitions.specs.CpuRegister.{Registers}
-use Rattle.debug_stops.specs.declared.watch.Hit.{Hit}
-use Rattle.debug_stops.specs.declared.watch.Watch.{Watch}
+use Rattle.debug_session.specs.declared.watch.Hit.{Hit}
+use Rattle.debug_session.specs.declared.watch.Watch.{Watch}
 
 -- of the step that the device makes there next, and which of some watches it hits
 pub record StepSight : Type 0 where

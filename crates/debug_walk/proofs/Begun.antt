@@ -3,7 +3,7 @@ use Rattle.std.proofs.Common.{◌≡◌, ℕ, Result, Ok, Err, inr, subst, sym}
 use Rattle.std.specs.Prelude.{IfOk, List}
 use Rattle.hmac_core.specs.Hash.{Hash}
 use Rattle.debug_session.specs.Place.{Run}
-use Rattle.debug_stops.specs.declared.watch.Watch.{Watch}
+use Rattle.debug_session.specs.declared.watch.Watch.{Watch}
 use Rattle.debug_walk.specs.Copies.{IsBegun}
 use Rattle.debug_walk.specs.Walk.{IsStretch, Walks, place_of}
 use Rattle.debug_walk.specs.declared.walk.Walk.{Walk}

@@ -21,10 +21,10 @@ use Rattle.device_trace.specs.Progress.{Held, stands_at_boundary}
 use Rattle.device_trace.specs.Signals.{signals_at}
 use Rattle.device_trace.specs.Step.{next_record, record_of}
 use Rattle.device_trace.specs.Trace.{logs_after}
-use Rattle.debug_stops.specs.Watched.{data_access, flag_access, hits_by, made_access}
-use Rattle.debug_stops.specs.declared.watch.Hit.{Hit}
-use Rattle.debug_stops.specs.declared.watch.Watch.{Watch}
-use Rattle.debug_commands.specs.declared.command.Way.TheVariants.{Ahead, Back}
+use Rattle.debug_session.specs.Watched.{data_access, flag_access, hits_by, made_access}
+use Rattle.debug_session.specs.declared.watch.Hit.{Hit}
+use Rattle.debug_session.specs.declared.watch.Watch.{Watch}
+use Rattle.debug_session.specs.declared.command.Way.TheVariants.{Ahead, Back}
 use Rattle.debug_session.specs.Cause.{behind, hit_on, hits}
 use Rattle.debug_session.specs.Place.{Run, aux_at, differs, exec_at, logs_at, sight_at, step_at, step_sight, view_of}
 use Rattle.debug_session.specs.Sight.{Sight, StepSight}

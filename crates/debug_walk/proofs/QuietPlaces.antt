@@ -22,13 +22,13 @@ use Rattle.trace_facts.proofs.ProperPlay.{IsProperProgress, logs_after-proper}
 use Rattle.trace_facts.proofs.ProperRegisters.{IsProper}
 use Rattle.device_core.specs.Quiet.{IsOfProcessor, IsQuiet}
 use Rattle.device_core.specs.Silence.{is_silent}
-use Rattle.debug_commands.specs.Request.{most_steps}
+use Rattle.debug_session.specs.Request.{most_steps}
 use Rattle.debug_session.specs.Cause.{is_broken_at}
 use Rattle.debug_session.specs.Place.{Run, aux_at, differs, exec_at, logs_at, play_to, sight_at, step_at, step_sight}
 use Rattle.debug_session.specs.Sight.{StepSight}
-use Rattle.debug_stops.specs.Stops.{Stops, has_breakpoint}
-use Rattle.debug_stops.specs.Watched.{hit_by, hits_by, hits_by_access, is_hit, made_access}
-use Rattle.debug_stops.specs.declared.watch.Watch.{Watch}
+use Rattle.debug_session.specs.Stops.{Stops, has_breakpoint}
+use Rattle.debug_session.specs.Watched.{hit_by, hits_by, hits_by_access, is_hit, made_access}
+use Rattle.debug_session.specs.declared.watch.Watch.{Watch}
 use Rattle.debug_walk.specs.Passing.{IsSilent, Sleeps, is_passed, is_unasked}
 use Rattle.debug_walk.proofs.Places.{heard_at, step-cpu, step-kind, step-progress}
 use Rattle.debug_walk.proofs.Views.{some-same}

@@ -11,16 +11,16 @@ use Rattle.trace_facts.proofs.Choices.{none_there}
 use Rattle.device_core.specs.Device.{steps_made}
 use Rattle.device_core.specs.declared.live.Live.{Live}
 use Rattle.device_play.specs.Midway.{HasGoneQuietlyOn}
-use Rattle.debug_commands.specs.Request.{most_steps}
-use Rattle.debug_commands.specs.declared.command.Way.TheVariants.{Ahead}
+use Rattle.debug_session.specs.Request.{most_steps}
+use Rattle.debug_session.specs.declared.command.Way.TheVariants.{Ahead}
 use Rattle.debug_session.specs.Cause.{begins_within, behind, boots, hit_on, hits, is_broken_at, is_due}
 use Rattle.debug_session.specs.Place.{Run, sight_at, view_of}
 use Rattle.debug_session.specs.Sight.{Sight}
 use Rattle.debug_session.proofs.Views.{view-at}
-use Rattle.debug_stops.specs.Stops.{Stops}
-use Rattle.debug_stops.specs.Watched.{first_hit}
-use Rattle.debug_stops.specs.declared.watch.Hit.{Hit}
-use Rattle.debug_stops.specs.declared.watch.Watch.{Watch}
+use Rattle.debug_session.specs.Stops.{Stops}
+use Rattle.debug_session.specs.Watched.{first_hit}
+use Rattle.debug_session.specs.declared.watch.Hit.{Hit}
+use Rattle.debug_session.specs.declared.watch.Watch.{Watch}
 use Rattle.debug_walk.specs.Passing.{ArePassed, IsCapped, Sleeps, is_passed}
 use Rattle.debug_walk.specs.Stretch.{stretch_from}
 use Rattle.debug_walk.specs.Walk.{TellsCause}

@@ -4,15 +4,15 @@ use Rattle.std.specs.Prelude.{◌==◌, ◌&&◌, ◌||◌, nat_le}
 use Rattle.std.proofs.lemmas.Bool.{cases_Bool, cond-false, cond-true, false≢true}
 use Rattle.std.proofs.lemmas.Bool.Decides.{nat_tests}
 use Rattle.std.proofs.lemmas.List.{length_push}
-use Rattle.debug_commands.specs.Request.{most_steps}
-use Rattle.debug_commands.specs.declared.command.Way.TheVariants.{Ahead}
+use Rattle.debug_session.specs.Request.{most_steps}
+use Rattle.debug_session.specs.declared.command.Way.TheVariants.{Ahead}
 use Rattle.debug_session.specs.Cause.{begins_within, behind, hit_on, hits, is_due}
 use Rattle.debug_session.specs.Place.{Run, sight_at, step_at, step_sight, view_of}
 use Rattle.debug_session.specs.Sight.{Sight, StepSight}
 use Rattle.debug_session.proofs.Views.{next-at, view-at}
-use Rattle.debug_stops.specs.Stops.{Stops}
-use Rattle.debug_stops.specs.Watched.{hits_of}
-use Rattle.debug_stops.specs.declared.seen_accesses.SeenAccesses.{SeenAccesses}
+use Rattle.debug_session.specs.Stops.{Stops}
+use Rattle.debug_session.specs.Watched.{hits_of}
+use Rattle.debug_session.specs.declared.seen_accesses.SeenAccesses.{SeenAccesses}
 use Rattle.debug_walk.specs.Stretch.{stretch_from, stretch_with}
 use Rattle.debug_walk.specs.Walk.{TellsCause, stretch_there}
 use Rattle.debug_walk.specs.declared.stretch.Stretch.{Stretch}

@@ -10,13 +10,13 @@ use Rattle.play_script.specs.declared.playback.Playback.{Playback}
 use Rattle.device_core.specs.Device.{OfLive, steps_made}
 use Rattle.device_core.specs.declared.live.Live.{Live}
 use Rattle.device_play.specs.Midway.{IsMidway}
-use Rattle.debug_commands.specs.Request.{most_steps}
+use Rattle.debug_session.specs.Request.{most_steps}
 use Rattle.debug_session.specs.Place.{Run, aux_at, differs, exec_at, sight_at, step_at, step_sight, view_of}
 use Rattle.debug_session.specs.Sight.{Sight}
 use Rattle.debug_session.proofs.Views.{view-at}
-use Rattle.debug_stops.specs.Watched.{hits_of, seen_accesses}
-use Rattle.debug_stops.specs.declared.seen_accesses.SeenAccesses.{SeenAccesses}
-use Rattle.debug_stops.specs.declared.watch.Watch.{Watch}
+use Rattle.debug_session.specs.Watched.{hits_of, seen_accesses}
+use Rattle.debug_session.specs.declared.seen_accesses.SeenAccesses.{SeenAccesses}
+use Rattle.debug_session.specs.declared.watch.Watch.{Watch}
 use Rattle.debug_walk.specs.Stretch.{stretch_from}
 use Rattle.debug_walk.specs.Walk.{IsStretch, stretch_there}
 use Rattle.debug_walk.specs.declared.stretch.Stretch.{Stretch}

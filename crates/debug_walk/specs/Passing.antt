@@ -5,8 +5,8 @@ use Rattle.bus_signals.specs.declared.access.Access.TheVariants.{Fetch}
 use Rattle.bus_signals.specs.declared.kind.Kind.TheVariants.{Idle}
 use Rattle.debug_session.specs.Cause.{behind, hits, is_plain}
 use Rattle.debug_session.specs.Place.{Run, sight_at, view_of}
-use Rattle.debug_stops.specs.Stops.{Stops, has_breakpoint}
-use Rattle.debug_stops.specs.Watched.{is_hit}
+use Rattle.debug_session.specs.Stops.{Stops, has_breakpoint}
+use Rattle.debug_session.specs.Watched.{is_hit}
 
 -- an access at no breakpoint, which hits no watch; none where each instruction counts
 abbrev pub is_unasked : Stops → Access → Bool

@@ -4,9 +4,9 @@ use Rattle.std.specs.Option.{option_or}
 use Rattle.bus_signals.specs.Kind.{is_boot, is_cpu, is_rom}
 use Rattle.bus_signals.specs.declared.bus_record.BusRecord.{BusRecord}
 use Rattle.bus_signals.specs.declared.kind.Kind.{Kind}
-use Rattle.debug_stops.specs.Watched.{first_hit, hits_of, last_hit}
-use Rattle.debug_stops.specs.declared.seen_accesses.SeenAccesses.{SeenAccesses}
-use Rattle.debug_stops.specs.declared.watch.Watch.{Watch}
+use Rattle.debug_session.specs.Watched.{first_hit, hits_of, last_hit}
+use Rattle.debug_session.specs.declared.seen_accesses.SeenAccesses.{SeenAccesses}
+use Rattle.debug_session.specs.declared.watch.Watch.{Watch}
 use Rattle.debug_walk.specs.declared.stretch.Stretch.{Stretch}
 
 abbrev pub is_instruction : Kind → Bool

@@ -3,24 +3,24 @@ use Rattle.std.specs.Prelude.{◌≡◌, ◌<◌, ◌⊎◌, ◌&&◌, ◌-◌, 
 use Rattle.std.specs.Option.{option_or}
 use Rattle.bus_signals.specs.declared.rule.Rule.{Rule}
 use Rattle.bus_signals.specs.TraceFlag.{Flag}
-use Rattle.debug_commands.specs.declared.command.Way.TheVariants.{Ahead, Back}
+use Rattle.debug_session.specs.declared.command.Way.TheVariants.{Ahead, Back}
 use Rattle.debug_session.specs.Cause.{begins_within, behind, boots, hit_on, hits, is_due}
 use Rattle.debug_session.specs.Place.{Run, sight_at, view_of}
 use Rattle.debug_session.specs.Sight.{Sight}
-use Rattle.debug_stops.specs.Stops.{Stops}
-use Rattle.debug_stops.specs.declared.watch.Watch.{Watch}
+use Rattle.debug_session.specs.Stops.{Stops}
+use Rattle.debug_session.specs.declared.watch.Watch.{Watch}
 use Rattle.debug_walk.specs.Stretch.{stretch_from}
 use Rattle.debug_walk.specs.declared.stretch.Stretch.{Stretch}
 use Rattle.debug_walk.specs.declared.walk.Walk.{Walk}
 use Rattle.device_core.specs.Device.{steps_made}
 use Rattle.device_core.specs.declared.live.Live.{Live}
 use Rattle.device_play.specs.Midway.{IsMidway}
-use Rattle.exec_automaton.specs.RunFlag.{flag_of_run}
-use Rattle.exec_automaton.specs.declared.run_flag.RunFlag.{RunFlag}
+use Rattle.execution_flags.specs.RunFlag.{flag_of_run}
+use Rattle.execution_flags.specs.declared.run_flag.RunFlag.{RunFlag}
 use Rattle.hmac_core.specs.Hash.{Hash}
 use Rattle.part_definitions.specs.TrustedFlag.{aux}
 use Rattle.play_script.specs.declared.playback.Playback.{Playback}
-use Rattle.isr_flag.specs.declared.isr_flag.AuxConditions.{AuxConditions}
+use Rattle.execution_flags.specs.declared.isr_flag.AuxConditions.{AuxConditions}
 
 -- the second flag of its device
 abbrev pub SecondFlag : Type 0

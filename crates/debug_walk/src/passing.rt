@@ -1,7 +1,7 @@
 ghost use Rattle.std.specs.Prelude.{◌≡◌};
 
 use bus_signals::Access;
-use debug_stops::StopList;
+use debug_session::StopList;
 use device_core::Quiet;
 
 /// What a row of steps goes over while a debugger looks for a cause: neither breakpoints nor

@@ -1,12 +1,12 @@
 ghost use Rattle.std.specs.Prelude.{◌≡◌, IfOk, List};
-ghost use Rattle.debug_stops.specs.declared.watch.Watch.{Watch};
+ghost use Rattle.debug_session.specs.declared.watch.Watch.{Watch};
 ghost use Rattle.debug_walk.specs.PlayedRun.{played_run};
 ghost use Rattle.debug_walk.specs.Walk.{IsStretch, Walks, place_of};
 
 use crate::walk::Walk;
 use device_core::{Live, power_on};
+use execution_flags::IsrFlag;
 use hmac_core::Digest32;
-use isr_flag::IsrFlag;
 use mem_map::Image;
 use play_script::Script;
 use std::alloc::{AllocError, Global};

@@ -3,7 +3,7 @@ ghost use Rattle.debug_session.specs.Cause.{is_due, refusal_or};
 ghost use Rattle.debug_walk.specs.Stretch.{is_instruction, stretch_from, stretch_with};
 
 use bus_signals::{BusRecord, Kind, Rule};
-use debug_stops::{Hit, SeenAccesses, Watch};
+use debug_session::{Hit, SeenAccesses, Watch};
 
 /// What the steps from a boundary on did, up to the next one.
 #[derive(Clone, Copy, Debug)]

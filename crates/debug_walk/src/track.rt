@@ -1,5 +1,5 @@
 ghost use Rattle.std.specs.Prelude.{◌≡◌, ◌≤◌, ◌⊎◌, IfOk, true};
-ghost use Rattle.debug_commands.specs.Request.{most_steps};
+ghost use Rattle.debug_session.specs.Request.{most_steps};
 ghost use Rattle.debug_session.specs.Place.{Run as PlayedRun, sight_at};
 ghost use Rattle.debug_walk.specs.Copies.{IsAt, IsBefore, IsBegun, TrackStandsFor};
 ghost use Rattle.debug_walk.specs.PlayedRun.{played_run};

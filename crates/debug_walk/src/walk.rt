@@ -1,9 +1,9 @@
 ghost use Rattle.std.specs.Prelude.{◌≡◌, ◌<◌, ◌≤◌, ◌+◌, ◌-◌, ◌⊎◌, ◌||◌, Bool, IfOk, IfSome, false, max, min, true};
 ghost use Rattle.part_definitions.specs.CpuRegister.{is_asleep, pc_of};
-ghost use Rattle.debug_commands.specs.Request.{most_steps};
+ghost use Rattle.debug_session.specs.Request.{most_steps};
 ghost use Rattle.debug_session.specs.Cause.{is_awake, is_broken_at, is_due};
 ghost use Rattle.debug_session.specs.Place.{Run, differs, sight_at};
-ghost use Rattle.debug_stops.specs.Stops.{Stops, is_empty};
+ghost use Rattle.debug_session.specs.Stops.{Stops, is_empty};
 ghost use Rattle.debug_walk.specs.Copies.{IsCopy};
 ghost use Rattle.debug_walk.specs.Passing.{ArePassed, AreSilent, IsCapped};
 ghost use Rattle.debug_walk.specs.Stretch.{stretch_from};
@@ -13,12 +13,11 @@ ghost use Rattle.device_core.specs.Device.{HasStepped, steps_made};
 use crate::passing::Passing;
 use crate::stretch::Stretch;
 use bus_signals::ROM_ENTRY;
-use debug_commands::MOST_STEPS;
-use debug_stops::{SeenAccesses, StopList, Watch};
+use debug_session::{MOST_STEPS, SeenAccesses, StopList, Watch};
 use device_core::Live;
 use device_play::{LineWatcher, TraceWatcher, go_quietly, play_to_shown};
+use execution_flags::IsrFlag;
 use hmac_core::Digest32;
-use isr_flag::IsrFlag;
 use play_script::Playback;
 use std::alloc::{AllocError, Global};
 

@@ -8,17 +8,17 @@ use Rattle.sqlite_pool.specs.Stored.{RecoversAs}
 use Rattle.sqlite_store.specs.declared.store.FileStore.{FileStore}
 use Rattle.desk_memory.specs.Entry.{Entry}
 use Rattle.desk_memory.specs.SizedEntry.{are_sized}
-use Rattle.memory_file.specs.Fault.{IsOfPath}
-use Rattle.memory_file.specs.Held.{HoldsMemory, HoldsNothing}
-use Rattle.memory_file.specs.Opening.{FailsAs, IsCleanLeft, IsMadeOver, IsOpenOver, Leaves, WhyUnmade, WhyUnopened}
-use Rattle.memory_file.specs.Opening as opening
-use Rattle.memory_file.specs.Table.{page_size}
-use Rattle.memory_file.specs.declared.left.Left.{Left}
-use Rattle.memory_file.specs.declared.left.Left.TheVariants as left
-use Rattle.memory_file.specs.declared.memory_file_fault.MemoryFileFault.{MemoryFileFault}
-use Rattle.memory_file.specs.declared.memory_file_fault.MemoryFileFault.TheVariants.{Place, Missing, InUse, HotJournal, Foreign, Disk, Full, OutOfMemory, Unfounded, Founded, OtherLog}
-use Rattle.memory_file.proofs.FoundOnce.{not_founded, not_unfounded}
-use Rattle.memory_file.proofs.HeldLemmas.{memory_carried, memory_is_something}
+use Rattle.desk_database.specs.Fault.{IsOfPath}
+use Rattle.desk_database.specs.Held.{HoldsMemory, HoldsNothing}
+use Rattle.desk_database.specs.Opening.{FailsAs, IsCleanLeft, IsMadeOver, IsOpenOver, Leaves, WhyUnmade, WhyUnopened}
+use Rattle.desk_database.specs.Opening as opening
+use Rattle.desk_database.specs.MemoryTables.{page_size}
+use Rattle.desk_database.specs.declared.left.Left.{Left}
+use Rattle.desk_database.specs.declared.left.Left.TheVariants as left
+use Rattle.desk_database.specs.declared.memory_file_fault.MemoryFileFault.{MemoryFileFault}
+use Rattle.desk_database.specs.declared.memory_file_fault.MemoryFileFault.TheVariants.{Place, Missing, InUse, HotJournal, Foreign, Disk, Full, OutOfMemory, Unfounded, Founded, OtherLog}
+use Rattle.desk_database.proofs.FoundOnce.{not_founded, not_unfounded}
+use Rattle.desk_database.proofs.HeldLemmas.{memory_carried, memory_is_something}
 use Rattle.desk_cli.specs.declared.refusals.Refusals.{Refusals}
 use Rattle.desk_cli.specs.MemoryFiles.{IsUnopened, Request, ToldMemories}
 use Rattle.desk_cli.specs.StoreFiles.{FindsIn, FindsLeft, FindsNow, IsFullLeft, FailsNow, IsCounted, IsFullNow, IsHonestNow, LeavesNow, faults_left, faults_now, keeps_as, told_over, why_of}

@@ -19,7 +19,7 @@ use Rattle.text_scan.specs.declared.fault_kind.FaultKind.TheVariants.{Digit}
 use Rattle.desk_memory.specs.declared.answer.Answer.{Answer}
 use Rattle.desk_memory.specs.Entry.{Entry, first_home, last_in, with_entries}
 use Rattle.desk_memory.specs.SizedEntry.{is_short, is_short_answer, is_short_line, is_short_number}
-use Rattle.state_table.proofs.AnswerWords.{answer-are, short-plain}
+use Rattle.desk_database.proofs.AnswerWords.{answer-are, short-plain}
 use Rattle.verifier_desk.specs.DeviceKey.{is_name_character, name_fault}
 use Rattle.desk_cli.specs.declared.line_form.LineForm.{LineForm}
 use Rattle.desk_cli.specs.declared.line_form.LineForm.TheVariants.{VersionOne, Here, Gone}

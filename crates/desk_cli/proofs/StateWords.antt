@@ -16,7 +16,7 @@ use Rattle.desk_memory.specs.declared.answer.Answer.{Answer}
 use Rattle.desk_memory.specs.declared.answer.Answer.TheVariants.{Stale, Bad, Spent, Requested, Judged}
 use Rattle.desk_memory.specs.declared.device_state.DeviceState.{DeviceState}
 use Rattle.desk_memory.specs.AnswerText.{answer_text, answer_words}
-use Rattle.state_table.proofs.AnswerWords.{answer-read, count-read, short}
+use Rattle.desk_database.proofs.AnswerWords.{answer-read, count-read, short}
 use Rattle.desk_memory.specs.Entry.{Entry, first_home}
 use Rattle.text_scan.specs.FaultName.{fault_name}
 use Rattle.desk_memory.specs.SizedEntry.{is_short, is_short_answer, is_short_line, is_short_number, is_sized}

@@ -1,8 +1,8 @@
 -- What a run answers to each end of its parts.
 use Rattle.desk_memory.specs.declared.memory_fault.MemoryFault.{MemoryFault}
 use Rattle.desk_memory.specs.declared.memory_fault.MemoryFault.TheVariants as kept
-use Rattle.memory_file.specs.declared.memory_file_fault.MemoryFileFault.{MemoryFileFault}
-use Rattle.memory_file.specs.declared.memory_file_fault.MemoryFileFault.TheVariants as opened
+use Rattle.desk_database.specs.declared.memory_file_fault.MemoryFileFault.{MemoryFileFault}
+use Rattle.desk_database.specs.declared.memory_file_fault.MemoryFileFault.TheVariants as opened
 use Rattle.source_server.specs.declared.served.Served.{Served}
 use Rattle.source_server.specs.declared.served.Served.TheVariants as served
 use Rattle.verifier_desk.specs.declared.answer_fault.AnswerFault.{AnswerFault}

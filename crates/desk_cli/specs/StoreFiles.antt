@@ -10,14 +10,14 @@ use Rattle.sqlite_store.specs.FileStore.{recovers}
 use Rattle.sqlite_store.specs.Unopened.{StopsCreating, state_of}
 use Rattle.desk_memory.specs.Entry.{Entry}
 use Rattle.desk_memory.specs.SizedEntry.{are_sized}
-use Rattle.state_table.specs.Table.{FindsEntries, IsMemoryOf}
-use Rattle.memory_file.specs.Held.{HoldsMemory, IsKept, IsSpared}
-use Rattle.memory_file.specs.Log.{stored_page}
-use Rattle.memory_file.specs.Opening.{IsCleanLeft, Leaves, WhyUnmade, WhyUnopened, faults_of, image_of}
-use Rattle.memory_file.specs.declared.left.Left.{Left}
-use Rattle.memory_file.specs.declared.left.Left.TheVariants as left
-use Rattle.memory_file.specs.declared.memory_file_fault.MemoryFileFault.{MemoryFileFault}
-use Rattle.memory_file.specs.declared.memory_file_fault.MemoryFileFault.TheVariants.{Disk, Full, HotJournal, InUse, Missing, OutOfMemory, Place}
+use Rattle.desk_database.specs.Table.{FindsEntries, IsMemoryOf}
+use Rattle.desk_database.specs.Held.{HoldsMemory, IsKept, IsSpared}
+use Rattle.desk_database.specs.Log.{stored_page}
+use Rattle.desk_database.specs.Opening.{IsCleanLeft, Leaves, WhyUnmade, WhyUnopened, faults_of, image_of}
+use Rattle.desk_database.specs.declared.left.Left.{Left}
+use Rattle.desk_database.specs.declared.left.Left.TheVariants as left
+use Rattle.desk_database.specs.declared.memory_file_fault.MemoryFileFault.{MemoryFileFault}
+use Rattle.desk_database.specs.declared.memory_file_fault.MemoryFileFault.TheVariants.{Disk, Full, HotJournal, InUse, Missing, OutOfMemory, Place}
 use Rattle.desk_cli.specs.declared.refusals.Refusals.{Refusals}
 use Rattle.desk_cli.specs.MemoryFiles.{Making, Opening, Request, ToldMemories}
 

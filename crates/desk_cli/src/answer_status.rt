@@ -3,9 +3,9 @@ ghost use Rattle.std.specs.Result.{result_err};
 ghost use Rattle.desk_cli.specs.Noting.{status_of_noted};
 ghost use Rattle.desk_cli.specs.Status.{status_of_served, status_of_unkept, status_of_unopened};
 
+use desk_database::MemoryFileFault;
 use desk_memory::MemoryFault;
 use input_files::{Status, Unfit};
-use memory_file::MemoryFileFault;
 use source_server::Served;
 use verifier_desk::AnswerFault;
 

@@ -1,5 +1,5 @@
+use desk_database::MemoryFileFault;
 use desk_memory::EntryMemory;
-use memory_file::MemoryFileFault;
 
 /// Memories that are opened or made by their names, one in all.
 pub trait MemoryFiles<M: EntryMemory> {

@@ -1,6 +1,6 @@
 ghost use Rattle.desk_cli.specs.StoreFiles.{IsCounted};
 
-use memory_file::MemoryFileFault;
+use desk_database::MemoryFileFault;
 
 /// How often the path of a memory was refused.
 #[derive(Clone, Copy, Debug)]

@@ -5,8 +5,8 @@ ghost use Rattle.desk_memory.specs.Entry.{home_fields};
 ghost use Rattle.desk_cli.specs.StateFile.{entry_of, home_said, last_of, last_with, moves_of, name_of, number_in, outstanding_of, state_of};
 
 use crate::line_form::LineForm;
+use desk_database::next_answer;
 use desk_memory::{Answer, DeviceState, Entry, Home, MARK};
-use state_table::next_answer;
 use std::alloc::Global;
 use text_scan::{FaultKind, WordFault, Words, decimal};
 use verifier_desk::check_name;

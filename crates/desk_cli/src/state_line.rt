@@ -4,10 +4,10 @@ ghost use Rattle.printed_lines.specs.Line.{with_pieces, line_of};
 ghost use Rattle.line_buffer.specs.declared.line_buffer.TheConstants.{ROOM};
 ghost use Rattle.desk_cli.specs.StateText.{desk_pieces, form_for, form_name, last_pieces, moves_pieces, number_piece, state_line, states_text};
 
+use desk_database::answer_text;
 use desk_memory::{Answer, Entry};
 use line_buffer::LineBuffer;
 use outside_edge::{Failed, Sink, put_all};
-use state_table::answer_text;
 
 /// Puts a line for each entry.
 pub fn put_states<W: Sink>(entries: &[Entry], sink: &mut W) -> Result<(), Failed>

@@ -2,10 +2,11 @@ ghost use Rattle.std.specs.Prelude.{◌≡◌, true, None};
 
 use crate::memory_files::MemoryFiles;
 use crate::refusals::Refusals;
-use memory_file::{Left, MemoryFileFault, MemoryPlaces, close_memory, make_memory, open_memory};
+use desk_database::{
+    Left, MemoryFileFault, MemoryPlaces, StoreMemory, close_memory, make_memory, open_memory,
+};
 use sqlite_disk::Disk;
 use sqlite_store::FileStore;
-use state_table::StoreMemory;
 use std::alloc::Global;
 
 /// A memory in two files.
@@ -32,7 +33,7 @@ pub struct StoreFiles<P: Drop, D: Disk, M: Drop> {
 impl<P: Drop, D: Disk + Drop> StoreFiles<P, D, FileMemory<D>> {
     ghost use Rattle.std.specs.Prelude.{◌≡◌, None, IfErr, OnErr, OnOk, false, true};
     ghost use Rattle.outside_edge.specs.Count.{Rose};
-    ghost use Rattle.memory_file.specs.declared.memory_file_fault.MemoryFileFault.TheVariants.{InUse};
+    ghost use Rattle.desk_database.specs.declared.memory_file_fault.MemoryFileFault.TheVariants.{InUse};
 
     pub fn new(alloc: Global, places: P) -> StoreFiles<P, D, FileMemory<D>>
         ensures { result.left ≡ None }

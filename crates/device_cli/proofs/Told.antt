@@ -9,7 +9,7 @@ use Rattle.hex_loader.specs.HexText.{hex_text}
 use Rattle.device_trace.specs.Play.{Play}
 use Rattle.device_trace.specs.Start.{Start}
 use Rattle.device_trace.specs.Text.{lines_of, play_text}
-use Rattle.clean_trace.specs.TraceText.{trace_text}
+use Rattle.trace_files.specs.TraceText.{trace_text}
 use Rattle.device_core.specs.declared.live.Live.{Live}
 use Rattle.report_verifier.specs.Judge.{Judge}
 use Rattle.device_play.specs.Account.{Account, whole_text}

@@ -7,7 +7,7 @@ use Rattle.input_files.specs.FileKind.{image_kind, key_kind, policy_kind, script
 use Rattle.input_files.specs.Reading.{Files}
 use Rattle.input_files.specs.declared.status.Status.{Status}
 use Rattle.input_files.specs.declared.status.Status.TheVariants.{Memory}
-use Rattle.clean_trace.specs.TraceText.{trace_text}
+use Rattle.trace_files.specs.TraceText.{trace_text}
 use Rattle.bus_signals.specs.Address.{Bytes}
 use Rattle.device_trace.specs.Play.{Play}
 use Rattle.device_trace.specs.Start.{Start}

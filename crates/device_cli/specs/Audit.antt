@@ -1,7 +1,7 @@
 -- The command `audit`: whether a trace file is clean.
 use Rattle.std.specs.Prelude.{ℕ, List, [], ◌∷◌, Option, Some, None, is_none}
-use Rattle.trace_audit.specs.declared.audited.Audited.{Audited}
-use Rattle.trace_audit.specs.AuditText.{audit_text}
+use Rattle.trace_files.specs.declared.audited.Audited.{Audited}
+use Rattle.trace_files.specs.AuditText.{audit_text}
 use Rattle.input_files.specs.Row.{read_file}
 use Rattle.device_cli.specs.Row.{Outcome, Row, plain, put}
 use Rattle.device_cli.specs.FileKind.{trace_kind}

@@ -1,6 +1,6 @@
 -- The command `list`: the listing of an image.
 use Rattle.std.specs.Prelude.{ℕ, List, [], ◌∷◌, Option, Some, None}
-use Rattle.msp_disasm.specs.Listing.{listing}
+use Rattle.msp_asm.specs.Listing.{listing}
 use Rattle.input_files.specs.Row.{read_file}
 use Rattle.device_cli.specs.Row.{Row, plain, put}
 use Rattle.input_files.specs.FileKind.{image_kind}

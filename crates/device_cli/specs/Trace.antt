@@ -2,10 +2,10 @@
 use Rattle.std.specs.Prelude.{◌≡◌, ℕ, List, [], ◌∷◌, Option, None, Ok, IfSome, bytes_eq, codes, if◌then◌else◌}
 use Rattle.device_trace.specs.Play.{Play}
 use Rattle.device_trace.specs.Start.{Start}
-use Rattle.trace_audit.specs.Clean.{IsClean}
-use Rattle.trace_line.specs.TraceFile.{trace_of}
-use Rattle.clean_trace.specs.KeylessLines.{HasKeylessLines}
-use Rattle.clean_trace.specs.TraceText.{trace_lines, trace_text}
+use Rattle.trace_files.specs.Clean.{IsClean}
+use Rattle.trace_files.specs.TraceFile.{trace_of}
+use Rattle.trace_files.specs.KeylessLines.{HasKeylessLines}
+use Rattle.trace_files.specs.TraceText.{trace_lines, trace_text}
 use Rattle.device_cli.specs.Row.{Outcome, Row, start_in}
 use Rattle.device_cli.specs.Play.{steps_row_of, text_outcome}
 

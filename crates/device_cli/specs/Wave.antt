@@ -1,10 +1,10 @@
 -- The command `wave`: the waveform of a play.
 use Rattle.std.specs.Prelude.{ℕ, List, Option}
 use Rattle.bus_signals.specs.Address.{Bytes}
-use Rattle.wave_dump.specs.WaveText.{wave_file}
+use Rattle.trace_files.specs.WaveText.{wave_file}
 use Rattle.device_trace.specs.Play.{Play}
 use Rattle.device_trace.specs.Start.{Start}
-use Rattle.clean_trace.specs.WaveSamples.{wave_samples}
+use Rattle.trace_files.specs.WaveSamples.{wave_samples}
 use Rattle.device_cli.specs.Row.{Row}
 use Rattle.device_cli.specs.Play.{text_outcome, steps_row_of}
 

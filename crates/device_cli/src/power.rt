@@ -1,7 +1,7 @@
 use bus_signals::TraceFlag;
 use device_core::{Device, Held, power_on};
+use execution_flags::IsrFlag;
 use hmac_core::{Digest32, Sha256Digest};
-use isr_flag::IsrFlag;
 use mem_map::Image;
 use std::alloc::{AllocError, Global};
 

@@ -10,7 +10,7 @@ use Rattle.bus_signals.specs.declared.signals.Signals.{Signals}
 use Rattle.part_definitions.specs.CpuRegister.{pc_of}
 use Rattle.part_definitions.specs.Dma.{dma_access}
 use Rattle.part_definitions.specs.FirstRule.{first_rule}
-use Rattle.irq_timer.specs.Ticks.{with_ticks}
+use Rattle.device_peripherals.specs.Ticks.{with_ticks}
 use Rattle.device_trace.specs.Blank.{blank_seen}
 use Rattle.device_trace.specs.Logs.{Logs, aux_of, logged_bounds}
 use Rattle.device_trace.specs.Peripherals.{Peripherals}

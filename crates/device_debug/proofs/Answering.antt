@@ -11,13 +11,13 @@ use Rattle.debug_link.specs.Writing.{Answers, PacketSink}
 use Rattle.debug_link.specs.declared.answer_fault.AnswerFault.{AnswerFault}
 use Rattle.debug_link.specs.declared.connection.Connection.{Connection}
 use Rattle.debug_link.specs.declared.connection.Connection.TheVariants.{Closed, Open}
-use Rattle.debug_commands.specs.Command.{command_of}
-use Rattle.debug_commands.specs.declared.request.Request.{Request}
-use Rattle.debug_commands.specs.declared.request.Request.TheVariants.{Until}
+use Rattle.debug_session.specs.Command.{command_of}
+use Rattle.debug_session.specs.declared.request.Request.{Request}
+use Rattle.debug_session.specs.declared.request.Request.TheVariants.{Until}
 use Rattle.debug_link.proofs.Bodies.{put_none}
 use Rattle.debug_session.specs.Place.{Run, view_of}
 use Rattle.debug_session.specs.Session.{Session, after_request, answer_of, closes, reply, says, with_stops}
-use Rattle.debug_stops.specs.Stops.{Stops}
+use Rattle.debug_session.specs.Stops.{Stops}
 use Rattle.debug_walk.specs.PlayedRun.{played_run}
 use Rattle.debug_walk.specs.Walk.{OfWalk}
 use Rattle.debug_walk.specs.declared.walk.Walk.{Walk}

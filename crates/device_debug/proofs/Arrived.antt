@@ -1,16 +1,16 @@
 -- A walk that stands where going back leads.
 use Rattle.std.proofs.Common.{◌≡◌, ◌≤◌, ◌<◌, inl, ℕ, true, Option, Some, None, refl, subst, sym, arith}
 use Rattle.hmac_core.specs.Hash.{Hash}
-use Rattle.debug_commands.specs.Request.{most_steps}
+use Rattle.debug_session.specs.Request.{most_steps}
 use Rattle.debug_session.specs.Cause.{Step}
 use Rattle.debug_session.specs.Going.{Standing, interrupted, last_stop}
 use Rattle.debug_session.specs.Place.{Run, sight_at, view_of}
 use Rattle.debug_session.specs.Sight.{Sight}
 use Rattle.debug_session.proofs.Scans.{last-none}
 use Rattle.debug_session.proofs.Views.{view-at}
-use Rattle.debug_stops.specs.Stops.{Stops}
-use Rattle.debug_stops.specs.declared.stop.Stop.{Stop}
-use Rattle.debug_stops.specs.declared.stop.Stop.TheVariants.{Begin, Interrupted}
+use Rattle.debug_session.specs.Stops.{Stops}
+use Rattle.debug_session.specs.declared.stop.Stop.{Stop}
+use Rattle.debug_session.specs.declared.stop.Stop.TheVariants.{Begin, Interrupted}
 use Rattle.debug_walk.specs.Copies.{IsAt, IsBegun}
 use Rattle.debug_walk.specs.Walk.{place_of}
 use Rattle.debug_walk.specs.declared.walk.Walk.{Walk}

@@ -8,12 +8,12 @@ use Rattle.bus_signals.specs.declared.kind.Kind.TheVariants.{Idle}
 use Rattle.bus_signals.specs.declared.rule.Rule.{Rule}
 use Rattle.bus_signals.specs.Kind.{is_boot, is_cpu, is_rom}
 use Rattle.part_definitions.specs.CpuRegister.{pc_of}
-use Rattle.debug_commands.specs.Request.{most_steps}
-use Rattle.debug_commands.specs.declared.command.Way.TheVariants.{Ahead, Back}
-use Rattle.debug_stops.specs.Stops.{Stops}
-use Rattle.debug_stops.specs.Watched.{last_hit}
-use Rattle.debug_stops.specs.declared.stop.Stop.{Stop}
-use Rattle.debug_stops.specs.declared.watch.Hit.{Hit}
+use Rattle.debug_session.specs.Request.{most_steps}
+use Rattle.debug_session.specs.declared.command.Way.TheVariants.{Ahead, Back}
+use Rattle.debug_session.specs.Stops.{Stops}
+use Rattle.debug_session.specs.Watched.{last_hit}
+use Rattle.debug_session.specs.declared.stop.Stop.{Stop}
+use Rattle.debug_session.specs.declared.watch.Hit.{Hit}
 use Rattle.debug_session.specs.Cause.{Step, ahead, begins_within, behind, boots, cause, hit_on, hits, is_plain, is_within, refusal, refusal_or, steps_over, stop_of}
 use Rattle.debug_session.specs.Going.{Standing, last_stop}
 use Rattle.debug_session.specs.Place.{Run, sight_at, view_of}
@@ -21,7 +21,7 @@ use Rattle.debug_session.specs.Sight.{Sight, View}
 use Rattle.debug_session.proofs.Scans.{last-at, last-none}
 use Rattle.debug_session.proofs.Stretches.{ahead-behind}
 use Rattle.debug_session.proofs.Views.{view-at}
-use Rattle.debug_stops.specs.declared.stop.Stop.TheVariants.{Begin}
+use Rattle.debug_session.specs.declared.stop.Stop.TheVariants.{Begin}
 use Rattle.debug_walk.specs.Passing.{IsPassed, Sleeps}
 use Rattle.debug_walk.specs.Walk.{IsStretch, first_refused}
 use Rattle.debug_walk.specs.declared.stretch.Stretch.{Stretch}

@@ -6,7 +6,7 @@ use Rattle.bus_signals.specs.declared.bus_record.BusRecord.{BusRecord}
 use Rattle.bus_signals.specs.declared.rule.Rule.{Rule}
 use Rattle.device_core.specs.Silence.{last_rule}
 use Rattle.device_trace.specs.Trace.{last_record, trace}
-use Rattle.debug_commands.specs.Request.{most_steps}
+use Rattle.debug_session.specs.Request.{most_steps}
 use Rattle.debug_session.specs.Cause.{refusal_or}
 use Rattle.debug_session.specs.Place.{Run, logs_at, no_step, play_to, sight_at, step_at, step_sight, view_of}
 use Rattle.debug_session.specs.Sight.{Sight, StepSight}

@@ -8,8 +8,8 @@ use Rattle.bus_signals.specs.declared.rule.Rule.{Rule}
 use Rattle.hmac_core.specs.Hash.{Hash}
 use Rattle.outside_edge.specs.declared.sink.Sink as sink
 use Rattle.printed_lines.specs.Line.{reset_line}
-use Rattle.debug_commands.specs.Request.{most_steps}
-use Rattle.debug_commands.specs.declared.command.Way.TheVariants.{Ahead}
+use Rattle.debug_session.specs.Request.{most_steps}
+use Rattle.debug_session.specs.declared.command.Way.TheVariants.{Ahead}
 use Rattle.debug_link.specs.Console.{console}
 use Rattle.debug_link.specs.Writing.{HasPut, PacketSink, PutsPackets}
 use Rattle.debug_link.specs.declared.answer_fault.AnswerFault.{AnswerFault}
@@ -21,10 +21,10 @@ use Rattle.debug_session.specs.Session.{lines_to, refused_step, told, warning}
 use Rattle.debug_session.specs.Sight.{Sight, StepSight, View}
 use Rattle.debug_session.proofs.Scans.{first-past}
 use Rattle.debug_session.proofs.Views.{next-at, view-at}
-use Rattle.debug_stops.specs.Stops.{Stops}
-use Rattle.debug_stops.specs.declared.stop.Stop.{Stop}
-use Rattle.debug_stops.specs.declared.stop.Stop.TheVariants.{End, Interrupted, Refused}
-use Rattle.debug_stops.specs.declared.watch.Hit.{Hit}
+use Rattle.debug_session.specs.Stops.{Stops}
+use Rattle.debug_session.specs.declared.stop.Stop.{Stop}
+use Rattle.debug_session.specs.declared.stop.Stop.TheVariants.{End, Interrupted, Refused}
+use Rattle.debug_session.specs.declared.watch.Hit.{Hit}
 use Rattle.debug_walk.specs.Copies.{IsAt}
 use Rattle.debug_walk.specs.Passing.{ArePassed, AreSilent, IsSilent}
 use Rattle.debug_walk.specs.Walk.{TellsCause, Walks, place_of}

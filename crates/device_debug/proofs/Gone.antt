@@ -8,12 +8,12 @@ use Rattle.debug_link.specs.Conversation.{Answer}
 use Rattle.debug_link.specs.Writing.{Answers, PacketSink, PutsPackets}
 use Rattle.debug_link.specs.declared.answer_fault.AnswerFault.{AnswerFault}
 use Rattle.debug_link.specs.declared.connection.Connection.{Connection}
-use Rattle.debug_commands.specs.Request.{most_steps}
-use Rattle.debug_commands.specs.declared.command.Going.{Going}
-use Rattle.debug_commands.specs.declared.command.Way.{Way}
-use Rattle.debug_commands.specs.declared.command.Way.TheVariants.{Ahead, Back}
-use Rattle.debug_commands.specs.declared.request.Request.{Request}
-use Rattle.debug_commands.specs.declared.request.Request.TheVariants.{Until}
+use Rattle.debug_session.specs.Request.{most_steps}
+use Rattle.debug_session.specs.declared.command.Going.{Going}
+use Rattle.debug_session.specs.declared.command.Way.{Way}
+use Rattle.debug_session.specs.declared.command.Way.TheVariants.{Ahead, Back}
+use Rattle.debug_session.specs.declared.request.Request.{Request}
+use Rattle.debug_session.specs.declared.request.Request.TheVariants.{Until}
 use Rattle.debug_session.specs.Cause.{Step, cause}
 use Rattle.debug_session.specs.Going.{Standing, first_stop, interrupted, last_stop, step_of, where_to}
 use Rattle.debug_session.specs.Monitor.{request_text}
@@ -21,9 +21,9 @@ use Rattle.debug_session.specs.Place.{Run, sight_at, view_of}
 use Rattle.debug_session.specs.Session.{Session, after_request, lines_to, monitored, says, stands_at}
 use Rattle.debug_session.specs.Sight.{Sight}
 use Rattle.debug_session.proofs.Views.{view-at}
-use Rattle.debug_stops.specs.StopReply.{stop_reply}
-use Rattle.debug_stops.specs.Stops.{Stops}
-use Rattle.debug_stops.specs.declared.stop.Stop.{Stop}
+use Rattle.debug_session.specs.StopReply.{stop_reply}
+use Rattle.debug_session.specs.Stops.{Stops}
+use Rattle.debug_session.specs.declared.stop.Stop.{Stop}
 use Rattle.debug_walk.specs.Copies.{TrackStandsFor}
 use Rattle.debug_walk.specs.PlayedRun.{played_run}
 use Rattle.debug_walk.specs.Walk.{OfWalk, Walks, place_of}

@@ -5,7 +5,7 @@ use Rattle.std.proofs.lemmas.Bool.{cond-true, eq-eqb, le-leb}
 use Rattle.debug_session.proofs.Between.{is-between}
 use Rattle.debug_session.specs.Going.{Standing, interrupted, lies_between}
 use Rattle.debug_session.specs.Sight.{View}
-use Rattle.debug_stops.specs.declared.stop.Stop.TheVariants.{Interrupted}
+use Rattle.debug_session.specs.declared.stop.Stop.TheVariants.{Interrupted}
 
 or-true : (one other : Bool) → other ≡ true → (one || other) ≡ true
 or-true true other is = refl

@@ -3,12 +3,12 @@ use Rattle.std.proofs.Common.{◌≡◌, ◌<◌, ◌-◌, ◌∙◌, ◌⊎◌,
 use Rattle.std.specs.Prelude.{◌&&◌, ◌||◌, nat_le, not, if◌then◌else◌}
 use Rattle.std.proofs.lemmas.Bool.{cond-true}
 use Rattle.part_definitions.specs.CpuRegister.{pc_of}
-use Rattle.debug_commands.specs.declared.command.Way.TheVariants.{Ahead}
+use Rattle.debug_session.specs.declared.command.Way.TheVariants.{Ahead}
 use Rattle.debug_session.specs.Cause.{Step, begins_within, behind, boots, cause_here, hit_on, hits, is_broken_at, is_due, is_plain, is_within, steps_over, stop_of}
 use Rattle.debug_session.specs.Place.{Run, sight_at, view_of}
 use Rattle.debug_session.specs.Sight.{Sight}
 use Rattle.debug_session.proofs.Stretches.{HasBegin, has-begin}
-use Rattle.debug_stops.specs.Stops.{Stops}
+use Rattle.debug_session.specs.Stops.{Stops}
 use Rattle.debug_walk.specs.Walk.{IsStretch, TellsCause}
 use Rattle.debug_walk.specs.declared.stretch.Stretch.{Stretch}
 use Rattle.device_debug.specs.Seek.{steps_by}

@@ -6,9 +6,9 @@ use Rattle.std.proofs.Math.Nat.{max-le}
 use Rattle.std.proofs.lemmas.Bool.{cases_Bool, cases_lt, cond-false, cond-true, ltb-false, ltb-true}
 use Rattle.hmac_core.specs.Hash.{Hash}
 use Rattle.part_definitions.specs.CpuRegister.{pc_of}
-use Rattle.debug_commands.specs.Request.{most_steps}
-use Rattle.debug_stops.specs.Stops.{Stops}
-use Rattle.debug_stops.specs.declared.stop.Stop.{Stop}
+use Rattle.debug_session.specs.Request.{most_steps}
+use Rattle.debug_session.specs.Stops.{Stops}
+use Rattle.debug_session.specs.declared.stop.Stop.{Stop}
 use Rattle.debug_session.specs.Cause.{Step, behind, is_plain, refusal_or, stop_of}
 use Rattle.debug_session.specs.Place.{Run, sight_at, view_of}
 use Rattle.debug_session.specs.Sight.{Sight}

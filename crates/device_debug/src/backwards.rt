@@ -1,6 +1,6 @@
 ghost use Rattle.std.specs.Prelude.{◌≡◌, ◌≤◌, ◌<◌, ◌-◌, ◌⊎◌, ℕ, IfOk, None, Option, false, length, max, nat_lt, true, if◌then◌else◌};
 ghost use Rattle.std.specs.Option.{option_or};
-ghost use Rattle.debug_commands.specs.Request.{most_steps};
+ghost use Rattle.debug_session.specs.Request.{most_steps};
 ghost use Rattle.debug_session.specs.Cause.{behind, cause, is_due, is_plain, refusal_or, stop_of};
 ghost use Rattle.debug_session.specs.Going.{interrupted, last_stop};
 ghost use Rattle.debug_session.specs.Place.{Run, sight_at, view_of};
@@ -16,8 +16,7 @@ ghost use Rattle.part_definitions.specs.CpuRegister.{pc_of};
 use crate::interrupts::Interrupts;
 use crate::seek::{Seek, stop_of};
 use bus_signals::Kind;
-use debug_commands::MOST_STEPS;
-use debug_stops::{Stop, StopList, Watch};
+use debug_session::{MOST_STEPS, Stop, StopList, Watch};
 use debug_walk::{Passing, Stretch, Track, Walk};
 use hmac_core::Digest32;
 use std::alloc::AllocError;

@@ -1,5 +1,5 @@
 ghost use Rattle.std.specs.Prelude.{◌≡◌, ◌<◌, ◌≤◌, ◌⊎◌, ◌++◌, ◌-◌, ◌+◌, ℕ, [], Option, codes, IfOk, None, false, is_some, suc, true, if◌then◌else◌};
-ghost use Rattle.debug_commands.specs.Request.{most_steps};
+ghost use Rattle.debug_session.specs.Request.{most_steps};
 ghost use Rattle.debug_link.specs.Console.{console};
 ghost use Rattle.debug_link.specs.Writing.{CountsWriteFaults, PutsPackets};
 ghost use Rattle.debug_session.specs.Cause.{cause, refusal_or, told_rule};
@@ -20,9 +20,8 @@ use crate::look::Look;
 use crate::seek::{Seek, cause_here};
 use crate::waiting_lines::WaitingLines;
 use bus_signals::Rule;
-use debug_commands::MOST_STEPS;
 use debug_link::{AnswerFault, PacketWriter, put_text};
-use debug_stops::{Stop, StopList};
+use debug_session::{MOST_STEPS, Stop, StopList};
 use debug_walk::{Passing, Track, Walk};
 use device_core::StepLine;
 use hmac_core::Digest32;

@@ -1,6 +1,6 @@
 ghost use Rattle.std.specs.Prelude.{◌≡◌, ◌≤◌, ◌-◌, ◌++◌, IfErr, IfOk};
-ghost use Rattle.debug_commands.specs.Request.{most_steps};
-ghost use Rattle.debug_commands.specs.declared.request.Request.TheVariants.{Steps};
+ghost use Rattle.debug_session.specs.Request.{most_steps};
+ghost use Rattle.debug_session.specs.declared.request.Request.TheVariants.{Steps};
 ghost use Rattle.debug_link.specs.Console.{AddsText, console};
 ghost use Rattle.debug_link.specs.Writing.{CountsWriteFaults, PutsPackets};
 ghost use Rattle.debug_link.specs.declared.answer_fault.AnswerFault.TheVariants.{Memory};
@@ -15,8 +15,8 @@ ghost use Rattle.device_debug.specs.StepText.{text_in};
 
 use crate::grown_text::{GrownText, grown};
 use crate::step_text::StepText;
-use debug_commands::{MOST_STEPS, Request};
 use debug_link::{AnswerFault, ConsoleText, PacketWriter, put_text};
+use debug_session::{MOST_STEPS, Request};
 use debug_walk::{Track, Walk};
 use device_play::print_end_of;
 use hmac_core::Digest32;

@@ -5,8 +5,8 @@ ghost use Rattle.device_debug.specs.Session.{StandsInRun};
 
 use crate::debugger::Debugger;
 use crate::interrupts::Interrupts;
-use debug_commands::read_command;
 use debug_link::{AnswerFault, Answerer, Connection, PacketWriter};
+use debug_session::read_command;
 use debug_walk::Run;
 use hmac_core::Digest32;
 use outside_edge::Sink;

@@ -1,5 +1,5 @@
 ghost use Rattle.std.specs.Prelude.{◌≡◌, [], is_some};
-ghost use Rattle.debug_commands.specs.declared.command.Way.TheVariants.{Ahead};
+ghost use Rattle.debug_session.specs.declared.command.Way.TheVariants.{Ahead};
 ghost use Rattle.debug_session.specs.Cause.{behind, cause_here, stop_of};
 ghost use Rattle.debug_session.specs.Going.{step_of};
 ghost use Rattle.debug_session.specs.Place.{sight_at, view_of};
@@ -7,8 +7,7 @@ ghost use Rattle.debug_walk.specs.Walk.{OfWalk, TellsCause};
 ghost use Rattle.device_debug.specs.Seek.{step_in, steps_by};
 
 use bus_signals::Rule;
-use debug_commands::Going;
-use debug_stops::{Hit, Stop, StopList};
+use debug_session::{Going, Hit, Stop, StopList};
 use debug_walk::{Stretch, Walk};
 use hmac_core::Digest32;
 

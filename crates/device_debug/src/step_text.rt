@@ -13,11 +13,11 @@ use crate::grown_text::{GrownText, grown};
 use debug_link::AnswerFault;
 use device_core::Live;
 use device_play::{last_trace_line, print_last_step};
+use execution_flags::IsrFlag;
 use hmac_core::Digest32;
-use isr_flag::IsrFlag;
 use outside_edge::{Failed, Sink};
 use std::alloc::Global;
-use trace_line::print_line;
+use trace_files::print_line;
 
 /// What is told of a step.
 #[derive(Clone, Copy, Debug, PartialEq, Eq)]

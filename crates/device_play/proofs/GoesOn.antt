@@ -4,9 +4,9 @@ use Rattle.bus_signals.specs.declared.event.Event.{Event}
 use Rattle.device_trace.specs.Play.{Play}
 use Rattle.device_trace.specs.Start.{Start}
 use Rattle.device_trace.specs.Text.{lines_of, lines_of_step}
-use Rattle.wave_dump.specs.WaveText.{header, steps_text}
-use Rattle.clean_trace.specs.TraceText.{trace_lines, trace_text}
-use Rattle.clean_trace.specs.WaveSamples.{wave_samples}
+use Rattle.trace_files.specs.WaveText.{header, steps_text}
+use Rattle.trace_files.specs.TraceText.{trace_lines, trace_text}
+use Rattle.trace_files.specs.WaveSamples.{wave_samples}
 use Rattle.device_play.specs.Account.{GoesOn}
 use Rattle.device_play.specs.Accounts.{change_text, dump_account, line_account, trace_account, wave_account}
 use Rattle.device_play.proofs.SilentStep.{silent-lines}

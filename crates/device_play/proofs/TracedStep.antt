@@ -20,12 +20,12 @@ use Rattle.device_trace.specs.Step.{access_recorded, asks_reset, next_record, ne
 use Rattle.device_trace.specs.Trace.{last_bounds, last_record, last_signals, logs_after, next_logs, trace}
 use Rattle.device_core.specs.Refusal.{last_refused, where_refused}
 use Rattle.key_isolation.proofs.Bytes.{zero_either}
-use Rattle.trace_line.specs.declared.trace_line.TraceLine.{TraceLine}
-use Rattle.trace_line.specs.LineText.{trace_line}
-use Rattle.trace_line.specs.ReadBack.{ArePrintable, IsPrintable}
-use Rattle.trace_line.specs.TraceFile.{trace_of}
-use Rattle.trace_line.proofs.FileReadBack.{file_reads_back}
-use Rattle.clean_trace.specs.TraceText.{last_line, next_line, trace_lines, trace_text, word_shown}
+use Rattle.trace_files.specs.declared.trace_line.TraceLine.{TraceLine}
+use Rattle.trace_files.specs.LineText.{trace_line}
+use Rattle.trace_files.specs.LineReadBack.{ArePrintable, IsPrintable}
+use Rattle.trace_files.specs.TraceFile.{trace_of}
+use Rattle.trace_files.proofs.FileReadBack.{file_reads_back}
+use Rattle.trace_files.specs.TraceText.{last_line, next_line, trace_lines, trace_text, word_shown}
 use Rattle.device_play.specs.Accounts.{trace_account}
 use Rattle.device_play.specs.Limit.{most_steps}
 use Rattle.device_play.specs.TraceLine.{proposal_shown, value_shown, word_read}

@@ -10,11 +10,11 @@ use Rattle.device_trace.specs.Start.{Start}
 use Rattle.device_trace.specs.Step.{next_record}
 use Rattle.device_trace.specs.Text.{byte_sent_in}
 use Rattle.device_trace.specs.Trace.{last_record, logs_after, trace}
-use Rattle.wave_dump.specs.declared.ports.Ports.{Ports}
-use Rattle.wave_dump.specs.declared.sample.Sample.{Sample}
-use Rattle.wave_dump.specs.WaveText.{last_shown, shown_after, step_text}
-use Rattle.clean_trace.specs.TraceText.{last_line, next_line}
-use Rattle.clean_trace.specs.WaveSamples.{byte_received_in, last_ports, last_sample, next_ports, next_sample, play_state, wave_samples}
+use Rattle.trace_files.specs.declared.ports.Ports.{Ports}
+use Rattle.trace_files.specs.declared.sample.Sample.{Sample}
+use Rattle.trace_files.specs.WaveText.{last_shown, shown_after, step_text}
+use Rattle.trace_files.specs.TraceText.{last_line, next_line}
+use Rattle.trace_files.specs.WaveSamples.{byte_received_in, last_ports, last_sample, next_ports, next_sample, play_state, wave_samples}
 use Rattle.device_play.specs.Accounts.{change_text}
 
 -- a step leaves the pins as its events set them

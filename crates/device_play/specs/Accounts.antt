@@ -8,13 +8,13 @@ use Rattle.device_trace.specs.Play.{Play}
 use Rattle.device_trace.specs.Start.{Start}
 use Rattle.device_trace.specs.Text.{lines_of, lines_of_step, end_line_after}
 use Rattle.device_trace.specs.Trace.{byte_after, logs_after}
-use Rattle.trace_line.specs.LineText.{trace_line}
-use Rattle.trace_line.specs.ReadBack.{ArePrintable}
-use Rattle.wave_dump.specs.declared.wave.Wave.{Wave}
-use Rattle.wave_dump.specs.Wave.{WaveStandsFor}
-use Rattle.wave_dump.specs.WaveText.{end_text, header, last_shown, shown_after, step_text, steps_text}
-use Rattle.clean_trace.specs.TraceText.{next_line, trace_lines, trace_text}
-use Rattle.clean_trace.specs.WaveSamples.{next_sample, wave_samples}
+use Rattle.trace_files.specs.LineText.{trace_line}
+use Rattle.trace_files.specs.LineReadBack.{ArePrintable}
+use Rattle.trace_files.specs.declared.wave.Wave.{Wave}
+use Rattle.trace_files.specs.Wave.{WaveStandsFor}
+use Rattle.trace_files.specs.WaveText.{end_text, header, last_shown, shown_after, step_text, steps_text}
+use Rattle.trace_files.specs.TraceText.{next_line, trace_lines, trace_text}
+use Rattle.trace_files.specs.WaveSamples.{next_sample, wave_samples}
 use Rattle.device_play.specs.Account.{Account}
 
 abbrev pub end_line_of : Start → Play → Bytes

@@ -5,7 +5,7 @@ use Rattle.bus_signals.specs.declared.access.Access.TheVariants.{Fetch, Read, Wr
 use Rattle.bus_signals.specs.declared.bus_record.BusRecord.{BusRecord}
 use Rattle.bus_signals.specs.declared.signals.Signals.{Signals}
 use Rattle.device_trace.specs.Blank.{blank_value}
-use Rattle.clean_trace.specs.TraceText.{word_shown}
+use Rattle.trace_files.specs.TraceText.{word_shown}
 
 -- of what an access read: the word of a fetch, 0 for other accesses
 abbrev pub word_read : Option Access → ℕ → ℕ

@@ -5,7 +5,7 @@ use bus_signals::TraceFlag;
 use device_core::Live;
 use hmac_core::Digest32;
 use outside_edge::{Failed, Sink};
-use trace_line::print_line;
+use trace_files::print_line;
 
 /// Puts the trace file of a play: a line for each step, with the secrets blanked.
 #[derive(Clone, Copy, Debug)]

@@ -1,15 +1,15 @@
 ghost use Rattle.std.specs.Prelude.{◌≡◌, Some, option_map};
 ghost use Rattle.device_trace.specs.Trace.{last_record, last_signals, trace};
 ghost use Rattle.device_core.specs.Device.{HasStepped, OfLive};
-ghost use Rattle.trace_line.specs.ReadBack.{IsPrintable};
-ghost use Rattle.clean_trace.specs.TraceText.{last_line};
+ghost use Rattle.trace_files.specs.LineReadBack.{IsPrintable};
+ghost use Rattle.trace_files.specs.TraceText.{last_line};
 ghost use Rattle.device_play.specs.TraceLine.{proposal_shown, value_shown, word_read};
 ghost use Rattle.device_play.specs.Watching.{PlaysSome};
 
 use bus_signals::{Access, TraceFlag};
 use device_core::{Live, blank_access, blank_value};
 use hmac_core::Digest32;
-use trace_line::TraceLine;
+use trace_files::TraceLine;
 
 // Of what an access read: the word of a fetch, 0 for other accesses.
 fn word_read(access: Option<Access>, value: u16) -> u16

@@ -1,15 +1,15 @@
 ghost use Rattle.std.specs.Prelude.{◌≡◌, Some};
 ghost use Rattle.device_trace.specs.Text.{byte_sent_in};
 ghost use Rattle.device_core.specs.Device.{HasStepped, OfLive};
-ghost use Rattle.clean_trace.specs.WaveSamples.{byte_received, byte_received_in, last_ports, last_sample, play_state};
+ghost use Rattle.trace_files.specs.WaveSamples.{byte_received, byte_received_in, last_ports, last_sample, play_state};
 ghost use Rattle.device_play.specs.Watching.{PlaysSome};
 
 use crate::traced_line::last_trace_line;
 use bus_signals::{Access, BusRecord, TraceFlag};
 use device_core::Live;
+use device_peripherals::{byte_sent, takes_byte};
 use hmac_core::Digest32;
-use serial_port::{byte_sent, takes_byte};
-use wave_dump::{Ports, Sample, State};
+use trace_files::{Ports, Sample, State};
 use word_arith::Size;
 
 // The byte of a read that takes one from the serial port, 0 where none waited.

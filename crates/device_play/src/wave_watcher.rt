@@ -5,7 +5,7 @@ use bus_signals::TraceFlag;
 use device_core::Live;
 use hmac_core::Digest32;
 use outside_edge::{Failed, Sink};
-use wave_dump::Wave;
+use trace_files::Wave;
 
 /// Puts the waveform of a play, with the secrets blanked.
 #[derive(Clone, Copy, Debug)]

@@ -4,9 +4,9 @@ use Rattle.std.specs.Option.{option_or}
 use Rattle.std.proofs.lemmas.Bool.Decides.{eqb_tells, nat_tests}
 use Rattle.text_scan.specs.declared.fault_kind.FaultKind.{FaultKind}
 use Rattle.asm_text.specs.declared.statement.Statement.{Statement}
-use Rattle.asm_bytes.specs.Value.{Scope}
-use Rattle.asm_bytes.specs.Statement.{size_of, bytes_of}
-use Rattle.asm_bytes.proofs.StatementSize.{bytes_have_their_size}
+use Rattle.msp_asm.specs.Value.{Scope}
+use Rattle.msp_asm.specs.Statement.{size_of, bytes_of}
+use Rattle.msp_asm.proofs.StatementSize.{bytes_have_their_size}
 use Rattle.msp_asm.specs.FirstPass.{at_line, first_fault, first_pass_fault, is_among, is_placed, scope_after}
 use Rattle.mem_map.specs.ByteAmong.{byte_among}
 use Rattle.msp_asm.specs.SecondPass.{byte_from, byte_placed, scope_among}

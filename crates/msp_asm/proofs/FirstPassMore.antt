@@ -2,7 +2,7 @@
 use Rattle.std.proofs.Common.{◌≡◌, ◌∙◌, ap, ℕ, Bool, ◌||◌, List, ◌∷◌, OnOk, Result, Ok, Err}
 use Rattle.text_scan.specs.declared.word_fault.WordFault.{WordFault}
 use Rattle.asm_text.specs.declared.statement.Statement.{Statement}
-use Rattle.asm_bytes.specs.Value.{Scope}
+use Rattle.msp_asm.specs.Value.{Scope}
 use Rattle.msp_asm.specs.declared.first_pass.FirstPass.{FirstPass}
 use Rattle.msp_asm.specs.FirstPass.{scope_after, is_placed, next_scope, places_byte}
 use Rattle.msp_asm.specs.FirstPassState.{occupies}

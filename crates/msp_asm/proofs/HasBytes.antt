@@ -17,9 +17,9 @@ use Rattle.text_scan.specs.Reader.{◌>>=◌, Reads, value_as, value_or_fault}
 use Rattle.asm_text.specs.declared.body.Body.{Body}
 use Rattle.asm_text.specs.declared.body.Body.TheVariants.{Empty, Instr as Instruction, Org, Word, Byte, Ascii, Equ}
 use Rattle.asm_text.specs.declared.statement.Statement.{Statement}
-use Rattle.asm_bytes.specs.Value.{Scope}
-use Rattle.asm_bytes.specs.Statement.{size_of, bytes_of, word_bytes, named_instruction, IsNamed}
-use Rattle.asm_bytes.proofs.StatementSize.{bytes_have_their_size}
+use Rattle.msp_asm.specs.Value.{Scope}
+use Rattle.msp_asm.specs.Statement.{size_of, bytes_of, word_bytes, named_instruction, IsNamed}
+use Rattle.msp_asm.proofs.StatementSize.{bytes_have_their_size}
 use Rattle.mem_map.specs.declared.image.Image.{Image}
 use Rattle.mem_map.specs.Image.{byte_in}
 use Rattle.msp_asm.specs.FirstPass.{first_fault, first_pass_fault, is_placed, scope_after}

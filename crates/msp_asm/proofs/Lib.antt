@@ -1,3 +1,9 @@
+pub mod ValueSum
+pub mod Lists
+pub mod NameMap
+pub mod OperandWords
+pub mod InstructionWords
+pub mod StatementSize
 pub mod Placing
 pub mod PlacesLeft
 pub mod FirstPassMore
@@ -6,3 +12,4 @@ pub mod SecondPassMore
 pub mod FreePlaces
 pub mod BytesStay
 pub mod HasBytes
+pub mod NextLines

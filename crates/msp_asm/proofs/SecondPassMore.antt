@@ -9,9 +9,9 @@ use Rattle.asm_text.specs.declared.statement.Statement.{Statement}
 use Rattle.mem_map.specs.declared.image.Image.{Image}
 use Rattle.mem_map.specs.Image.{byte_in}
 use Rattle.mem_map.specs.ImagePlace.{IsImage}
-use Rattle.asm_bytes.specs.Value.{Scope}
-use Rattle.asm_bytes.specs.Names.{value_in}
-use Rattle.asm_bytes.specs.Statement.{bytes_of}
+use Rattle.msp_asm.specs.Value.{Scope}
+use Rattle.msp_asm.specs.Names.{value_in}
+use Rattle.msp_asm.specs.Statement.{bytes_of}
 use Rattle.msp_asm.specs.declared.assembly.Layout.{Layout}
 use Rattle.msp_asm.specs.FirstPass.{first_fault, first_pass_fault, scope_after}
 use Rattle.msp_asm.specs.SecondPass.{byte_from, byte_placed, scope_among, second_pass_fault, byte_of_image, image_of}

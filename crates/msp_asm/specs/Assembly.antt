@@ -4,7 +4,7 @@ use Rattle.text_scan.specs.declared.fault_at.FaultAt.{FaultAt}
 use Rattle.text_scan.specs.declared.text_fault.TextFault.{TextFault}
 use Rattle.text_scan.specs.declared.text_fault.TextFault.TheVariants.{At, Memory}
 use Rattle.asm_text.specs.declared.statement.Statement.{Statement}
-use Rattle.asm_bytes.specs.Names.{value_in}
+use Rattle.msp_asm.specs.Names.{value_in}
 use Rattle.msp_asm.specs.declared.assembly.Layout.{Layout}
 use Rattle.msp_asm.specs.FirstPass.{scope_after}
 

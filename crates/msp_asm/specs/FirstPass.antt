@@ -14,8 +14,8 @@ use Rattle.text_scan.specs.Reader.{◌>>=◌}
 use Rattle.asm_text.specs.declared.body.Body.{Body}
 use Rattle.asm_text.specs.declared.body.Body.TheVariants.{Empty, Instr as Instruction, Org, Word, Byte, Ascii, Equ}
 use Rattle.asm_text.specs.declared.statement.Statement.{Statement}
-use Rattle.asm_bytes.specs.Value.{Scope, value, known_value, address_of, word_of}
-use Rattle.asm_bytes.specs.Statement.{size_of, is_of_words}
+use Rattle.msp_asm.specs.Value.{Scope, value, known_value, address_of, word_of}
+use Rattle.msp_asm.specs.Statement.{size_of, is_of_words}
 
 -- the name that a body gives
 abbrev pub constant_name : Body → Option (List ℕ)

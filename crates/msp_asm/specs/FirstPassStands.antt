@@ -1,8 +1,8 @@
 -- What a first pass in the midst of a source stands for.
 use Rattle.std.specs.Prelude.{◌≡◌, List}
 use Rattle.asm_text.specs.declared.statement.Statement.{Statement}
-use Rattle.asm_bytes.specs.Value.{Scope}
-use Rattle.asm_bytes.specs.Names.{value_in}
+use Rattle.msp_asm.specs.Value.{Scope}
+use Rattle.msp_asm.specs.Names.{value_in}
 use Rattle.msp_asm.specs.declared.first_pass.FirstPass.{FirstPass}
 use Rattle.msp_asm.specs.FirstPass.{scope_after, is_placed}
 use Rattle.msp_asm.specs.FirstPassState.{occupies}

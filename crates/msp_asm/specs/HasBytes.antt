@@ -8,8 +8,8 @@ use Rattle.asm_text.specs.declared.body.Body.{Body}
 use Rattle.asm_text.specs.declared.body.Body.TheVariants.{Empty, Instr as Instruction, Org, Word, Byte, Ascii, Equ}
 use Rattle.asm_text.specs.declared.statement.Statement.{Statement}
 use Rattle.asm_text.specs.Source.{source_of}
-use Rattle.asm_bytes.specs.Value.{Scope}
-use Rattle.asm_bytes.specs.Statement.{bytes_of, named_instruction, word_bytes}
+use Rattle.msp_asm.specs.Value.{Scope}
+use Rattle.msp_asm.specs.Statement.{bytes_of, named_instruction, word_bytes}
 use Rattle.msp_asm.specs.SecondPass.{scope_among}
 
 -- bytes stand in an image from a place upwards

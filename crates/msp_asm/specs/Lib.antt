@@ -1,3 +1,11 @@
+pub mod Value
+pub mod Names
+pub mod Scope
+pub mod Operand
+pub mod Instruction
+pub mod Operands
+pub mod Statement
+pub mod StatementBytes
 pub mod FirstPass
 pub mod FirstPassState
 pub mod FirstPassStands
@@ -5,3 +13,6 @@ pub mod SecondPass
 pub mod Assembly
 pub mod Source
 pub mod HasBytes
+pub mod Item
+pub mod ItemText
+pub mod Listing

@@ -8,8 +8,8 @@ use Rattle.text_scan.specs.declared.fault_at.FaultAt.{FaultAt}
 use Rattle.text_scan.specs.declared.fault_kind.FaultKind.{FaultKind}
 use Rattle.text_scan.specs.Reader.{value_or_fault}
 use Rattle.asm_text.specs.declared.statement.Statement.{Statement}
-use Rattle.asm_bytes.specs.Value.{Scope}
-use Rattle.asm_bytes.specs.Statement.{bytes_of}
+use Rattle.msp_asm.specs.Value.{Scope}
+use Rattle.msp_asm.specs.Statement.{bytes_of}
 use Rattle.msp_asm.specs.FirstPass.{scope_after, first_fault, first_pass_fault}
 
 -- what a statement after these is read in: at the same place, with the names of all statements

@@ -1,12 +1,15 @@
 ghost use Rattle.std.specs.Prelude.{◌≡◌, ◌≤◌, ◌≤ℤ◌, ◌+◌, ℕ, pos, Some, None, IfOk, OnOk, IfSome, IsNone, if◌then◌else◌};
 ghost use Rattle.std.specs.Option.{option_copied};
 ghost use Rattle.std.specs.Result.{result_err};
-ghost use Rattle.asm_bytes.specs.Names.{value_in};
+ghost use Rattle.msp_asm.specs.Names.{value_in};
 ghost use Rattle.msp_asm.specs.FirstPass.{constant_name, are_same, with_name, is_org, place_of};
 ghost use Rattle.msp_asm.specs.FirstPassState.{AnswersFault};
 
+use crate::names::Names;
+use crate::number::{address_of, word_of};
+use crate::scope::Scope;
 use crate::space::take_places;
-use asm_bytes::{Names, Scope, address_of, is_of_words, size_of, word_of};
+use crate::statement_bytes::{is_of_words, size_of};
 use asm_text::{Body, Statement};
 use bus_signals::PROGRAM;
 use mem_map::Image;
@@ -83,9 +86,9 @@ impl<'a> FirstPass<'a> {
     ghost use Rattle.std.specs.Option.{option_copied};
     ghost use Rattle.std.specs.Result.{result_err};
     ghost use Rattle.asm_text.specs.declared.statement.Statement.{Statement};
-    ghost use Rattle.asm_bytes.specs.Names.{value_in};
-    ghost use Rattle.asm_bytes.specs.Scope.{scope_in};
-    ghost use Rattle.asm_bytes.specs.Statement.{size_of};
+    ghost use Rattle.msp_asm.specs.Names.{value_in};
+    ghost use Rattle.msp_asm.specs.Scope.{scope_in};
+    ghost use Rattle.msp_asm.specs.Statement.{size_of};
     ghost use Rattle.msp_asm.specs.FirstPass.{has_value, gives_again, constant_name, constant_value, constant_fault, places_byte, place_fault, next_scope, statement_fault, first_pass_fault};
     ghost use Rattle.msp_asm.specs.FirstPassState.{occupies, AnswersFault};
     ghost use Rattle.msp_asm.specs.FirstPassStands.{scope_of, FirstPassStandsFor};

@@ -2,7 +2,7 @@ ghost use Rattle.std.specs.Prelude.{◌≡◌, ℕ, List, Option, Ok};
 ghost use Rattle.msp_asm.specs.Source.{source_image};
 ghost use Rattle.msp_asm.specs.HasBytes.{OfEachStatement, HasBytesOf, HasInstructionOf};
 
-use asm_bytes::named_instructions_are_read;
+use crate::bytes_law::named_instructions_are_read;
 
 /// The bytes of each statement of a source stand in its image, from the place before the statement
 /// upwards: no other statement takes one of these places.

@@ -1,8 +1,8 @@
 use crate::proposal::proposal;
-use atomicity_monitor::AtomMonitor;
 use bus_signals::Access::{Fetch, Read, Write};
 use bus_signals::Rule::{A1, A2, A3, A4};
 use bus_signals::{Access, Kind, Rule};
+use vrased_monitors::AtomMonitor;
 use word_arith::Size::Word;
 
 // The rule that a step breaks after a record with this `pc`.

@@ -1,10 +1,10 @@
 ghost use Rattle.std.specs.Prelude.{List};
 ghost use Rattle.part_definitions.specs.Dma.{DmaEvent};
-ghost use Rattle.dma_engine.specs.Dma.{DmaStandsFor};
+ghost use Rattle.device_peripherals.specs.Dma.{DmaStandsFor};
 
 use Act::{Clear, Control, Registers, Start, Step, Write};
 use bus_signals::{Access, BusMaster};
-use dma_engine::Dma;
+use device_peripherals::Dma;
 use word_arith::Size::{self, Byte, Word};
 
 const DCTL: u16 = 0x01E0;

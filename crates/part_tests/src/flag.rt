@@ -1,7 +1,7 @@
 use crate::proposal::proposal;
 use bus_signals::Access::{Fetch, Read, Write};
 use bus_signals::{Access, Bounds, BusRecord, Kind, Rule, TraceFlag};
-use exec_automaton::{ExecFlag, is_quiet};
+use execution_flags::{ExecFlag, is_quiet};
 use word_arith::Size::{Byte, Word};
 
 // ER is C020..C027, OR is 0300..0303.

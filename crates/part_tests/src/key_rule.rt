@@ -2,7 +2,7 @@ use crate::proposal::proposal;
 use bus_signals::Access::{Fetch, Read, Write};
 use bus_signals::Rule::{K1, K2, K3, K4, K5, K6};
 use bus_signals::{Access, Kind, Rule};
-use key_monitor::KeyMonitor;
+use vrased_monitors::KeyMonitor;
 use word_arith::Size::{Byte, Word};
 
 // The rule that a step with this `pc` and these accesses breaks.

@@ -1,4 +1,4 @@
-use irq_timer::Pins;
+use device_peripherals::Pins;
 
 #[test]
 fn pins_are_as_set_last(rt: HostRuntime) {

@@ -1,4 +1,4 @@
-use peripheral_register::{Register, covers_byte, part_of_word, register_place};
+use device_peripherals::{Register, covers_byte, part_of_word, register_place};
 use word_arith::Size::{self, Byte, Word};
 
 #[test]

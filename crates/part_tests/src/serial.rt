@@ -1,5 +1,5 @@
 use Act::{Arrive, Clear, Read, Request, Write};
-use serial_port::Serial;
+use device_peripherals::Serial;
 use std::test::Fail;
 use word_arith::Size::{self, Byte, Word};
 

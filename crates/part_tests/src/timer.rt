@@ -1,5 +1,5 @@
 use Act::{Accept, Clear, Ticks, Write};
-use irq_timer::Timer;
+use device_peripherals::Timer;
 use word_arith::Size::{self, Byte, Word};
 
 const TCTL: u16 = 0x0160;

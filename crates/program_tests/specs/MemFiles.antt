@@ -2,7 +2,7 @@
 use Rattle.std.specs.Prelude.{ℕ, Bool, List, Option}
 use Rattle.desk_memory.specs.Entry.{Entry}
 use Rattle.desk_memory.specs.MemMemory.{MemoryInMemory}
-use Rattle.memory_file.specs.declared.memory_file_fault.MemoryFileFault.{MemoryFileFault}
+use Rattle.desk_database.specs.declared.memory_file_fault.MemoryFileFault.{MemoryFileFault}
 
 -- whether it was opened; its entries, the fault with which it is not opened, how often it was not,
 -- and what was closed

@@ -3,13 +3,13 @@
 
 ghost use Rattle.std.specs.Prelude.{◌≤◌};
 
+use crate::inputs::{arguments, named_files};
 use debug_cli::run::run;
 use device_debug::Interrupts;
 use input_files::{BadFile, Status};
 use outside_edge::{MemShelf, MemSink, MemSource, NeverFailShelf, NeverFailSink, NeverFailSource};
 use std::alloc::{AllocError, Global};
 use std::test::Fail;
-use test_inputs::{arguments, named_files};
 use text_scan::{FaultAt, FaultKind};
 
 // It sends the letter A and then jumps to itself.

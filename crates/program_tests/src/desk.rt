@@ -9,12 +9,13 @@ mod states_row;
 
 ghost use Rattle.std.specs.Prelude.{◌≤◌};
 
+use crate::attested_device::{EXEC_REGIONS, REQUESTED_IMAGE, image_of};
 use crate::desk::mem_files::MemFiles;
+use crate::inputs::{arguments, named_files, text_of};
 use desk_cli::run::run;
 use input_files::Status;
 use outside_edge::{MemShelf, MemSink, MemSource};
 use std::alloc::{AllocError, Global};
-use test_inputs::{EXEC_REGIONS, REQUESTED_IMAGE, arguments, image_of, named_files, text_of};
 
 /// A device with the key 00 to 3f.
 pub const DEVICE_A: &str =

@@ -8,13 +8,13 @@ mod letter_wave;
 mod load_row;
 mod request_row;
 
+use crate::inputs::{arguments, named_files};
 use device_cli::run::run;
 use input_files::{BadFile, Status, Unfit};
 use outside_edge::{MemShelf, MemSink};
 use std::alloc::{AllocError, Global};
 use std::process::Abort;
 use std::test::Fail;
-use test_inputs::{arguments, named_files};
 use text_scan::{FaultAt, FaultKind};
 
 /// Sends the letter A, and then jumps to itself.

@@ -8,8 +8,12 @@
 #![tactic(auto)]
 
 #[cfg(test)]
+mod attested_device;
+#[cfg(test)]
 mod debug;
 #[cfg(test)]
 mod desk;
 #[cfg(test)]
 mod device;
+#[cfg(test)]
+mod inputs;

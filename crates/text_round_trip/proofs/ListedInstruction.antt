@@ -28,12 +28,12 @@ use Rattle.asm_text.specs.Statement.{fits}
 use Rattle.asm_text.specs.declared.form.Form.TheVariants as shapes
 use Rattle.asm_text.specs.declared.form.SourceRole.TheVariants as sources
 use Rattle.asm_text.specs.declared.form.DestRole.TheVariants as dests
-use Rattle.asm_bytes.specs.Instruction.{Operands, instruction_of, one_of, source_words}
-use Rattle.asm_bytes.specs.Operand.{expr_in, source_of, dest_of, constant_of, immediate, immediate_word}
-use Rattle.asm_bytes.specs.Statement.{word_bytes}
-use Rattle.asm_bytes.specs.Value.{Scope, value}
-use Rattle.msp_disasm.specs.declared.item.Item.TheVariants as items
-use Rattle.msp_disasm.specs.ItemText.{size_suffix, source_text, dest_text}
+use Rattle.msp_asm.specs.Instruction.{Operands, instruction_of, one_of, source_words}
+use Rattle.msp_asm.specs.Operand.{expr_in, source_of, dest_of, constant_of, immediate, immediate_word}
+use Rattle.msp_asm.specs.Statement.{word_bytes}
+use Rattle.msp_asm.specs.Value.{Scope, value}
+use Rattle.msp_asm.specs.declared.item.Item.TheVariants as items
+use Rattle.msp_asm.specs.ItemText.{size_suffix, source_text, dest_text}
 use Rattle.text_round_trip.specs.Listing.{IsReadAs, source_again}
 use Rattle.text_round_trip.specs.Writable.{has_size as mnemonic_has_size}
 use Rattle.text_round_trip.proofs.Falls.{falls-then, falls-apart, comma-falls}

@@ -13,8 +13,8 @@ use Rattle.asm_text.specs.declared.body.Body.TheVariants as bodies
 use Rattle.asm_text.specs.declared.mnemonic.Mnemonic.TheVariants.{Reti as RetiMnemonic}
 use Rattle.asm_text.specs.declared.operand.Operand.TheVariants.{Symbolic}
 use Rattle.asm_text.specs.Token.{word_token}
-use Rattle.asm_bytes.specs.Statement.{all_bytes}
-use Rattle.msp_disasm.specs.declared.item.Item.TheVariants as items
+use Rattle.msp_asm.specs.Statement.{all_bytes}
+use Rattle.msp_asm.specs.declared.item.Item.TheVariants as items
 use Rattle.text_round_trip.specs.Listing.{IsReadAs}
 use Rattle.text_round_trip.proofs.ListedOperand.{number_expr, word-falls}
 use Rattle.text_round_trip.proofs.Numerals.{number-falls, byte_text-number}

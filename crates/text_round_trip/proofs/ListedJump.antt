@@ -19,9 +19,9 @@ use Rattle.asm_text.specs.declared.token.Token.TheVariants.{Number}
 use Rattle.asm_text.specs.Operand.{terms_of}
 use Rattle.asm_text.specs.declared.form.Form.TheVariants as shapes
 use Rattle.asm_text.specs.Name.{jump_name}
-use Rattle.asm_bytes.specs.Instruction.{instruction_of, half_way, jump_of}
-use Rattle.asm_bytes.specs.Value.{Scope, address_of}
-use Rattle.msp_disasm.specs.declared.item.Item.TheVariants as items
+use Rattle.msp_asm.specs.Instruction.{instruction_of, half_way, jump_of}
+use Rattle.msp_asm.specs.Value.{Scope, address_of}
+use Rattle.msp_asm.specs.declared.item.Item.TheVariants as items
 use Rattle.text_round_trip.specs.Listing.{IsReadAs, stays_within}
 use Rattle.text_round_trip.proofs.ListedOperand.{number_expr, word-falls}
 use Rattle.text_round_trip.proofs.Operands.{IsOperandOf, one-read}

@@ -23,9 +23,9 @@ use Rattle.asm_text.specs.declared.token.Token.TheVariants.{Number, Register, Ha
 use Rattle.asm_text.specs.Expr.{SignedTerm}
 use Rattle.asm_text.specs.Operand.{terms_of}
 use Rattle.asm_text.specs.Statement.{is_source, is_modified, is_destination}
-use Rattle.asm_bytes.specs.Operand.{expr_in, source_of, dest_of}
-use Rattle.asm_bytes.specs.Value.{Scope, value as value_of}
-use Rattle.msp_disasm.specs.ItemText.{word_text, indexed_text, constant_text, source_text, dest_text}
+use Rattle.msp_asm.specs.Operand.{expr_in, source_of, dest_of}
+use Rattle.msp_asm.specs.Value.{Scope, value as value_of}
+use Rattle.msp_asm.specs.ItemText.{word_text, indexed_text, constant_text, source_text, dest_text}
 use Rattle.text_round_trip.specs.Listing.{source_again}
 use Rattle.text_round_trip.proofs.Falls.{FallsInto, falls-then, falls-apart, falls-into, hash-falls, ampersand-falls, at-falls, plus-falls, minus-falls, open-falls, close-falls}
 use Rattle.text_round_trip.proofs.Numerals.{number-falls, word_text-number}

@@ -13,9 +13,9 @@ use Rattle.msp_decode.specs.Law.{HeadsAreSpelled}
 use Rattle.msp_decode.specs.Head.{head_of}
 use Rattle.msp_decode.specs.Spelling.{has_form, has_size, takes_result, writes_operand, is_legal, word_of}
 use Rattle.mem_map.specs.ImagePlace.{IsImage}
-use Rattle.msp_disasm.specs.declared.item.Item.{Item}
-use Rattle.msp_disasm.specs.declared.item.Item.TheVariants as items
-use Rattle.msp_disasm.specs.Item.{FIRST_VECTOR, word_of_bytes, word_in, with_words, instruction_item, even_item, byte_item, item_from, item_at}
+use Rattle.msp_asm.specs.declared.item.Item.{Item}
+use Rattle.msp_asm.specs.declared.item.Item.TheVariants as items
+use Rattle.msp_asm.specs.Item.{FIRST_VECTOR, word_of_bytes, word_in, with_words, instruction_item, even_item, byte_item, item_from, item_at}
 use Rattle.text_round_trip.specs.Listing.{IsReadAs}
 use Rattle.text_round_trip.proofs.ListedInstruction.{two-again, one-again}
 use Rattle.text_round_trip.proofs.ListedItem.{reti-again, word-again, byte-again}

@@ -18,7 +18,7 @@ use Rattle.printed_lines.specs.Line.{byte_digits}
 use Rattle.asm_text.specs.declared.token.Token.TheVariants.{Number}
 use Rattle.asm_text.specs.Word.{is_word_character, is_name_character, small_number, numeral, number_of}
 use Rattle.asm_text.specs.Token.{number_piece, word_piece}
-use Rattle.msp_disasm.specs.ItemText.{word_text}
+use Rattle.msp_asm.specs.ItemText.{word_text}
 use Rattle.text_round_trip.proofs.Falls.{FallsInto, word-falls}
 
 -- digits of either base are characters of words

@@ -16,15 +16,15 @@ use Rattle.msp_decode.specs.declared.source.Source.{Source}
 use Rattle.msp_decode.specs.declared.source.Source.TheVariants as source
 use Rattle.word_arith.specs.declared.size.Size.{Size}
 use Rattle.word_arith.specs.declared.size.Size.TheVariants as sizes
-use Rattle.asm_bytes.specs.Operand.{all_ones, constant_of, immediate}
-use Rattle.asm_bytes.specs.Statement.{word_bytes}
-use Rattle.asm_bytes.proofs.StatementSize.{length-word_bytes}
+use Rattle.msp_asm.specs.Operand.{all_ones, constant_of, immediate}
+use Rattle.msp_asm.specs.Statement.{word_bytes}
+use Rattle.msp_asm.proofs.StatementSize.{length-word_bytes}
 use Rattle.msp_decode.specs.Completion.{words_of, source_words, dest_words}
 use Rattle.msp_decode.specs.Law.{HeadsAreSpelled, WordsAreWritten}
 use Rattle.mem_map.specs.ImagePlace.{IsImage}
-use Rattle.msp_disasm.specs.declared.item.Item.{Item}
-use Rattle.msp_disasm.specs.declared.item.Item.TheVariants as items
-use Rattle.msp_disasm.specs.Item.{item_at}
+use Rattle.msp_asm.specs.declared.item.Item.{Item}
+use Rattle.msp_asm.specs.declared.item.Item.TheVariants as items
+use Rattle.msp_asm.specs.Item.{item_at}
 use Rattle.text_round_trip.specs.Listing.{source_again, stays_within, instr_again, bytes_again, is_plain_source, is_plain_instr, is_plain, AreSameBytes}
 use Rattle.text_round_trip.proofs.ListedBytes.{item_bytes, item-bytes}
 

@@ -8,7 +8,7 @@ use Rattle.std.proofs.lemmas.Bool.{and_parts, and_from, or_cases, le-leb, leb-tr
 use Rattle.std.proofs.lemmas.List.Folds.{list_all-append}
 use Rattle.asm_text.specs.Token.{is_text_character}
 use Rattle.asm_text.specs.Word.{is_word_character, is_name_character}
-use Rattle.msp_disasm.specs.ItemText.{size_suffix}
+use Rattle.msp_asm.specs.ItemText.{size_suffix}
 use Rattle.text_round_trip.specs.ReadBack.{AreNumerals}
 use Rattle.msp_decode.specs.declared.reg.Reg.{Reg as Register}
 use Rattle.msp_decode.specs.declared.reg.Reg.TheVariants.{R0}

@@ -28,7 +28,7 @@ use Rattle.asm_text.specs.Statement.{first_word, is_ascii_directive, statement_b
 use Rattle.asm_text.specs.Token.{name_token, word_token, word_piece, tokens_behind, tokens_of}
 use Rattle.asm_text.specs.Word.{is_word_character, is_name, lower_case, byte_form, word_form, operation_of}
 use Rattle.asm_text.specs.Name.{mnemonic_name, reg_name, register_of}
-use Rattle.msp_disasm.specs.ItemText.{size_suffix}
+use Rattle.msp_asm.specs.ItemText.{size_suffix}
 use Rattle.text_round_trip.specs.Writable.{has_size}
 use Rattle.text_round_trip.proofs.Falls.{FallsInto, word-falls, falls-then, falls-apart, blank-falls}
 

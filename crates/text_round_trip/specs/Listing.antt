@@ -11,12 +11,12 @@ use Rattle.text_scan.specs.declared.fault_kind.FaultKind.TheVariants.{Range}
 use Rattle.text_scan.specs.Reader.{◌>>=◌}
 use Rattle.asm_text.specs.declared.body.Body.{Body}
 use Rattle.asm_text.specs.Source.{line_statement}
-use Rattle.asm_bytes.specs.Operand.{all_ones, constant_of, immediate}
-use Rattle.asm_bytes.specs.Statement.{bytes_of, word_bytes}
-use Rattle.msp_disasm.specs.declared.item.Item.{Item}
-use Rattle.msp_disasm.specs.declared.item.Item.TheVariants as items
-use Rattle.msp_disasm.specs.Item.{item_size}
-use Rattle.msp_disasm.specs.ItemText.{item_text}
+use Rattle.msp_asm.specs.Operand.{all_ones, constant_of, immediate}
+use Rattle.msp_asm.specs.Statement.{bytes_of, word_bytes}
+use Rattle.msp_asm.specs.declared.item.Item.{Item}
+use Rattle.msp_asm.specs.declared.item.Item.TheVariants as items
+use Rattle.msp_asm.specs.Item.{item_size}
+use Rattle.msp_asm.specs.ItemText.{item_text}
 
 -- an immediate is the constant of its value where a generator gives it; above 00FF it is none of a
 -- byte instruction

@@ -9,7 +9,7 @@ use Rattle.asm_text.specs.declared.body.Body.TheVariants.{Empty, Instr, Org, Wor
 use Rattle.asm_text.specs.declared.statement.Statement.{Statement}
 use Rattle.asm_text.specs.Expr.{SignedTerm}
 use Rattle.asm_text.specs.Name.{mnemonic_name, reg_name}
-use Rattle.msp_disasm.specs.ItemText.{size_suffix}
+use Rattle.msp_asm.specs.ItemText.{size_suffix}
 
 -- how numbers are written
 abbrev pub Numerals : Type 0

@@ -1,5 +1,5 @@
 ghost use Rattle.std.specs.Fmt.{decimal};
-ghost use Rattle.msp_disasm.specs.ItemText.{word_text};
+ghost use Rattle.msp_asm.specs.ItemText.{word_text};
 ghost use Rattle.text_round_trip.specs.ReadBack.{AreNumerals};
 
 /// Numbers may be written in decimal.

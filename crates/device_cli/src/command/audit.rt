@@ -7,7 +7,7 @@ use device_play::PutFault;
 use input_files::{File, Inputs, Refusal};
 use outside_edge::{Shelf, Sink};
 use std::alloc::{AllocError, Global};
-use trace_audit::{Audited, print_audited};
+use trace_files::{Audited, print_audited};
 
 /// The command `audit TRACE`.
 #[derive(Clone, Copy, Debug)]

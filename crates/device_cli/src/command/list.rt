@@ -4,7 +4,7 @@ use crate::power::Power;
 use crate::task::Task;
 use device_play::PutFault;
 use input_files::{File, Image, Inputs, Refusal};
-use msp_disasm::write_listing;
+use msp_asm::write_listing;
 use outside_edge::{Shelf, Sink};
 use std::alloc::{AllocError, Global};
 
@@ -16,7 +16,7 @@ pub struct List<'a> {
 
 impl<'a> Task<'a> for List<'a> {
     ghost use Rattle.mem_map.specs.Image.{byte_in};
-    ghost use Rattle.msp_disasm.specs.Listing.{listing};
+    ghost use Rattle.msp_asm.specs.Listing.{listing};
     ghost use Rattle.device_cli.specs.List.{list_row, list_row_of};
     ghost use Rattle.device_cli.specs.Row.{plain};
 

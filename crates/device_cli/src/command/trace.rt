@@ -4,7 +4,7 @@ use device_play::TraceWatcher;
 /// The command `trace`.
 impl Telling for TraceWatcher {
     ghost use Rattle.std.specs.Prelude.{refl};
-    ghost use Rattle.clean_trace.specs.TraceText.{trace_text};
+    ghost use Rattle.trace_files.specs.TraceText.{trace_text};
     ghost use Rattle.device_cli.specs.Play.{text_outcome};
     ghost use Rattle.device_cli.specs.Trace.{ReadsBack};
 

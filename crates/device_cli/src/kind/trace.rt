@@ -1,7 +1,7 @@
 use input_files::{BadFile, Kind};
 use std::alloc::Global;
 use text_scan::{FaultAt, TextFault};
-use trace_audit::{Audited, audit_file};
+use trace_files::{Audited, audit_file};
 
 // The most bytes of a trace file.
 const LIMIT: usize = 67_108_864;
@@ -11,7 +11,7 @@ const LIMIT: usize = 67_108_864;
 pub struct Trace;
 
 impl Kind for Trace {
-    ghost use Rattle.trace_audit.specs.declared.audited.Audited.{Audited as Said};
+    ghost use Rattle.trace_files.specs.declared.audited.Audited.{Audited as Said};
     ghost use Rattle.device_cli.specs.FileKind.{trace_kind};
 
     type Value = Audited;

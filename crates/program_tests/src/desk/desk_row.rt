@@ -2,14 +2,15 @@
 
 ghost use Rattle.std.specs.Prelude.{◌≤◌};
 
+use crate::attested_device::{EXEC_REGIONS, REQUESTED_IMAGE, image_of};
 use crate::desk::mem_files::MemFiles;
 use crate::desk::{DEVICE_A, NEVER, run_over};
+use crate::inputs::{arguments, named_files, text_of};
 use desk_cli::run::run;
 use input_files::Status;
 use outside_edge::{NeverFailShelf, NeverFailSink, NeverFailSource};
 use std::alloc::{AllocError, Global};
 use std::test::Fail;
-use test_inputs::{EXEC_REGIONS, REQUESTED_IMAGE, arguments, image_of, named_files, text_of};
 
 /// The first request of device a.
 pub const REQUEST_A: &str = "request a 1 \

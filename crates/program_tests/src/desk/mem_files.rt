@@ -1,6 +1,6 @@
 use desk_cli::MemoryFiles;
+use desk_database::MemoryFileFault;
 use desk_memory::{Entry, MemMemory, copy_of};
-use memory_file::MemoryFileFault;
 use std::alloc::{AllocError, Global};
 use std::marker::Model;
 
@@ -37,7 +37,7 @@ impl Model for MemFiles {
 impl MemFiles {
     ghost use Rattle.std.specs.Prelude.{◌≡◌, ◌⊎◌, [], IfErr, IfOk, None, OnOk, Some, false, true};
     ghost use Rattle.outside_edge.specs.Count.{Rose};
-    ghost use Rattle.memory_file.specs.declared.memory_file_fault.MemoryFileFault.TheVariants.{InUse};
+    ghost use Rattle.desk_database.specs.declared.memory_file_fault.MemoryFileFault.TheVariants.{InUse};
 
     /// A memory of these entries, whose call of this number fails once it is opened.
     pub fn new(alloc: Global, entries: Vec<Entry>, failing: u64) -> MemFiles
@@ -123,7 +123,7 @@ impl MemFiles {
 impl MemoryFiles<MemMemory> for MemFiles {
     ghost use Rattle.std.specs.Prelude.{◌≡◌, ◌⊎◌, None, Some, false};
     ghost use Rattle.outside_edge.specs.Count.{Rose};
-    ghost use Rattle.memory_file.specs.declared.memory_file_fault.MemoryFileFault.TheVariants.{InUse, OutOfMemory};
+    ghost use Rattle.desk_database.specs.declared.memory_file_fault.MemoryFileFault.TheVariants.{InUse, OutOfMemory};
 
     ghost told = { record {
       is_unopened = λ files. files.is_opened ≡ false;

@@ -4,11 +4,11 @@ use crate::desk::desk_row::{REPORT, REQUEST_A};
 use crate::desk::mem_files::MemFiles;
 use crate::desk::states_row::{STATE_A, STATE_B, entries_of};
 use crate::desk::{DEVICE_A, DEVICE_B, NEVER, WITH_MEMORY, run_over};
+use crate::inputs::text_of;
+use desk_database::MemoryFileFault;
 use input_files::{BadFile, Status, Unfit};
-use memory_file::MemoryFileFault;
 use std::alloc::{AllocError, Global};
 use std::test::Fail;
-use test_inputs::text_of;
 use text_scan::{FaultAt, FaultKind};
 
 const SECOND_REQUEST_A: &str = "request a 3 \

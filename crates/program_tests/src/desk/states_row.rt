@@ -2,12 +2,12 @@
 
 use crate::desk::mem_files::MemFiles;
 use crate::desk::{NEVER, run_over};
+use crate::inputs::text_of;
 use desk_cli::read_states;
 use desk_memory::{Entry, copy_of};
 use input_files::{BadFile, Status};
 use std::alloc::{AllocError, Global};
 use std::test::Fail;
-use test_inputs::text_of;
 use text_scan::{FaultAt, FaultKind};
 
 /// Device a after its first report was accepted.

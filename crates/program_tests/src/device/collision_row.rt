@@ -1,6 +1,8 @@
 //! A round under a digest under which all lists collide.
 
+use crate::attested_device::{EXEC_REGIONS, REQUESTED_IMAGE, image_of};
 use crate::device::{ASKED, KEY};
+use crate::inputs::text_of;
 use bus_signals::NoFlag;
 use device_cli::Judging;
 use device_core::power_on;
@@ -11,7 +13,6 @@ use outside_edge::MemSink;
 use play_script::read_script;
 use report_verifier::{Verifier, read_policy};
 use std::test::Fail;
-use test_inputs::{EXEC_REGIONS, REQUESTED_IMAGE, image_of, text_of};
 use text_scan::read_key;
 
 // A request under a digest that is always zeros, which is then its token too.

@@ -1,14 +1,15 @@
 //! Images at the edges of the rules: a statement, a transfer of the DMA engine beside a loop, a
 //! transfer beside a region that runs and is attested, and vectors that name no code.
 
+use crate::attested_device::VECTOR_AND_END;
 use crate::device::{KEY, play_under_key, run_on};
+use crate::inputs::text_of;
 use hmac_core::{Sha256Digest, hmac};
 use input_files::Status;
 use line_buffer::LineBuffer;
 use std::alloc::{AllocError, Global};
 use std::process::Abort;
 use std::test::Fail;
-use test_inputs::{VECTOR_AND_END, text_of};
 use text_scan::read_key;
 
 // Calls the code at C020 and then the ROM; the code at C020, of two words; its bounds, and those of

@@ -1,7 +1,9 @@
 //! A second flag that rises and falls within a call.
 
+use crate::attested_device::VECTOR_AND_END;
 use crate::device::KEY;
 use crate::device::edge_image::REQUEST;
+use crate::inputs::text_of;
 use bus_signals::{Bounds, BusRecord, Signals, TraceFlag};
 use device_core::power_on;
 use device_play::{LineWatcher, play_before};
@@ -10,7 +12,6 @@ use hmac_core::Sha256Digest;
 use outside_edge::MemSink;
 use play_script::Script;
 use std::test::Fail;
-use test_inputs::{VECTOR_AND_END, text_of};
 use text_scan::read_key;
 
 // The ROM's first address.

@@ -1,9 +1,11 @@
 //! Each command over a shelf and a sink that fail in one call, over those that never fail, and over
 //! the largest report file.
 
+use crate::attested_device::{EXEC_REGIONS, REQUESTED_IMAGE, image_of};
 use crate::device::letter_wave::LETTER_A_WAVE;
 use crate::device::request_row::{REPORT, REQUEST};
 use crate::device::{ASKED, KEY, LETTER_A, LETTER_A_TEXT};
+use crate::inputs::{named_files, text_of};
 use device_cli::run::run;
 use input_files::Status;
 use input_files::Status::{Done, ReadFault, Rejected, WriteFault};
@@ -11,7 +13,6 @@ use line_buffer::LineBuffer;
 use outside_edge::{MemShelf, MemSink, NeverFailShelf, NeverFailSink};
 use std::alloc::{AllocError, Global};
 use std::test::Fail;
-use test_inputs::{EXEC_REGIONS, REQUESTED_IMAGE, image_of, named_files, text_of};
 
 const SOURCE: &[u8] =
     b".org 0xC000\nstart: mov #0x41,&0x76\nstop: jmp stop\n.org 0xFFFE\n.word start\n";

@@ -1,10 +1,11 @@
 //! Worked requests: attested, denied, and played again. The tokens and the MAC are from another
 //! program (HMAC of Python's library).
 
+use crate::attested_device::{REQUESTED_IMAGE, image_of};
 use crate::device::play_under_key;
+use crate::inputs::text_of;
 use input_files::Status;
 use std::test::Fail;
-use test_inputs::{REQUESTED_IMAGE, image_of, text_of};
 
 /// A challenge, the bounds, the counter 1, and the request's token.
 pub const REQUEST: &str = "at 0 rx 000102030405060708090a0b0c0d0e0f101112131415161718191a1b1c1d1e1f\

@@ -1,5 +1,5 @@
 use Rattle.std.proofs.Common.{◌≡◌, ◌≤◌, ◌<◌, ◌∙◌, ⊎_elim, subst, sym, arith}
-use Rattle.debug_commands.specs.Request.{most_steps}
+use Rattle.debug_session.specs.Request.{most_steps}
 use Rattle.debug_walk.specs.Walk.{place_of}
 use Rattle.device_debug.specs.Seek.{step_in}
 use Rattle.device_debug.proofs.Arrived.{back-begun, back-found, back-interrupted, back-none}

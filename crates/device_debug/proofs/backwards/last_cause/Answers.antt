@@ -5,7 +5,7 @@ use Rattle.debug_session.specs.Cause.{cause, refusal_or, stop_of}
 use Rattle.debug_session.specs.Place.{sight_at, view_of}
 use Rattle.debug_walk.specs.Walk.{IsStretch, place_of}
 use Rattle.debug_walk.specs.declared.stretch.Stretch.{Stretch}
-use Rattle.debug_stops.specs.declared.watch.Watch.{Watch}
+use Rattle.debug_session.specs.declared.watch.Watch.{Watch}
 use Rattle.std.specs.Prelude.{List}
 use Rattle.device_debug.specs.Back.{IsLastBehind, placed, seek_back}
 use Rattle.device_debug.specs.Seek.{step_in, steps_by}

@@ -1,7 +1,7 @@
 use Rattle.std.proofs.Common.{◌≡◌, ◌≤◌, ◌<◌, ◌-◌, ◌+◌, ◌∙◌, ℕ, suc, refl, Some, None, Ok, Err, ap, subst, sym, arith}
 use Rattle.std.specs.Prelude.{codes, ◌++◌}
 use Rattle.printed_lines.specs.Line.{reset_line}
-use Rattle.debug_commands.specs.Request.{most_steps}
+use Rattle.debug_session.specs.Request.{most_steps}
 use Rattle.debug_link.specs.Console.{console}
 use Rattle.debug_link.specs.Writing.{PutsPackets}
 use Rattle.debug_link.specs.declared.answer_fault.AnswerFault.{AnswerFault}
@@ -10,7 +10,7 @@ use Rattle.debug_session.specs.Going.{first_stop, interrupted}
 use Rattle.debug_session.specs.Place.{view_of}
 use Rattle.debug_walk.specs.Copies.{TrackStandsFor}
 use Rattle.debug_walk.specs.Walk.{place_of}
-use Rattle.debug_stops.specs.declared.stop.Stop.TheVariants.{End, Interrupted, Refused}
+use Rattle.debug_session.specs.declared.stop.Stop.TheVariants.{End, Interrupted, Refused}
 use Rattle.device_debug.specs.Ahead.{refused_at, seek_ahead}
 use Rattle.device_debug.specs.Going.{GoesOn, StandsAt}
 use Rattle.device_debug.specs.Seek.{step_in}

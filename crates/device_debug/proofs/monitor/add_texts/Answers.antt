@@ -1,5 +1,5 @@
 use Rattle.std.proofs.Common.{◌≡◌, ◌∙◌, ◌-◌, ◌+◌, ◌++◌, ◌<◌, ℕ, List, suc, ap, refl, subst, sym, arith}
-use Rattle.debug_commands.specs.Request.{most_steps}
+use Rattle.debug_session.specs.Request.{most_steps}
 use Rattle.device_core.specs.Device.{LiveStandsFor}
 use Rattle.device_trace.specs.Trace.{play_of}
 use Rattle.debug_link.proofs.AddedText.{PutsPrefix, adds_failed, prefix_none}

@@ -1,5 +1,5 @@
 use Rattle.std.proofs.Common.{◌≤◌, ◌-◌}
-use Rattle.debug_commands.specs.Request.{most_steps}
+use Rattle.debug_session.specs.Request.{most_steps}
 use Rattle.debug_session.specs.Place.{Run, view_of}
 use Rattle.debug_walk.specs.PlayedRun.{played_run}
 use Rattle.debug_walk.specs.Walk.{Walks, place_of}

@@ -1,8 +1,8 @@
 use Rattle.std.proofs.Common.{◌≡◌, ◌∙◌, ◌≤◌, ◌-◌, ◌++◌, ℕ, List, [], ap, refl, subst, sym, min, arith}
 use Rattle.std.proofs.Math.Nat.{min_comm, sub-add-min_cancel}
 use Rattle.std.proofs.lemmas.List.{append-nil}
-use Rattle.debug_commands.specs.Request.{most_steps}
-use Rattle.debug_commands.specs.declared.request.Request.TheVariants.{Flags, Steps}
+use Rattle.debug_session.specs.Request.{most_steps}
+use Rattle.debug_session.specs.declared.request.Request.TheVariants.{Flags, Steps}
 use Rattle.debug_link.specs.Console.{console}
 use Rattle.debug_link.specs.Writing.{PutsPackets}
 use Rattle.debug_link.proofs.Bodies.{put_none}

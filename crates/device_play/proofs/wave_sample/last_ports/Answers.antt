@@ -1,5 +1,5 @@
 use Rattle.std.proofs.Common.{ℕ, Option, ap}
-use Rattle.wave_dump.specs.declared.ports.Ports.{Ports}
+use Rattle.trace_files.specs.declared.ports.Ports.{Ports}
 use Rattle.device_play.proofs.WaveStep.{told_ports}
 use Rattle.device_play.proofs.wave_sample.last_ports.Goals as goal
 

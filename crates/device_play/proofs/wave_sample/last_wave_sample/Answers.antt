@@ -1,4 +1,4 @@
-use Rattle.wave_dump.specs.declared.sample.Sample.{Sample}
+use Rattle.trace_files.specs.declared.sample.Sample.{Sample}
 use Rattle.device_play.proofs.WaveStep.{told_sample}
 use Rattle.device_play.proofs.wave_sample.last_wave_sample.Goals as goal
 

@@ -1,9 +1,9 @@
 use Rattle.std.proofs.Common.{◌∙◌, ap, sym, subst, Err, reverse, take}
 use Rattle.std.specs.Result.{result_err}
 use Rattle.mem_map.specs.Image.{byte_in}
-use Rattle.asm_bytes.specs.Value.{Scope}
-use Rattle.asm_bytes.specs.Scope.{scope_in}
-use Rattle.asm_bytes.specs.Statement.{bytes_of}
+use Rattle.msp_asm.specs.Value.{Scope}
+use Rattle.msp_asm.specs.Scope.{scope_in}
+use Rattle.msp_asm.specs.Statement.{bytes_of}
 use Rattle.msp_asm.specs.SecondPass.{byte_placed, second_pass_fault}
 use Rattle.msp_asm.specs.FirstPassState.{AnswersFault}
 use Rattle.msp_asm.proofs.LinesSoFar.{earlier_more, sound_more, fault_of_all}

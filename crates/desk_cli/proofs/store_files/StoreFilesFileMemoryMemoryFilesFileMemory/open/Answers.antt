@@ -1,5 +1,5 @@
 use Rattle.std.proofs.Common.{◌≡◌, false, true, ◌∙◌, rules, subst, sym}
-use Rattle.state_table.proofs.TableRows.{found_same}
+use Rattle.desk_database.proofs.TableRows.{found_same}
 use Rattle.desk_cli.specs.MemoryFiles.{Opening}
 use Rattle.desk_cli.specs.StoreFiles.{FindsIn, FindsNow, IsCounted}
 use Rattle.desk_cli.proofs.FoundEntries.{opened_finds, opened_fit, unopened}

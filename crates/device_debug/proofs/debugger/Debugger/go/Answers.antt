@@ -1,7 +1,7 @@
 use Rattle.std.proofs.Common.{◌≡◌, ◌∙◌, ℕ, Option, Ok, Err, ap}
-use Rattle.debug_commands.specs.declared.command.Way.TheVariants.{Ahead, Back}
+use Rattle.debug_session.specs.declared.command.Way.TheVariants.{Ahead, Back}
 use Rattle.debug_session.specs.Going.{interrupted, where_to}
-use Rattle.debug_stops.specs.Stops.{Stops}
+use Rattle.debug_session.specs.Stops.{Stops}
 use Rattle.device_debug.specs.Seek.{step_in}
 use Rattle.device_debug.specs.Session.{view_in}
 use Rattle.device_debug.specs.declared.debugger.Debugger.{Debugger}

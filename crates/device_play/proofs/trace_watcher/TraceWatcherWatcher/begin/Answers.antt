@@ -1,4 +1,4 @@
-use Rattle.clean_trace.specs.TraceText.{trace_lines}
+use Rattle.trace_files.specs.TraceText.{trace_lines}
 use Rattle.device_play.proofs.GoesOn.{trace-goes_on}
 use Rattle.device_play.proofs.PutsLemmas.{takes-nothing}
 use Rattle.device_play.proofs.trace_watcher.TraceWatcherWatcher.begin.Goals as goal

@@ -1,5 +1,5 @@
 use Rattle.std.proofs.Common.{◌∷◌, arith}
-use Rattle.clean_trace.specs.WaveSamples.{wave_samples}
+use Rattle.trace_files.specs.WaveSamples.{wave_samples}
 use Rattle.device_play.specs.Accounts.{wave_account}
 use Rattle.device_play.proofs.SeenStep.{seen-all, seen-failed}
 use Rattle.device_play.proofs.WaveStep.{length-samples, puts-changes, sample-is, samples-more}

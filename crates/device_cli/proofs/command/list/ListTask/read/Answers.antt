@@ -1,4 +1,4 @@
-use Rattle.msp_disasm.specs.Listing.{listing}
+use Rattle.msp_asm.specs.Listing.{listing}
 use Rattle.input_files.specs.FileKind.{image_kind}
 use Rattle.device_cli.specs.Row.{plain, put}
 use Rattle.device_cli.specs.LawfulPlay.{IsPutLawfully}

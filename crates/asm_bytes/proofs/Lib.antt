@@ -1,6 +1,0 @@
-pub mod ValueSum
-pub mod Lists
-pub mod NameMap
-pub mod OperandWords
-pub mod InstructionWords
-pub mod StatementSize

@@ -1,3 +1,0 @@
-pub mod TraceText
-pub mod KeylessLines
-pub mod WaveSamples

@@ -1,4 +1,0 @@
-pub mod Action
-pub mod Command
-pub mod Number
-pub mod Request

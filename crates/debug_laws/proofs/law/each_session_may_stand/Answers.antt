@@ -1,5 +1,0 @@
-use Rattle.debug_laws.proofs.Sessions.{session-stands}
-use Rattle.debug_laws.proofs.law.each_session_may_stand.Goals as goal
-
-pub returns : goal.returns
-returns c = session-stands

@@ -1,5 +1,0 @@
-use Rattle.debug_laws.proofs.FirstStops.{stops-first}
-use Rattle.debug_laws.proofs.law.first_stop_is_first.Goals as goal
-
-pub returns : goal.returns
-returns c = stops-first

@@ -1,5 +1,0 @@
-use Rattle.debug_laws.proofs.EarlyEnds.{may-end}
-use Rattle.debug_laws.proofs.law.interrupt_ends_a_way.Goals as goal
-
-pub returns : goal.returns
-returns c = λ run session body interrupt stands. may-end run session stands body interrupt

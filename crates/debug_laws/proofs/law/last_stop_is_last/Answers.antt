@@ -1,5 +1,0 @@
-use Rattle.debug_laws.proofs.FirstStops.{stops-last}
-use Rattle.debug_laws.proofs.law.last_stop_is_last.Goals as goal
-
-pub returns : goal.returns
-returns c = stops-last

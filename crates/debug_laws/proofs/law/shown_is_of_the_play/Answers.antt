@@ -1,5 +1,0 @@
-use Rattle.debug_laws.proofs.ShownPlays.{shows-play}
-use Rattle.debug_laws.proofs.law.shown_is_of_the_play.Goals as goal
-
-pub returns : goal.returns
-returns c = shows-play

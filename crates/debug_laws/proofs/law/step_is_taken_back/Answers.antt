@@ -1,5 +1,0 @@
-use Rattle.debug_laws.proofs.StepsBack.{taken-back}
-use Rattle.debug_laws.proofs.law.step_is_taken_back.Goals as goal
-
-pub returns : goal.returns
-returns c = taken-back

@@ -1,5 +1,0 @@
-pub mod EarlyEnd
-pub mod FirstStop
-pub mod ShownPlay
-pub mod StepBack
-pub mod ToldLines

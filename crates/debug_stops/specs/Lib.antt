@@ -1,3 +1,0 @@
-pub mod StopReply
-pub mod Stops
-pub mod Watched

@@ -1,0 +1,11 @@
+pub mod Law
+pub mod TableOpening
+pub mod Rows
+pub mod Table
+pub mod Version
+pub mod MemoryTables
+pub mod Fault
+pub mod Log
+pub mod Held
+pub mod Begun
+pub mod Opening

@@ -1,0 +1,6 @@
+ghost use Rattle.desk_database.specs.Law.{IsOfOneList};
+
+/// A table is that of one list of entries.
+pub fn table_is_of_one_list()
+    ensures { IsOfOneList }
+{}

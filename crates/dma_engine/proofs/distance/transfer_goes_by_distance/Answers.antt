@@ -1,5 +1,0 @@
-use Rattle.dma_engine.proofs.Transfer.{goes_by_distance}
-use Rattle.dma_engine.proofs.distance.transfer_goes_by_distance.Goals as goal
-
-pub returns : goal.returns
-returns c = goes_by_distance

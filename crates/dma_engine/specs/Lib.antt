@@ -1,3 +1,0 @@
-pub mod Activity
-pub mod Dma
-pub mod Distance

@@ -1,5 +1,0 @@
-use Rattle.exec_automaton.proofs.UnclearedStarts.{flag-iff}
-use Rattle.exec_automaton.proofs.law.flag_is_set_by_an_uncleared_start.Goals as goal
-
-pub returns : goal.returns
-returns g c = flag-iff g.met.C.Conditions.of_run

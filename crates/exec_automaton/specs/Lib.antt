@@ -1,3 +1,0 @@
-pub mod ExecFlag
-pub mod RunFlag
-pub mod UnclearedStart

@@ -1,3 +1,0 @@
-pub mod Remainder
-pub mod Tick
-pub mod Ticks

@@ -1,3 +1,0 @@
-pub mod Pins
-pub mod Ticks
-pub mod Timer

@@ -1,4 +1,0 @@
-pub mod Later
-pub mod SameAnswer
-pub mod SameConversation
-pub mod SameRuns

@@ -1,5 +1,0 @@
-use Rattle.live_secrecy.proofs.SameConversation.{answers-alike}
-use Rattle.live_secrecy.proofs.law.second_key_gives_same_conversation.Goals as goal
-
-pub returns : goal.returns
-returns c start other lines same agree = answers-alike start other lines same agree

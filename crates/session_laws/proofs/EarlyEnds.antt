@@ -1,0 +1,136 @@
+-- An interrupt ends a way at a boundary on it, or where it began, or changes nothing.
+use Rattle.std.proofs.Common.{◌≡◌, ◌≤◌, ◌<◌, ◌+◌, ◌-◌, ◌⊎◌, inl, inr, ⊎_elim, ℕ, Bool, true, List, Option, Some, None, refl, ap, sym, subst, arith}
+use Rattle.std.specs.Prelude.{◌==◌, ◌&&◌, ◌||◌}
+use Rattle.std.proofs.lemmas.Bool.{and_parts, cases_Bool, cond-false, cond-true, eqb-true, or_cases}
+use Rattle.std.proofs.lemmas.List.{append-nil}
+use Rattle.debug_link.specs.Conversation.{Answer}
+use Rattle.debug_session.specs.Command.{command_of}
+use Rattle.debug_session.specs.Request.{most_steps}
+use Rattle.debug_session.specs.declared.command.Command.{Command}
+use Rattle.debug_session.specs.declared.command.Command.TheVariants.{Go}
+use Rattle.debug_session.specs.declared.command.Going.{Going}
+use Rattle.debug_session.specs.declared.command.Way.{Way}
+use Rattle.debug_session.specs.declared.command.Way.TheVariants.{Ahead, Back}
+use Rattle.debug_session.specs.declared.stop.Stop.{Stop}
+use Rattle.debug_session.specs.declared.stop.Stop.TheVariants.{Begin, End, Interrupted}
+use Rattle.debug_session.specs.Cause.{cause}
+use Rattle.debug_session.proofs.Between.{between-is}
+use Rattle.debug_session.specs.Going.{Standing, lies_between, seek_of, where_to}
+use Rattle.debug_session.specs.Place.{Run, view_of}
+use Rattle.debug_session.specs.Session.{Session, answer_of, goes, lines_to, reply, stands_at, told}
+use Rattle.session_laws.specs.EarlyEnd.{EndsEarly, LedTo, MayEndEarly}
+use Rattle.session_laws.specs.FirstStop.{HasStopped}
+use Rattle.session_laws.specs.StepBack.{MayStandAt}
+use Rattle.session_laws.specs.ToldLines.{TellsBetween}
+use Rattle.session_laws.proofs.FirstStops.{stops-first, stops-last}
+use Rattle.session_laws.proofs.Sessions.{gone-stands}
+use Rattle.session_laws.proofs.ToldPieces.{tells-between}
+
+module _ (run : Run) (session : Session) (stands : MayStandAt (view_of run) session.place) where
+  abbrev whole : Way → Going → Standing
+  whole way going = where_to (view_of run) session.stops way going session.place
+
+  leads-ahead : (going : Going) → session.place ≤ (whole Ahead going).place
+  leads-ahead going =
+      let causes : ℕ → Option Stop =
+      cause (view_of run) session.stops (seek_of (view_of run) Ahead going session.place) in
+      ⊎_elim
+      (λ (stopped : HasStopped causes (session.place + 1) most_steps (whole Ahead going)).
+      omega (arith, stopped.from))
+      (λ (ended : (whole Ahead going ≡ record { place = most_steps; stop = End })
+      × (session.place < most_steps → causes most_steps ≡ None)).
+      let last : (whole Ahead going).place ≡ most_steps =
+      ap (λ (one : Standing). one.place) ended.0 in
+      omega (arith, last, stands.within))
+      (stops-first (view_of run) session.stops going session.place stands.within).stands
+
+  leads-back : (going : Going) → (whole Back going).place ≤ session.place
+  leads-back going =
+      let causes : ℕ → Option Stop =
+      cause (view_of run) session.stops (seek_of (view_of run) Back going session.place) in
+      ⊎_elim
+      (λ (stopped : ((whole Back going).place < session.place)
+      × HasStopped causes 1 session.place (whole Back going)).
+      omega (arith, stopped.0))
+      (λ (begun : (whole Back going ≡ record { place = 1; stop = Begin })
+      × (1 < session.place → causes 1 ≡ None)).
+      let first : (whole Back going).place ≡ 1 = ap (λ (one : Standing). one.place) begun.0 in
+      omega (arith, first, stands.behind_boot))
+      (stops-last (view_of run) session.stops going session.place).stands
+
+  abbrev here : ℕ → Standing
+  here place = record { place = place; stop = Interrupted }
+
+  led-to : (way : Way) (going : Going) (place : ℕ)
+      → lies_between session.place (whole way going).place place ≡ true
+      → LedTo run session.place (whole way going).place place
+      (lines_to (view_of run) way session.place (here place))
+  led-to Ahead going place is =
+      let lies = between-is session.place (whole Ahead going).place place is in
+      let later = leads-ahead going in
+      let stood = gone-stands (view_of run) session.stops Ahead going session.place stands in
+      let from : session.place ≤ place = omega (arith, lies.0, later) in
+      let to : place ≤ (whole Ahead going).place = omega (arith, lies.1, later) in
+      inl (
+        from,
+        to,
+        subst (TellsBetween run session.place place)
+            (sym (append-nil (told (view_of run) session.place (place - session.place))))
+            (tells-between run session.place place from (omega (arith, to, stood.within))),
+      )
+  led-to Back going place is =
+      let lies = between-is session.place (whole Back going).place place is in
+      let earlier = leads-back going in
+      inr (omega (arith, lies.0, earlier), omega (arith, lies.1, earlier), refl)
+
+  abbrev ends : Way → Going → ℕ → Bool
+  ends way going place =
+      lies_between session.place (whole way going).place place
+      && ((view_of run place).boundary || (place == session.place))
+
+  -- the answer of one who has come so far
+  abbrev arrived : Way → Standing → Answer Session
+  arrived way now = stands_at session now (lines_to (view_of run) way session.place now)
+
+  early : (way : Way) (going : Going) (place : ℕ) → ends way going place ≡ true
+      → EndsEarly run session (goes (view_of run) None session way going)
+      (goes (view_of run) (Some place) session way going)
+  early way going place is =
+      let parts =
+      and_parts (lies_between session.place (whole way going).place place)
+      ((view_of run place).boundary || (place == session.place)) is in
+      record {
+        place = place;
+        told = lines_to (view_of run) way session.place (here place);
+        led = led-to way going place parts.0;
+        settled = ⊎_elim inl (λ same. inr (eqb-true place session.place same))
+            (or_cases (view_of run place).boundary (place == session.place) parts.1);
+        answer_is = ap (arrived way)
+            (cond-true (ends way going place) (here place) (whole way going) is);
+      }
+
+  gone : (interrupt : Option ℕ) (way : Way) (going : Going)
+      → (goes (view_of run) interrupt session way going
+      ≡ goes (view_of run) None session way going)
+      ⊎ EndsEarly run session (goes (view_of run) None session way going)
+      (goes (view_of run) interrupt session way going)
+  gone None way going = inl refl
+  gone (Some place) way going =
+      ⊎_elim
+      (λ (is : ends way going place ≡ true). inr (early way going place is))
+      (λ is.
+      inl (ap (arrived way)
+      (cond-false (ends way going place) (here place) (whole way going) is)))
+      (cases_Bool (ends way going place))
+
+  ended : (interrupt : Option ℕ) (command : Command)
+      → (answer_of (view_of run) interrupt session command
+      ≡ answer_of (view_of run) None session command)
+      ⊎ EndsEarly run session (answer_of (view_of run) None session command)
+      (answer_of (view_of run) interrupt session command)
+  ended interrupt (Go way going) = gone interrupt way going
+  ended interrupt command = inl refl
+
+  pub may-end : (body : List ℕ) (interrupt : Option ℕ) → MayEndEarly run session body interrupt
+  unfolding reply
+  may-end body interrupt = ended interrupt (command_of body)

@@ -1,5 +1,0 @@
-use Rattle.trace_audit.proofs.Offences.{clean_iff}
-use Rattle.trace_audit.proofs.law.clean_lines_have_no_offence.Goals as goal
-
-pub returns : goal.returns
-returns c = clean_iff

@@ -1,6 +1,0 @@
--- The region of a span.
-use Rattle.bus_signals.specs.declared.region.Region.{Region}
-use Rattle.trace_audit.specs.declared.span.Span.{Span}
-
-abbrev pub region_of : Span → Region
-region_of span = record { first = span.first; last = span.last }

@@ -1,0 +1,14 @@
+-- What a waveform that stands for steps puts at their end.
+use Rattle.std.proofs.Common.{◌≡◌, [], ◌∷◌, List, Some, refl}
+use Rattle.trace_files.specs.declared.sample.Sample.{Sample}
+use Rattle.trace_files.specs.declared.wave.Wave.{Wave}
+use Rattle.trace_files.specs.Wave.{WaveStandsFor, shown_now}
+use Rattle.trace_files.specs.WaveText.{end_text, shown_after, told_text}
+
+pub end_told : (wave : Wave) (samples : List Sample) (last : Sample)
+    → WaveStandsFor wave samples → wave.last ≡ Some last
+    → end_text samples ≡ told_text wave.steps wave.last (shown_now wave last)
+end_told wave [] last stands is = absurd (cc (is, stands.same_last))
+end_told wave (sample ∷ before) last stands is =
+    let same : last ≡ shown_after before sample = cc (is, stands.same_last) in
+    rw (stands.same_steps, stands.same_last, same, stands.same_exec, stands.same_state) refl

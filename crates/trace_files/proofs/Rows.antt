@@ -1,0 +1,25 @@
+use Rattle.std.proofs.Common.{◌≡◌, refl}
+use Rattle.std.specs.Prelude.{◌++◌, [], codes}
+use Rattle.std.specs.Fmt.{digits}
+use Rattle.hex.specs.Hex.{encode_with}
+use Rattle.word_arith.specs.Op2.{alu_result}
+use Rattle.word_arith.specs.Op1.{shift_result}
+use Rattle.msp_decode.specs.Head.{head_of}
+use Rattle.part_definitions.specs.FirstRule.{first_rule}
+use Rattle.part_definitions.specs.NextAccess.{next_access, entry_access}
+use Rattle.part_definitions.specs.MonitorRule.{key_rule, atomicity_rule}
+use Rattle.bus_signals.specs.ExecFlag.{exec}
+use Rattle.device_trace.specs.Example.{start_with, quiet_steps, letter_a}
+use Rattle.device_trace.specs.Logs.{with_events, with_record}
+use Rattle.device_trace.specs.Signals.{signals_at}
+use Rattle.device_trace.specs.Step.{record_of, next_record}
+use Rattle.device_trace.specs.Trace.{logs_after}
+use Rattle.trace_files.specs.TraceText.{trace_lines, trace_text}
+
+row : trace_text (start_with letter_a) (quiet_steps 2 [])
+    ≡ codes "t 0 boot 0000 rfffe - 0 0 0000 c000 0000 0000 0000 0000 0000 0 -\n"
+    ++ codes "t 1 cpu c000 fc000 - 0 0 40b2 40b2 0000 0000 0000 0000 0000 0 -\n"
+unfolding digits encode_with alu_result shift_result head_of next_access entry_access key_rule
+    atomicity_rule exec with_events with_record signals_at first_rule record_of next_record
+    logs_after trace_lines
+row = refl

@@ -1,0 +1,51 @@
+-- A waveform is read as the steps that it was written of.
+use Rattle.std.proofs.Common.{◌≡◌, ◌∙◌, ◌^◌, ◌<◌, ℕ, Bool, List, [], ◌++◌, Some, None, append-nil, append_assoc, length, take, drop, refl, sym, ap}
+use Rattle.std.specs.Prelude.{if◌then◌else◌}
+use Rattle.std.specs.Str.{bytes_eq}
+use Rattle.std.specs.Str.Lines.{lines}
+use Rattle.std.proofs.Math.Seq.{drop-append_seam, take-append_seam}
+use Rattle.std.proofs.lemmas.Slice.Eq.{bytes_eq-Decides}
+use Rattle.trace_files.specs.declared.sample.Sample.{Sample}
+use Rattle.trace_files.specs.WaveText.{end_text, header, steps_text}
+use Rattle.trace_files.specs.WaveReader.{points_after, points_of}
+use Rattle.trace_files.specs.WaveReadBack.{AreShowable, WavesReadBack}
+use Rattle.trace_files.proofs.Reading.{reads_both}
+use Rattle.trace_files.proofs.Steps.{all_points, points_for, reads_ends, reads_steps, shows_end, shows_steps}
+
+-- a text that begins as it should is read from there on
+cut : (head rest : List ℕ)
+    → (if bytes_eq (take (length head) (head ++ rest)) head
+    then points_after [] (lines (drop (length head) (head ++ rest)))
+    else None)
+    ≡ points_after [] (lines rest)
+cut head rest =
+    ap
+    (λ (front : List ℕ). if bytes_eq front head
+    then points_after [] (lines (drop (length head) (head ++ rest)))
+    else None)
+    (take-append_seam head rest)
+    ∙ ap
+    (λ (back : List ℕ). if bytes_eq head head then points_after [] (lines back) else None)
+    (drop-append_seam head rest)
+    ∙ ap (λ (same : Bool). if same then points_after [] (lines rest) else None)
+    ((bytes_eq-Decides head head).1 refl)
+
+reads-whole : (samples : List Sample) → AreShowable samples → length samples < 2 ^ 32
+    → points_after [] (lines (steps_text samples ++ end_text samples)) ≡ Some (all_points samples)
+unfolding points_after
+reads-whole samples showable few =
+    let text : List ℕ = steps_text samples ++ end_text samples in
+    ap (λ (told : List ℕ). points_after [] (lines told)) (sym (append-nil text))
+    ∙ reads_both (steps_text samples) (end_text samples) [] (points_for samples)
+    (all_points samples) (reads_steps samples showable few) (reads_ends samples showable few) []
+
+pub waves_read_back : WavesReadBack
+waves_read_back samples showable few = record {
+  points = all_points samples;
+  read = ap (λ (text : List ℕ). points_of text)
+      (append_assoc header (steps_text samples) (end_text samples))
+      ∙ cut header (steps_text samples ++ end_text samples)
+      ∙ reads-whole samples showable few;
+  steps = shows_steps samples;
+  end = shows_end samples;
+}

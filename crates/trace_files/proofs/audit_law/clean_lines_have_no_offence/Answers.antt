@@ -1,0 +1,5 @@
+use Rattle.trace_files.proofs.Offences.{clean_iff}
+use Rattle.trace_files.proofs.audit_law.clean_lines_have_no_offence.Goals as goal
+
+pub returns : goal.returns
+returns c = clean_iff

@@ -1,0 +1,40 @@
+-- The audit of a trace file, and what is printed of it.
+use Rattle.std.specs.Prelude.{ℕ, List, [], ◌∷◌, length, Option, Some, None, Result, codes}
+use Rattle.std.specs.Fmt.{decimal}
+use Rattle.printed_lines.specs.Line.{flag_digit, line_of}
+use Rattle.text_scan.specs.declared.fault_at.FaultAt.{FaultAt}
+use Rattle.text_scan.specs.Reader.{value_as}
+use Rattle.trace_files.specs.LineText.{rule_word}
+use Rattle.trace_files.specs.TraceFile.{trace_of}
+use Rattle.trace_files.specs.declared.trace_line.TraceLine.{TraceLine}
+use Rattle.trace_files.specs.declared.audited.Audited.{Audited}
+use Rattle.trace_files.specs.declared.offence.Offence.{Offence}
+use Rattle.trace_files.specs.declared.offence.Offence.TheVariants.{RuleIs, ExecIs}
+use Rattle.trace_files.specs.Offence.{first_offence}
+
+-- how many lines these are, the newest first, and their first offence
+abbrev pub audited : List TraceLine → Audited
+audited lines = record { lines = length lines; offence = first_offence lines }
+
+-- of the lines of a trace file, or the file's first fault, which goes before every offence
+abbrev pub audit_of : List ℕ → Result Audited FaultAt
+audit_of text = value_as audited (trace_of text)
+
+-- what would be right
+abbrev pub offence_pieces : Offence → List (List ℕ)
+offence_pieces (RuleIs rule) = codes "rule" ∷ rule_word rule ∷ []
+offence_pieces (ExecIs exec) = codes "exec" ∷ flag_digit exec ∷ []
+
+abbrev pub offence_line : ℕ → Offence → List ℕ
+offence_line step offence = line_of (codes "offence") (decimal step ∷ offence_pieces offence)
+
+abbrev pub clean_line : ℕ → List ℕ
+clean_line lines = line_of (codes "clean") (decimal lines ∷ [])
+
+-- of the number of lines, and their first offence
+abbrev pub line_of_audit : ℕ → Option (ℕ × Offence) → List ℕ
+line_of_audit lines None = clean_line lines
+line_of_audit lines (Some offence) = offence_line offence.0 offence.1
+
+abbrev pub audit_text : Audited → List ℕ
+audit_text audited = line_of_audit audited.lines audited.offence

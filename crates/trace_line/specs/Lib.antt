@@ -1,4 +1,0 @@
-pub mod LineText
-pub mod LineGrammar
-pub mod TraceFile
-pub mod ReadBack

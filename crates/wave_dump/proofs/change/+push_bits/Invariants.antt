@@ -1,4 +1,0 @@
-use Rattle.wave_dump.proofs.change.+push_bits.Given as goal
-
-abbrev pub decreases-push_bits : goal.decreases-push_bits
-decreases-push_bits l = l.number

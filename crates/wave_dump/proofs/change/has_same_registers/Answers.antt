@@ -1,9 +1,0 @@
-use Rattle.std.proofs.lemmas.Bool.Decides.{Decides-eqb}
-use Rattle.std.proofs.lemmas.Slice.Eq.{slice_eq-Decides}
-use Rattle.wave_dump.proofs.Others.{untold_registers}
-use Rattle.wave_dump.proofs.change.has_same_registers.Goals as goal
-
-pub returns : goal.returns
-returns c same =
-    untold_registers c.args.last.now c.args.now.now
-    ((slice_eq-Decides Decides-eqb _ _ _ c.eq.ensures).0 same)

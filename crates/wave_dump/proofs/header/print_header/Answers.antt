@@ -1,7 +1,0 @@
-use Rattle.std.specs.Fmt.{digits}
-use Rattle.wave_dump.specs.WaveText.{header}
-use Rattle.wave_dump.proofs.header.print_header.Goals as goal
-
-pub returns-clause-puts : goal.returns-clause-puts
-unfolding header digits
-returns-clause-puts g c = c.put_all.ensures.puts

@@ -1,6 +1,0 @@
-pub mod Wire
-pub mod WireValue
-pub mod WaveText
-pub mod Wave
-pub mod WaveReader
-pub mod ReadBack

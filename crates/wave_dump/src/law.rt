@@ -1,8 +1,0 @@
-ghost use Rattle.wave_dump.specs.ReadBack.{WavesReadBack};
-
-/// In the waveform of less than 2^32 steps, whose numbers fit and whose accesses are as the bus
-/// allows them, a reader finds at the time of each step what its line says, its ports, and EXEC and
-/// the state before it.
-pub fn wave_reads_back()
-    ensures { WavesReadBack }
-{}
