@@ -8,7 +8,7 @@ use crate::answer_status::served_status;
 use crate::session_end::SessionEnd;
 use device_core::power_on;
 use device_live::serve_lines;
-use execution_flags::IsrFlag;
+use execution_flags::AuxFlag;
 use hmac_core::Sha256Digest;
 use input_files::{File, Image, Inputs, Key, Status};
 use outside_edge::{Shelf, Sink, Source};
@@ -70,7 +70,7 @@ fn serve_life<R: Source, W: Sink + Drop>(
     ensures sink_faults { W.faults sink ≤ W.faults result.1 }
 {
     let (key, image) = values;
-    let Ok(device) = power_on::<Sha256Digest, IsrFlag>(alloc, key, image, IsrFlag::new()) else {
+    let Ok(device) = power_on::<Sha256Digest, AuxFlag>(alloc, key, image, AuxFlag::new()) else {
         return (Status::Memory, sink);
     };
     let Ok(held) = HeldLine::new(alloc) else {

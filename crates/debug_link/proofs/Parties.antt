@@ -6,7 +6,7 @@ use Rattle.std.proofs.lemmas.List.{append-nil, take_more}
 use Rattle.outside_edge.specs.Sink.{Takes, TakesPrefix}
 use Rattle.outside_edge.specs.declared.sink.Sink as sink
 use Rattle.outside_edge.proofs.SinkLemmas.{prefix_after, prefix_of_more, takes_both}
-use Rattle.debug_link.specs.Conversation.{LONGEST_BODY, Answer, Input, Talk, answer_to, answered, bytes_of, mark_of, marked, with_answer, talk_with_byte, talk_with_inputs}
+use Rattle.debug_link.specs.Conversation.{LONGEST_BODY, Answer, Input, Talk, answer_to, talk_after_message, bytes_of, mark_of, talk_after_byte, with_answer, talk_with_byte, talk_with_inputs}
 use Rattle.debug_link.specs.HeldBody.{HeldBody, short_body}
 use Rattle.debug_link.specs.Link.{Message, Silence, Again, Damage, Whole, link_after, message_of}
 use Rattle.debug_link.specs.Packet.{packet_of, packets_of}
@@ -34,7 +34,7 @@ module _ {T Session W : Type 0} (stands : T → Session → Type 0) (w : sink.Gh
       (mark_of old.packets.last (message_of talk.link byte))
       → ReaderStandsFor new.reader (link_after talk.link byte)
       → new.answerer ≡ old.answerer → new.packets.last ≡ old.packets.last
-      → TalkStandsFor stands w first new (marked talk byte)
+      → TalkStandsFor stands w first new (talk_after_byte talk byte)
   mark_put first old new talk byte so put reads answerer last =
       let message : Message = message_of talk.link byte in
       let Due : List ℕ → Type 0 =
@@ -89,7 +89,7 @@ module _ {T Session W : Type 0} (stands : T → Session → Type 0) (w : sink.Gh
   mark_failed first old new talk byte (Err fault) still so prefix is =
       let message : Message = message_of talk.link byte in
       let mark : List ℕ = mark_of talk.last message in
-      let rest = answered_more reply (marked talk byte) message in
+      let rest = answered_more reply (talk_after_byte talk byte) message in
       let Due : List ℕ → Type 0 =
       λ last. TakesPrefix w.stands old.packets.sink new.packets.sink (mark_of last message) in
       record {
@@ -102,19 +102,19 @@ module _ {T Session W : Type 0} (stands : T → Session → Type 0) (w : sink.Gh
 
   -- nothing more is due
   nothing_due : (talk : Talk Session) (message : Message) → (heard_of message ≡ heard.Whole → ⊥)
-      → answered reply talk message ≡ talk
+      → talk_after_message reply talk message ≡ talk
   nothing_due talk Silence other = refl
   nothing_due talk Again other = refl
   nothing_due talk Damage other = refl
   nothing_due talk (Whole body) other = absurd (other refl)
 
   pub byte_marked : (first : W) (new : Parties T W) (talk : Talk Session) (byte : ℕ)
-      → talk.is_over ≡ false → TalkStandsFor stands w first new (marked talk byte)
+      → talk.is_over ≡ false → TalkStandsFor stands w first new (talk_after_byte talk byte)
       → (heard_of (message_of talk.link byte) ≡ heard.Whole → ⊥)
       → GoesOnTo stands w first new (talk_with_byte reply talk byte) (Ok Open)
   byte_marked first new talk byte still so other =
       let same = open_byte reply talk byte still
-      ∙ nothing_due (marked talk byte) (message_of talk.link byte) other in
+      ∙ nothing_due (talk_after_byte talk byte) (message_of talk.link byte) other in
       rw same (record { all = (sym still, so); prefix = tt })
 
   -- a body that is too long
@@ -179,7 +179,7 @@ module _ {T Session Interrupt W : Type 0} (stands : T → Session → Type 0) (w
       → body ≡ old.reader.body.bytes
       → AnswersSo old new body result
       → (interrupt : Option Interrupt)
-      × GoesOnTo stands w first new (answered (reply interrupt) talk message) result
+      × GoesOnTo stands w first new (talk_after_message (reply interrupt) talk message) result
   whole_answered first old new talk (Whole bytes) body result so reads is kept held answers =
       let told =
       answers talk.session bytes so.session (held ∙ ap (λ (one : HeldBody). one.bytes) kept) in (
@@ -196,7 +196,7 @@ module _ {T Session Interrupt W : Type 0} (stands : T → Session → Type 0) (w
 
   pub byte_answered : (first : W) (old new : Parties T W) (talk : Talk Session) (byte : ℕ)
       (body : Option (List ℕ)) (result : Result Connection AnswerFault)
-      → talk.is_over ≡ false → TalkStandsFor stands w first old (marked talk byte)
+      → talk.is_over ≡ false → TalkStandsFor stands w first old (talk_after_byte talk byte)
       → ReaderStandsFor new.reader (link_after talk.link byte)
       → heard_of (message_of talk.link byte) ≡ heard.Whole
       → KeepsBody old.reader (message_of talk.link byte)
@@ -206,7 +206,8 @@ module _ {T Session Interrupt W : Type 0} (stands : T → Session → Type 0) (w
       × GoesOnTo stands w first new (talk_with_byte (reply interrupt) talk byte) result
   byte_answered first old new talk byte body result still so reads is kept held answers =
       let told =
-      whole_answered first old new (marked talk byte) (message_of talk.link byte) body result so
+      whole_answered first old new (talk_after_byte talk byte)
+      (message_of talk.link byte) body result so
       reads is kept held answers in
       (told.0, rw (open_byte (reply told.0) talk byte still) told.1)
 

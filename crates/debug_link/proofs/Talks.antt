@@ -2,7 +2,7 @@
 use Rattle.std.proofs.Common.{◌≡◌, ◌∙◌, ◌++◌, ℕ, true, false, List, [], ◌∷◌, None, Option, map, refl, ap, sym, append_assoc, ⊎_elim}
 use Rattle.std.proofs.lemmas.Bool.{cases_Bool}
 use Rattle.std.proofs.lemmas.List.{append-nil, map-append}
-use Rattle.debug_link.specs.Conversation.{Answer, Input, Talk, answer_to, answered, bytes_of, mark_of, marked, talk_with_byte, talk_with_inputs}
+use Rattle.debug_link.specs.Conversation.{Answer, Input, Talk, answer_to, talk_after_message, bytes_of, mark_of, talk_after_byte, talk_with_byte, talk_with_inputs}
 use Rattle.debug_link.specs.Link.{Message, Silence, Again, Damage, Whole, message_of}
 use Rattle.debug_link.specs.Packet.{packets_of}
 
@@ -10,7 +10,7 @@ module _ {Session : Type 0} (reply : Session → List ℕ → Answer Session) wh
   -- a byte while the conversation is open
   pub open_byte : (talk : Talk Session) (byte : ℕ) → talk.is_over ≡ false
       → talk_with_byte reply talk byte
-      ≡ answered reply (marked talk byte) (message_of talk.link byte)
+      ≡ talk_after_message reply (talk_after_byte talk byte) (message_of talk.link byte)
   unfolding talk_with_byte
   open_byte talk byte is = rw is refl
 
@@ -21,7 +21,7 @@ module _ {Session : Type 0} (reply : Session → List ℕ → Answer Session) wh
 
   -- what is put only grows
   pub answered_more : (talk : Talk Session) (message : Message)
-      → (more : List ℕ) × ((answered reply talk message).put ≡ talk.put ++ more)
+      → (more : List ℕ) × ((talk_after_message reply talk message).put ≡ talk.put ++ more)
   answered_more talk Silence = ([], sym (append-nil talk.put))
   answered_more talk Again = ([], sym (append-nil talk.put))
   answered_more talk Damage = ([], sym (append-nil talk.put))
@@ -39,7 +39,7 @@ module _ {Session : Type 0} (reply : Session → List ℕ → Answer Session) wh
       ))
       (λ is.
       let message : Message = message_of talk.link byte in
-      let rest = answered_more (marked talk byte) message in
+      let rest = answered_more (talk_after_byte talk byte) message in
       let mark : List ℕ = mark_of talk.last message in (
         mark ++ rest.0,
         ap (λ (one : Talk Session). one.put) (open_byte talk byte is) ∙ rest.1

@@ -65,16 +65,16 @@ with_answer talk answer =
       is_over = is_closed answer.connection;
     }
 
-abbrev pub answered : {Session : Type 0} → (Session → List ℕ → Answer Session)
+abbrev pub talk_after_message : {Session : Type 0} → (Session → List ℕ → Answer Session)
     → Talk Session → Message → Talk Session
-answered reply talk Silence = talk
-answered reply talk Again = talk
-answered reply talk Damage = talk
-answered reply talk (Whole body) = with_answer talk (answer_to reply talk.session body)
+talk_after_message reply talk Silence = talk
+talk_after_message reply talk Again = talk
+talk_after_message reply talk Damage = talk
+talk_after_message reply talk (Whole body) = with_answer talk (answer_to reply talk.session body)
 
 -- the talk with what is put of a byte at once
-abbrev pub marked : {Session : Type 0} → Talk Session → ℕ → Talk Session
-marked talk byte =
+abbrev pub talk_after_byte : {Session : Type 0} → Talk Session → ℕ → Talk Session
+talk_after_byte talk byte =
     record talk {
       link = link_after talk.link byte;
       put = talk.put ++ mark_of talk.last (message_of talk.link byte);
@@ -84,7 +84,8 @@ marked talk byte =
 unfoldable pub talk_with_byte : {Session : Type 0} → (Session → List ℕ → Answer Session)
     → Talk Session → ℕ → Talk Session
 talk_with_byte reply talk byte =
-    if talk.is_over then talk else answered reply (marked talk byte) (message_of talk.link byte)
+    if talk.is_over then talk
+    else talk_after_message reply (talk_after_byte talk byte) (message_of talk.link byte)
 
 -- What comes: a byte, and what interrupts the answer to the packet that it ends, if anything does.
 pub record Input (Interrupt : Type 0) : Type 0 where

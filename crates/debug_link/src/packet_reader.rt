@@ -1,6 +1,6 @@
 ghost use Rattle.std.specs.Prelude.{◌≡◌, ◌≤◌, ℕ, List, length, option_map, IfSome};
 ghost use Rattle.debug_link.specs.Conversation.{LONGEST_BODY as longest};
-ghost use Rattle.debug_link.specs.Link.{Link, Between, Within, HalfChecked, begun, said, link_after, message_of};
+ghost use Rattle.debug_link.specs.Link.{Link, Between, Within, HalfChecked, link_after_other, message_of_other, link_after, message_of};
 ghost use Rattle.debug_link.specs.declared.packet_reader.Stage.TheVariants.{Body};
 
 use crate::check_digits::are_digits_of;
@@ -87,7 +87,7 @@ impl PacketReader {
     fn take_of_body(&mut self, byte: u8)
         requires { self.old.stage ≡ Body }
         ensures { (body : List ℕ) → self.old.body ≡ held_of body
-            → ReaderStandsFor self.new (begun (Within body) byte) }
+            → ReaderStandsFor self.new (link_after_other (Within body) byte) }
     {
         if byte == b'#' {
             self.stage = Stage::FirstDigit;
@@ -99,9 +99,9 @@ impl PacketReader {
     // Whether the body has these check digits.
     fn check(&self, first: u8, second: u8) -> Heard
         ensures heard { (body : List ℕ) → self.now.body ≡ held_of body
-            → result ≡ heard_of (said (HalfChecked body first) second) }
+            → result ≡ heard_of (message_of_other (HalfChecked body first) second) }
         ensures body { (body : List ℕ) → self.now.body ≡ held_of body
-            → KeepsBody self.now (said (HalfChecked body first) second) }
+            → KeepsBody self.now (message_of_other (HalfChecked body first) second) }
     {
         if are_digits_of(self.body.sum(), first, second) {
             Heard::Whole

@@ -54,7 +54,7 @@ fn served(
     let sink = MemSink::new(Vec::new(alloc), 64, 64, unwritten.to_vec(alloc)?)?;
     let mut packets = PacketWriter::new(sink);
     let served = serve(&mut source, Agreement, &mut packets);
-    Ok((served, packets.into_sink().held().to_vec(alloc)?))
+    Ok((served, packets.into_sink().as_bytes().to_vec(alloc)?))
 }
 
 #[test]
@@ -142,7 +142,7 @@ fn text_is_put_in_pieces(rt: HostRuntime) -> Result<(), Fail> {
         let mut packets = PacketWriter::new(sink);
         let text = vec![in alloc; b'a'; count]?;
         assert_eq!(rt; put_text(&text, &mut packets), Ok(()));
-        assert_eq!(rt; packets.into_sink().held(), put.as_slice());
+        assert_eq!(rt; packets.into_sink().as_bytes(), put.as_slice());
     }
     Ok(())
 }

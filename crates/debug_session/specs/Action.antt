@@ -19,13 +19,13 @@ behind beginning body =
 abbrev pub is_signal : List ℕ → Bool
 is_signal digits = (length digits == 2) && is_some (number_of digits)
 
-abbrev pub signalled : Going → List ℕ → Command
-signalled going digits = if is_signal digits then Go Ahead going else Refused
+abbrev pub going_with_signal : Going → List ℕ → Command
+going_with_signal going digits = if is_signal digits then Go Ahead going else Refused
 
 -- an action, what comes behind its letter, and what another letter asks for
 abbrev pub signalled_or : Going → Option (List ℕ) → Command → Command
 signalled_or going None other = other
-signalled_or going (Some digits) other = signalled going digits
+signalled_or going (Some digits) other = going_with_signal going digits
 
 abbrev pub signalled_action : List ℕ → Command
 signalled_action action =

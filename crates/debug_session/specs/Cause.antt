@@ -110,16 +110,16 @@ stop_of None false false (Some rule) = Some (Refused rule)
 stop_of None false false None = None
 
 -- at a place: what lies between it and where one came from, and behind and ahead of it
-abbrev pub between : Way → List Sight → List Sight → List Sight
-between Ahead before after = before
-between Back before after = after
+abbrev pub sights_between : Way → List Sight → List Sight → List Sight
+sights_between Ahead before after = before
+sights_between Back before after = after
 
 abbrev pub cause_here : Stops → Seek → ℕ → Sight → List Sight → List Sight → Option Stop
 cause_here stops seek place here before after =
     if here.boundary
-    then stop_of (hit_on seek.way (hits stops.watches (between seek.way before after)))
+    then stop_of (hit_on seek.way (hits stops.watches (sights_between seek.way before after)))
     (is_plain stops here (place - length before) place)
-    (steps_over seek.step here (between seek.way before after))
+    (steps_over seek.step here (sights_between seek.way before after))
     (refusal after)
     else None
 

@@ -37,9 +37,10 @@ first_session = record {
 }
 
 -- the lines of so many steps from a place on, each in packets of its own
-abbrev pub told : View → ℕ → ℕ → List (List ℕ)
-told view place zero = []
-told view place (suc steps) = console (view place).next.lines ++ told view (suc place) steps
+abbrev pub told_lines : View → ℕ → ℕ → List (List ℕ)
+told_lines view place zero = []
+told_lines view place (suc steps) = console (view place).next.lines
+    ++ told_lines view (suc place) steps
 
 -- the next step from a place on that is refused
 abbrev pub refused_step : View → ℕ → ℕ → ℕ
@@ -48,16 +49,16 @@ refused_step view place (suc steps) =
     if is_some (view place).next.refused then place else refused_step view (suc place) steps
 
 -- before a refusal its own line
-abbrev pub warning : View → ℕ → Stop → List (List ℕ)
-warning view place (stop.Refused rule) =
+abbrev pub refusal_warning : View → ℕ → Stop → List (List ℕ)
+refusal_warning view place (stop.Refused rule) =
     console (codes "stops before "
     ++ reset_line (refused_step view place (most_steps - place)) rule)
-warning view place other = []
+refusal_warning view place other = []
 
 -- forwards the lines of the steps up to another place
 abbrev pub lines_to : View → Way → ℕ → Standing → List (List ℕ)
 lines_to view Ahead place now =
-    told view place (now.place - place) ++ warning view now.place now.stop
+    told_lines view place (now.place - place) ++ refusal_warning view now.place now.stop
 lines_to view Back place now = []
 
 -- one packet, and the session stays open
@@ -94,8 +95,8 @@ after_request session (Until number) =
     record session { stops = record session.stops { until = until_of number } }
 after_request session request = session
 
-abbrev pub monitored : View → Session → Request → Answer Session
-monitored view session request =
+abbrev pub answer_to_request : View → Session → Request → Answer Session
+answer_to_request view session request =
     record {
       session = after_request session request;
       packets = console (request_text view session.place request) ++ codes "OK" ∷ [];
@@ -119,7 +120,7 @@ answer_of view interrupt session (Change change) =
     with_stops session (with_change session.stops change)
 answer_of view interrupt session Actions = says session (codes "vCont;c;C;s;S;r")
 answer_of view interrupt session (Go way going) = goes view interrupt session way going
-answer_of view interrupt session (Monitor request) = monitored view session request
+answer_of view interrupt session (Monitor request) = answer_to_request view session request
 answer_of view interrupt session Detach = closes session (codes "OK" ∷ [])
 answer_of view interrupt session Kill = closes session []
 answer_of view interrupt session Refused = says session (codes "E01")

@@ -1,6 +1,6 @@
 ghost use Rattle.std.specs.Prelude.{◌≡◌, ◌<◌, ◌≤◌, ℕ, length, slice_index, true, false, option_map, IfSome};
 ghost use Rattle.std.specs.List.{before_first};
-ghost use Rattle.debug_session.specs.Action.{action_of, behind, ends_action, first_action, is_signal, range_command, signalled, signalled_action};
+ghost use Rattle.debug_session.specs.Action.{action_of, behind, ends_action, first_action, is_signal, range_command, going_with_signal, signalled_action};
 ghost use Rattle.debug_session.specs.Number.{two_numbers};
 
 use crate::command::{Command, Going, Way};
@@ -75,16 +75,16 @@ fn signalled_action(action: &[u8]) -> Command
     ensures { result ≡ signalled_action action.now }
 {
     if let Some(signal) = behind(b"C", action) {
-        signalled(Going::On, signal)
+        going_with_signal(Going::On, signal)
     } else if let Some(signal) = behind(b"S", action) {
-        signalled(Going::Step, signal)
+        going_with_signal(Going::Step, signal)
     } else {
         Command::Refused
     }
 }
 
-fn signalled(going: Going, signal: &[u8]) -> Command
-    ensures { result ≡ signalled going signal.now }
+fn going_with_signal(going: Going, signal: &[u8]) -> Command
+    ensures { result ≡ going_with_signal going signal.now }
 {
     if is_signal(signal) {
         Command::Go(Way::Ahead, going)

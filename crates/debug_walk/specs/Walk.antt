@@ -20,13 +20,13 @@ use Rattle.execution_flags.specs.declared.run_flag.RunFlag.{RunFlag}
 use Rattle.hmac_core.specs.Hash.{Hash}
 use Rattle.part_definitions.specs.TrustedFlag.{aux}
 use Rattle.play_script.specs.declared.playback.Playback.{Playback}
-use Rattle.execution_flags.specs.declared.isr_flag.AuxConditions.{AuxConditions}
+use Rattle.execution_flags.specs.declared.aux_flag.AuxConditions.{AuxConditions}
 
 -- the second flag of its device
-abbrev pub SecondFlag : Type 0
-SecondFlag = RunFlag AuxConditions
+abbrev pub AuxFlag : Type 0
+AuxFlag = RunFlag AuxConditions
 
-abbrev pub second_flag : Flag SecondFlag
+abbrev pub second_flag : Flag AuxFlag
 second_flag = flag_of_run aux
 
 -- the place where it stands
@@ -35,7 +35,7 @@ place_of walk = steps_made walk.live
 
 -- this holds of each run in whose middle a device is, and its place
 abbrev pub OfMidway :
-    {D : Type 0} → Hash D → Live D SecondFlag → (Run → ℕ → Type 0) → Type 0
+    {D : Type 0} → Hash D → Live D AuxFlag → (Run → ℕ → Type 0) → Type 0
 OfMidway hash live holds =
     (run : Run) (playback : Playback)
     → IsMidway hash second_flag run.start run.events_at live playback

@@ -5,7 +5,7 @@ ghost use Rattle.debug_walk.specs.Walk.{IsStretch, Walks, place_of};
 
 use crate::walk::Walk;
 use device_core::{Live, power_on};
-use execution_flags::IsrFlag;
+use execution_flags::AuxFlag;
 use hmac_core::Digest32;
 use mem_map::Image;
 use play_script::Script;
@@ -36,7 +36,7 @@ impl<'a> Run<'a> {
         ensures stretch { (watches : List Watch)
             → IfOk result (λ walk. IsStretch watches (played_run D.hash self.now) 0 walk.stretch) }
     {
-        let device = power_on::<D, IsrFlag>(alloc, self.key, self.image, IsrFlag::new())?;
+        let device = power_on::<D, AuxFlag>(alloc, self.key, self.image, AuxFlag::new())?;
         Ok(Walk::at(Live::Held(device), self.script.playback()))
     }
 }

@@ -15,8 +15,8 @@ use crate::stretch::Stretch;
 use bus_signals::ROM_ENTRY;
 use debug_session::{MOST_STEPS, SeenAccesses, StopList, Watch};
 use device_core::Live;
-use device_play::{LineWatcher, TraceWatcher, go_quietly, play_to_shown};
-use execution_flags::IsrFlag;
+use device_play::{LineWatcher, TraceWatcher, make_quiet_steps, play_to_shown};
+use execution_flags::AuxFlag;
 use hmac_core::Digest32;
 use play_script::Playback;
 use std::alloc::{AllocError, Global};
@@ -24,14 +24,14 @@ use std::alloc::{AllocError, Global};
 /// A device on its way through the places of a run.
 #[derive(Drop)]
 pub struct Walk<'a, D: Digest32> {
-    live: Live<D, IsrFlag>,
+    live: Live<D, AuxFlag>,
     playback: Playback<'a>,
     stretch: Stretch,
 }
 
 impl<'a, D: Digest32> Walk<'a, D> {
     /// At the place of a device.
-    pub fn at(live: Live<D, IsrFlag>, playback: Playback<'a>) -> Walk<'a, D>
+    pub fn at(live: Live<D, AuxFlag>, playback: Playback<'a>) -> Walk<'a, D>
         ensures live { result.live ≡ live }
         ensures playback { result.playback ≡ playback.entry }
         ensures begin { result.stretch ≡ stretch_from (steps_made live) result.stretch.level }
@@ -44,7 +44,7 @@ impl<'a, D: Digest32> Walk<'a, D> {
         }
     }
 
-    pub fn live(&self) -> &Live<D, IsrFlag>
+    pub fn live(&self) -> &Live<D, AuxFlag>
         ensures { result.now ≡ self.now.live }
     {
         &self.live
@@ -118,7 +118,7 @@ impl<'a, D: Digest32> Walk<'a, D> {
     }
 
     // The stretch to which the next step belongs: at a boundary one begins.
-    fn begun(&self) -> Stretch
+    fn next_stretch(&self) -> Stretch
         ensures { OfWalk D.hash self.now (λ run place.
             result ≡ stretch_there run place self.now.stretch) }
     {
@@ -148,7 +148,7 @@ impl<'a, D: Digest32> Walk<'a, D> {
         ensures place { place_of result ≡ place_of self.entry + 1 }
         ensures kept { HasStepped result.live }
     {
-        let stretch = self.begun();
+        let stretch = self.next_stretch();
         let Walk {
             live,
             mut playback,
@@ -157,7 +157,7 @@ impl<'a, D: Digest32> Walk<'a, D> {
         let step = live.steps();
         let exec = live.exec();
         let aux = live.aux();
-        let live = play_to_shown::<TraceWatcher, D, IsrFlag>(live, &mut playback, step + 1);
+        let live = play_to_shown::<TraceWatcher, D, AuxFlag>(live, &mut playback, step + 1);
         let entry = live.entry();
         let seen = SeenAccesses::new(entry, differs(exec, live.exec()), differs(aux, live.aux()));
         let stretch = stretch.with(step, entry, &seen, watches);
@@ -169,7 +169,7 @@ impl<'a, D: Digest32> Walk<'a, D> {
     }
 
     /// Goes on over steps that stop nothing, behind one that was looked at, up to a place at most.
-    pub fn go_quietly(self, passing: &Passing<'_>, end: u64) -> Walk<'a, D>
+    pub fn make_quiet_steps(self, passing: &Passing<'_>, end: u64) -> Walk<'a, D>
         requires few { end ≤ most_steps }
         ensures walks { (run : Run)
             → Walks D.hash run self.entry
@@ -194,7 +194,7 @@ impl<'a, D: Digest32> Walk<'a, D> {
             playback,
             stretch,
         } = self;
-        let live = go_quietly(live, &playback, passing, end);
+        let live = make_quiet_steps(live, &playback, passing, end);
         let stretch = quiet_stretch(stretch, place, &live);
         Walk {
             live,
@@ -220,13 +220,13 @@ impl<'a, D: Digest32> Walk<'a, D> {
             ⊎ TellsCause stops false run place self.entry.stretch)
             → TellsCause stops false run (place_of result) result.stretch) }
     {
-        let stretch = self.begun();
+        let stretch = self.next_stretch();
         let Walk {
             live,
             mut playback,
             ..
         } = self;
-        let live = play_to_shown::<LineWatcher, D, IsrFlag>(live, &mut playback, end);
+        let live = play_to_shown::<LineWatcher, D, AuxFlag>(live, &mut playback, end);
         Walk {
             live,
             playback,
@@ -279,7 +279,7 @@ fn quiet_end(until: Option<u64>, begin: u64, place: u64, end: u64) -> u64
 }
 
 // What is kept behind a row of steps from a place on.
-fn quiet_stretch<D: Digest32>(stretch: Stretch, place: u64, live: &Live<D, IsrFlag>) -> Stretch
+fn quiet_stretch<D: Digest32>(stretch: Stretch, place: u64, live: &Live<D, AuxFlag>) -> Stretch
     ensures stays { steps_made live.now ≡ place → result ≡ stretch }
     ensures goes { place < steps_made live.now → result ≡ stretch_from place result.level }
 {
@@ -305,14 +305,14 @@ fn is_asleep(registers: &[u16; 16]) -> bool
 }
 
 // The processor doesn't sleep, or a call of the ROM begins.
-fn is_awake<D: Digest32>(live: &Live<D, IsrFlag>) -> bool
+fn is_awake<D: Digest32>(live: &Live<D, AuxFlag>) -> bool
     ensures { OfMidway D.hash live.now (λ run place. result ≡ is_awake (sight_at run place)) }
 {
     let registers = live.registers();
     !is_asleep(registers) || registers[0] == ROM_ENTRY
 }
 
-fn is_at_breakpoint<D: Digest32>(live: &Live<D, IsrFlag>, stops: &StopList) -> bool
+fn is_at_breakpoint<D: Digest32>(live: &Live<D, AuxFlag>, stops: &StopList) -> bool
     ensures { OfMidway D.hash live.now (λ run place.
         result ≡ is_broken_at stops.now (sight_at run place)) }
 {

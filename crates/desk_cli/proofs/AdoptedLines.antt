@@ -5,7 +5,7 @@ use Rattle.text_scan.specs.declared.fault_at.FaultAt.{FaultAt}
 use Rattle.desk_memory.specs.declared.memory.Memory as memory
 use Rattle.desk_memory.specs.declared.memory_fault.MemoryFault.{MemoryFault}
 use Rattle.desk_memory.specs.Entry.{Entry, with_entries}
-use Rattle.desk_memory.specs.Moving.{arriving}
+use Rattle.desk_memory.specs.Moving.{entries_on_arrival}
 use Rattle.input_files.specs.declared.status.Status.{Status}
 use Rattle.desk_cli.specs.Adopt.{AdoptsIf, IsUntaken}
 use Rattle.desk_cli.specs.Noting.{HasNoted, status_of_noted}
@@ -13,7 +13,7 @@ use Rattle.desk_cli.specs.Noting.{HasNoted, status_of_noted}
 pub adopts-all : {M : Type 0} (m : memory.Ghosts M) (opened left : M)
     (entries lines new : List Entry) (fault : Option FaultAt) (result : Result Unit MemoryFault)
     (status : Status)
-    → fault ≡ None → new ≡ arriving entries lines
+    → fault ≡ None → new ≡ entries_on_arrival entries lines
     → HasNoted m opened left (with_entries entries new) (result_err result)
     → status ≡ status_of_noted (result_err result)
     → AdoptsIf m opened left entries lines fault status

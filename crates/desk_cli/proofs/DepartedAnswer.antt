@@ -7,7 +7,7 @@ use Rattle.outside_edge.specs.declared.sink.Sink as sink
 use Rattle.desk_memory.specs.declared.memory.Memory as memory
 use Rattle.desk_memory.specs.AnswerRead.{most_number}
 use Rattle.desk_memory.specs.Entry.{Entry, last_in, with_entry}
-use Rattle.desk_memory.specs.Moving.{departed, gone_to, is_gone_to, is_here, lines_at, moved_lines}
+use Rattle.desk_memory.specs.Moving.{with_departure, gone_to, is_gone_to, is_here, lines_at, moved_lines}
 use Rattle.input_files.specs.declared.status.Status.{Status}
 use Rattle.input_files.specs.declared.unfit.Unfit.{Unfit}
 use Rattle.desk_cli.specs.Move.{Departs, KeepsAndPuts, MoveNames, Stays, departure, home_behind}
@@ -87,15 +87,15 @@ goes m w opened left old new names from entries lines found gone status is some 
     let known : departure from names.desk (last_in entries names.device) ≡ Ok (Some gone) =
     is ∙ ap (λ (one : Option Entry). Ok one) some in
     let goes_by = goes-by from names.desk (last_in entries names.device) gone known in
-    let after : with_entry entries gone ≡ departed names.device names.desk entries =
+    let after : with_entry entries gone ≡ with_departure names.device names.desk entries =
     rw goes_by.is (ap (with_entry entries) goes_by.by) in
-    let all : lines ≡ moved_lines names.device (departed names.device names.desk entries) =
+    let all : lines ≡ moved_lines names.device (with_departure names.device names.desk entries) =
     are ∙ ap (λ (one : Option Entry).
     lines_at (home_behind one (last_in entries names.device)) names.device entries) some
     ∙ ap (λ (one : Entry). lines_at one.home names.device entries) goes_by.by
     ∙ sym (departed-lines names.device names.desk entries goes_by.one goes_by.is) in
     rw known (inr (subst (λ (text : List Entry).
-    KeepsAndPuts m w opened left old new (departed names.device names.desk entries)
+    KeepsAndPuts m w opened left old new (with_departure names.device names.desk entries)
     (states_text text) status) all
     (subst (λ (kept : List Entry). KeepsAndPuts m w opened left old new kept
     (states_text lines) status) after keeps)))

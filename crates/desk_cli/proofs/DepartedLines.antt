@@ -6,7 +6,7 @@ use Rattle.std.specs.Str.{bytes_eq}
 use Rattle.std.proofs.lemmas.Bool.{cases_Bool}
 use Rattle.std.proofs.lemmas.Slice.Eq.{bytes_eq-Decides}
 use Rattle.desk_memory.specs.Entry.{Entry, Home, home_of, is_replaced, last_in, with_entry}
-use Rattle.desk_memory.specs.Moving.{at_home, departed, gone_to, lines_at, moved_lines}
+use Rattle.desk_memory.specs.Moving.{at_home, with_departure, gone_to, lines_at, moved_lines}
 use Rattle.desk_memory.proofs.Noted.{entry_is_last, last_named}
 
 kept-before : (entry : Entry) (later : List Entry) (new : Entry)
@@ -58,11 +58,11 @@ last-behind name to entries last is mine =
 -- what `move` prints
 pub departed-lines : (name to : List ℕ) (entries : List Entry) (last : Entry)
     → last_in entries name ≡ Some last
-    → moved_lines name (departed name to entries)
+    → moved_lines name (with_departure name to entries)
     ≡ lines_at (gone_to to last).home name entries
 departed-lines name to entries last is =
     let mine = last_named entries name last is in
-    let is_departed : departed name to entries ≡ with_entry entries (gone_to to last) =
+    let is_departed : with_departure name to entries ≡ with_entry entries (gone_to to last) =
     rw is refl in
     ap (moved_lines name) is_departed
     ∙ ap (λ (one : Option Entry). lines_at (home_of one) name

@@ -7,7 +7,7 @@ use Rattle.text_scan.specs.declared.fault_at.FaultAt.{FaultAt}
 use Rattle.text_scan.specs.declared.fault_kind.FaultKind.{FaultKind}
 use Rattle.desk_memory.specs.declared.memory.Memory as memory
 use Rattle.desk_memory.specs.Entry.{Entry}
-use Rattle.desk_memory.specs.Moving.{adopted, adoption_fault}
+use Rattle.desk_memory.specs.Moving.{with_arrivals, adoption_fault}
 use Rattle.input_files.specs.declared.bad_file.BadFile.TheVariants.{States}
 use Rattle.input_files.specs.declared.status.Status.{Status}
 use Rattle.input_files.specs.declared.status.Status.TheVariants.{Bad, Memory, Words}
@@ -55,7 +55,7 @@ AdoptsIf m opened left entries lines (Some fault) status =
     (status ≡ Bad (States fault)) × (left ≡ opened)
 AdoptsIf m opened left entries lines None status =
     ((status ≡ Memory) × (left ≡ opened))
-    ⊎ NotesAll m opened left (adopted entries lines) status
+    ⊎ NotesAll m opened left (with_arrivals entries lines) status
 
 abbrev pub Adopts : {M : Type 0} → memory.Ghosts M → NumberedEntries → Status → List ℕ
     → List Entry → M → M → Type 0

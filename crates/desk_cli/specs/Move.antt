@@ -6,7 +6,7 @@ use Rattle.desk_memory.specs.declared.memory.Memory as memory
 use Rattle.desk_memory.specs.declared.memory_fault.MemoryFault.{MemoryFault}
 use Rattle.desk_memory.specs.AnswerRead.{most_number}
 use Rattle.desk_memory.specs.Entry.{Entry, Home, home_of, last_in}
-use Rattle.desk_memory.specs.Moving.{departed, gone_to, is_gone_to, is_here, moved_lines}
+use Rattle.desk_memory.specs.Moving.{with_departure, gone_to, is_gone_to, is_here, moved_lines}
 use Rattle.input_files.specs.declared.status.Status.{Status}
 use Rattle.input_files.specs.declared.status.Status.TheVariants.{BadMemory, Memory, Words}
 use Rattle.input_files.specs.declared.unfit.Unfit.{Unfit}
@@ -77,8 +77,8 @@ Departs m w opened left old new names entries (Ok None) status =
     ⊎ PutsText w old new (moves_text names.device entries) status)
 Departs m w opened left old new names entries (Ok (Some gone)) status =
     ((status ≡ Memory) × (left ≡ opened) × (new ≡ old))
-    ⊎ KeepsAndPuts m w opened left old new (departed names.device names.desk entries)
-    (moves_text names.device (departed names.device names.desk entries)) status
+    ⊎ KeepsAndPuts m w opened left old new (with_departure names.device names.desk entries)
+    (moves_text names.device (with_departure names.device names.desk entries)) status
 
 abbrev pub Moves : {M W : Type 0} → memory.Ghosts M → sink.Ghosts W → W → W → MoveNames → Status
     → List ℕ → List Entry → M → M → Type 0

@@ -1,6 +1,6 @@
 ghost use Rattle.std.specs.Prelude.{◌≡◌, List, None, option_map, IfErr, IfOk};
 ghost use Rattle.desk_memory.specs.Entry.{Entry as EntryFields, last_in};
-ghost use Rattle.desk_memory.specs.Moving.{adoption_fault, arrived, arriving, came_by, is_behind_last, is_needed};
+ghost use Rattle.desk_memory.specs.Moving.{adoption_fault, entry_on_arrival, entries_on_arrival, came_by, is_behind_last, is_needed};
 ghost use Rattle.verifier_desk.specs.Serving.{Keeps};
 ghost use Rattle.input_files.specs.Argument.{texts};
 ghost use Rattle.desk_cli.specs.Adopt.{Adopts, IsAdoptAnswer, IsUntaken, adopt_names_of, first_refused};
@@ -64,20 +64,21 @@ fn adopt_in<M: EntryMemory>(alloc: Global, lines: &NumberedEntries, memory: &mut
         × (Keeps M.Memory memory.old entries
         → Adopts M.Memory lines.now result (M.desk_of memory.old) entries memory.old memory.new) }
 {
-    match taken(alloc, lines, memory.desk(), memory.entries()) {
+    match arrivals_or_fault(alloc, lines, memory.desk(), memory.entries()) {
         Ok(arriving) => noted_status(note_all(arriving.as_slice(), memory)),
         Err(status) => status,
     }
 }
 
 // What lines add to a memory of this desk with these entries, or why it takes none of them.
-fn taken(
+fn arrivals_or_fault(
     alloc: Global,
     lines: &NumberedEntries,
     desk: &[u8],
     entries: &[Entry],
 ) -> Result<Vec<Entry>, Status>
-    ensures taken { IfOk result (λ new. new.items ≡ arriving entries.now lines.now.entries) }
+    ensures taken { IfOk result (λ new.
+        new.items ≡ entries_on_arrival entries.now lines.now.entries) }
     ensures faultless { IfOk result (λ new.
         first_refused desk.now entries.now lines.now ≡ None) }
     ensures refused { IfErr result (λ status.
@@ -86,7 +87,7 @@ fn taken(
     if let Some(fault) = first_refused(desk, entries, lines) {
         return Err(Status::Bad(BadFile::States(fault)));
     }
-    arriving(alloc, entries, lines.entries()).map_err(|_| Status::Memory)
+    entries_on_arrival(alloc, entries, lines.entries()).map_err(|_| Status::Memory)
 }
 
 // The first of the lines that a desk does not take into a memory with these entries.
@@ -138,13 +139,17 @@ fn came_by(line: &Entry, last: &Entry) -> bool
 }
 
 // What lines add to these entries.
-fn arriving(alloc: Global, entries: &[Entry], lines: &[Entry]) -> Result<Vec<Entry>, AllocError>
-    ensures { IfOk result (λ new. new.items ≡ arriving entries.now lines.now) }
+fn entries_on_arrival(
+    alloc: Global,
+    entries: &[Entry],
+    lines: &[Entry],
+) -> Result<Vec<Entry>, AllocError>
+    ensures { IfOk result (λ new. new.items ≡ entries_on_arrival entries.now lines.now) }
 {
     let mut new = Vec::new(alloc);
     for (place, line) in lines.iter().enumerate() {
         if is_needed(entries, line, &lines[place + 1..]) {
-            new.push(arrived(alloc, line)?)?;
+            new.push(entry_on_arrival(alloc, line)?)?;
         }
     }
     Ok(new)
@@ -162,8 +167,8 @@ fn is_needed(entries: &[Entry], line: &Entry, later: &[Entry]) -> bool
 }
 
 // The entry of a device that has come.
-fn arrived(alloc: Global, line: &Entry) -> Result<Entry, AllocError>
-    ensures { IfOk result (λ entry. entry ≡ arrived line.now) }
+fn entry_on_arrival(alloc: Global, line: &Entry) -> Result<Entry, AllocError>
+    ensures { IfOk result (λ entry. entry ≡ entry_on_arrival line.now) }
 {
     let home = Home {
         moves: line.home().moves,

@@ -85,7 +85,7 @@ fn move_in<M: EntryMemory, W: Sink>(
         }) result (M.desk_of memory.old) entries memory.old memory.new) }
     ensures counted { W.faults sink.old ≤ W.faults sink.new }
 {
-    let (gone, lines) = match leaving(alloc, names, memory.desk(), memory.entries()) {
+    let (gone, lines) = match departure_with_lines(alloc, names, memory.desk(), memory.entries()) {
         Ok(leaving) => leaving,
         Err(status) => return status,
     };
@@ -115,7 +115,7 @@ fn keep_and_put<M: EntryMemory, W: Sink>(
 
 // The entry by which a device leaves these, `None` where it is gone already, and the lines by which
 // it moves; or why it cannot.
-fn leaving(
+fn departure_with_lines(
     alloc: Global,
     names: MoveNames<'_>,
     desk: &[u8],
@@ -132,7 +132,7 @@ fn leaving(
 {
     let device = names.device.as_bytes();
     let to = names.desk.as_bytes();
-    let gone = departing(alloc, desk, to, last_of(entries, device))?;
+    let gone = departure(alloc, desk, to, last_of(entries, device))?;
     let home = match &gone {
         Some(gone) => gone.home(),
         None => home_in(entries, device),
@@ -143,7 +143,7 @@ fn leaving(
 
 // The entry by which the device of a last entry goes from one desk to another, `None` where it is
 // gone there already, or why it cannot.
-fn departing(
+fn departure(
     alloc: Global,
     from: &[u8],
     to: &[u8],

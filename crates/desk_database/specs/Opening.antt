@@ -13,7 +13,7 @@ use Rattle.sqlite_store.specs.declared.store.FileStore.{FileStore}
 use Rattle.sqlite_store.specs.Unopened.{state_of, StopsCreating}
 use Rattle.desk_memory.specs.Entry.{Entry}
 use Rattle.desk_database.specs.Table.{HasSameRows, IsMemoryOf, IsUnfounded}
-use Rattle.desk_database.specs.Version.{counted}
+use Rattle.desk_database.specs.Version.{with_next_version}
 use Rattle.desk_database.specs.Held.{HoldsMemory, HoldsNothing, HoldsUnfounded, CanBeFounded, HasEntries, MayBeMemory}
 use Rattle.desk_database.specs.Log.{CanReplay, FitsLog, FitsMaking, stored_page}
 use Rattle.desk_database.specs.declared.left.Left.{Left}
@@ -97,7 +97,7 @@ module _ {D : Type 0} {g : Ghosts D} where
     pub settled : (db : Trees) → recovers store db → IsMemoryOf db desk entries
     -- this opening is counted by two commits
     pub counts : (held : Trees) → HoldsMemory image held → (db : Trees) → recovers store db
-        → db ≡ counted (counted held)
+        → db ≡ with_next_version (with_next_version held)
     -- each later read is tested
     pub shielded : is_shielded store
     -- and no page is in the log

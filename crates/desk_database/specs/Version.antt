@@ -15,8 +15,8 @@ abbrev pub next_version : ℕ → ℕ
 next_version version = (version + 1) % 2 ^ 32
 
 -- these trees, counted once more
-abbrev pub counted : Trees → Trees
-counted trees = with_version trees (next_version (version_of trees))
+abbrev pub with_next_version : Trees → Trees
+with_next_version trees = with_version trees (next_version (version_of trees))
 
 -- The version of a memory that is made: a new one, or the next where a making before was cut off.
 abbrev pub first_version : ℕ → ℕ → ℕ

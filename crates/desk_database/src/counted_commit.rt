@@ -3,7 +3,7 @@ ghost use Rattle.sqlite_disk.specs.Disk.{MoreFaults};
 ghost use Rattle.sqlite_trees.specs.Tree.{Trees};
 ghost use Rattle.sqlite_trees.specs.View.{HasCause, IsClean, doubt};
 ghost use Rattle.desk_database.specs.TableOpening.{IsCommitted, KeepsRows};
-ghost use Rattle.desk_database.specs.Version.{counted, first_version, with_first_version};
+ghost use Rattle.desk_database.specs.Version.{with_next_version, first_version, with_first_version};
 
 use crate::logged::Logged;
 use sqlite_trees::error::StoreError;
@@ -15,7 +15,7 @@ pub fn commit_counted<S: Logged>(store: &mut S) -> Result<(), StoreError>
     ensures clean { doubt (S.Store.view store.old).is_clean
         ≤ doubt (S.Store.view store.new).is_clean }
     ensures committed { OnOk result (IsClean (S.Store.view store.new)
-        → IsCommitted (counted (S.Store.view store.old).trees)
+        → IsCommitted (with_next_version (S.Store.view store.old).trees)
         (S.Store.view store.old) (S.Store.view store.new)) }
     ensures copied { OnOk result (S.is_copied store.new) }
     ensures cause { IsClean (S.Store.view store.new) → IfErr result
@@ -25,7 +25,7 @@ pub fn commit_counted<S: Logged>(store: &mut S) -> Result<(), StoreError>
     ensures shield { S.Store.is_shielded store.old → S.Store.is_shielded store.new }
     ensures crash { IsClean (S.Store.view store.new) → (db : Trees)
         → S.Store.recovers store.new db → S.Store.recovers store.old db
-        ⊎ (db ≡ counted (S.Store.view store.old).trees) }
+        ⊎ (db ≡ with_next_version (S.Store.view store.old).trees) }
 {
     let version = store.version().wrapping_add(1);
     store.commit_as(version)
@@ -69,7 +69,7 @@ pub fn count_opening<S: Logged>(store: &mut S) -> Result<(), StoreError>
     requires { IsClean (S.Store.view store.old)
         → (S.Store.view store.old).is_broken ≡ false }
     ensures committed { OnOk result (IsClean (S.Store.view store.new)
-        → IsCommitted (counted (counted (S.Store.view store.old).trees))
+        → IsCommitted (with_next_version (with_next_version (S.Store.view store.old).trees))
         (S.Store.view store.old) (S.Store.view store.new)) }
     ensures copied { OnOk result (S.is_copied store.new) }
     ensures cause { IsClean (S.Store.view store.new) → IfErr result

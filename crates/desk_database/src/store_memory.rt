@@ -5,7 +5,7 @@ ghost use Rattle.sqlite_trees.specs.View.{IsClean, IsQuiet};
 ghost use Rattle.desk_memory.specs.SizedEntry.{are_sized};
 ghost use Rattle.desk_database.specs.TableOpening.{HasReason, IsForeign, KeepsRows, OnlyReads};
 ghost use Rattle.desk_database.specs.Table.{HasRows, HasTables, IsFaulty, IsFounded, IsMemoryOf, IsOpened, IsTableOf, IsUnfounded};
-ghost use Rattle.desk_database.specs.Version.{counted, with_first_version};
+ghost use Rattle.desk_database.specs.Version.{with_next_version, with_first_version};
 
 use crate::counted_commit::{commit_counted, commit_first, count_opening};
 use crate::entry_row::{desk_row, row_of};
@@ -133,7 +133,7 @@ fn open_desk<S: Logged>(alloc: Global, store: &mut S) -> Result<(Vec<u8>, Vec<En
     ensures sized { IfOk result (λ memory. IsTrue (are_sized memory.1.items)) }
     ensures committed { OnOk result (IsClean (S.Store.view store.new) → (db : Trees)
         → S.Store.recovers store.new db
-        → db ≡ counted (counted (S.Store.view store.old).trees)) }
+        → db ≡ with_next_version (with_next_version (S.Store.view store.old).trees)) }
     ensures copied { OnOk result (S.is_copied store.new) }
     ensures reason { IsClean (S.Store.view store.new) → IfErr result
         (HasReason (S.Store.view store.old)
@@ -169,7 +169,7 @@ impl<S: Logged + Drop> StoreMemory<S> {
         ensures sized { IfOk result (λ memory. IsTrue (are_sized memory.entries.items)) }
         ensures committed { IfOk result (λ memory. IsClean (S.Store.view memory.store)
             → (db : Trees) → S.Store.recovers memory.store db
-            → db ≡ counted (counted (S.Store.view store).trees)) }
+            → db ≡ with_next_version (with_next_version (S.Store.view store).trees)) }
         ensures copied { IfOk result (λ memory. S.is_copied memory.store) }
         ensures shield { IfOk result (λ memory. S.Store.is_shielded store
             → S.Store.is_shielded memory.store) }
@@ -299,9 +299,9 @@ impl<S: Logged + Drop> StoreMemory<S> {
         ensures durable { OnOk result (IsClean (S.Store.view self.new.store)
             → (db : Trees) → S.Store.recovers self.new.store db
             → IsMemoryOf db self.old.desk.items self.old.entries.items) }
-        ensures counted { OnOk result (IsClean (S.Store.view self.new.store)
+        ensures with_next_version { OnOk result (IsClean (S.Store.view self.new.store)
             → (db : Trees) → S.Store.recovers self.new.store db
-            → db ≡ counted (S.Store.view self.old.store).trees) }
+            → db ≡ with_next_version (S.Store.view self.old.store).trees) }
         ensures whole { OnOk result (S.is_copied self.new.store) }
         ensures crash { IsClean (S.Store.view self.new.store)
             → (db : Trees) → S.Store.recovers self.new.store db

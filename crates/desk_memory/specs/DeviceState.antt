@@ -46,8 +46,8 @@ with_answer state number answer =
 
 -- under another key: the device's count goes on, no request is outstanding, and a line of the last
 -- number is stale, as one of a smaller number is
-abbrev pub renewed : DeviceState → DeviceState
-renewed state =
+abbrev pub under_new_key : DeviceState → DeviceState
+under_new_key state =
     record {
       count = state.count;
       outstanding = None;

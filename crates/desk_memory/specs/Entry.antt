@@ -5,7 +5,7 @@ use Rattle.std.specs.Option.{is_some}
 use Rattle.std.specs.Str.{bytes_eq}
 use Rattle.desk_memory.specs.declared.device_state.DeviceState.{DeviceState}
 use Rattle.desk_memory.specs.declared.home.Home as code
-use Rattle.desk_memory.specs.DeviceState.{new_device, renewed}
+use Rattle.desk_memory.specs.DeviceState.{new_device, under_new_key}
 
 -- how often a device has moved from desk to desk, and the desk that it is gone to; without one it
 -- is here
@@ -40,7 +40,7 @@ last_in (entry ∷ later) name =
 -- the state that an entry says under a key of this mark: under another key it is renewed
 abbrev pub entry_state : List ℕ → Entry → DeviceState
 entry_state mark entry =
-    if bytes_eq entry.mark mark then entry.state else renewed entry.state
+    if bytes_eq entry.mark mark then entry.state else under_new_key entry.state
 
 -- the state of a device under a key of this mark, by its last entry: without one it sent no line
 abbrev pub state_under : List ℕ → Option Entry → DeviceState

@@ -34,8 +34,8 @@ abbrev pub with_gone : List ℕ → List Entry → Option Entry → List Entry
 with_gone desk entries None = entries
 with_gone desk entries (Some last) = with_entry entries (gone_to desk last)
 
-abbrev pub departed : List ℕ → List ℕ → List Entry → List Entry
-departed name desk entries = with_gone desk entries (last_in entries name)
+abbrev pub with_departure : List ℕ → List ℕ → List Entry → List Entry
+with_departure name desk entries = with_gone desk entries (last_in entries name)
 
 -- the entries of the device of a name, each with the home that the last of them has: the lines by
 -- which it moves
@@ -85,8 +85,8 @@ abbrev pub is_new_in : List Entry → Entry → Bool
 is_new_in entries line = has_not_come line (last_in entries line.name)
 
 -- a device that has come is here
-abbrev pub arrived : Entry → Entry
-arrived line = record line { home = record { moves = line.home.moves; gone = None } }
+abbrev pub entry_on_arrival : Entry → Entry
+entry_on_arrival line = record line { home = record { moves = line.home.moves; gone = None } }
 
 -- What lines add to these entries, where a device has not come by that very move: the last line of
 -- the device, and those of keys that do not stand there yet.
@@ -95,13 +95,13 @@ is_needed entries line later =
     is_new_in entries line
     && (is_none (last_in later line.name) || is_none (owner_in entries line.mark))
 
-abbrev pub arriving : List Entry → List Entry → List Entry
-arriving entries [] = []
-arriving entries (line ∷ later) =
+abbrev pub entries_on_arrival : List Entry → List Entry → List Entry
+entries_on_arrival entries [] = []
+entries_on_arrival entries (line ∷ later) =
     if is_needed entries line later
-    then arrived line ∷ arriving entries later
-    else arriving entries later
+    then entry_on_arrival line ∷ entries_on_arrival entries later
+    else entries_on_arrival entries later
 
 -- the entries after lines were adopted
-abbrev pub adopted : List Entry → List Entry → List Entry
-adopted entries lines = with_entries entries (arriving entries lines)
+abbrev pub with_arrivals : List Entry → List Entry → List Entry
+with_arrivals entries lines = with_entries entries (entries_on_arrival entries lines)

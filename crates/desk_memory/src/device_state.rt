@@ -1,5 +1,5 @@
 ghost use Rattle.std.specs.Prelude.{◌≡◌};
-ghost use Rattle.desk_memory.specs.DeviceState.{new_device, earlier_answer, renewed, with_answer};
+ghost use Rattle.desk_memory.specs.DeviceState.{new_device, earlier_answer, under_new_key, with_answer};
 
 use crate::answer::Answer;
 use report_verifier::Verdict;
@@ -52,8 +52,8 @@ impl DeviceState {
         self.last = Some((number, answer));
     }
     /// The state under another key.
-    pub fn renewed(&self) -> DeviceState
-        ensures { result ≡ renewed self.now }
+    pub fn under_new_key(&self) -> DeviceState
+        ensures { result ≡ under_new_key self.now }
     {
         DeviceState {
             count: self.count,

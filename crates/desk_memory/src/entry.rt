@@ -104,7 +104,7 @@ impl Entry {
         if self.mark == *mark {
             self.state
         } else {
-            self.state.renewed()
+            self.state.under_new_key()
         }
     }
 }

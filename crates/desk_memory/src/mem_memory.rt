@@ -70,7 +70,11 @@ impl MemMemory {
     }
 
     /// A memory of this desk that was made, and is not settled yet.
-    pub fn made(alloc: Global, desk: Vec<u8>, failing: Vec<u64>) -> Result<MemMemory, AllocError>
+    pub fn new_unsettled(
+        alloc: Global,
+        desk: Vec<u8>,
+        failing: Vec<u64>,
+    ) -> Result<MemMemory, AllocError>
         ensures { IfOk result (λ memory. memory ≡ record {
           desk = desk.items;
           entries = [];

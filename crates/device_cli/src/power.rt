@@ -1,12 +1,12 @@
 use bus_signals::TraceFlag;
 use device_core::{Device, Held, power_on};
-use execution_flags::IsrFlag;
+use execution_flags::AuxFlag;
 use hmac_core::{Digest32, Sha256Digest};
 use mem_map::Image;
 use std::alloc::{AllocError, Global};
 
 /// A device at power-on, under SHA-256 and the flag of trusted interrupts.
-pub type PoweredDevice = Device<Held, Sha256Digest, IsrFlag>;
+pub type PoweredDevice = Device<Held, Sha256Digest, AuxFlag>;
 
 /// How devices are powered on.
 pub trait Power {
@@ -23,7 +23,7 @@ pub trait Power {
     /// Takes the memory of a device.
     fn power_on(alloc: Global, key: &[u8; 64], image: &Image) -> Result<PoweredDevice, AllocError>
         ensures stands { IfOk result (λ device. HeldStandsFor
-            ⟦<Sha256Digest as Digest32>⟧.hash ⟦<IsrFlag as TraceFlag>⟧.flag device
+            ⟦<Sha256Digest as Digest32>⟧.hash ⟦<AuxFlag as TraceFlag>⟧.flag device
             (start_of key.now (byte_in image.now)) []) }
         ensures refused { IfErr result (λ error.
             is_refused key.now (image_byte (byte_in image.now))) };
@@ -36,6 +36,6 @@ impl Power for SystemPower {
     ghost is_refused = { λ key image. Unit {0} };
 
     fn power_on(alloc: Global, key: &[u8; 64], image: &Image) -> Result<PoweredDevice, AllocError> {
-        power_on::<Sha256Digest, IsrFlag>(alloc, key, image, IsrFlag::new())
+        power_on::<Sha256Digest, AuxFlag>(alloc, key, image, AuxFlag::new())
     }
 }

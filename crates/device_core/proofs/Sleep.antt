@@ -34,7 +34,7 @@ use Rattle.device_core.specs.declared.machine.Machine.{Machine}
 use Rattle.device_core.specs.declared.stage.Stage.TheVariants.{Running}
 use Rattle.device_core.specs.Monitors.{MonitorsStandFor}
 use Rattle.device_core.specs.Quiet.{AreQuiet, IsQuietFrom}
-use Rattle.device_core.specs.Sleep.{SleepsAt, Rests, Sleeps, idle_signals, logs_idle, rested}
+use Rattle.device_core.specs.Sleep.{SleepsAt, Rests, Sleeps, idle_signals, logs_idle, with_idle_steps}
 use Rattle.device_core.specs.declared.bus.Bus.{Bus}
 use Rattle.device_core.proofs.FlagsShown.{flags-kept}
 use Rattle.device_core.proofs.Idle.{idle-logs, silent-unkept}
@@ -93,7 +93,7 @@ logs-asleep :
     ≡ record {
       progress = Runs (Boundary regs);
       memory = logs.memory;
-      peripherals = rested 1 logs.peripherals;
+      peripherals = with_idle_steps 1 logs.peripherals;
       records = record { entry = idle_record regs; bounds = logged_bounds start logs }
           ∷ logs.records;
       released_words = logs.released_words;
@@ -110,7 +110,7 @@ pub record SleepsOn {G : Type 0} (flag : Flag G) (bus : Bus G) (start : Start) (
   pub same_progress : logs.progress ≡ first.progress
   pub same_memory : logs.memory ≡ first.memory
   pub same_flags : flags_of start logs ≡ flags_of start first
-  pub same_peripherals : logs.peripherals ≡ rested steps first.peripherals
+  pub same_peripherals : logs.peripherals ≡ with_idle_steps steps first.peripherals
   pub same_monitors : MonitorsStandFor flag bus.monitors logs.records
   pub shown : aux_of start logs ≡ flag.value (map blank_seen logs.records)
   pub same_last : LastStandsFor None logs.records
@@ -131,7 +131,7 @@ bounds-alike start flags others writes before same kept =
 abbrev pub AsksAlike : ℕ → Logs → Type 0
 AsksAlike steps first =
     (some : ℕ) → some ≤ steps
-    → requests (rested some first.peripherals) ≡ requests first.peripherals
+    → requests (with_idle_steps some first.peripherals) ≡ requests first.peripherals
 
 vector-alike :
     (progress other : Progress) (asks others : List ℕ)
@@ -165,7 +165,7 @@ module _ {G : Type 0} (flag : Flag G) (bus : Bus G) (start : Start) (first : Log
     still-idle :
         (steps : ℕ) (logs : Logs)
         → SleepsOn flag bus start first steps logs
-        → requests (rested steps first.peripherals) ≡ requests first.peripherals
+        → requests (with_idle_steps steps first.peripherals) ≡ requests first.peripherals
         → IsIdle (last_registers first.progress) logs
     still-idle steps logs on alike =
         let regs = last_registers first.progress in
@@ -184,7 +184,7 @@ module _ {G : Type 0} (flag : Flag G) (bus : Bus G) (start : Start) (first : Log
     sleeps-more :
         (steps : ℕ) (logs : Logs)
         → SleepsOn flag bus start first steps logs
-        → requests (rested steps first.peripherals) ≡ requests first.peripherals
+        → requests (with_idle_steps steps first.peripherals) ≡ requests first.peripherals
         → SleepsOn flag bus start first (suc steps) (logs_after_step start logs false)
     sleeps-more steps logs on alike =
         let regs = last_registers first.progress in
@@ -217,7 +217,7 @@ module _ {G : Type 0} (flag : Flag G) (bus : Bus G) (start : Start) (first : Log
           same_progress = sym sleeps.at_boundary;
           same_memory = on.same_memory;
           same_flags = shown ∙ on.same_flags;
-          same_peripherals = ap (rested 1) on.same_peripherals;
+          same_peripherals = ap (with_idle_steps 1) on.same_peripherals;
           same_monitors = record {
             same_last = here.repeats.same_pc;
             same_exec = on.same_monitors.same_exec ∙ sym leaves.same_exec;

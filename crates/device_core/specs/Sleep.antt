@@ -40,8 +40,8 @@ idle_signals pc =
     }
 
 -- the peripherals after so many steps in which nobody has an access
-abbrev pub rested : ℕ → Peripherals → Peripherals
-rested steps parts = record parts { timer = with_ticks steps parts.timer }
+abbrev pub with_idle_steps : ℕ → Peripherals → Peripherals
+with_idle_steps steps parts = record parts { timer = with_ticks steps parts.timer }
 
 -- the processor sleeps at this `pc`, and no interrupt could be accepted
 pub record SleepsAt (pc : Address) (logs : Logs) : Type 0 where

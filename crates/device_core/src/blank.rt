@@ -6,7 +6,7 @@ use bus_signals::{Access, BusRecord, KR, XS, touches};
 
 /// A record with the secrets blanked. Only steps of the ROM touch one.
 #[inline(always)]
-pub fn blanked(entry: &BusRecord) -> BusRecord
+pub fn blank_record(entry: &BusRecord) -> BusRecord
     ensures { result ≡ blank_record entry.now }
 {
     BusRecord {

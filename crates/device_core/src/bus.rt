@@ -174,7 +174,7 @@ impl<G: TraceFlag> Bus<G> {
     /// Makes steps of sleep at this `pc` without events, at most so many, all at once: those before
     /// the timer's count comes to 0 again, where the step before them had that `pc` and was not
     /// kept. How many.
-    pub fn rest(&mut self, pc: u16, most: u64) -> u64
+    pub fn skip_sleep(&mut self, pc: u16, most: u64) -> u64
         requires { self.old.last ≡ None }
         ensures few { result ≤ most }
         ensures last { self.new.last ≡ None }
@@ -193,8 +193,8 @@ impl<G: TraceFlag> Bus<G> {
             → steps < result
             → IsQuietFrom quiet start (logs_idle start steps logs) }
     {
-        if self.rests(&idle_signals(pc)) {
-            self.peripherals.rest(most)
+        if self.can_skip_sleep(&idle_signals(pc)) {
+            self.peripherals.tick_idle(most)
         } else {
             0
         }
@@ -217,7 +217,7 @@ impl<G: TraceFlag> Bus<G> {
 
     // Whether steps that are about to do this leave the bus as it is, but for the timer: the DMA
     // asks for nothing, they break no rule, and leave both flags as they are and as they are shown.
-    fn rests(&self, now: &Signals) -> bool
+    fn can_skip_sleep(&self, now: &Signals) -> bool
         ensures { (start : Start) (logs : Logs)
             → BusStandsFor G.flag self.now start logs
             → result ≡ true
@@ -484,7 +484,7 @@ impl<G: TraceFlag> Bus<G> {
     /// Makes the calm step of this turn.
     #[inline(always)]
     #[tactic(auto, unfolding(device_trace::specs::Logs::with_record))]
-    pub fn act_calmly(&mut self, turn: &Turn)
+    pub fn end_calm_step(&mut self, turn: &Turn)
         requires { self.old.last ≡ None }
         ensures last { self.new.last ≡ None }
         ensures stands { (start : Start) (logs : Logs)
@@ -557,7 +557,7 @@ impl<G: TraceFlag + Copy> Bus<G> {
         Ok(Bus {
             memory: self.memory.try_clone(alloc)?,
             peripherals: self.peripherals.try_clone(alloc)?,
-            monitors: self.monitors.copied(),
+            monitors: self.monitors.duplicate(),
             last: self.last,
         })
     }

@@ -25,7 +25,7 @@ use Rattle.debug_session.specs.declared.stop.Stop.TheVariants.{Begin}
 use Rattle.debug_walk.specs.Passing.{IsPassed, Sleeps}
 use Rattle.debug_walk.specs.Walk.{IsStretch, first_refused}
 use Rattle.debug_walk.specs.declared.stretch.Stretch.{Stretch}
-use Rattle.device_debug.specs.Back.{IsLastBehind, placed, seek_back}
+use Rattle.device_debug.specs.Back.{IsLastBehind, stop_with_place, seek_back}
 use Rattle.device_debug.specs.Seek.{steps_by}
 
 -- the last place with a cause, of those behind a place and before another one
@@ -55,7 +55,7 @@ module _ (cause : ℕ → Option Stop) (begin : ℕ) where
   -- and one place more
   pub covers-here : (here : ℕ) (stop : Option Stop) (found : Option (ℕ × Stop)) → begin < here
       → cause here ≡ stop → Covers here found
-      → Covers (suc here) (option_or (placed here stop) found)
+      → Covers (suc here) (option_or (stop_with_place here stop) found)
   covers-here here (Some stop) found past is covers =
       (past, omega arith, is, λ at after before. absurd (omega (arith, after, before)))
   covers-here here None found past is covers =
@@ -78,7 +78,7 @@ module _ (cause : ℕ → Option Stop) (begin : ℕ) where
 
 pub early-or : (last here : ℕ) (stop : Option Stop) (found : Option (ℕ × Stop)) → here ≤ last
     → IfSome found (λ one. one.0 ≤ last)
-    → IfSome (option_or (placed here stop) found) (λ one. one.0 ≤ last)
+    → IfSome (option_or (stop_with_place here stop) found) (λ one. one.0 ≤ last)
 early-or last here (Some stop) found within early = within
 early-or last here None found within early = early
 

@@ -17,7 +17,7 @@ use Rattle.debug_link.proofs.Bodies.{put_both, put_none, puts_behind, puts_faile
 use Rattle.debug_session.specs.Cause.{Step, behind, cause, cause_here, hit_on, hits, is_plain, refusal_or, steps_over, stop_of}
 use Rattle.debug_session.specs.Going.{Standing, first_stop, interrupted}
 use Rattle.debug_session.specs.Place.{Run, sight_at, step_sight, view_of}
-use Rattle.debug_session.specs.Session.{lines_to, refused_step, told, warning}
+use Rattle.debug_session.specs.Session.{lines_to, refused_step, told_lines, refusal_warning}
 use Rattle.debug_session.specs.Sight.{Sight, StepSight, View}
 use Rattle.debug_session.proofs.Scans.{first-past}
 use Rattle.debug_session.proofs.Views.{next-at, view-at}
@@ -70,7 +70,7 @@ no-refusal None false true stop is rule refused = absurd (cc (is, refused))
 no-refusal None false false stop is rule refused = absurd (cc (is))
 
 no-warning : (view : View) (place : ℕ) (stop : Stop) → NoRefusal stop
-    → warning view place stop ≡ []
+    → refusal_warning view place stop ≡ []
 unfolding NoRefusal
 no-warning view place (Refused rule) none = absurd (none rule refl)
 no-warning view place stop none = refl
@@ -100,7 +100,7 @@ module _ {D W : Type 0} (hash : Hash D) (w : sink.Ghosts W) (run : Run) (stops :
     lines now = lines_to view Ahead from now
 
     abbrev told_to : ℕ → List (List ℕ)
-    told_to place = told view from (place - from)
+    told_to place = told_lines view from (place - from)
 
     pub record IsGoing (old now : PacketSink W) (walk : Walk D) (waiting : List GrownText)
         : Type 0 where
@@ -144,18 +144,18 @@ module _ {D W : Type 0} (hash : Hash D) (w : sink.Ghosts W) (run : Run) (stops :
         (not_past : so.at ≤ aim.place)
       where
         rest : List (List ℕ)
-        rest = told view so.at (aim.place - so.at) ++ warning view aim.place aim.stop
+        rest = told_lines view so.at (aim.place - so.at) ++ refusal_warning view aim.place aim.stop
 
         all-lines : lines aim ≡ put ++ rest
         unfolding rest
         all-lines =
-            ap (λ (front : List (List ℕ)). front ++ warning view aim.place aim.stop)
+            ap (λ (front : List (List ℕ)). front ++ refusal_warning view aim.place aim.stop)
             (told-both view from (so.at - from) (aim.place - so.at) (aim.place - from) so.at
             (omega (arith, so.from_at, not_past)) (omega (arith, so.from_at))
-            ∙ ap (λ (front : List (List ℕ)). front ++ told view so.at (aim.place - so.at))
+            ∙ ap (λ (front : List (List ℕ)). front ++ told_lines view so.at (aim.place - so.at))
             (sym so.is))
-            ∙ append_assoc put (told view so.at (aim.place - so.at))
-            (warning view aim.place aim.stop)
+            ∙ append_assoc put (told_lines view so.at (aim.place - so.at))
+            (refusal_warning view aim.place aim.stop)
 
         -- a call that failed behind them
         fails : (old now new : PacketSink W) (result : Result (Walk D × Stop) AnswerFault)
@@ -204,11 +204,11 @@ module _ {D W : Type 0} (hash : Hash D) (w : sink.Ghosts W) (run : Run) (stops :
             going.clear in
             let stop : aim ≡ record { place = most_steps; stop = End } =
             stops-nowhere view stops step from (omega (arith, going.since, going.within)) clear in
-            let all : going.put ++ bodies_of waiting ≡ told view from (most_steps - from) =
+            let all : going.put ++ bodies_of waiting ≡ told_lines view from (most_steps - from) =
             ap (λ (front : List (List ℕ)). front ++ bodies_of waiting) so.is
-            ∙ ap (λ (later : List (List ℕ)). told view from (so.at - from) ++ later)
+            ∙ ap (λ (later : List (List ℕ)). told_lines view from (so.at - from) ++ later)
             (going.told.waits
-            ∙ ap (λ (place : ℕ). told view so.at (place - so.at)) here)
+            ∙ ap (λ (place : ℕ). told_lines view so.at (place - so.at)) here)
             ∙ sym (told-both view from (so.at - from) (most_steps - so.at) (most_steps - from) so.at
             (omega (arith, so.from_at, so.at_place, going.within)) (omega (arith, so.from_at))) in
             subst (λ (now : Standing). GoesOn hash w old new run from now (Ok (walk, End)))
@@ -224,7 +224,7 @@ module _ {D W : Type 0} (hash : Hash D) (w : sink.Ghosts W) (run : Run) (stops :
                 stop_is = refl;
               };
               put = subst (HasPut w old new)
-                  (all ∙ sym (append-nil (told view from (most_steps - from))))
+                  (all ∙ sym (append-nil (told_lines view from (most_steps - from))))
                   (put_both w old mid new going.put (bodies_of waiting) going.has_put puts.all);
               prefix = tt;
             })
@@ -291,14 +291,14 @@ module _ {D W : Type 0} (hash : Hash D) (w : sink.Ghosts W) (run : Run) (stops :
         unfolding rest
         end-fails {V} new error result failed last puts =
             let so = going.told.so_far in
-            let end : List (List ℕ) = warning view aim.place aim.stop in
+            let end : List (List ℕ) = refusal_warning view aim.place aim.stop in
             let count : place_of walk - so.at ≡ aim.place - so.at =
             omega (arith, late last, last, going.within) in
             fails (place_of walk) going.put so at-aim old mid new result failed going.has_put
-            (puts_failed w mid new (told view so.at (aim.place - so.at) ++ end) result failed
-            (puts_less w {V = V} mid new (told view so.at (aim.place - so.at)) end error
+            (puts_failed w mid new (told_lines view so.at (aim.place - so.at) ++ end) result failed
+            (puts_less w {V = V} mid new (told_lines view so.at (aim.place - so.at)) end error
             (subst (λ (bodies : List (List ℕ)). PutsPackets {V = V} w mid new bodies (Err error))
-            (going.told.waits ∙ ap (told view so.at) count) puts)).prefix)
+            (going.told.waits ∙ ap (told_lines view so.at) count) puts)).prefix)
 
     -- behind a step, or more where nothing is asked: what it tells, and whether it was refused, is
     -- not yet looked at
@@ -622,7 +622,8 @@ module _ {D W : Type 0} (hash : Hash D) (w : sink.Ghosts W) (run : Run) (stops :
               let so = so-put {V = V} new waiting_new (Err error) lines_told in
               let early = not-past {V = V} new waiting_new (Err error) lines_told in
               let more : List (List ℕ) =
-              told view so.at (aim.place - so.at) ++ warning view aim.place aim.stop in
+              told_lines view so.at (aim.place - so.at)
+              ++ refusal_warning view aim.place aim.stop in
               let behind : PutsPackets {V = V} w old new (passed.put ++ lines_told.put) (Err error) =
               puts_behind w old mid new passed.put lines_told.put (Err error) passed.has_put
               (record { all = tt; prefix = lines_told.prefix }) in

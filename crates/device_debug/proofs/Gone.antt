@@ -18,7 +18,7 @@ use Rattle.debug_session.specs.Cause.{Step, cause}
 use Rattle.debug_session.specs.Going.{Standing, first_stop, interrupted, last_stop, step_of, where_to}
 use Rattle.debug_session.specs.Monitor.{request_text}
 use Rattle.debug_session.specs.Place.{Run, sight_at, view_of}
-use Rattle.debug_session.specs.Session.{Session, after_request, lines_to, monitored, says, stands_at}
+use Rattle.debug_session.specs.Session.{Session, after_request, lines_to, answer_to_request, says, stands_at}
 use Rattle.debug_session.specs.Sight.{Sight}
 use Rattle.debug_session.proofs.Views.{view-at}
 use Rattle.debug_session.specs.StopReply.{stop_reply}
@@ -342,7 +342,7 @@ module _ {D W : Type 0} (hash : Hash D) (w : sink.Ghosts W) where
       → TellsRequest old mid kept halted request (Ok value)
       → Gives hash w mid new kept kept (λ session. says session (codes "OK")) result
       → Gives hash w old new debugger kept
-      (λ session. monitored (view_in hash debugger) session request) result
+      (λ session. answer_to_request (view_in hash debugger) session request) result
   told-request old mid new debugger kept halted request value result run_is is keeps tells gives =
       record {
         answers = λ session stands.
@@ -365,7 +365,7 @@ module _ {D W : Type 0} (hash : Hash D) (w : sink.Ghosts W) where
       → KeepsRequest debugger kept request
       → TellsRequest {V = V} old new kept halted request (Err fault)
       → Gives hash w old new debugger kept
-      (λ session. monitored (view_in hash debugger) session request) result
+      (λ session. answer_to_request (view_in hash debugger) session request) result
   request-failed {V} old new debugger kept halted request fault result failed run_is is keeps
       tells =
       record {

@@ -18,7 +18,7 @@ use Rattle.debug_walk.specs.Passing.{ArePassed}
 use Rattle.debug_walk.specs.Walk.{IsStretch, TellsCause, Walks, place_of}
 use Rattle.debug_walk.specs.declared.stretch.Stretch.{Stretch}
 use Rattle.debug_walk.specs.declared.walk.Walk.{Walk}
-use Rattle.device_debug.specs.Back.{IsLastBehind, placed}
+use Rattle.device_debug.specs.Back.{IsLastBehind, stop_with_place}
 use Rattle.device_debug.specs.Seek.{steps_by}
 use Rattle.device_debug.proofs.Back.{Covers, cause-behind, cause_back, covers-all, covers-here, covers-none, covers-on, early-or, no-boundary, passed-none, plain_at}
 use Rattle.device_debug.proofs.Kept.{exact-tells}
@@ -84,7 +84,7 @@ module _ {D : Type 0} (hash : Hash D) (run : Run) (stops : Stops) (step : Option
       -- what was found before, and at the boundary that it comes from
       pub found_by : ℕ → Option Stop → Option (ℕ × Stop) → Option (ℕ × Stop)
       found_by place stop found =
-          if nat_lt begin place then option_or (placed place stop) found else found
+          if nat_lt begin place then option_or (stop_with_place place stop) found else found
 
       module _ (walk next after : Walk D) (place pc place' pc' : ℕ) (broken broken' : Bool)
           (found found' : Option (ℕ × Stop))
@@ -96,7 +96,7 @@ module _ {D : Type 0} (hash : Hash D) (run : Run) (stops : Stops) (step : Option
           → (sight_at run at).boundary ≡ false)
           (ends : (place_of next ≡ from) ⊎ ((sight_at run (place_of next)).boundary ≡ true))
           (found_is : found' ≡ (if nat_lt begin place
-          then option_or (placed place (stop_of next.stretch.last_hit broken
+          then option_or (stop_with_place place (stop_of next.stretch.last_hit broken
           (steps_by step next.stretch pc) (refusal_or next.stretch.refused None))) found
           else found))
         where
@@ -151,8 +151,9 @@ module _ {D : Type 0} (hash : Hash D) (run : Run) (stops : Stops) (step : Option
               (none-on at (omega (arith, over)) below) in
               ⊎_elim
               (λ (past : nat_lt begin place ≡ true).
-              let is : found' ≡ option_or (placed place stop_there) found =
-              found_is ∙ cond-true (nat_lt begin place) (option_or (placed place stop_there) found)
+              let is : found' ≡ option_or (stop_with_place place stop_there) found =
+              found_is ∙ cond-true (nat_lt begin place)
+              (option_or (stop_with_place place stop_there) found)
               found past in
               let later : begin < place = ltb-true begin place past in
               covers-on cause_at begin (suc place) until found' before between
@@ -162,7 +163,7 @@ module _ {D : Type 0} (hash : Hash D) (run : Run) (stops : Stops) (step : Option
               (λ (none_past : nat_lt begin place ≡ false).
               let is : found' ≡ found =
               found_is ∙ cond-false (nat_lt begin place)
-              (option_or (placed place stop_there) found) found none_past in
+              (option_or (stop_with_place place stop_there) found) found none_past in
               let same : place ≤ begin = ltb-false begin place none_past in
               covers-on cause_at begin place until found' (omega (arith, before))
               (λ at past over below. between at past (omega (arith, past, same)) below)
@@ -175,12 +176,12 @@ module _ {D : Type 0} (hash : Hash D) (run : Run) (stops : Stops) (step : Option
               (λ (past : nat_lt begin place ≡ true).
               subst (λ (one : Option (ℕ × Stop)). IfSome one (λ is. is.0 ≤ last))
               (sym (found_is ∙ cond-true (nat_lt begin place)
-              (option_or (placed place stop_there) found) found past))
+              (option_or (stop_with_place place stop_there) found) found past))
               (early-or last place stop_there found early looks.early))
               (λ (none_past : nat_lt begin place ≡ false).
               subst (λ (one : Option (ℕ × Stop)). IfSome one (λ is. is.0 ≤ last))
               (sym (found_is ∙ cond-false (nat_lt begin place)
-              (option_or (placed place stop_there) found) found none_past))
+              (option_or (stop_with_place place stop_there) found) found none_past))
               looks.early)
               (cases_Bool (nat_lt begin place))
 

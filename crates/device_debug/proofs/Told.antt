@@ -3,7 +3,7 @@ use Rattle.std.proofs.Common.{◌≡◌, ◌≤◌, ◌<◌, ◌+◌, ◌-◌, �
 use Rattle.std.proofs.lemmas.Bool.{cases_Bool, cases_lt, false≢true}
 use Rattle.std.proofs.lemmas.List.{append-nil}
 use Rattle.debug_link.specs.Console.{console}
-use Rattle.debug_session.specs.Session.{told}
+use Rattle.debug_session.specs.Session.{told_lines}
 use Rattle.debug_session.specs.Sight.{View}
 use Rattle.device_debug.specs.GrownText.{GrownText}
 use Rattle.device_debug.specs.Telling.{bodies_of}
@@ -14,27 +14,28 @@ module _ (view : View) where
 
   -- the lines of one step more
   told-more : (from steps place : ℕ) → place ≡ steps + from
-      → told view from (suc steps) ≡ told view from steps ++ step_told place
+      → told_lines view from (suc steps) ≡ told_lines view from steps ++ step_told place
   told-more from zero place is =
       let same : from ≡ place = omega (arith, is) in
       append-nil (step_told from) ∙ ap step_told same
   told-more from (suc steps) place is =
       ap (λ (rest : List (List ℕ)). step_told from ++ rest)
       (told-more (suc from) steps place (omega (arith, is)))
-      ∙ sym (append_assoc (step_told from) (told view (suc from) steps) (step_told place))
+      ∙ sym (append_assoc (step_told from) (told_lines view (suc from) steps) (step_told place))
 
   -- the lines of a way that is cut in two
   pub told-both : (from one two all mid : ℕ) → all ≡ one + two → mid ≡ one + from
-      → told view from all ≡ told view from one ++ told view mid two
+      → told_lines view from all ≡ told_lines view from one ++ told_lines view mid two
   told-both from zero two all mid sum at =
       let same : all ≡ two = omega (arith, sum) in
       let here : from ≡ mid = omega (arith, at) in
-      ap (told view from) same ∙ ap (λ (place : ℕ). told view place two) here
+      ap (told_lines view from) same ∙ ap (λ (place : ℕ). told_lines view place two) here
   told-both from (suc one) two zero mid sum at = absurd (omega (arith, sum))
   told-both from (suc one) two (suc all) mid sum at =
       ap (λ (rest : List (List ℕ)). step_told from ++ rest)
       (told-both (suc from) one two all mid (omega (arith, sum)) (omega (arith, at)))
-      ∙ sym (append_assoc (step_told from) (told view (suc from) one) (told view mid two))
+      ∙ sym (append_assoc (step_told from) (told_lines view (suc from) one)
+      (told_lines view mid two))
 
   module _ (from : ℕ) where
     -- the lines up to the last boundary on the way were put, or none
@@ -44,12 +45,12 @@ module _ (view : View) where
       pub at_place : at ≤ place
       pub settled : (at ≡ from) ⊎ ((view at).boundary ≡ true)
       pub none_since : (one : ℕ) → at < one → one ≤ place → (view one).boundary ≡ false
-      pub is : put ≡ told view from (at - from)
+      pub is : put ≡ told_lines view from (at - from)
 
     -- and those since wait
     pub record IsTold (place : ℕ) (waiting : List GrownText) (put : List (List ℕ)) : Type 0 where
       pub so_far : IsPut place put
-      pub waits : bodies_of waiting ≡ told view so_far.at (place - so_far.at)
+      pub waits : bodies_of waiting ≡ told_lines view so_far.at (place - so_far.at)
 
     pub told-first : IsTold from [] []
     told-first =
@@ -61,9 +62,9 @@ module _ (view : View) where
             at_place = omega arith;
             settled = inl refl;
             none_since = λ one after until. absurd (omega (arith, after, until));
-            is = ap (told view from) none;
+            is = ap (told_lines view from) none;
           };
-          waits = ap (told view from) none;
+          waits = ap (told_lines view from) none;
         }
 
     module _ (place : ℕ) (waiting : List GrownText) (put more later : List (List ℕ))
@@ -75,13 +76,13 @@ module _ (view : View) where
         abbrev at : ℕ
         at = so.so_far.at
 
-        since : more ++ later ≡ told view at (suc place - at)
+        since : more ++ later ≡ told_lines view at (suc place - at)
         since =
             let next : suc (place - at) ≡ suc place - at = omega (arith, so.so_far.at_place) in
             whole
             ∙ ap (λ (front : List (List ℕ)). front ++ step_told place) so.waits
             ∙ sym (told-more at (place - at) place (omega (arith, so.so_far.at_place)))
-            ∙ ap (told view at) next
+            ∙ ap (told_lines view at) next
 
         put-all : (view (suc place)).boundary ≡ true → IsPut (suc place) (put ++ more)
         put-all here =
@@ -92,7 +93,7 @@ module _ (view : View) where
               settled = inr here;
               none_since = λ one after until. absurd (omega (arith, after, until));
               is = ap (λ (front : List (List ℕ)). front ++ more) so.so_far.is
-                  ∙ ap (λ (rest : List (List ℕ)). told view from (at - from) ++ rest)
+                  ∙ ap (λ (rest : List (List ℕ)). told_lines view from (at - from) ++ rest)
                   (sym (append-nil more)
                   ∙ ap (λ (rest : List (List ℕ)). more ++ rest) (sym (none_waits here)) ∙ since)
                   ∙ sym (told-both from (at - from) (suc place - at) (suc place - from) at
@@ -132,7 +133,7 @@ module _ (view : View) where
             let none : 0 ≡ suc place - suc place = omega arith in
             record {
               so_far = put-all here;
-              waits = sym waits ∙ none_waits here ∙ ap (told view (suc place)) none;
+              waits = sym waits ∙ none_waits here ∙ ap (told_lines view (suc place)) none;
             })
             (λ (none : (view (suc place)).boundary ≡ false).
             record {
@@ -167,7 +168,7 @@ module _ (view : View) where
     pub put-until : (place at : ℕ) (put : List (List ℕ)) → IsPut place put → from < at
         → at ≤ place → (view at).boundary ≡ true
         → ((one : ℕ) → at < one → one ≤ place → (view one).boundary ≡ false)
-        → put ≡ told view from (at - from)
+        → put ≡ told_lines view from (at - from)
     put-until place at put so past within here none =
         ⊎_elim
         (λ (less : so.at < at). absurd (false≢true (sym (so.none_since at less within) ∙ here)))
@@ -179,18 +180,18 @@ module _ (view : View) where
         so.settled)
         (λ (not_more : so.at ≤ at).
         let same : so.at ≡ at = omega (arith, over, not_more) in
-        so.is ∙ ap (λ (one : ℕ). told view from (one - from)) same)
+        so.is ∙ ap (λ (one : ℕ). told_lines view from (one - from)) same)
         (cases_lt at so.at))
         (cases_lt so.at at)
 
     -- and what was where the way stands at a boundary
     pub put-here : (place : ℕ) (put : List (List ℕ)) → IsPut place put
-        → (view place).boundary ≡ true → put ≡ told view from (place - from)
+        → (view place).boundary ≡ true → put ≡ told_lines view from (place - from)
     put-here place put so here =
         ⊎_elim
         (λ (less : so.at < place).
         absurd (false≢true (sym (so.none_since place less (omega arith)) ∙ here)))
         (λ (over : place ≤ so.at).
         let same : so.at ≡ place = omega (arith, over, so.at_place) in
-        so.is ∙ ap (λ (one : ℕ). told view from (one - from)) same)
+        so.is ∙ ap (λ (one : ℕ). told_lines view from (one - from)) same)
         (cases_lt so.at place)

@@ -16,7 +16,7 @@ use Rattle.debug_link.specs.Packet.{packets_of}
 use Rattle.debug_link.specs.Writing.{HasPut, PacketSink, PutsPackets}
 use Rattle.debug_link.proofs.Bodies.{put_both, put_none, puts_behind, puts_failed, puts_less}
 use Rattle.debug_session.specs.Place.{Run, sight_at}
-use Rattle.debug_walk.specs.Walk.{SecondFlag, Walks, place_of, second_flag}
+use Rattle.debug_walk.specs.Walk.{AuxFlag, Walks, place_of, second_flag}
 use Rattle.debug_walk.specs.declared.walk.Walk.{Walk}
 use Rattle.device_debug.specs.GrownText.{GrownText}
 use Rattle.device_debug.specs.Telling.{TellsStep, bodies_of, step_bodies}
@@ -163,7 +163,7 @@ module _ {W : Type 0} (w : sink.Ghosts W) where
 
 -- the last step of a walk, as its device stands for it
 pub last-stands : {D : Type 0} {hash : Hash D} (run : Run) (walk : Walk D)
-    (live : Live D SecondFlag) (step : ℕ)
+    (live : Live D AuxFlag) (step : ℕ)
     → live ≡ walk.live → Walks hash run walk → place_of walk ≡ suc step
     → LiveStandsFor hash second_flag live run.start (play_of run.events_at (suc step))
 last-stands {hash = hash} run walk live step same walks made =

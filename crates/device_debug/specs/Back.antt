@@ -8,9 +8,9 @@ abbrev pub seek_back : Option Step → ℕ → Seek
 seek_back step from = record { way = Back; last = from; step = step }
 
 -- a cause to stop with its place, if there is one
-abbrev pub placed : ℕ → Option Stop → Option (ℕ × Stop)
-placed place None = None
-placed place (Some stop) = Some (place, stop)
+abbrev pub stop_with_place : ℕ → Option Stop → Option (ℕ × Stop)
+stop_with_place place None = None
+stop_with_place place (Some stop) = Some (place, stop)
 
 -- of the places behind one and up to another this is the last with a cause, where there is one
 abbrev pub IsLastBehind : (ℕ → Option Stop) → ℕ → ℕ → Option (ℕ × Stop) → Type 0

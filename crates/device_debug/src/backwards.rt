@@ -10,7 +10,7 @@ ghost use Rattle.debug_walk.specs.Walk.{IsStretch, OfWalk, TellsCause, Walks, pl
 ghost use Rattle.device_core.specs.Device.{HasStepped};
 ghost use Rattle.device_debug.specs.Going.{HasArrived, StandsAt};
 ghost use Rattle.device_debug.specs.Seek.{step_in, steps_by};
-ghost use Rattle.device_debug.specs.Back.{IsLastBehind, placed, seek_back};
+ghost use Rattle.device_debug.specs.Back.{IsLastBehind, stop_with_place, seek_back};
 ghost use Rattle.part_definitions.specs.CpuRegister.{pc_of};
 
 use crate::interrupts::Interrupts;
@@ -176,7 +176,7 @@ fn over_sleep<'a, D: Digest32>(walk: Walk<'a, D>, stops: &StopList, end: u64) ->
         → ArePassed stops.now true run place (place_of result)) }
 {
     if walk.live().entry().kind == Kind::Idle {
-        walk.go_quietly(&Passing::new(stops, true), end)
+        walk.make_quiet_steps(&Passing::new(stops, true), end)
     } else {
         walk
     }
@@ -201,7 +201,7 @@ fn place_here<D: Digest32>(walk: &Walk<'_, D>, stops: &StopList) -> Place
 
 // Why a device that goes back stops at a place, before this stretch.
 fn cause_before(here: Place, stretch: &Stretch, seek: &Seek) -> Option<(u64, Stop)>
-    ensures { result ≡ placed here.place (stop_of stretch.now.last_hit here.is_broken
+    ensures { result ≡ stop_with_place here.place (stop_of stretch.now.last_hit here.is_broken
         (steps_by (step_in seek.now) stretch.now here.pc) (refusal_or stretch.now.refused None)) }
 {
     let is_step = seek.is_step(stretch, here.pc);
@@ -218,7 +218,7 @@ fn found_before(
     found: Option<(u64, Stop)>,
 ) -> Option<(u64, Stop)>
     ensures { result ≡ (if nat_lt begin here.place
-        then option_or (placed here.place (stop_of stretch.now.last_hit here.is_broken
+        then option_or (stop_with_place here.place (stop_of stretch.now.last_hit here.is_broken
         (steps_by (step_in seek.now) stretch.now here.pc) (refusal_or stretch.now.refused None)))
         found
         else found) }

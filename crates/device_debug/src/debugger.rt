@@ -3,7 +3,7 @@ ghost use Rattle.debug_link.specs.Conversation.{LONGEST_BODY};
 ghost use Rattle.debug_link.specs.Writing.{Answers, CountsWriteFaults};
 ghost use Rattle.debug_link.specs.declared.answer_fault.AnswerFault.TheVariants.{Memory};
 ghost use Rattle.debug_session.specs.Going.{Standing};
-ghost use Rattle.debug_session.specs.Session.{Session, after_request, answer_of, first_session, goes, monitored, says, stands_at, until_of, with_stops};
+ghost use Rattle.debug_session.specs.Session.{Session, after_request, answer_of, first_session, goes, answer_to_request, says, stands_at, until_of, with_stops};
 ghost use Rattle.debug_session.specs.Shown.{memory_body, registers_shown};
 ghost use Rattle.debug_session.specs.Stops.{with_change};
 ghost use Rattle.debug_walk.specs.Copies.{TrackStandsFor};
@@ -11,7 +11,7 @@ ghost use Rattle.device_debug.specs.Going.{HasArrived};
 ghost use Rattle.device_debug.specs.Session.{DebuggerStandsFor, Gives, MayGive, run_at, view_in};
 
 use crate::backwards::go_back;
-use crate::forwards::go_on;
+use crate::forwards::go_forwards;
 use crate::interrupts::Interrupts;
 use crate::monitor::tell;
 use crate::seek::Seek;
@@ -64,7 +64,7 @@ impl<'a, D: Digest32> Debugger<'a, D> {
         Ok(Connection::Open)
     }
 
-    fn halted(&self) -> Result<&Walk<'a, D>, AnswerFault>
+    fn current_walk(&self) -> Result<&Walk<'a, D>, AnswerFault>
         ensures halted { IfOk result (λ halted. self.now.halted ≡ Some halted.now) }
         ensures fault { IfErr result (λ fault. (fault ≡ Memory) × (self.now.halted ≡ None)) }
     {
@@ -74,7 +74,7 @@ impl<'a, D: Digest32> Debugger<'a, D> {
         }
     }
 
-    fn take_halted(&mut self) -> Result<Walk<'a, D>, AnswerFault>
+    fn take_walk(&mut self) -> Result<Walk<'a, D>, AnswerFault>
         ensures halted { IfOk result (λ halted. self.old.halted ≡ Some halted) }
         ensures fault { IfErr result (λ fault. (fault ≡ Memory) × (self.old.halted ≡ None)) }
         ensures rest { self.new ≡ record self.old { halted = None } }
@@ -94,7 +94,7 @@ impl<'a, D: Digest32> Debugger<'a, D> {
             result }
         ensures counts { CountsWriteFaults W.faults packets.old.sink packets.new.sink result }
     {
-        packets.put_digits(&shown_registers(self.halted()?))?;
+        packets.put_digits(&shown_registers(self.current_walk()?))?;
         Ok(Connection::Open)
     }
 
@@ -113,7 +113,7 @@ impl<'a, D: Digest32> Debugger<'a, D> {
         if size == 0 {
             self.say(b"", packets)
         } else if is_shown(first) {
-            packets.put_digits(&shown_bytes(self.halted()?, first, size))?;
+            packets.put_digits(&shown_bytes(self.current_walk()?, first, size))?;
             Ok(Connection::Open)
         } else {
             self.say(b"E01", packets)
@@ -136,7 +136,7 @@ impl<'a, D: Digest32> Debugger<'a, D> {
         }
     }
 
-    fn go<I: Interrupts, W: Sink + Drop>(
+    fn resume<I: Interrupts, W: Sink + Drop>(
         &mut self,
         way: Way,
         going: Going,
@@ -148,11 +148,11 @@ impl<'a, D: Digest32> Debugger<'a, D> {
             result }
         ensures counts { CountsWriteFaults W.faults packets.old.sink packets.new.sink result }
     {
-        let walk = self.take_halted()?;
+        let walk = self.take_walk()?;
         let seek = Seek::new(going, walk.level());
         match way {
             Way::Ahead => {
-                let (walk, stop) = go_on(
+                let (walk, stop) = go_forwards(
                     &mut self.track,
                     &self.stops,
                     walk,
@@ -208,11 +208,11 @@ impl<'a, D: Digest32> Debugger<'a, D> {
         packets: &mut PacketWriter<W>,
     ) -> Result<Connection, AnswerFault>
         ensures gives { Gives D.hash W.Sink packets.old packets.new self.old self.new
-            (λ session. monitored (view_in D.hash self.old) session request) result }
+            (λ session. answer_to_request (view_in D.hash self.old) session request) result }
         ensures counts { CountsWriteFaults W.faults packets.old.sink packets.new.sink result }
     {
         self.keep_request(request);
-        tell(&self.track, self.halted()?, request, packets)?;
+        tell(&self.track, self.current_walk()?, request, packets)?;
         self.say(b"OK", packets)
     }
 
@@ -238,7 +238,7 @@ impl<'a, D: Digest32> Debugger<'a, D> {
             Command::Memory(first, size) => self.show_memory(first, size, packets),
             Command::Change(change) => self.change(change, packets),
             Command::Actions => self.say(b"vCont;c;C;s;S;r", packets),
-            Command::Go(way, going) => self.go(way, going, interrupts, packets),
+            Command::Go(way, going) => self.resume(way, going, interrupts, packets),
             Command::Monitor(request) => self.monitor(request, packets),
             Command::Detach => {
                 packets.put(b"OK")?;

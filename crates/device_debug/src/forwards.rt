@@ -14,7 +14,7 @@ ghost use Rattle.device_debug.specs.Ahead.{is_asked, last_boundary, place_past, 
 ghost use Rattle.device_debug.specs.Seek.{step_in};
 ghost use Rattle.printed_lines.specs.Line.{reset_line};
 
-use crate::grown_text::{GrownText, grown};
+use crate::grown_text::{GrownText, memory_result};
 use crate::interrupts::Interrupts;
 use crate::look::Look;
 use crate::seek::{Seek, cause_here};
@@ -31,7 +31,7 @@ use std::alloc::{AllocError, Global};
 
 /// Goes on to the first place behind this one where a device has to stop, and tells the lines of
 /// the steps made.
-pub fn go_on<'a, D: Digest32, I: Interrupts, W: Sink + Drop>(
+pub fn go_forwards<'a, D: Digest32, I: Interrupts, W: Sink + Drop>(
     track: &mut Track<'a, D>,
     stops: &StopList,
     mut walk: Walk<'a, D>,
@@ -72,7 +72,7 @@ pub fn go_on<'a, D: Digest32, I: Interrupts, W: Sink + Drop>(
         if let Some(stop) = cause_here(&walk, stops, seek) {
             return Ok((walk, stop));
         }
-        walk = rest(walk, stops, seek, &waiting, next);
+        walk = walk_quietly(walk, stops, seek, &waiting, next);
         if let Some(stop) = cause_here(&walk, stops, seek) {
             return Ok((walk, stop));
         }
@@ -122,7 +122,7 @@ fn pass<'a, D: Digest32>(walk: Walk<'a, D>, stops: &StopList, seek: &Seek, end: 
 
 // Steps in a row behind it, up to where a copy or a look is due; none where one is due already, or
 // lines wait.
-fn rest<'a, D: Digest32>(
+fn walk_quietly<'a, D: Digest32>(
     walk: Walk<'a, D>,
     stops: &StopList,
     seek: &Seek,
@@ -147,7 +147,7 @@ fn rest<'a, D: Digest32>(
         return walk;
     }
     let end = next.max(walk.place()).min(MOST_STEPS);
-    walk.go_quietly(&Passing::new(stops, seek.is_for_step()), end)
+    walk.make_quiet_steps(&Passing::new(stops, seek.is_for_step()), end)
 }
 
 // Whether a step, a breakpoint, a watch or a number of steps is looked for.
@@ -264,8 +264,8 @@ fn tell_refusal<W: Sink + Drop>(
     ensures counts { CountsWriteFaults W.faults packets.old.sink packets.new.sink result }
 {
     let mut text = GrownText::new(alloc);
-    grown(put_all(&mut text, b"stops before "))?;
-    grown(print_reset(step, rule, &mut text))?;
+    memory_result(put_all(&mut text, b"stops before "))?;
+    memory_result(print_reset(step, rule, &mut text))?;
     put_text(text.as_slice(), packets)?;
     Ok(())
 }

@@ -55,7 +55,7 @@ impl Sink for GrownText {
 }
 
 /// The end of a call that put text into memory.
-pub fn grown(given: Result<(), Failed>) -> Result<(), AnswerFault>
+pub fn memory_result(given: Result<(), Failed>) -> Result<(), AnswerFault>
     ensures same { is_ok result ≡ is_ok given }
     ensures fault { IfErr result (λ fault. fault ≡ Memory) }
 {

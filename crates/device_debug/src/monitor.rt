@@ -13,7 +13,7 @@ ghost use Rattle.debug_walk.specs.Walk.{OfWalk, Walks, place_of};
 ghost use Rattle.debug_session.specs.Monitor.{texts_from};
 ghost use Rattle.device_debug.specs.StepText.{text_in};
 
-use crate::grown_text::{GrownText, grown};
+use crate::grown_text::{GrownText, memory_result};
 use crate::step_text::StepText;
 use debug_link::{AnswerFault, ConsoleText, PacketWriter, put_text};
 use debug_session::{MOST_STEPS, Request};
@@ -103,7 +103,7 @@ fn end_text<D: Digest32>(alloc: Global, halted: &Walk<'_, D>) -> Result<GrownTex
     ensures fault { IfErr result (λ fault. fault ≡ Memory) }
 {
     let mut text = GrownText::new(alloc);
-    grown(print_end_of(halted.live(), &mut text))?;
+    memory_result(print_end_of(halted.live(), &mut text))?;
     Ok(text)
 }
 

@@ -9,11 +9,11 @@ ghost use Rattle.outside_edge.specs.Sink.{Puts};
 ghost use Rattle.device_debug.specs.StepText.{text_in};
 ghost use Rattle.device_debug.specs.declared.step_text.StepText.TheVariants.{Trace};
 
-use crate::grown_text::{GrownText, grown};
+use crate::grown_text::{GrownText, memory_result};
 use debug_link::AnswerFault;
 use device_core::Live;
 use device_play::{last_trace_line, print_last_step};
-use execution_flags::IsrFlag;
+use execution_flags::AuxFlag;
 use hmac_core::Digest32;
 use outside_edge::{Failed, Sink};
 use std::alloc::Global;
@@ -34,7 +34,7 @@ impl StepText {
         self,
         alloc: Global,
         step: u64,
-        live: &Live<D, IsrFlag>,
+        live: &Live<D, AuxFlag>,
     ) -> Result<GrownText, AnswerFault>
         requires stepped { self ≡ Trace → HasStepped live.now }
         requires plays { self ≡ Trace
@@ -46,7 +46,7 @@ impl StepText {
         ensures fault { IfErr result (λ fault. fault ≡ Memory) }
     {
         let mut text = GrownText::new(alloc);
-        grown(self.print(step, live, &mut text))?;
+        memory_result(self.print(step, live, &mut text))?;
         Ok(text)
     }
 
@@ -54,7 +54,7 @@ impl StepText {
     fn print<D: Digest32>(
         self,
         step: u64,
-        live: &Live<D, IsrFlag>,
+        live: &Live<D, AuxFlag>,
         text: &mut GrownText,
     ) -> Result<(), Failed>
         requires stepped { self ≡ Trace → HasStepped live.now }

@@ -30,7 +30,7 @@ fn run_words(
     let mut shelf = NeverFailShelf::new(files, usize::MAX);
     let mut text = KeptText::new(alloc);
     let status = run(alloc, words, &mut shelf, &mut text);
-    tell(alloc, status, text.held(), piece, count)
+    tell(alloc, status, text.as_bytes(), piece, count)
 }
 
 fn run_text(

@@ -30,7 +30,7 @@ impl KeptText {
     }
 
     /// The bytes that were put.
-    pub fn held(&self) -> &[u8]
+    pub fn as_bytes(&self) -> &[u8]
         ensures { result.now ≡ self.now.held }
     {
         &self.held

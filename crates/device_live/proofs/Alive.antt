@@ -12,14 +12,14 @@ use Rattle.device_core.specs.Device.{LiveStandsFor, steps_made}
 use Rattle.device_core.specs.declared.live.Live.{Live}
 use Rattle.device_play.proofs.IdlePlay.{length-play_of}
 use Rattle.device_live.specs.Answer.{standing_line}
-use Rattle.device_live.specs.Life.{Life, events_in, lived}
+use Rattle.device_live.specs.Life.{Life, events_in, play_lived}
 use Rattle.device_live.specs.Living.{LivingStandsFor}
 use Rattle.device_live.specs.declared.living.Living.{Living}
 
 module _ {D G : Type 0} (hash : Hash D) (flag : Flag G) (living : Living D G) (start : Start)
     (life : Life) (stands : LivingStandsFor hash flag living start life) where
   pub alive : (live : Live D G) → living.live ≡ Some live
-      → LiveStandsFor hash flag live start (lived life)
+      → LiveStandsFor hash flag live start (play_lived life)
   alive live is =
       let same : live ≡ stands.live = cc (is, stands.there) in
       rw same stands.stands

@@ -16,21 +16,21 @@ use Rattle.device_trace.specs.Start.{Start}
 use Rattle.source_server.specs.HeldLine.{short_line}
 use Rattle.device_trace.specs.Text.{lines_of}
 use Rattle.device_trace.specs.Trace.{play_of}
-use Rattle.device_live.specs.Answer.{Answer, answer_of, or_refusal, silent, tells}
+use Rattle.device_live.specs.Answer.{Answer, answer_of, or_refusal, silent_answer, tells}
 use Rattle.device_live.specs.Conversation.{answer_to, talk_of}
 use Rattle.device_live.specs.Laws.{IsCutAnywhere, TellsItsPlay}
-use Rattle.device_live.specs.Life.{Life, events_in, lines_since, lived, with_happening, with_script, with_steps}
+use Rattle.device_live.specs.Life.{Life, events_in, lines_since, play_lived, with_happening, with_script, with_steps}
 use Rattle.device_live.specs.LiveLine.{LiveLine, Happens, Run, Registers, Memory, live_line_of}
 use Rattle.device_live.proofs.ToldPlay.{events-behind, lines-on, same-play, since-between}
 
 -- an answer tells what lies between the play of a life and that of the life behind it
 abbrev Tells : Start → Life → Answer → Type 0
 Tells start life answer =
-    lines_of start (lived life) ++ answer.told ≡ lines_of start (lived answer.life)
+    lines_of start (play_lived life) ++ answer.told ≡ lines_of start (play_lived answer.life)
 
-tells-nothing : (start : Start) (life : Life) → lines_of start (lived life) ++ []
-    ≡ lines_of start (lived life)
-tells-nothing start life = append-nil (lines_of start (lived life))
+tells-nothing : (start : Start) (life : Life) → lines_of start (play_lived life) ++ []
+    ≡ lines_of start (play_lived life)
+tells-nothing start life = append-nil (lines_of start (play_lived life))
 
 -- the script behind an entry that fits
 entry-events : (so_far script : ScriptSoFar) (step : ℕ) (events : List Event)
@@ -42,7 +42,7 @@ entry-events so_far script step events fits = grind (arith, nat_tests, fits)
 pub entry-lived : (life : Life) (script : ScriptSoFar) (step : ℕ) (events : List Event)
     → nat_lt step life.steps ≡ false
     → with_entry life.script (step, events) ≡ Ok script
-    → lived (record life { script = script }) ≡ lived life
+    → play_lived (record life { script = script }) ≡ play_lived life
 entry-lived life script step events late fits =
     let after : life.steps ≤ step = grind (arith, nat_tests, late) in
     same-play (events_in (record life { script = script })) (events_in life) life.steps
@@ -54,7 +54,7 @@ entry-tells : (start : Start) (life : Life) (step : ℕ) (events : List Event)
     → nat_lt step life.steps ≡ false
     → (read : Result ScriptSoFar FaultKind)
     → with_entry life.script (step, events) ≡ read
-    → IfOk (with_script life read >>= λ later. Ok (silent later)) (Tells start life)
+    → IfOk (with_script life read >>= λ later. Ok (silent_answer later)) (Tells start life)
 entry-tells start life step events late (Ok script) fits =
     tells-nothing start life
     ∙ ap (λ (play : Play). lines_of start play)

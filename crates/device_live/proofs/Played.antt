@@ -19,7 +19,7 @@ use Rattle.device_play.specs.Midway.{HasGoneOn, IsMidway}
 use Rattle.device_play.proofs.GoesOn.{lines-go_on}
 use Rattle.device_play.proofs.IdlePlay.{length-play_of}
 use Rattle.device_play.proofs.WatchedPlay.{at-count}
-use Rattle.device_live.specs.Life.{Life, events_in, lines_since, lived}
+use Rattle.device_live.specs.Life.{Life, events_in, lines_since, play_lived}
 use Rattle.device_live.specs.Living.{PlaysOn}
 use Rattle.device_live.proofs.ToldPlay.{since-between}
 
@@ -66,7 +66,7 @@ pub record IsOnWay {D G S : Type 0} (hash : Hash D) (flag : Flag G) (stands : S 
 module _ {D G S : Type 0} (hash : Hash D) (flag : Flag G) (stands : S → Bytes → Type 0)
     (start : Start) (life : Life) (steps : ℕ) where
   pub begins : (now : S) (live : Live D G) (playback : Playback)
-      → LiveStandsFor hash flag live start (lived life)
+      → LiveStandsFor hash flag live start (play_lived life)
       → ((step : ℕ) → life.steps ≤ step → events_left playback step ≡ events_in life step)
       → life.steps ≤ steps
       → IsOnWay hash flag stands now now live playback start life steps

@@ -20,7 +20,7 @@ use Rattle.source_server.specs.LineCut.{LineCut, all_lines, cut_of, no_lines, wh
 use Rattle.source_server.specs.Lines.{StopsAmong, promise_of, within}
 use Rattle.source_server.specs.Responder.{Moment, Promise}
 use Rattle.source_server.specs.Serving.{EndsSo, Serves, StopsSo}
-use Rattle.source_server.specs.Taken.{IsAtEnd, joined, most_input}
+use Rattle.source_server.specs.Taken.{IsAtEnd, joined_pieces, most_input}
 use Rattle.source_server.specs.declared.halt.Halt.{Halt}
 use Rattle.source_server.specs.declared.halt.Halt.TheVariants.{Write, Own}
 use Rattle.source_server.specs.declared.lines.Lines.{Lines}
@@ -251,31 +251,31 @@ module _ {D G W : Type 0} (hash : Hash D) (flag : Flag G) (w : sink.Ghosts W) (s
     at-end bytes so = rw append-nil so
 
     same-parts : (pieces : List (List ℕ))
-        → joined (drop 1 pieces) ++ joined (take 1 pieces) ≡ joined pieces
+        → joined_pieces (drop 1 pieces) ++ joined_pieces (take 1 pieces) ≡ joined_pieces pieces
     same-parts [] = refl
     same-parts (piece ∷ pieces) = refl
 
     stops : (pieces : List (List ℕ)) (why : Halt AllocError) (flushed : Result Unit Failed)
-        → length (joined pieces) ≤ most_input
+        → length (joined_pieces pieces) ≤ most_input
         → StopsSo r InBuffer old new now pieces why
         → IsFinished w now.edge out flushed
         → StopsSo r (life_promise w start first) old new out pieces (halt_with why flushed)
     stops pieces why flushed few (inl so) finished =
         inl (
           so.0,
-          stopped-among (joined (drop 1 pieces)) (joined (take 1 pieces)) why flushed
+          stopped-among (joined_pieces (drop 1 pieces)) (joined_pieces (take 1 pieces)) why flushed
               (rw (same-parts pieces) few) so.1 finished,
         )
     stops pieces why flushed few (inr so) finished =
         inr (
           so.0,
-          stopped-among (joined pieces) [] why flushed
-              (rw (append-nil (joined pieces)) few) so.1 finished,
+          stopped-among (joined_pieces pieces) [] why flushed
+              (rw (append-nil (joined_pieces pieces)) few) so.1 finished,
         )
 
     pub all-served : (pieces : List (List ℕ)) (edge : Buffer W) (how : Served AllocError)
         (ended flushed : Result Unit Failed)
-        → length (joined pieces) ≤ most_input
+        → length (joined_pieces pieces) ≤ most_input
         → EndsSo r InBuffer old new now pieces how
         → HasEnded hash flag w start now.responder.responder now.edge edge how ended
         → IsFinished w edge out flushed
@@ -283,15 +283,15 @@ module _ {D G W : Type 0} (hash : Hash D) (flag : Flag G) (w : sink.Ghosts W) (s
         (end_with (end_with how ended) flushed)
     all-served pieces edge served.Done (Ok one) (Ok two) few so ends finished = (
       so.0,
-      (ended-all (all_lines (joined pieces)) edge one (Ok two)
-          (so.1 (few-all (joined pieces) few)).0 ends finished).all,
+      (ended-all (all_lines (joined_pieces pieces)) edge one (Ok two)
+          (so.1 (few-all (joined_pieces pieces) few)).0 ends finished).all,
     )
     all-served pieces edge served.Done (Ok one) (Err failed) few so ends finished =
         inr (
           so.0,
-          at-end (joined pieces) (
-            (ended-all (all_lines (joined pieces)) edge one (Err failed)
-                (so.1 (few-all (joined pieces) few)).0 ends finished).prefix,
+          at-end (joined_pieces pieces) (
+            (ended-all (all_lines (joined_pieces pieces)) edge one (Err failed)
+                (so.1 (few-all (joined_pieces pieces) few)).0 ends finished).prefix,
             rose_since (w.faults first) (w.faults edge.sink) (w.faults out)
                 (omega (arith, rises, ends.counts.counted)) finished.counts.failed,
           ),
@@ -299,24 +299,24 @@ module _ {D G W : Type 0} (hash : Hash D) (flag : Flag G) (w : sink.Ghosts W) (s
     all-served pieces edge served.Done (Err failed) (Ok two) few so ends finished =
         inr (
           so.0,
-          at-end (joined pieces) (end-failed (all_lines (joined pieces)) edge failed
-              (Ok tt) (so.1 (few-all (joined pieces) few)).0 ends finished),
+          at-end (joined_pieces pieces) (end-failed (all_lines (joined_pieces pieces)) edge failed
+              (Ok tt) (so.1 (few-all (joined_pieces pieces) few)).0 ends finished),
         )
     all-served pieces edge served.Done (Err failed) (Err other) few so ends finished =
         inr (
           so.0,
-          at-end (joined pieces) (end-failed (all_lines (joined pieces)) edge failed
-              (Err other) (so.1 (few-all (joined pieces) few)).0 ends finished),
+          at-end (joined_pieces pieces) (end-failed (all_lines (joined_pieces pieces)) edge failed
+              (Err other) (so.1 (few-all (joined_pieces pieces) few)).0 ends finished),
         )
     all-served pieces edge served.Spent ended flushed few so ends finished =
         let same = ends.other (λ is. cc is) in
-        let rest = at-rest (whole_lines (joined pieces)) flushed (rw same.1 at finished)
-        (so.2.1 (few-whole (joined pieces) few)) in
+        let rest = at-rest (whole_lines (joined_pieces pieces)) flushed (rw same.1 at finished)
+        (so.2.1 (few-whole (joined_pieces pieces) few)) in
         rw (same.0, rest.0) (so.0, so.1, rest.1)
     all-served pieces edge served.ReadFault ended flushed few so ends finished =
         let same = ends.other (λ is. cc is) in
-        let rest = at-rest (whole_lines (joined pieces)) flushed (rw same.1 at finished)
-        (so.1.1 (few-whole (joined pieces) few)) in
+        let rest = at-rest (whole_lines (joined_pieces pieces)) flushed (rw same.1 at finished)
+        (so.1.1 (few-whole (joined_pieces pieces) few)) in
         rw (same.0, rest.0) (so.0, rest.1)
     all-served pieces edge served.WriteFault ended (Ok tt) few so ends finished =
         let same = ends.other (λ is. cc is) in

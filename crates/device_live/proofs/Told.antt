@@ -24,7 +24,7 @@ use Rattle.device_live.specs.Conversation.{Talk, answer_to, talk_of}
 use Rattle.device_live.specs.Faults.{halt_of}
 use Rattle.device_live.specs.Life.{Life}
 use Rattle.device_live.specs.Living.{AnswersNumbered, LivingStandsFor}
-use Rattle.device_live.specs.Responding.{AreFew, HasTold, LiveStart, StopsTold, buffered, live_promise}
+use Rattle.device_live.specs.Responding.{AreFew, HasTold, LiveStart, StopsTold, buffer_sink, live_promise}
 use Rattle.device_live.specs.declared.living.Living.{Living}
 
 -- all of a text is a prefix of it
@@ -94,7 +94,7 @@ module _ {D G W : Type 0} (hash : Hash D) (flag : Flag G) (w : sink.Ghosts W)
       → (AreFew (line ∷ earlier) → new.responder.lines ≡ suc (length earlier))
       → w.faults old.edge.sink ≤ w.faults new.edge.sink
       → (AreFew (line ∷ earlier)
-      → AnswersNumbered hash flag (buffered w) old.edge new.edge new.responder at.start
+      → AnswersNumbered hash flag (buffer_sink w) old.edge new.edge new.responder at.start
       (talk_of at.start earlier).life
       (answer_to at.start (talk_of at.start earlier).life (short_line line)) result)
       → Tells (live_promise hash flag w at) new (line ∷ earlier) result
@@ -131,7 +131,7 @@ module _ {D G W : Type 0} (hash : Hash D) (flag : Flag G) (w : sink.Ghosts W)
       → new.responder.lines ≡ old.responder.lines + 1)
       → w.faults old.edge.sink ≤ w.faults new.edge.sink
       → ((start : Start) (life : Life) → LivingStandsFor hash flag old.responder start life
-      → AnswersNumbered hash flag (buffered w) old.edge new.edge new.responder start life
+      → AnswersNumbered hash flag (buffer_sink w) old.edge new.edge new.responder start life
       (answer_to start life (short_line line)) result)
       → Tells (live_promise hash flag w at) new (line ∷ earlier) result
   line-tells old new earlier line result told count rises came =

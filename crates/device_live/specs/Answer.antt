@@ -12,7 +12,7 @@ use Rattle.device_trace.specs.Start.{Start}
 use Rattle.device_trace.specs.Trace.{logs_after}
 use Rattle.debug_session.specs.Place.{Run as PlayedRun, sight_at}
 use Rattle.debug_session.specs.Shown.{bytes_shown}
-use Rattle.device_live.specs.Life.{Life, events_in, lines_since, lived, with_happening, with_steps}
+use Rattle.device_live.specs.Life.{Life, events_in, lines_since, play_lived, with_happening, with_steps}
 use Rattle.device_live.specs.LiveLine.{LiveLine, Happens, Run, Registers, Memory}
 use Rattle.device_live.specs.Shown.{memory_text, registers_text}
 
@@ -25,13 +25,13 @@ pub record Answer : Type 0 where
 -- `at N pc H4 exec E`, or `end ..`: where the device stands
 abbrev pub standing_line : Bytes → Start → Life → Bytes
 standing_line keyword start life =
-    let logs = logs_after start (lived life) in
+    let logs = logs_after start (play_lived life) in
     place_line keyword life.steps (next_pc_of logs.progress) (exec_of logs)
 
 -- the sixteen registers at the last boundary
 abbrev pub registers_line : Start → Life → Bytes
 registers_line start life =
-    registers_text (last_registers (logs_after start (lived life)).progress)
+    registers_text (last_registers (logs_after start (play_lived life)).progress)
 
 -- the bytes from an address on that a debugger shows
 abbrev pub run_of : Start → Life → PlayedRun
@@ -42,8 +42,8 @@ memory_line start life place count =
     memory_text place (bytes_shown (sight_at (run_of start life) life.steps) place count)
 
 -- nothing is said, or this of the life as it is
-abbrev pub silent : Life → Answer
-silent life = record { life = life; told = []; line = [] }
+abbrev pub silent_answer : Life → Answer
+silent_answer life = record { life = life; told = []; line = [] }
 
 abbrev pub says : Life → Bytes → Answer
 says life line = record { life = life; told = []; line = line }
@@ -60,7 +60,7 @@ tells start life later =
 abbrev pub answer_of : Start → Life → LiveLine → Result Answer FaultKind
 answer_of start life (Happens step events) = do
   later ← with_happening life step events
-  Ok (silent later)
+  Ok (silent_answer later)
 answer_of start life (Run steps) = do
   later ← with_steps life steps
   Ok (tells start life later)

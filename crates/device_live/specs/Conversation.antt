@@ -7,7 +7,7 @@ use Rattle.text_scan.specs.Reader.{◌>>=◌}
 use Rattle.text_scan.specs.Word.{is_passed_over, words_of}
 use Rattle.source_server.specs.HeldLine.{short_line}
 use Rattle.device_trace.specs.Start.{Start}
-use Rattle.device_live.specs.Answer.{Answer, answer_of, or_refusal, silent, standing_line}
+use Rattle.device_live.specs.Answer.{Answer, answer_of, or_refusal, silent_answer, standing_line}
 use Rattle.device_live.specs.Life.{Life, at_power_on}
 use Rattle.device_live.specs.LiveLine.{live_line_of}
 
@@ -30,7 +30,8 @@ answer_to_words start life words = do
 abbrev pub answer_to : Start → Life → Option (List ℕ) → Result Answer FaultKind
 answer_to start life None = Err TooLong
 answer_to start life (Some line) =
-    if is_passed_over line then Ok (silent life) else answer_to_words start life (words_of line)
+    if is_passed_over line then Ok (silent_answer life)
+    else answer_to_words start life (words_of line)
 
 abbrev pub with_answer : Talk → Answer → Talk
 with_answer talk answer =

@@ -4,13 +4,13 @@ use Rattle.device_trace.specs.Start.{Start}
 use Rattle.device_trace.specs.Text.{lines_of}
 use Rattle.device_live.specs.Answer.{tells}
 use Rattle.device_live.specs.Conversation.{talk_of}
-use Rattle.device_live.specs.Life.{Life, lived, with_steps}
+use Rattle.device_live.specs.Life.{Life, play_lived, with_steps}
 
 -- what is told of the steps is what `play` prints of the lines that were taken, up to the last step
 abbrev pub TellsItsPlay : Type 0
 TellsItsPlay =
     (start : Start) (lines : List (List ℕ))
-    → (talk_of start lines).told ≡ lines_of start (lived (talk_of start lines).life)
+    → (talk_of start lines).told ≡ lines_of start (play_lived (talk_of start lines).life)
 
 -- whoever runs to a step first and then on to a later one is told the same of the steps, and lives
 -- on from the same life

@@ -24,8 +24,8 @@ abbrev pub events_in : Life → ℕ → List Event
 events_in life = events_of life.script.events
 
 -- the play that it has come to
-abbrev pub lived : Life → Play
-lived life = play_of (events_in life) life.steps
+abbrev pub play_lived : Life → Play
+play_lived life = play_of (events_in life) life.steps
 
 abbrev pub with_script : Life → Result ScriptSoFar FaultKind → Result Life FaultKind
 with_script life (Ok script) = Ok (record life { script = script })

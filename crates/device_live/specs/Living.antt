@@ -24,7 +24,7 @@ use Rattle.device_live.specs.declared.live_line.LiveLine.{LiveLine as ReadLine}
 use Rattle.device_live.specs.declared.live_line.LiveLine.TheVariants as read
 use Rattle.device_live.specs.declared.living.Living.{Living}
 use Rattle.device_live.specs.Answer.{Answer, or_refusal}
-use Rattle.device_live.specs.Life.{Life, events_in, lines_since, lived, with_happening}
+use Rattle.device_live.specs.Life.{Life, events_in, lines_since, play_lived, with_happening}
 use Rattle.device_live.specs.LiveLine.{LiveLine, Happens, Run, Registers, Memory, MOST_SHOWN, MOST_STEPS}
 
 -- what was read of a line says this
@@ -51,7 +51,7 @@ pub record LivingStandsFor {D G : Type 0} (hash : Hash D) (flag : Flag G) (livin
     (start : Start) (life : Life) : Type 0 where
   pub live : Live D G
   pub there : living.live ≡ Some live
-  pub stands : LiveStandsFor hash flag live start (lived life)
+  pub stands : LiveStandsFor hash flag live start (play_lived life)
   pub to_come : KeepsToCome living.to_come.events life
   pub latest : living.latest ≡ life.script.greatest
   pub greatest : living.to_come.greatest ≡ life.script.greatest
@@ -60,7 +60,7 @@ pub record LivingStandsFor {D G : Type 0} (hash : Hash D) (flag : Flag G) (livin
 abbrev pub PlaysOn : {D G S E : Type 0} → Hash D → Flag G → (S → Bytes → Type 0) → S → S
     → Start → Life → ℕ → Result (Live D G) E → Type 0
 PlaysOn hash flag stands old new start life steps (Ok live) =
-    LiveStandsFor hash flag live start (lived (record life { steps = steps }))
+    LiveStandsFor hash flag live start (play_lived (record life { steps = steps }))
     × Takes stands old new (lines_since start (events_in life) life.steps (steps - life.steps))
 PlaysOn hash flag stands old new start life steps (Err error) =
     TakesPrefix stands old new (lines_since start (events_in life) life.steps (steps - life.steps))

@@ -23,8 +23,8 @@ pub record LiveStart (W : Type 0) : Type 0 where
   pub first : Buffer W
 
 -- a buffer as a sink
-abbrev pub buffered : {W : Type 0} → sink.Ghosts W → sink.Ghosts (Buffer W)
-buffered w =
+abbrev pub buffer_sink : {W : Type 0} → sink.Ghosts W → sink.Ghosts (Buffer W)
+buffer_sink w =
     record { stands = BufferStandsFor w.stands; faults = λ buffer. w.faults buffer.sink }
 
 -- no more than an input has bytes

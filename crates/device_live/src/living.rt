@@ -11,7 +11,7 @@ ghost use Rattle.device_live.specs.LiveLine.{Run, MOST_SHOWN, MOST_STEPS};
 
 use crate::line_fault::LineFault;
 use crate::live_line::{LiveLine, read_live_line};
-use crate::playing::play_on;
+use crate::playing::play_and_print;
 use crate::shown::{print_memory, print_registers};
 use bus_signals::TraceFlag;
 use device_core::{Device, Held, Live};
@@ -157,7 +157,7 @@ impl<D: Digest32, G: TraceFlag> Living<D, G> {
         let Some(live) = self.live.take() else {
             return Ok(());
         };
-        self.live = Some(play_on(live, &self.to_come, steps, sink)?);
+        self.live = Some(play_and_print(live, &self.to_come, steps, sink)?);
         self.to_come.forget_before(steps);
         Ok(())
     }

@@ -2,7 +2,7 @@ ghost use Rattle.std.specs.Prelude.{◌≡◌, ◌≤◌, ◌^◌};
 ghost use Rattle.outside_edge.specs.Sink.{CountsFaults};
 ghost use Rattle.device_trace.specs.Start.{Start};
 ghost use Rattle.device_core.specs.Device.{LiveStandsFor};
-ghost use Rattle.device_live.specs.Life.{Life, lived};
+ghost use Rattle.device_live.specs.Life.{Life, play_lived};
 ghost use Rattle.device_live.specs.Living.{KeepsToCome, PlaysOn};
 
 use bus_signals::TraceFlag;
@@ -13,7 +13,7 @@ use outside_edge::{Failed, Sink};
 use play_script::OpenScript;
 
 /// Goes on until so many steps were made, and puts their lines.
-pub fn play_on<D: Digest32, G: TraceFlag, W: Sink>(
+pub fn play_and_print<D: Digest32, G: TraceFlag, W: Sink>(
     live: Live<D, G>,
     to_come: &OpenScript,
     steps: u64,
@@ -21,7 +21,7 @@ pub fn play_on<D: Digest32, G: TraceFlag, W: Sink>(
 ) -> Result<Live<D, G>, Failed>
     requires { steps ≤ 2 ^ 63 }
     ensures plays { (start : Start) (life : Life)
-        → LiveStandsFor D.hash G.flag live start (lived life)
+        → LiveStandsFor D.hash G.flag live start (play_lived life)
         → KeepsToCome to_come.now.events life
         → life.steps ≤ steps
         → PlaysOn D.hash G.flag W.stands sink.old sink.new start life steps result }

@@ -70,7 +70,7 @@ impl<D: Digest32, G: TraceFlag> Living<D, G> {
         let number = self.lines;
         match self.answer_short(line, sink) {
             Ok(()) => Ok(()),
-            Err(LineFault::Kind(kind)) => written(print_refusal(number, kind, sink)),
+            Err(LineFault::Kind(kind)) => halt_on_fault(print_refusal(number, kind, sink)),
             Err(LineFault::Memory(error)) => Err(Halt::Own(error)),
             Err(LineFault::Write(_)) => Err(Halt::Write),
         }
@@ -78,7 +78,7 @@ impl<D: Digest32, G: TraceFlag> Living<D, G> {
 }
 
 // What a fault of the sink is to whoever serves the lines.
-fn written(put: Result<(), Failed>) -> Result<(), Halt<AllocError>>
+fn halt_on_fault(put: Result<(), Failed>) -> Result<(), Halt<AllocError>>
     ensures { result ≡ halt_of put }
 {
     match put {
@@ -108,6 +108,6 @@ impl<D: Digest32, G: TraceFlag, W: Sink> LineResponder<BufferedSink<W>> for Livi
     }
 
     fn settle(&mut self, sink: &mut BufferedSink<W>) -> Result<(), Halt<AllocError>> {
-        written(sink.flush())
+        halt_on_fault(sink.flush())
     }
 }

@@ -3,7 +3,7 @@ ghost use Rattle.outside_edge.specs.Sink.{CountsFaults, Puts};
 ghost use Rattle.device_core.specs.Device.{LiveStandsFor};
 ghost use Rattle.device_trace.specs.Start.{Start};
 ghost use Rattle.device_live.specs.Answer.{memory_line, registers_line};
-ghost use Rattle.device_live.specs.Life.{Life, lived};
+ghost use Rattle.device_live.specs.Life.{Life, play_lived};
 ghost use Rattle.device_live.specs.Shown.{memory_text, registers_text};
 
 use bus_signals::TraceFlag;
@@ -20,7 +20,7 @@ pub fn print_registers<D: Digest32, G: TraceFlag, W: Sink>(
     sink: &mut W,
 ) -> Result<(), Failed>
     ensures puts { (start : Start) (life : Life)
-        → LiveStandsFor D.hash G.flag live.now start (lived life)
+        → LiveStandsFor D.hash G.flag live.now start (play_lived life)
         → Puts W.stands sink.old sink.new (registers_line start life) result }
     ensures counts { CountsFaults W.faults sink.old sink.new result }
 {
@@ -49,7 +49,7 @@ pub fn print_memory<D: Digest32, G: TraceFlag, W: Sink>(
 ) -> Result<(), Failed>
     requires { count ≤ 2048 }
     ensures puts { (start : Start) (life : Life)
-        → LiveStandsFor D.hash G.flag live.now start (lived life)
+        → LiveStandsFor D.hash G.flag live.now start (play_lived life)
         → Puts W.stands sink.old sink.new (memory_line start life place count) result }
     ensures counts { CountsFaults W.faults sink.old sink.new result }
 {

@@ -38,13 +38,13 @@ pub fn play_to_shown<O: Watcher, D: Digest32, G: TraceFlag>(
     if O::is_shown_every_step() || next <= step {
         live.step(playback.pass(step))
     } else {
-        live.play_on(next.min(steps) - step)
+        live.run_to_line(next.min(steps) - step)
     }
 }
 
 /// Makes steps of sleep, or calm ones over quiet accesses, behind a first one that was made, up to
 /// the next event: so many that a device made this many in all, at most.
-pub fn go_quietly<Q: Quiet, D: Digest32, G: TraceFlag>(
+pub fn make_quiet_steps<Q: Quiet, D: Digest32, G: TraceFlag>(
     live: Live<D, G>,
     playback: &Playback<'_>,
     quiet: &Q,
@@ -60,7 +60,7 @@ pub fn go_quietly<Q: Quiet, D: Digest32, G: TraceFlag>(
 {
     let step = live.steps();
     let next = playback.next_step();
-    live.go_quietly(quiet, next.min(steps).saturating_sub(step))
+    live.make_quiet_steps(quiet, next.min(steps).saturating_sub(step))
 }
 
 /// Plays a script's first steps on a device at power-on before a watcher. It gives the device after

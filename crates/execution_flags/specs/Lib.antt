@@ -1,4 +1,4 @@
 pub mod ExecFlag
 pub mod RunFlag
 pub mod UnclearedStart
-pub mod IsrFlag
+pub mod AuxFlag

@@ -9,19 +9,19 @@
 #![tactic(auto)]
 
 mod aux_clearing;
+mod aux_flag;
 mod clearing;
 mod conditions;
 mod exec_flag;
-mod isr_flag;
 mod law;
 mod quiet;
 mod run_flag;
 mod start;
 
+pub use aux_flag::{AuxConditions, AuxFlag};
 pub use clearing::{clears_both, enters_region, has_write_to, runs_inside, writes_to};
 pub use conditions::Conditions;
 pub use exec_flag::{ExecConditions, ExecFlag};
-pub use isr_flag::{AuxConditions, IsrFlag};
 pub use law::flag_is_set_by_an_uncleared_start;
 pub use quiet::is_quiet;
 pub use run_flag::RunFlag;

@@ -7,16 +7,16 @@ use Rattle.hex.specs.Hex.{IsBytes}
 use Rattle.part_definitions.specs.Memory.{is_image_place}
 use Rattle.mem_map.specs.ByteAmong.{byte_among}
 use Rattle.hex_loader.specs.HexImage.{are_image_places}
-use Rattle.hex_loader.specs.HexText.{is_record_start, run_after, run, record_bytes}
+use Rattle.hex_loader.specs.HexText.{is_record_start, run_after, byte_run, record_bytes}
 use Rattle.mem_map.specs.ImagePlace.{IsImage}
 
 -- a byte among those of a run is the image's
 pub run-sound : (image : ℕ → Option ℕ) (first most place byte : ℕ)
-    → byte_among first (run image first most) place ≡ Some byte → image place ≡ Some byte
+    → byte_among first (byte_run image first most) place ≡ Some byte → image place ≡ Some byte
 run-sound image first zero place byte finds = absurd cc
 run-sound image first (suc most) place byte finds =
     elim (image first) as (λ o. image first ≡ o
-    → byte_among first (run_after o (run image (first + 1) most)) place ≡ Some byte
+    → byte_among first (run_after o (byte_run image (first + 1) most)) place ≡ Some byte
     → image place ≡ Some byte) [
       | None ↦ λ is among. absurd cc
       | Some here ↦ λ is among.
@@ -39,11 +39,12 @@ byte_among-some first (byte ∷ bytes) place from to =
 
 -- a run ends where it may go no further, or where there is no byte
 run-ends : (image : ℕ → Option ℕ) (first most : ℕ)
-    → (length (run image first most) ≡ most) ⊎ (image (first + length (run image first most))
+    → (length (byte_run image first most) ≡ most)
+    ⊎ (image (first + length (byte_run image first most))
     ≡ None)
 run-ends image first zero = inl refl
 run-ends image first (suc most) =
-    let rest : List ℕ = run image (first + 1) most in
+    let rest : List ℕ = byte_run image (first + 1) most in
     elim (image first) as (λ o. image first ≡ o
     → (length (run_after o rest) ≡ suc most) ⊎ (image (first + length (run_after o rest))
     ≡ None)) [
@@ -60,7 +61,7 @@ run-ends image first (suc most) =
     ] refl
 
 run-some : (image : ℕ → Option ℕ) (first most byte : ℕ) → 0 < most → image first ≡ Some byte
-    → 0 < length (run image first most)
+    → 0 < length (byte_run image first most)
 run-some image first zero byte some has = absurd (omega (arith, some))
 run-some image first (suc most) byte some has = rw has (omega arith)
 
@@ -121,22 +122,22 @@ is_covered image (suc place) byte has =
     ] refl
 
 -- a run of an image: its length, its bytes, its places
-pub run-short : (image : ℕ → Option ℕ) (first most : ℕ) → length (run image first most) ≤ most
+pub run-short : (image : ℕ → Option ℕ) (first most : ℕ) → length (byte_run image first most) ≤ most
 run-short image first zero = omega arith
 run-short image first (suc most) =
-    elim (image first) as (λ o. length (run_after o (run image (first + 1) most)) ≤ suc most) [
+    elim (image first) as (λ o. length (run_after o (byte_run image (first + 1) most)) ≤ suc most) [
       | None ↦ omega arith
       | Some byte ↦ omega (arith, run-short image (first + 1) most)
     ]
 
 pub run-bytes : (image : ℕ → Option ℕ) → IsImage image → (first most : ℕ)
-    → IsBytes (run image first most)
+    → IsBytes (byte_run image first most)
 run-bytes image is first zero = λ i. omega arith
 run-bytes image is first (suc most) =
     elim (image first) as (λ o. image first ≡ o
-    → IsBytes (run_after o (run image (first + 1) most))) [
+    → IsBytes (run_after o (byte_run image (first + 1) most))) [
       | None ↦ λ none i. omega arith
-      | Some byte ↦ λ has. cons byte (run image (first + 1) most) (is first byte has).1
+      | Some byte ↦ λ has. cons byte (byte_run image (first + 1) most) (is first byte has).1
           (run-bytes image is (first + 1) most)
     ] refl
   where
@@ -145,13 +146,13 @@ run-bytes image is first (suc most) =
     cons byte bytes small fits (suc i) = fits i
 
 pub run-places : (image : ℕ → Option ℕ) → IsImage image → (first most : ℕ)
-    → are_image_places first (run image first most) ≡ true
+    → are_image_places first (byte_run image first most) ≡ true
 run-places image is first zero = refl
 run-places image is first (suc most) =
     elim (image first) as (λ o. image first ≡ o
-    → are_image_places first (run_after o (run image (first + 1) most)) ≡ true) [
+    → are_image_places first (run_after o (byte_run image (first + 1) most)) ≡ true) [
       | None ↦ λ none. refl
       | Some byte ↦ λ has. and_from (is_image_place first)
-          (are_image_places (first + 1) (run image (first + 1) most)) (is first byte has).0
+          (are_image_places (first + 1) (byte_run image (first + 1) most)) (is first byte has).0
           (run-places image is (first + 1) most)
     ] refl

@@ -6,7 +6,7 @@ use Rattle.std.proofs.lemmas.Bool.{cases_lt}
 use Rattle.outside_edge.specs.Sink.{Takes, TakesPrefix}
 use Rattle.outside_edge.proofs.SinkLemmas.{prefix_after, prefix_of_more}
 use Rattle.hex.specs.Hex.{encode_with}
-use Rattle.hex_loader.specs.HexText.{run, lines_below, line_at, end_line, hex_text}
+use Rattle.hex_loader.specs.HexText.{byte_run, lines_below, line_at, end_line, hex_text}
 
 -- the digits of one byte more
 pub encode_with-more : (digits line bytes whole : List ℕ) (i : ℕ) → i < length bytes
@@ -31,8 +31,8 @@ encode_with-end digits line bytes whole i all before =
 pub run-more : (image : ℕ → Option ℕ) (earlier whole : List ℕ) (place offset most byte : ℕ)
     → offset < most
     → image (place + offset) ≡ Some byte
-    → earlier ++ run image (place + offset) (most - offset) ≡ whole
-    → (earlier ++ byte ∷ []) ++ run image (place + (offset + 1)) (most - (offset + 1)) ≡ whole
+    → earlier ++ byte_run image (place + offset) (most - offset) ≡ whole
+    → (earlier ++ byte ∷ []) ++ byte_run image (place + (offset + 1)) (most - (offset + 1)) ≡ whole
 run-more image earlier whole place offset most byte within here before =
     let more : most - offset ≡ suc (most - (offset + 1)) = omega arith in
     let next : place + offset + 1 ≡ place + (offset + 1) = omega arith in
@@ -43,7 +43,7 @@ run-more image earlier whole place offset most byte within here before =
 pub run-end : (image : ℕ → Option ℕ) (earlier whole : List ℕ) (place offset most : ℕ)
     → offset < most
     → image (place + offset) ≡ None
-    → earlier ++ run image (place + offset) (most - offset) ≡ whole → earlier ≡ whole
+    → earlier ++ byte_run image (place + offset) (most - offset) ≡ whole → earlier ≡ whole
 run-end image earlier whole place offset most within none before =
     let more : most - offset ≡ suc (most - (offset + 1)) = omega arith in
     sym (append-nil earlier) ∙ rw (more, none) at before

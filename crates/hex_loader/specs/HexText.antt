@@ -26,13 +26,13 @@ run_after (Some byte) bytes = byte ∷ bytes
 run_after None bytes = []
 
 -- the bytes from a place on that follow each other, at most so many
-abbrev pub run : (ℕ → Option ℕ) → ℕ → ℕ → List ℕ
-run image place zero = []
-run image place (suc most) = run_after (image place) (run image (place + 1) most)
+abbrev pub byte_run : (ℕ → Option ℕ) → ℕ → ℕ → List ℕ
+byte_run image place zero = []
+byte_run image place (suc most) = run_after (image place) (byte_run image (place + 1) most)
 
 -- a record goes on to the last consecutive byte before the next multiple of 16
 abbrev pub record_bytes : (ℕ → Option ℕ) → ℕ → List ℕ
-record_bytes image place = run image place (16 - place % 16)
+record_bytes image place = byte_run image place (16 - place % 16)
 
 -- the line of the record that begins at a place, where one does
 abbrev pub line_at : (ℕ → Option ℕ) → ℕ → List ℕ

@@ -16,12 +16,12 @@ token_words =
     0xC49C ∷ 0x2A20 ∷ 0xFB94 ∷ 0xDBEF ∷ 0x664C ∷ 0xC95E ∷ 0xCA13 ∷ 0xE9A5 ∷ []
 
 -- a program that attests on this request
-abbrev pub requested : Contents
-requested = attestation_of ((COUNTER, 1 ∷ 0 ∷ token_words) ∷ [])
+abbrev pub requested_image : Contents
+requested_image = attestation_of ((COUNTER, 1 ∷ 0 ∷ token_words) ∷ [])
 
 -- a device with this key and this program
 abbrev pub attesting_start : Bytes → Start
-attesting_start key = with_key aux sha256 key requested
+attesting_start key = with_key aux sha256 key requested_image
 
 -- the decision to attest, and the words of the MAC
 abbrev pub attested_words : List Word16

@@ -5,7 +5,7 @@ ghost use Rattle.device_trace.specs.Start.{without_key};
 ghost use Rattle.device_trace.specs.Text.{play_text};
 ghost use Rattle.device_trace.specs.Trace.{released_words, trace};
 ghost use Rattle.device_trace.specs.Example.{counting_words, upwards};
-ghost use Rattle.key_isolation.specs.AttestedPlay.{attested_text, attested_words, attesting_start, requested};
+ghost use Rattle.key_isolation.specs.AttestedPlay.{attested_text, attested_words, attesting_start, requested_image};
 ghost use Rattle.key_isolation.specs.Example.{attestation_start, last_value, until_key_read, whole_call};
 
 /// A call reads the second word of the key, which the trace has and the blanked trace has not.
@@ -28,7 +28,7 @@ pub fn two_keys_release_alike()
 pub fn attested_play_looks_keyless()
     ensures released { released_words (attesting_start (upwards 0 64)) whole_call ≡ attested_words }
     ensures printed { play_text (attesting_start (upwards 0 64)) whole_call ≡ attested_text }
-    ensures keyless { play_text (without_key aux attested_words requested) whole_call
+    ensures keyless { play_text (without_key aux attested_words requested_image) whole_call
         ≡ attested_text }
     ensures other { released_words (attesting_start (upwards 1 64)) whole_call ≡ 3 ∷ [] }
 {}

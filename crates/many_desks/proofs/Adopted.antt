@@ -9,7 +9,7 @@ use Rattle.std.proofs.lemmas.List.Elements.{All-tail}
 use Rattle.std.proofs.lemmas.Slice.Eq.{bytes_eq-Decides}
 use Rattle.text_scan.specs.declared.fault_kind.FaultKind.TheVariants.{Order, Place, Twice}
 use Rattle.desk_memory.specs.Entry.{Entry, Home, home_of, last_in, owner_in, with_entries, with_entry}
-use Rattle.desk_memory.specs.Moving.{adopted, adoption_fault, arrived, arriving, at_home, entries_of, has_not_come, is_behind, is_gone_to, is_here, is_needed, is_new_in, is_of_other, moved_lines}
+use Rattle.desk_memory.specs.Moving.{with_arrivals, adoption_fault, entry_on_arrival, entries_on_arrival, at_home, entries_of, has_not_come, is_behind, is_gone_to, is_here, is_needed, is_new_in, is_of_other, moved_lines}
 use Rattle.desk_memory.proofs.Noted.{entry_is_last, last_of_more}
 use Rattle.report_text.proofs.ReportWords.{other_bytes}
 use Rattle.many_desks.proofs.Worlds.{same_bytes}
@@ -180,16 +180,18 @@ more_last entries (new ∷ more) name =
 
 -- what is added of lines by which a device has not come
 needed_last : (entries : List Entry) (line : Entry) (later : List Entry) (name : List ℕ)
-    → last_in (arriving entries later) name ≡ option_map arrived (last_in later name)
-    → last_in (arrived line ∷ arriving entries later) name
-    ≡ option_map arrived (last_in (line ∷ later) name)
+    → last_in (entries_on_arrival entries later) name
+    ≡ option_map entry_on_arrival (last_in later name)
+    → last_in (entry_on_arrival line ∷ entries_on_arrival entries later) name
+    ≡ option_map entry_on_arrival (last_in (line ∷ later) name)
 needed_last entries line later name so =
     rw so (either (last_in later name) (bytes_eq line.name name))
   where
     either : (last : Option Entry) (own : Bool)
-        → (if is_some (option_map arrived last) then option_map arrived last
-        else if own then Some (arrived line) else None)
-        ≡ option_map arrived (if is_some last then last else if own then Some line else None)
+        → (if is_some (option_map entry_on_arrival last) then option_map entry_on_arrival last
+        else if own then Some (entry_on_arrival line) else None)
+        ≡ option_map entry_on_arrival
+        (if is_some last then last else if own then Some line else None)
     either (Some last) own = refl
     either None true = refl
     either None false = refl
@@ -222,22 +224,25 @@ left_last entries line later name left new = elim (cases_Bool (bytes_eq line.nam
 
 arriving_last : (entries lines : List Entry) (name : List ℕ)
     → SaysOf name (is_new_in entries) true lines
-    → last_in (arriving entries lines) name ≡ option_map arrived (last_in lines name)
+    → last_in (entries_on_arrival entries lines) name
+    ≡ option_map entry_on_arrival (last_in lines name)
 arriving_last entries [] name new = refl
 arriving_last entries (line ∷ later) name new =
-    let more : last_in (arriving entries later) name ≡ option_map arrived (last_in later name) =
+    let more : last_in (entries_on_arrival entries later) name
+    ≡ option_map entry_on_arrival (last_in later name) =
     arriving_last entries later name new.1 in
     elim (cases_Bool (is_needed entries line later)) [
       | inl needed ↦ rw needed (needed_last entries line later name more)
       | inr left ↦
-          let rest : arriving entries (line ∷ later) ≡ arriving entries later = rw left refl in
+          let rest : entries_on_arrival entries (line ∷ later)
+          ≡ entries_on_arrival entries later = rw left refl in
           ap (λ (some : List Entry). last_in some name) rest ∙ more
-          ∙ ap (option_map arrived) (sym (left_last entries line later name left new.0))
+          ∙ ap (option_map entry_on_arrival) (sym (left_last entries line later name left new.0))
     ]
 
 none_arriving : (entries lines : List Entry) (name : List ℕ)
     → SaysOf name (is_new_in entries) false lines
-    → last_in (arriving entries lines) name ≡ None
+    → last_in (entries_on_arrival entries lines) name ≡ None
 none_arriving entries [] name old = refl
 none_arriving entries (line ∷ later) name old =
     elim (cases_Bool (is_needed entries line later)) [
@@ -247,13 +252,15 @@ none_arriving entries (line ∷ later) name old =
           (is_none (owner_in entries line.mark)) needed in
           let miss : bytes_eq line.name name ≡ false =
           other_bytes line.name name (λ named. let known = old.0 named in cc) in
-          let more : arriving entries (line ∷ later) ≡ arrived line ∷ arriving entries later =
+          let more : entries_on_arrival entries (line ∷ later) ≡ entry_on_arrival line
+          ∷ entries_on_arrival entries later =
           rw needed refl in
           ap (λ (some : List Entry). last_in some name) more
-          ∙ last_behind (arrived line) (arriving entries later) name miss
+          ∙ last_behind (entry_on_arrival line) (entries_on_arrival entries later) name miss
           ∙ none_arriving entries later name old.1
       | inr left ↦
-          let rest : arriving entries (line ∷ later) ≡ arriving entries later = rw left refl in
+          let rest : entries_on_arrival entries (line ∷ later)
+          ≡ entries_on_arrival entries later = rw left refl in
           ap (λ (some : List Entry). last_in some name) rest
           ∙ none_arriving entries later name old.1
     ]
@@ -265,9 +272,9 @@ none_arriving entries (line ∷ later) name old =
 -- a device of which there are no lines keeps its last entry
 pub adopted_elsewhere : (entries lines : List Entry) (name : List ℕ)
     → last_in lines name ≡ None
-    → last_in (adopted entries lines) name ≡ last_in entries name
+    → last_in (with_arrivals entries lines) name ≡ last_in entries name
 adopted_elsewhere entries lines name none =
-    more_last entries (arriving entries lines) name
+    more_last entries (entries_on_arrival entries lines) name
     ∙ ap (λ (last : Option Entry). or_else last (last_in entries name))
     (none_arriving entries lines name
     (says_of_none name (is_new_in entries) false lines none))
@@ -287,17 +294,17 @@ new_alike entries other line name named home =
 -- a device that has not come by its lines is here by them
 pub adopted_last : (entries lines : List Entry) (name : List ℕ) (line : Entry)
     → last_in lines name ≡ Some line → AreAt line.home (entries_of name lines)
-    → last_in (adopted entries lines) name
-    ≡ (if has_not_come line (last_in entries name) then Some (arrived line)
+    → last_in (with_arrivals entries lines) name
+    ≡ (if has_not_come line (last_in entries name) then Some (entry_on_arrival line)
     else last_in entries name)
 adopted_last entries lines name line is alike =
-    more_last entries (arriving entries lines) name
+    more_last entries (entries_on_arrival entries lines) name
     ∙ elim (cases_Bool (has_not_come line (last_in entries name))) [
       | inl new ↦ rw new (ap (λ (last : Option Entry). or_else last (last_in entries name))
           (arriving_last entries lines name
           (says_alike name (is_new_in entries) true line.home lines
           (λ other named home. new_alike entries other line name named home ∙ new) alike)
-          ∙ ap (option_map arrived) is))
+          ∙ ap (option_map entry_on_arrival) is))
       | inr old ↦ rw old (ap (λ (last : Option Entry). or_else last (last_in entries name))
           (none_arriving entries lines name
           (says_alike name (is_new_in entries) false line.home lines

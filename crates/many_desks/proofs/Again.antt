@@ -8,7 +8,7 @@ use Rattle.std.proofs.lemmas.Bool.Decides.{nat_tests}
 use Rattle.std.proofs.lemmas.List.Elements.{All-from_recursion, recursion_from_All}
 use Rattle.std.proofs.lemmas.Slice.Eq.{bytes_eq-Decides}
 use Rattle.desk_memory.specs.Entry.{Entry, home_of, last_in, with_entries}
-use Rattle.desk_memory.specs.Moving.{adopted, adoption_fault, arrived, arriving, came_by, entries_of, has_not_come, is_behind, is_new_in}
+use Rattle.desk_memory.specs.Moving.{with_arrivals, adoption_fault, entry_on_arrival, entries_on_arrival, came_by, entries_of, has_not_come, is_behind, is_new_in}
 use Rattle.many_desks.specs.Act.{world_after}
 use Rattle.many_desks.specs.Law.{entry_of_one}
 use Rattle.many_desks.specs.Moves.{AreAdoptedOnce, AreAlike, IsAdoptedAgain}
@@ -41,16 +41,17 @@ lines_are_adopted_once start acts home name desk lines line so allowed was is =
 -- none of old lines arrives
 none_arrive : (entries lines : List Entry)
     → AllByRecursion (λ (line : Entry). is_new_in entries line ≡ false) lines
-    → arriving entries lines ≡ []
+    → entries_on_arrival entries lines ≡ []
 none_arrive entries [] old = refl
 none_arrive entries (line ∷ later) old = rw old.0 (none_arrive entries later old.1)
 
 -- after it was adopted each line is old
 come_again : (line : Entry) (last : Option Entry)
-    → has_not_come line (if has_not_come line last then Some (arrived line) else last) ≡ false
+    → has_not_come line (if has_not_come line last then Some (entry_on_arrival line) else last)
+    ≡ false
 come_again line last = elim (cases_Bool (has_not_come line last)) [
   | inl new ↦
-      let came : came_by line (arrived line) ≡ true = grind (arith, nat_tests) in
+      let came : came_by line (entry_on_arrival line) ≡ true = grind (arith, nat_tests) in
       rw (new, came) refl
   | inr old ↦ rw (old, old) refl
 ]
@@ -73,20 +74,20 @@ own_at lines (line ∷ later) name last is all = elim (cases_Bool (bytes_eq line
 ]
 
 all_old : (entries lines : List Entry) → AreAlike lines
-    → All (λ (line : Entry). is_new_in (adopted entries lines) line ≡ false) lines
+    → All (λ (line : Entry). is_new_in (with_arrivals entries lines) line ≡ false) lines
 all_old entries lines alike k d within = by_last (last_in lines line.name) refl
   where
     line : Entry
     line = slice_index_or lines k d
 
     by_last : (last : Option Entry) → last_in lines line.name ≡ last
-        → is_new_in (adopted entries lines) line ≡ false
+        → is_new_in (with_arrivals entries lines) line ≡ false
     by_last None is =
         absurd (true≢false (All-from_recursion
         (λ (entry : Entry). entry.name ≡ line.name → true ≡ false) lines
         (says_of_none line.name (λ entry. true) false lines is) k d within refl))
     by_last (Some last) is =
-        new_alike (adopted entries lines) line last line.name refl
+        new_alike (with_arrivals entries lines) line last line.name refl
         (alike k d within ∙ ap home_of is)
         ∙ ap (has_not_come last) (adopted_last entries lines line.name last is
         (own_at lines lines line.name last is (recursion_from_All _ lines alike)))
@@ -94,6 +95,6 @@ all_old entries lines alike k d within = by_last (last_in lines line.name) refl
 
 pub adopted_again_is_adopted : IsAdoptedAgain
 adopted_again_is_adopted entries lines alike =
-    ap (with_entries (adopted entries lines))
-    (none_arrive (adopted entries lines) lines
+    ap (with_entries (with_arrivals entries lines))
+    (none_arrive (with_arrivals entries lines) lines
     (recursion_from_All _ lines (all_old entries lines alike)))

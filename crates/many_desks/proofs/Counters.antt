@@ -3,7 +3,7 @@ use Rattle.std.proofs.Common.{◌≡◌, ◌∙◌, ◌⊎◌, ◌<◌, ℕ, Lis
 use Rattle.std.specs.List.{All, Contains}
 use Rattle.desk_memory.specs.Entry.{Entry, last_in}
 use Rattle.verifier_desk.specs.Judged.{JudgedLine}
-use Rattle.verifier_desk.specs.Law.{Descends, KeyCounter, accepted, count_in, counters_in, judged_lines, outstanding_in, requested}
+use Rattle.verifier_desk.specs.Law.{Descends, KeyCounter, accepted_counters, count_in, counters_in, judged_lines, outstanding_in, requested_counters}
 use Rattle.verifier_desk.proofs.AcceptedOnce.{report_is_accepted_once as of_one_desk}
 use Rattle.many_desks.specs.Act.{Act, Adopts, AreAllowed, Sends, Serves, World}
 use Rattle.many_desks.specs.Counters.{NoneIsAcceptedTwice, accepted_in, requested_in}
@@ -13,22 +13,27 @@ use Rattle.many_desks.proofs.Through.{accepted-append, accepted_alike, requested
 
 -- of a run that has a line of a device, or has none
 requested_as_one : (name : List ℕ) (one other : Option Entry) (lines : List JudgedLine)
-    → (lines ≡ []) ⊎ SayAlike one other → requested name one lines ≡ requested name other lines
+    → (lines ≡ []) ⊎ SayAlike one other → requested_counters name one lines
+    ≡ requested_counters name other lines
 requested_as_one name one other lines (inl none) =
-    subst (λ (some : List JudgedLine). requested name one some ≡ requested name other some)
+    subst (λ (some : List JudgedLine). requested_counters name one some
+    ≡ requested_counters name other some)
     (sym none) refl
 requested_as_one name one other lines (inr same) = requested_alike name one other lines same
 
 accepted_as_one : (name : List ℕ) (one other : Option Entry) (lines : List JudgedLine)
-    → (lines ≡ []) ⊎ SayAlike one other → accepted name one lines ≡ accepted name other lines
+    → (lines ≡ []) ⊎ SayAlike one other → accepted_counters name one lines
+    ≡ accepted_counters name other lines
 accepted_as_one name one other lines (inl none) =
-    subst (λ (some : List JudgedLine). accepted name one some ≡ accepted name other some)
+    subst (λ (some : List JudgedLine). accepted_counters name one some
+    ≡ accepted_counters name other some)
     (sym none) refl
 accepted_as_one name one other lines (inr same) = accepted_alike name one other lines same
 
 all_requested : (start : World) (acts : List Act) (home name : List ℕ)
     → StartsAt start home name → AreAllowed start acts
-    → requested_in acts name ≡ requested name (last_in (start home) name) (lines_in acts name)
+    → requested_in acts name
+    ≡ requested_counters name (last_in (start home) name) (lines_in acts name)
 all_requested start [] home name so allowed = refl
 all_requested start (Serves desk run ∷ earlier) home name so allowed =
     let lines : List JudgedLine = judged_lines run.desk name run.lines in
@@ -44,7 +49,8 @@ all_requested start (Adopts desk lines ∷ earlier) home name so allowed =
 
 all_accepted : (start : World) (acts : List Act) (home name : List ℕ)
     → StartsAt start home name → AreAllowed start acts
-    → accepted_in acts name ≡ accepted name (last_in (start home) name) (lines_in acts name)
+    → accepted_in acts name
+    ≡ accepted_counters name (last_in (start home) name) (lines_in acts name)
 all_accepted start [] home name so allowed = refl
 all_accepted start (Serves desk run ∷ earlier) home name so allowed =
     let lines : List JudgedLine = judged_lines run.desk name run.lines in

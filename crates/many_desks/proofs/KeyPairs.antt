@@ -8,7 +8,7 @@ use Rattle.std.specs.Str.{bytes_eq}
 use Rattle.std.proofs.lemmas.Bool.{cases_Bool}
 use Rattle.std.proofs.lemmas.Slice.Eq.{bytes_eq-Decides}
 use Rattle.desk_memory.specs.Entry.{Entry, Home, home_of, is_replaced, last_in, owner_in, with_entries, with_entry}
-use Rattle.desk_memory.specs.Moving.{adopted, arriving, at_home, departed, entries_of, gone_to, is_needed, moved_lines, with_gone}
+use Rattle.desk_memory.specs.Moving.{with_arrivals, entries_on_arrival, at_home, with_departure, entries_of, gone_to, is_needed, moved_lines, with_gone}
 use Rattle.many_desks.specs.Keys.{StandsUnder}
 use Rattle.many_desks.proofs.Worlds.{same_bytes}
 
@@ -106,7 +106,7 @@ last_stands (entry ∷ later) name last is = elim (cases_Bool (is_some (last_in 
 
 -- a device that goes
 pub stands_departed : (name target : List ℕ) (entries : List Entry) (mark owner : List ℕ)
-    → StandsUnder entries mark owner → StandsUnder (departed name target entries) mark owner
+    → StandsUnder entries mark owner → StandsUnder (with_departure name target entries) mark owner
 stands_departed name target entries mark owner stands = by_last (last_in entries name)
   where
     by_last : (last : Option Entry) → StandsUnder (with_gone target entries last) mark owner
@@ -114,7 +114,7 @@ stands_departed name target entries mark owner stands = by_last (last_in entries
     by_last (Some last) = stands_still entries (gone_to target last) mark owner stands
 
 pub stood_departed : (name target : List ℕ) (entries : List Entry) (mark owner : List ℕ)
-    → StandsUnder (departed name target entries) mark owner → StandsUnder entries mark owner
+    → StandsUnder (with_departure name target entries) mark owner → StandsUnder entries mark owner
 stood_departed name target entries mark owner = by_last (last_in entries name) refl
   where
     by_last : (last : Option Entry) → last_in entries name ≡ last
@@ -161,7 +161,7 @@ stood_or_more entries (new ∷ more) mark name stands =
     ]
 
 stands_arriving : (entries lines : List Entry) (mark name : List ℕ)
-    → StandsUnder (arriving entries lines) mark name → StandsUnder lines mark name
+    → StandsUnder (entries_on_arrival entries lines) mark name → StandsUnder lines mark name
 stands_arriving entries [] mark name stands = stands
 stands_arriving entries (line ∷ later) mark name stands =
     elim (cases_Bool (is_needed entries line later)) [
@@ -173,15 +173,15 @@ stands_arriving entries (line ∷ later) mark name stands =
     ]
 
 pub stands_adopted : (entries lines : List Entry) (mark name : List ℕ)
-    → StandsUnder entries mark name → StandsUnder (adopted entries lines) mark name
+    → StandsUnder entries mark name → StandsUnder (with_arrivals entries lines) mark name
 stands_adopted entries lines mark name stands =
-    stands_more entries (arriving entries lines) mark name stands
+    stands_more entries (entries_on_arrival entries lines) mark name stands
 
 pub stood_adopted : (entries lines : List Entry) (mark name : List ℕ)
-    → StandsUnder (adopted entries lines) mark name
+    → StandsUnder (with_arrivals entries lines) mark name
     → StandsUnder entries mark name ⊎ StandsUnder lines mark name
 stood_adopted entries lines mark name stands =
-    elim (stood_or_more entries (arriving entries lines) mark name stands) [
+    elim (stood_or_more entries (entries_on_arrival entries lines) mark name stands) [
       | inl stood ↦ inl stood
       | inr line ↦ inr (stands_arriving entries lines mark name line)
     ]

@@ -3,7 +3,7 @@ use Rattle.std.proofs.Common.{◌≡◌, ◌∙◌, ℕ, List, [], ◌∷◌, Bo
 use Rattle.std.specs.Prelude.{if◌then◌else◌}
 use Rattle.desk_memory.specs.DeviceState.{is_new}
 use Rattle.desk_memory.specs.Entry.{Entry, Note, entry_at, home_of, last_in, owner_in, with_entry}
-use Rattle.desk_memory.specs.Moving.{departed, entries_of}
+use Rattle.desk_memory.specs.Moving.{with_departure, entries_of}
 use Rattle.verifier_desk.specs.DeskLine.{DeskLine, TooLong, Silent, Foreign, Own, desk_line_of}
 use Rattle.verifier_desk.specs.DeviceLine.{DeviceLine}
 use Rattle.verifier_desk.specs.KeyOwner.{IsFreeFor, KeysStandApart}
@@ -249,7 +249,8 @@ move_known start (Adopts at adopted) earlier name desk lines move mark owner sta
 move_known start (Sends source device target) earlier name desk lines move mark owner stands = (
   source,
   stands_changed start (Sends source device target) earlier mark owner
-      (stood_moved device (departed device target (world_after start earlier source)) mark owner
+      (stood_moved device (with_departure device target (world_after start earlier source)) mark
+      owner
       (subst (λ (some : List Entry). StandsUnder some mark owner) move.2 stands)),
 )
 

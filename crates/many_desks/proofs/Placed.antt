@@ -6,7 +6,7 @@ use Rattle.std.specs.Str.{bytes_eq}
 use Rattle.std.proofs.lemmas.Bool.{cases_Bool}
 use Rattle.std.proofs.lemmas.Slice.Eq.{bytes_eq-Decides}
 use Rattle.desk_memory.specs.Entry.{Entry, Home, home_of, last_in}
-use Rattle.desk_memory.specs.Moving.{adoption_fault, departed, entries_of, gone_to, has_here, is_behind, is_here, moved_lines, with_gone}
+use Rattle.desk_memory.specs.Moving.{adoption_fault, with_departure, entries_of, gone_to, has_here, is_behind, is_here, moved_lines, with_gone}
 use Rattle.desk_memory.proofs.Noted.{entry_is_last, last_named}
 use Rattle.verifier_desk.specs.DeviceKey.{DeviceKey, key_named}
 use Rattle.verifier_desk.specs.Gone.{first_gone}
@@ -38,7 +38,7 @@ move_is_alike : (world : World) (act : Act) (name desk : List ℕ) (lines : List
 move_is_alike world (Serves at run) name desk lines line move is = absurd move
 move_is_alike world (Adopts at adopted) name desk lines line move is = absurd move
 move_is_alike world (Sends source device target) name desk lines line move is =
-    let entries : List Entry = departed device target (world source) in
+    let entries : List Entry = with_departure device target (world source) in
     let same : lines ≡ moved_lines name entries =
     move.2 ∙ ap (λ (one : List ℕ). moved_lines one entries) move.0 in
     let home : home_of (last_in entries name) ≡ line.home =
@@ -238,7 +238,7 @@ run_placed start earlier home name desk run may placed =
 -- a device goes
 pub departed_last : (entries : List Entry) (name target : List ℕ) (last : Entry)
     → last_in entries name ≡ Some last
-    → last_in (departed name target entries) name ≡ Some (gone_to target last)
+    → last_in (with_departure name target entries) name ≡ Some (gone_to target last)
 departed_last entries name target last is =
     ap (λ (one : Option Entry). last_in (with_gone target entries one) name) is
     ∙ entry_is_last entries (gone_to target last) name
@@ -246,7 +246,7 @@ departed_last entries name target last is =
 
 departed_elsewhere : (entries : List Entry) (device target name : List ℕ)
     → (device ≡ name → ⊥)
-    → last_in (departed device target entries) name ≡ last_in entries name
+    → last_in (with_departure device target entries) name ≡ last_in entries name
 departed_elsewhere entries device target name apart = by_last (last_in entries device) refl
   where
     by_last : (last : Option Entry) → last_in entries device ≡ last
@@ -269,7 +269,7 @@ own_placed start earlier name source target known None is placed here =
 own_placed start earlier name source target known (Some last) is placed here =
     let act : Act = Sends source name target in
     let world : World = world_after start earlier in
-    let entries : List Entry = departed name target (world source) in
+    let entries : List Entry = with_departure name target (world source) in
     let gone : last_in entries name ≡ Some (gone_to target last) =
     departed_last (world source) name target last is in
     goes (view_of world name) (view_of (world_after start (act ∷ earlier)) name)

@@ -9,7 +9,7 @@ use Rattle.std.proofs.lemmas.List.Elements.{All-from_recursion}
 use Rattle.std.proofs.lemmas.Slice.Eq.{bytes_eq-Decides}
 use Rattle.desk_memory.specs.DeviceState.{is_new}
 use Rattle.desk_memory.specs.Entry.{Entry, Home, Note, entry_at, home_of, last_in, owner_in}
-use Rattle.desk_memory.specs.Moving.{adoption_fault, at_home, departed, entries_of, gone_to, has_here, is_behind, is_desk, is_gone_to, is_of_other, moved_lines}
+use Rattle.desk_memory.specs.Moving.{adoption_fault, at_home, with_departure, entries_of, gone_to, has_here, is_behind, is_desk, is_gone_to, is_of_other, moved_lines}
 use Rattle.verifier_desk.specs.DeskLine.{DeskLine, TooLong, Silent, Foreign, Own, desk_line_of}
 use Rattle.verifier_desk.specs.DeviceKey.{DeviceKey, key_named}
 use Rattle.verifier_desk.specs.DeviceLine.{DeviceLine}
@@ -196,7 +196,7 @@ sent_device_may_follow start earlier home name source target so sound allowed ap
     world = world_after start earlier
 
     entries : List Entry
-    entries = departed name target (world source)
+    entries = with_departure name target (world source)
 
     after : World
     after = world_after start (Sends source name target ∷ earlier)

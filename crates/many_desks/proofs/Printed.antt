@@ -10,7 +10,7 @@ use Rattle.std.proofs.lemmas.List.Elements.{All-from_recursion}
 use Rattle.std.proofs.lemmas.Slice.Eq.{bytes_eq-Decides}
 use Rattle.desk_memory.specs.DeviceState.{is_new}
 use Rattle.desk_memory.specs.Entry.{Entry, Home, Note, entry_at, home_of, is_replaced, last_in, with_entries, with_entry}
-use Rattle.desk_memory.specs.Moving.{adopted, arriving, at_home, departed, entries_of, gone_to, is_here, is_needed, moved_lines, with_gone}
+use Rattle.desk_memory.specs.Moving.{with_arrivals, entries_on_arrival, at_home, with_departure, entries_of, gone_to, is_here, is_needed, moved_lines, with_gone}
 use Rattle.verifier_desk.specs.DeskLine.{DeskLine, TooLong, Silent, Foreign, Own, desk_line_of}
 use Rattle.verifier_desk.specs.DeviceKey.{key_named}
 use Rattle.verifier_desk.specs.DeviceLine.{DeviceLine}
@@ -128,7 +128,7 @@ gone_is_unserved world desk run name target last may is gone =
 
 -- lines by which it does not come
 all_here : (entries lines : List Entry)
-    → AllByRecursion (λ (entry : Entry). is_here entry ≡ true) (arriving entries lines)
+    → AllByRecursion (λ (entry : Entry). is_here entry ≡ true) (entries_on_arrival entries lines)
 all_here entries [] = tt
 all_here entries (line ∷ later) = elim (cases_Bool (is_needed entries line later)) [
   | inl needed ↦ rw needed (refl, all_here entries later)
@@ -144,23 +144,25 @@ more_kept entries (new ∷ more) name none =
     ∙ other_noted entries new name (λ own. true≢false (none.0 own))
 
 gone_is_kept : (entries lines : List Entry) (name target : List ℕ) (last : Entry)
-    → last_in (adopted entries lines) name ≡ Some last → last.home.gone ≡ Some target
-    → entries_of name (adopted entries lines) ≡ entries_of name entries
+    → last_in (with_arrivals entries lines) name ≡ Some last → last.home.gone ≡ Some target
+    → entries_of name (with_arrivals entries lines) ≡ entries_of name entries
 gone_is_kept entries lines name target last is gone =
-    by_last (last_in (arriving entries lines) name) refl
+    by_last (last_in (entries_on_arrival entries lines) name) refl
   where
-    by_last : (new : Option Entry) → last_in (arriving entries lines) name ≡ new
-        → entries_of name (adopted entries lines) ≡ entries_of name entries
+    by_last : (new : Option Entry) → last_in (entries_on_arrival entries lines) name ≡ new
+        → entries_of name (with_arrivals entries lines) ≡ entries_of name entries
     by_last None none =
-        more_kept entries (arriving entries lines) name
-        (says_of_none name (λ entry. true) false (arriving entries lines) none)
+        more_kept entries (entries_on_arrival entries lines) name
+        (says_of_none name (λ entry. true) false (entries_on_arrival entries lines) none)
     by_last (Some new) some =
-        let whole : last_in (adopted entries lines) name ≡ Some new =
-        more_last entries (arriving entries lines) name
+        let whole : last_in (with_arrivals entries lines) name ≡ Some new =
+        more_last entries (entries_on_arrival entries lines) name
         ∙ ap (λ (one : Option Entry). or_else one (last_in entries name)) some in
         let here : is_here new ≡ true =
-        last_has (λ (entry : Entry). is_here entry ≡ true) (arriving entries lines) name new
-        (All-from_recursion (λ (entry : Entry). is_here entry ≡ true) (arriving entries lines)
+        last_has (λ (entry : Entry). is_here entry ≡ true)
+        (entries_on_arrival entries lines) name new
+        (All-from_recursion (λ (entry : Entry). is_here entry ≡ true)
+        (entries_on_arrival entries lines)
         (all_here entries lines)) some in
         let same : new ≡ last = same_Some new last (sym whole ∙ is) in
         let never = sym gone ∙ ap (λ (entry : Entry). entry.home.gone) (sym same)
@@ -197,19 +199,19 @@ act_keeps start (Sends desk device to) earlier name target last may is gone =
 
     by_last : (sent : Option Entry) → last_in entries device ≡ sent
         → IsMove (world_after start earlier) (Sends desk device to) name target
-        (moved_lines name (departed device to entries))
-        ⊎ (entries_of name (departed device to entries) ≡ entries_of name entries)
+        (moved_lines name (with_departure device to entries))
+        ⊎ (entries_of name (with_departure device to entries) ≡ entries_of name entries)
     by_last None none = inr (ap (λ (one : Option Entry).
         entries_of name (with_gone to entries one)) none)
     by_last (Some sent) some = elim (same_or_other device name) [
       | inl same ↦
-          let own : last_in (departed device to entries) name ≡ Some (gone_to to sent) =
-          ap (last_in (departed device to entries)) (sym same)
+          let own : last_in (with_departure device to entries) name ≡ Some (gone_to to sent) =
+          ap (last_in (with_departure device to entries)) (sym same)
           ∙ departed_last entries device to sent some in
           inl (
             same,
             same_some to target (same_home (gone_to to sent) last (sym own ∙ is) ∙ gone),
-            ap (λ (one : List ℕ). moved_lines one (departed device to entries)) (sym same),
+            ap (λ (one : List ℕ). moved_lines one (with_departure device to entries)) (sym same),
           )
       | inr apart ↦
           inr (ap (λ (one : Option Entry). entries_of name (with_gone to entries one)) some

@@ -5,11 +5,11 @@ use Rattle.std.specs.Str.{bytes_eq}
 use Rattle.std.proofs.lemmas.Bool.{cases_Bool}
 use Rattle.report_text.specs.ReportFile.{report2_of}
 use Rattle.desk_memory.specs.declared.device_state.DeviceState.{DeviceState}
-use Rattle.desk_memory.specs.DeviceState.{is_new, new_device, renewed}
+use Rattle.desk_memory.specs.DeviceState.{is_new, new_device, under_new_key}
 use Rattle.desk_memory.specs.Entry.{Entry, Note, home_of, state_under}
 use Rattle.verifier_desk.specs.DeviceReply.{answer_after, state_after}
 use Rattle.verifier_desk.specs.Judged.{JudgedLine, entry_after, entry_through, is_new_to, mark_of, state_before}
-use Rattle.verifier_desk.specs.Law.{KeyCounter, accepted, accepted_counter, counter_of, requested, under_mark}
+use Rattle.verifier_desk.specs.Law.{KeyCounter, accepted_counters, accepted_counter, counter_of, requested_counters, under_mark}
 use Rattle.verifier_desk.proofs.AllRuns.{entry_through-append}
 use Rattle.many_desks.specs.Law.{SayAlike, note_of}
 
@@ -55,7 +55,7 @@ some_through name last (now ∷ earlier) none =
 noted_state : List ℕ → Option Note → DeviceState
 noted_state mark None = new_device
 noted_state mark (Some note) =
-    if bytes_eq note.mark mark then note.state else renewed note.state
+    if bytes_eq note.mark mark then note.state else under_new_key note.state
 
 state_of_note : (mark : List ℕ) (entry : Option Entry)
     → state_under mark entry ≡ noted_state mark (option_map note_of entry)
@@ -114,7 +114,7 @@ accepted_now now state =
     else []
 
 pub requested_alike : (name : List ℕ) (one other : Option Entry) (lines : List JudgedLine)
-    → SayAlike one other → requested name one lines ≡ requested name other lines
+    → SayAlike one other → requested_counters name one lines ≡ requested_counters name other lines
 unfolding requested_now
 requested_alike name one other [] same = refl
 requested_alike name one other (now ∷ earlier) same = λ i.
@@ -123,7 +123,7 @@ requested_alike name one other (now ∷ earlier) same = λ i.
     ++ requested_alike name one other earlier same i
 
 pub accepted_alike : (name : List ℕ) (one other : Option Entry) (lines : List JudgedLine)
-    → SayAlike one other → accepted name one lines ≡ accepted name other lines
+    → SayAlike one other → accepted_counters name one lines ≡ accepted_counters name other lines
 unfolding accepted_now
 accepted_alike name one other [] same = refl
 accepted_alike name one other (now ∷ earlier) same = λ i.
@@ -132,8 +132,9 @@ accepted_alike name one other (now ∷ earlier) same = λ i.
     ++ accepted_alike name one other earlier same i
 
 pub requested-append : (name : List ℕ) (start : Option Entry) (later earlier : List JudgedLine)
-    → requested name start (later ++ earlier)
-    ≡ requested name (entry_through name start earlier) later ++ requested name start earlier
+    → requested_counters name start (later ++ earlier)
+    ≡ requested_counters name (entry_through name start earlier) later
+    ++ requested_counters name start earlier
 unfolding requested_now
 requested-append name start [] earlier = refl
 requested-append name start (now ∷ later) earlier =
@@ -143,11 +144,13 @@ requested-append name start (now ∷ later) earlier =
     ∙ sym (append_assoc
     (requested_now now (state_before (entry_through name (entry_through name start earlier) later)
     now))
-    (requested name (entry_through name start earlier) later) (requested name start earlier))
+    (requested_counters name (entry_through name start earlier) later)
+    (requested_counters name start earlier))
 
 pub accepted-append : (name : List ℕ) (start : Option Entry) (later earlier : List JudgedLine)
-    → accepted name start (later ++ earlier)
-    ≡ accepted name (entry_through name start earlier) later ++ accepted name start earlier
+    → accepted_counters name start (later ++ earlier)
+    ≡ accepted_counters name (entry_through name start earlier) later
+    ++ accepted_counters name start earlier
 unfolding accepted_now
 accepted-append name start [] earlier = refl
 accepted-append name start (now ∷ later) earlier =
@@ -157,4 +160,5 @@ accepted-append name start (now ∷ later) earlier =
     ∙ sym (append_assoc
     (accepted_now now (state_before (entry_through name (entry_through name start earlier) later)
     now))
-    (accepted name (entry_through name start earlier) later) (accepted name start earlier))
+    (accepted_counters name (entry_through name start earlier) later)
+    (accepted_counters name start earlier))

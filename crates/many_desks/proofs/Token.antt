@@ -7,7 +7,7 @@ use Rattle.std.specs.Prelude.{if◌then◌else◌, nat_lt, IfSome, option_map}
 use Rattle.std.proofs.lemmas.Bool.{cases_Bool}
 use Rattle.std.proofs.lemmas.Bool.Decides.{nat_tests}
 use Rattle.desk_memory.specs.Entry.{Entry, Home, home_of}
-use Rattle.desk_memory.specs.Moving.{arrived, came_by, gone_to, has_here, has_not_come, is_behind, is_here}
+use Rattle.desk_memory.specs.Moving.{entry_on_arrival, came_by, gone_to, has_here, has_not_come, is_behind, is_here}
 use Rattle.verifier_desk.specs.Judged.{JudgedLine, entry_through}
 use Rattle.many_desks.specs.Act.{IsLearned}
 use Rattle.many_desks.specs.Law.{SayAlike, note_of}
@@ -289,7 +289,8 @@ pub comes : (before after : View) (moved now : List ℕ → Entry → Type 0) (k
     (desk : List ℕ) (line : Entry)
     → IsPlaced before moved known
     → moved desk line → is_behind line (before desk) ≡ false
-    → after desk ≡ (if has_not_come line (before desk) then Some (arrived line) else before desk)
+    → after desk ≡ (if has_not_come line (before desk) then Some (entry_on_arrival line)
+    else before desk)
     → ((other : List ℕ) → (desk ≡ other → ⊥) → after other ≡ before other)
     → ((other : List ℕ) (one : Entry) → now other one → moved other one)
     → ((other : List ℕ) (one : Entry) → moved other one → now other one)
@@ -313,15 +314,16 @@ comes before after moved now known desk line (inr (inr way)) move behind changed
             | inr apart ↦ rest other apart
           ]) was is (inr (inr way))
       | inr last ↦
-          let there : after desk ≡ Some (arrived line) =
+          let there : after desk ≡ Some (entry_on_arrival line) =
           changed
           ∙ rw (behind_comes line way.line.home.moves (before desk) (way.behind desk)) refl in
           inr (inl (record {
             home = desk;
-            last = arrived line;
+            last = entry_on_arrival line;
             is = there;
             here = refl;
-            same = subst (λ (one : Entry). SayAlike (Some (arrived one)) known) (sym last.1)
+            same = subst (λ (one : Entry). SayAlike (Some (entry_on_arrival one)) known)
+                (sym last.1)
                 way.same;
             others = λ other apart. subst (IsBehind line.home.moves) (sym (rest other apart))
                 (subst (λ (one : Entry). IsBehind one.home.moves (before other)) (sym last.1)

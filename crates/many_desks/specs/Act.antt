@@ -3,7 +3,7 @@
 use Rattle.std.specs.Prelude.{◌≡◌, ◌⊎◌, ℕ, true, List, [], ◌∷◌, if◌then◌else◌, All, Option, None}
 use Rattle.std.specs.Str.{bytes_eq}
 use Rattle.desk_memory.specs.Entry.{Entry, last_in, owner_in}
-use Rattle.desk_memory.specs.Moving.{adopted, adoption_fault, departed, entries_of, has_here, moved_lines}
+use Rattle.desk_memory.specs.Moving.{with_arrivals, adoption_fault, with_departure, entries_of, has_here, moved_lines}
 use Rattle.verifier_desk.specs.Gone.{first_gone}
 use Rattle.verifier_desk.specs.KeyOwner.{KeysStandApart}
 use Rattle.verifier_desk.specs.Noted.{entries_after}
@@ -29,8 +29,8 @@ desk_of (Adopts desk lines) = desk
 
 abbrev pub entries_by : Act → List Entry → List Entry
 entries_by (Serves desk run) entries = entries_after run.desk run.lines
-entries_by (Sends desk name target) entries = departed name target entries
-entries_by (Adopts desk lines) entries = adopted entries lines
+entries_by (Sends desk name target) entries = with_departure name target entries
+entries_by (Adopts desk lines) entries = with_arrivals entries lines
 
 abbrev pub with_memory : World → List ℕ → List Entry → List ℕ → List Entry
 with_memory world desk entries other = if bytes_eq desk other then entries else world other
@@ -46,7 +46,7 @@ world_after start (act ∷ earlier) =
 abbrev pub IsMove : World → Act → List ℕ → List ℕ → List Entry → Type 0
 IsMove world (Sends desk device target) name to lines =
     (device ≡ name) × (target ≡ to)
-    × (lines ≡ moved_lines device (departed device target (world desk)))
+    × (lines ≡ moved_lines device (with_departure device target (world desk)))
 IsMove world act name to lines = ⊥
 
 abbrev pub WasMoved : World → List Act → List ℕ → List ℕ → List Entry → Type 0

@@ -1,7 +1,7 @@
 -- Which counters many desks request and accept.
 use Rattle.std.specs.Prelude.{◌<◌, ◌++◌, ℕ, List, [], ◌∷◌, All, Contains}
 use Rattle.desk_memory.specs.Entry.{last_in}
-use Rattle.verifier_desk.specs.Law.{Descends, KeyCounter, StartsSound, accepted, count_in, counters_in, judged_lines, outstanding_in, requested}
+use Rattle.verifier_desk.specs.Law.{Descends, KeyCounter, StartsSound, accepted_counters, count_in, counters_in, judged_lines, outstanding_in, requested_counters}
 use Rattle.many_desks.specs.Act.{Act, AreAllowed, Serves, World}
 use Rattle.many_desks.specs.Law.{StartsAt}
 
@@ -9,7 +9,7 @@ use Rattle.many_desks.specs.Law.{StartsAt}
 -- entries that it had
 abbrev pub requested_by : Act → List ℕ → List KeyCounter
 requested_by (Serves desk run) name =
-    requested name (last_in run.desk.entries name) (judged_lines run.desk name run.lines)
+    requested_counters name (last_in run.desk.entries name) (judged_lines run.desk name run.lines)
 requested_by act name = []
 
 abbrev pub requested_in : List Act → List ℕ → List KeyCounter
@@ -18,7 +18,7 @@ requested_in (act ∷ earlier) name = requested_by act name ++ requested_in earl
 
 abbrev pub accepted_by : Act → List ℕ → List KeyCounter
 accepted_by (Serves desk run) name =
-    accepted name (last_in run.desk.entries name) (judged_lines run.desk name run.lines)
+    accepted_counters name (last_in run.desk.entries name) (judged_lines run.desk name run.lines)
 accepted_by act name = []
 
 abbrev pub accepted_in : List Act → List ℕ → List KeyCounter

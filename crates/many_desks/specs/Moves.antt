@@ -1,7 +1,7 @@
 -- What becomes of the lines by which devices move: they are adopted once.
 use Rattle.std.specs.Prelude.{◌≡◌, ◌⊎◌, ℕ, false, List, All, Some, None}
 use Rattle.desk_memory.specs.Entry.{Entry, home_of, last_in}
-use Rattle.desk_memory.specs.Moving.{adopted, adoption_fault, has_here, has_not_come}
+use Rattle.desk_memory.specs.Moving.{with_arrivals, adoption_fault, has_here, has_not_come}
 use Rattle.many_desks.specs.Act.{Act, AreAllowed, WasMoved, World, world_after}
 use Rattle.many_desks.specs.Law.{SayAlike, StartsAt, entry_of_one}
 
@@ -29,4 +29,4 @@ AreAlike lines = All (λ line. line.home ≡ home_of (last_in lines line.name)) 
 abbrev pub IsAdoptedAgain : Type 0
 IsAdoptedAgain =
     (entries lines : List Entry) → AreAlike lines
-    → adopted (adopted entries lines) lines ≡ adopted entries lines
+    → with_arrivals (with_arrivals entries lines) lines ≡ with_arrivals entries lines

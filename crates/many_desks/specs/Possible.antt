@@ -1,7 +1,7 @@
 -- What an operator may do: by this each premise of the laws can be met.
 use Rattle.std.specs.Prelude.{◌≡◌, ◌⊎◌, ℕ, List, ◌∷◌, Some, None}
 use Rattle.desk_memory.specs.Entry.{Entry, last_in, owner_in}
-use Rattle.desk_memory.specs.Moving.{departed, moved_lines}
+use Rattle.desk_memory.specs.Moving.{with_departure, moved_lines}
 use Rattle.verifier_desk.specs.DeviceKey.{DeviceKey, key_named}
 use Rattle.verifier_desk.specs.Gone.{first_gone}
 use Rattle.verifier_desk.specs.KeyOwner.{KeysStandApart}
@@ -38,7 +38,7 @@ MayFollow =
     → AreAllowed start (Sends source name target ∷ earlier) → (source ≡ target → ⊥)
     → IsAllowed start (Sends source name target ∷ earlier)
     (Adopts target
-    (moved_lines name (departed name target (world_after start earlier source))))
+    (moved_lines name (with_departure name target (world_after start earlier source))))
 
 -- what a memory prints again of a device that is gone is what it printed when it went, or what it
 -- could print at the start

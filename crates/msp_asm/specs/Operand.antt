@@ -84,8 +84,8 @@ immediate size None value = do
   Ok (source.Immediate word)
 
 -- a source, if it is written in its mode: there R2 and R3 give no constant, and R0 no immediate
-abbrev pub written : Source → Result Source FaultKind
-written operand = if has_form (source_form operand) then Ok operand else Err fault.Operand
+abbrev pub source_in_mode : Source → Result Source FaultKind
+source_in_mode operand = if has_form (source_form operand) then Ok operand else Err fault.Operand
 
 -- an operand as a source, where its extension word is at this address and its expression has this
 -- value: R3 is the constant 0, and indexed R3 is none
@@ -104,8 +104,8 @@ source_of size at (Some (Indexed expr register)) value = do
 source_of size at (Some (Symbolic expr)) value = do
   address ← address_of value
   Ok (source.Indexed R0 (minus address at))
-source_of size at (Some (Indirect register)) value = written (source.Indirect register)
-source_of size at (Some (IndirectInc register)) value = written (source.IndirectInc register)
+source_of size at (Some (Indirect register)) value = source_in_mode (source.Indirect register)
+source_of size at (Some (IndirectInc register)) value = source_in_mode (source.IndirectInc register)
 
 -- an operand as a destination, likewise
 abbrev pub dest_of : ℕ → Option Operand → ℤ → Result Dest FaultKind

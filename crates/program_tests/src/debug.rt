@@ -105,7 +105,7 @@ fn served_over(
     let words = arguments(alloc, words)?;
     let mut shelf = MemShelf::new(named_files(alloc, &files)?, 4_096, Vec::new(alloc));
     let (status, sink) = run(alloc, &words, &mut shelf, &mut source, sink, interrupt);
-    Ok((status, sink.held().to_vec(alloc)?))
+    Ok((status, sink.as_bytes().to_vec(alloc)?))
 }
 
 #[test]

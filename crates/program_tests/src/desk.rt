@@ -61,5 +61,5 @@ pub fn run_over(
     let mut source = MemSource::new(text_of(alloc, lines)?, most, [failing].to_vec(alloc)?);
     let mut sink = MemSink::new(Vec::new(alloc), 10_000, 64, Vec::new(alloc))?;
     let status = run(alloc, &words, &mut shelf, memories, &mut source, &mut sink);
-    Ok((status, sink.held().to_vec(alloc)?))
+    Ok((status, sink.as_bytes().to_vec(alloc)?))
 }

@@ -39,7 +39,7 @@ pub fn run_on(
     let mut shelf = MemShelf::new(named_files(alloc, files)?, 4096, Vec::new(alloc));
     let mut sink = MemSink::new(Vec::new(alloc), 100_000, 4096, Vec::new(alloc))?;
     let status = run(alloc, &words, &mut shelf, &mut sink);
-    Ok((status, sink.held().to_vec(alloc)?))
+    Ok((status, sink.as_bytes().to_vec(alloc)?))
 }
 
 /// A play of these files for so many steps, under the key 00 to 3f.

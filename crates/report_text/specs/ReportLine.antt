@@ -113,20 +113,20 @@ bytes_of words = do
   Ok (bytes, word.1)
 
 -- a field is passed over in its form
-abbrev pub passed : {A : Type 0} → Result (A × List (List ℕ)) FaultKind
+abbrev pub field_skipped : {A : Type 0} → Result (A × List (List ℕ)) FaultKind
     → Result (Unit × List (List ℕ)) FaultKind
-passed answer = answer >>= (λ read. Ok (tt, read.1))
+field_skipped answer = answer >>= (λ read. Ok (tt, read.1))
 
 -- the decision of a denial, another than to attest, is 2 or 3
 abbrev pub field_of : Field → List (List ℕ) → Result (Unit × List (List ℕ)) FaultKind
-field_of fields.Count words = passed (count_of words)
-field_of fields.Byte words = passed (hex_block_of 1 words)
-field_of fields.Rule words = passed (value_of rule_names words)
-field_of fields.Denial words = passed (number_of 2 3 words)
-field_of fields.Verdict words = passed (value_of verdict_names words)
-field_of fields.Bytes words = passed (bytes_of words)
-field_of fields.Pc words = keyword_of (codes "pc") words >>= (λ rest. passed (place_of rest))
-field_of fields.Exec words = passed (exec_of words)
+field_of fields.Count words = field_skipped (count_of words)
+field_of fields.Byte words = field_skipped (hex_block_of 1 words)
+field_of fields.Rule words = field_skipped (value_of rule_names words)
+field_of fields.Denial words = field_skipped (number_of 2 3 words)
+field_of fields.Verdict words = field_skipped (value_of verdict_names words)
+field_of fields.Bytes words = field_skipped (bytes_of words)
+field_of fields.Pc words = keyword_of (codes "pc") words >>= (λ rest. field_skipped (place_of rest))
+field_of fields.Exec words = field_skipped (exec_of words)
 
 abbrev pub fields_of : List Field → List (List ℕ) → Result (Unit × List (List ℕ)) FaultKind
 fields_of [] words = Ok (tt, words)

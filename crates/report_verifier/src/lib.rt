@@ -2,8 +2,8 @@
 //!
 //! A verifier has the device's key, the image that the device shall run, and a policy: the bounds
 //! that a report shall name, the flag that it shall have, and the requests that were sent.
-//! [`decide`] gives the first verdict that holds; a report is accepted exactly where it meets the
-//! policy and its MAC is the one that VRASED and APEX prescribe (USENIX Security 2019 and 2020).
+//! [`verdict_of`] gives the first verdict that holds; a report is accepted exactly where it meets
+//! the policy and its MAC is the one that VRASED and APEX prescribe (USENIX Security 2019 and 2020).
 //! [`exhibit`] shows what it would take to be wrong: two unequal lists with equal digests.
 //!
 //! In version 1 a request is a challenge. In version 2 it carries a counter and a [`token`] too,
@@ -44,5 +44,5 @@ pub use policy::Policy;
 pub use policy_reader::read_policy;
 pub use request_token::token;
 pub use validity::valid_for;
-pub use verdict::{Verdict, decide, decide_by};
+pub use verdict::{Verdict, verdict_by, verdict_of};
 pub use verifier::Verifier;

@@ -76,7 +76,7 @@ impl Named for Verdict {
     ghost words = { Prim.search rules };
 }
 
-fn decide_on<D: Digest32>(
+fn verdict_under<D: Digest32>(
     key: &[u8; 64],
     image: &Image,
     expect: &Expect,
@@ -127,7 +127,7 @@ fn lacks_aux(flag: FlagKind, aux: bool) -> bool
 }
 
 /// The first verdict that holds of a report, where this is expected of it, by MACs over any digest.
-pub fn decide_by<D: Digest32>(
+pub fn verdict_by<D: Digest32>(
     key: &[u8; 64],
     image: &Image,
     expect: Option<&Expect>,
@@ -141,12 +141,12 @@ pub fn decide_by<D: Digest32>(
 {
     match expect {
         None => Verdict::NoChallenge,
-        Some(expect) => decide_on::<D>(key, image, expect, report),
+        Some(expect) => verdict_under::<D>(key, image, expect, report),
     }
 }
 
 /// The first verdict that holds of a report, where this is expected of it.
-pub fn decide(
+pub fn verdict_of(
     key: &[u8; 64],
     image: &Image,
     expect: Option<&Expect>,
@@ -158,5 +158,5 @@ pub fn decide(
         ≡ verdict sha256 key.now (byte_in image.now)
         (option_map (λ expect. expect.now) expect.entry) (fields_of report.now) }
 {
-    decide_by::<Sha256Digest>(key, image, expect, report)
+    verdict_by::<Sha256Digest>(key, image, expect, report)
 }

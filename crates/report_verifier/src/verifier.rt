@@ -1,7 +1,7 @@
 ghost use Rattle.std.specs.Prelude.{◌≡◌};
 
 use crate::policy::Policy;
-use crate::verdict::{Verdict, decide_by};
+use crate::verdict::{Verdict, verdict_by};
 use bus_signals::ReportView;
 use hmac_core::Digest32;
 use mem_map::Image;
@@ -25,6 +25,6 @@ impl Verifier<'_> {
             (fields_of report.now) }
     {
         let expect = self.policy.expect(i);
-        decide_by::<D>(self.key, self.image, expect.as_ref(), report)
+        verdict_by::<D>(self.key, self.image, expect.as_ref(), report)
     }
 }

@@ -17,7 +17,7 @@ use Rattle.debug_session.specs.Cause.{cause}
 use Rattle.debug_session.proofs.Between.{between-is}
 use Rattle.debug_session.specs.Going.{Standing, lies_between, seek_of, where_to}
 use Rattle.debug_session.specs.Place.{Run, view_of}
-use Rattle.debug_session.specs.Session.{Session, answer_of, goes, lines_to, reply, stands_at, told}
+use Rattle.debug_session.specs.Session.{Session, answer_of, goes, lines_to, reply, stands_at, told_lines}
 use Rattle.session_laws.specs.EarlyEnd.{EndsEarly, LedTo, MayEndEarly}
 use Rattle.session_laws.specs.FirstStop.{HasStopped}
 use Rattle.session_laws.specs.StepBack.{MayStandAt}
@@ -75,7 +75,7 @@ module _ (run : Run) (session : Session) (stands : MayStandAt (view_of run) sess
         from,
         to,
         subst (TellsBetween run session.place place)
-            (sym (append-nil (told (view_of run) session.place (place - session.place))))
+            (sym (append-nil (told_lines (view_of run) session.place (place - session.place))))
             (tells-between run session.place place from (omega (arith, to, stood.within))),
       )
   led-to Back going place is =

@@ -7,13 +7,13 @@ use Rattle.play_script.specs.Grammar.{ScriptSoFar, with_entry}
 use Rattle.text_scan.specs.Reader.{◌>>=◌}
 use Rattle.text_scan.specs.declared.fault_kind.FaultKind.{FaultKind}
 use Rattle.device_trace.specs.Trace.{play_of}
-use Rattle.device_live.specs.Answer.{Answer, silent}
-use Rattle.device_live.specs.Life.{Life, events_in, lived, with_happening, with_script}
+use Rattle.device_live.specs.Answer.{Answer, silent_answer}
+use Rattle.device_live.specs.Life.{Life, events_in, play_lived, with_happening, with_script}
 use Rattle.device_live.proofs.Lives.{entry-lived}
 
 pub record GoesOn (life later : Life) : Type 0 where
   pub steps : life.steps ≤ later.steps
-  pub play : play_of (events_in later) life.steps ≡ lived life
+  pub play : play_of (events_in later) life.steps ≡ play_lived life
 
 abbrev pub LeadsOn : Life → Result Answer FaultKind → Type 0
 LeadsOn life result = IfOk result (λ answer. GoesOn life answer.life)
@@ -26,13 +26,13 @@ entry-goes : (life : Life) (step : ℕ) (events : List Event)
     → nat_lt step life.steps ≡ false
     → (read : Result ScriptSoFar FaultKind)
     → with_entry life.script (step, events) ≡ read
-    → LeadsOn life (with_script life read >>= λ later. Ok (silent later))
+    → LeadsOn life (with_script life read >>= λ later. Ok (silent_answer later))
 entry-goes life step events late (Ok script) fits =
     record { steps = omega arith; play = entry-lived life script step events late fits }
 entry-goes life step events late (Err kind) fits = tt
 
 pub happening-goes : (life : Life) (step : ℕ) (events : List Event)
-    → LeadsOn life (with_happening life step events >>= λ later. Ok (silent later))
+    → LeadsOn life (with_happening life step events >>= λ later. Ok (silent_answer later))
 happening-goes life step events =
     ⊎_elim
     (λ late. rw late tt)

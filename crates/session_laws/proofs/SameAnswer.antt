@@ -19,7 +19,7 @@ use Rattle.debug_session.specs.declared.request.Request.TheVariants.{Flags, Play
 use Rattle.debug_session.specs.Cause.{ahead, refusal}
 use Rattle.debug_session.specs.Going.{Standing, interrupted, where_to}
 use Rattle.debug_session.specs.Monitor.{flags_text, request_text}
-use Rattle.debug_session.specs.Session.{Session, after_request, answer_of, goes, lines_to, reply, says, stands_at, warning}
+use Rattle.debug_session.specs.Session.{Session, after_request, answer_of, goes, lines_to, reply, says, stands_at, refusal_warning}
 use Rattle.debug_session.specs.Shown.{memory_body, registers_shown}
 use Rattle.debug_session.specs.Sight.{View}
 use Rattle.session_laws.specs.Gone.{next_boundary}
@@ -31,7 +31,7 @@ module _ (last : ℕ) (left right : View) (same : IsSameTo last left right) wher
   warning-same : (place : ℕ) (stop : Stop) → next_boundary left place ≤ last
       → ((rule : Rule) → stop ≡ Refused rule
       → refusal (ahead left place (most_steps - place)) ≡ Some rule)
-      → warning left place stop ≡ warning right place stop
+      → refusal_warning left place stop ≡ refusal_warning right place stop
   warning-same place (Refused rule) within is_told =
       ap (λ (at : ℕ). console (codes "stops before " ++ reset_line at rule))
       (refused-same last left right same place (most_steps - place) rule within

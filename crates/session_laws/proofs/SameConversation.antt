@@ -13,7 +13,7 @@ use Rattle.key_isolation.proofs.TwoKeys.{one_keyless}
 use Rattle.session_laws.proofs.WithoutKey.{Released, released_before}
 use Rattle.device_live.specs.Answer.{Answer, or_refusal, run_of, standing_line}
 use Rattle.device_live.specs.Conversation.{Talk, answer_to, talk_of, with_answer, with_line}
-use Rattle.device_live.specs.Life.{Life, lived}
+use Rattle.device_live.specs.Life.{Life, play_lived}
 use Rattle.session_laws.specs.LivingSecrecy.{AnswersAlike, IsOneTalk, lived_behind}
 use Rattle.session_laws.proofs.Later.{GoesOn}
 use Rattle.session_laws.proofs.SameLiveAnswer.{IsAnsweredAlike, answered-alike, standing-same}
@@ -119,7 +119,7 @@ answers-alike left right lines same agree newest =
     let one = one_keyless left right play same agree in
     let of_right = subst
     (λ (life : Life).
-    IsOneTalk right (keyless right (lived life) one.after_right) (drop newest lines))
+    IsOneTalk right (keyless right (play_lived life) one.after_right) (drop newest lines))
     (life-same right left lines)
     (answers-keyless right lines one.after_right newest) in
     both-one left right (keyless right play one.after_right) (drop newest lines)

@@ -4,10 +4,10 @@ use Rattle.std.specs.Prelude.{◌==◌, is_some, if◌then◌else◌}
 use Rattle.bus_signals.specs.declared.rule.Rule.{Rule}
 use Rattle.debug_link.specs.Console.{console}
 use Rattle.debug_session.specs.Stops.{Stops}
-use Rattle.debug_session.specs.Cause.{Seek, Step, ahead, behind, between, cause, cause_here, hit_on, hits, is_plain, refusal, refusal_or, steps_over, stop_of}
+use Rattle.debug_session.specs.Cause.{Seek, Step, ahead, behind, sights_between, cause, cause_here, hit_on, hits, is_plain, refusal, refusal_or, steps_over, stop_of}
 use Rattle.debug_session.specs.Monitor.{texts_from}
 use Rattle.debug_session.specs.Place.{no_step}
-use Rattle.debug_session.specs.Session.{refused_step, told}
+use Rattle.debug_session.specs.Session.{refused_step, told_lines}
 use Rattle.debug_session.specs.Shown.{bytes_or, bytes_shown, byte_and, memory_body}
 use Rattle.debug_session.specs.Sight.{Sight, StepSight, View}
 
@@ -59,10 +59,10 @@ cause-still stops seek place here before after =
     ap
     (λ (stepped : Bool).
     if here.boundary
-    then stop_of (hit_on seek.way (hits stops.watches (between seek.way before after)))
+    then stop_of (hit_on seek.way (hits stops.watches (sights_between seek.way before after)))
     (is_plain stops here (place - length before) place) stepped (refusal after)
     else None)
-    (over-still seek.step here (between seek.way before after))
+    (over-still seek.step here (sights_between seek.way before after))
 
 -- where a test decides
 unless-same : (test : Bool) (one other : List Sight) → (test ≡ false → one ≡ other)
@@ -132,7 +132,7 @@ module _ (last : ℕ) (left right : View) (same : IsSameTo last left right) wher
       (ahead right place (seek.last - place))))
 
   pub told-same : (place steps : ℕ) → place + steps ≤ last
-      → told left place steps ≡ told right place steps
+      → told_lines left place steps ≡ told_lines right place steps
   told-same place zero within = refl
   told-same place (suc steps) within =
       let before : place < last = omega (arith, within) in
@@ -152,8 +152,8 @@ module _ (last : ℕ) (left right : View) (same : IsSameTo last left right) wher
       → place + length (ahead left place steps) ≤ last
       → refusal (ahead left place steps) ≡ Some rule
       → refused_step left place steps ≡ refused_step right place steps
-  refused-same place zero rule within told = refl
-  refused-same place (suc steps) rule within told =
+  refused-same place zero rule within told_lines = refl
+  refused-same place (suc steps) rule within told_lines =
       let before : place < last = omega (arith, within) in
       let later : List Sight = ahead left (suc place) steps in
       let test : Bool = (left (suc place)).boundary in
@@ -162,7 +162,7 @@ module _ (last : ℕ) (left right : View) (same : IsSameTo last left right) wher
       (λ none.
       let rest = refusal-unless test later rule
       (sym (refusal-later (left place).next.refused (refusal (if test then [] else later)) none)
-      ∙ told) in
+      ∙ told_lines) in
       refused-same (suc place) steps rule (within-unless test place last later rest.0 within)
       rest.1)
       ∙ ap

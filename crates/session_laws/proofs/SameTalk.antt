@@ -7,7 +7,7 @@ use Rattle.device_trace.specs.Trace.{play_of, released_words}
 use Rattle.key_isolation.specs.Agreement.{ReleaseAlike, SameButKey}
 use Rattle.key_isolation.specs.Keyless.{keyless}
 use Rattle.key_isolation.proofs.TwoKeys.{one_keyless}
-use Rattle.debug_link.specs.Conversation.{Answer, Input, LONGEST_BODY, Talk, answer_to, answered, first_talk, marked, talk_with_byte, talk_with_inputs, with_answer}
+use Rattle.debug_link.specs.Conversation.{Answer, Input, LONGEST_BODY, Talk, answer_to, talk_after_message, first_talk, talk_after_byte, talk_with_byte, talk_with_inputs, with_answer}
 use Rattle.debug_link.specs.Link.{Message, Silence, Again, Damage, Whole, message_of}
 use Rattle.debug_link.specs.declared.connection.Connection.TheVariants.{Open}
 use Rattle.debug_session.specs.Place.{Run, view_of}
@@ -53,9 +53,9 @@ module _ (last : ℕ) (left right : View) (same : IsSameTo last left right) wher
         (reply-same last left right same session here interrupt body)
 
     answered-same : (talk : Talk Session) (message : Message) → talk.session.place ≤ last
-        → IsBefore (answered (reply left interrupt) talk message).session
-        → answered (reply left interrupt) talk message
-        ≡ answered (reply right interrupt) talk message
+        → IsBefore (talk_after_message (reply left interrupt) talk message).session
+        → talk_after_message (reply left interrupt) talk message
+        ≡ talk_after_message (reply right interrupt) talk message
     answered-same talk Silence here before = refl
     answered-same talk Again here before = refl
     answered-same talk Damage here before = refl
@@ -69,9 +69,11 @@ module _ (last : ℕ) (left right : View) (same : IsSameTo last left right) wher
     unfolding talk_with_byte
     byte-same talk byte here before =
         talk-either talk.is_over talk
-        (answered (reply left interrupt) (marked talk byte) (message_of talk.link byte))
-        (answered (reply right interrupt) (marked talk byte) (message_of talk.link byte)) before
-        (answered-same (marked talk byte) (message_of talk.link byte) here)
+        (talk_after_message (reply left interrupt) (talk_after_byte talk byte)
+        (message_of talk.link byte))
+        (talk_after_message (reply right interrupt) (talk_after_byte talk byte)
+        (message_of talk.link byte)) before
+        (answered-same (talk_after_byte talk byte) (message_of talk.link byte) here)
 
   talk-same : (inputs : List (Input ℕ)) (talk : Talk Session) (so_many : ℕ)
       → next_boundary left (furthest left talk inputs) ≤ last

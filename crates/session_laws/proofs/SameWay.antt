@@ -11,7 +11,7 @@ use Rattle.debug_session.specs.Stops.{Stops}
 use Rattle.debug_session.specs.declared.stop.Stop.{Stop}
 use Rattle.debug_session.specs.declared.stop.Stop.TheVariants.{Interrupted, Refused}
 use Rattle.debug_session.specs.declared.watch.Hit.{Hit}
-use Rattle.debug_session.specs.Cause.{Seek, ahead, behind, between, cause, cause_here, hit_on, hits, is_plain, refusal, steps_over, stop_of}
+use Rattle.debug_session.specs.Cause.{Seek, ahead, behind, sights_between, cause, cause_here, hit_on, hits, is_plain, refusal, steps_over, stop_of}
 use Rattle.debug_session.proofs.Between.{between-is, is-between}
 use Rattle.debug_session.specs.Going.{Standing, first_stop, interrupted, last_of, last_stop, lies_between, seek_of, standing_at, step_of, where_to}
 use Rattle.debug_session.specs.Sight.{Sight, View}
@@ -139,9 +139,9 @@ cause-told : (stops : Stops) (seek : Seek) (place : ℕ) (here : Sight) (before 
     → refusal after ≡ Some rule
 cause-told stops seek place here before after rule told =
     boundary-told here.boundary
-    (hit_on seek.way (hits stops.watches (between seek.way before after)))
+    (hit_on seek.way (hits stops.watches (sights_between seek.way before after)))
     (is_plain stops here (place - length before) place)
-    (steps_over seek.step here (between seek.way before after)) (refusal after) rule told
+    (steps_over seek.step here (sights_between seek.way before after)) (refusal after) rule told
 
 cut-or : (test other : Bool) (cut one two : Standing) → (test ≡ true → other ≡ true)
     → (test ≡ false → (other ≡ false) × (one ≡ two))

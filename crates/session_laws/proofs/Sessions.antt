@@ -2,7 +2,7 @@
 use Rattle.std.proofs.Common.{◌≡◌, ◌<◌, ◌≤◌, ◌+◌, ◌⊎◌, inl, inr, ⊎_elim, ℕ, Bool, true, false, List, [], ◌∷◌, Option, Some, None, length, nat_lt, refl, ap, sym, subst, arith}
 use Rattle.std.specs.Prelude.{◌==◌, ◌&&◌, ◌||◌, if◌then◌else◌, max, min, nat_le}
 use Rattle.std.proofs.lemmas.Bool.{and_parts, eqb-true, leb-true, or_cases}
-use Rattle.debug_link.specs.Conversation.{Answer, Input, LONGEST_BODY, Talk, answered, first_talk, marked, talk_with_byte, talk_with_inputs}
+use Rattle.debug_link.specs.Conversation.{Answer, Input, LONGEST_BODY, Talk, talk_after_message, first_talk, talk_after_byte, talk_with_byte, talk_with_inputs}
 use Rattle.debug_link.specs.Link.{Message, Silence, Again, Damage, Whole, message_of}
 use Rattle.debug_link.specs.declared.connection.Connection.TheVariants.{Open}
 use Rattle.debug_session.specs.Command.{command_of}
@@ -147,7 +147,7 @@ module _ {Session Interrupt : Type 0} (Keeps : Session → Type 0)
     talk-either false one other here there = there
 
     answered-keeps : (interrupt : Option Interrupt) (talk : Talk Session) (message : Message)
-        → Keeps talk.session → Keeps (answered (replies interrupt) talk message).session
+        → Keeps talk.session → Keeps (talk_after_message (replies interrupt) talk message).session
     answered-keeps interrupt talk Silence kept = kept
     answered-keeps interrupt talk Again kept = kept
     answered-keeps interrupt talk Damage kept = kept
@@ -161,8 +161,9 @@ module _ {Session Interrupt : Type 0} (Keeps : Session → Type 0)
     unfolding talk_with_byte
     byte-keeps interrupt talk byte kept =
         talk-either talk.is_over talk
-        (answered (replies interrupt) (marked talk byte) (message_of talk.link byte)) kept
-        (answered-keeps interrupt (marked talk byte) (message_of talk.link byte) kept)
+        (talk_after_message (replies interrupt) (talk_after_byte talk byte)
+        (message_of talk.link byte)) kept
+        (answered-keeps interrupt (talk_after_byte talk byte) (message_of talk.link byte) kept)
 
     inputs-keep : (inputs : List (Input Interrupt)) (talk : Talk Session) → Keeps talk.session
         → Keeps (talk_with_inputs replies talk inputs).session

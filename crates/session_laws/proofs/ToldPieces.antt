@@ -7,7 +7,7 @@ use Rattle.device_trace.specs.Text.{lines_of}
 use Rattle.debug_link.specs.Console.{MOST_TEXT, console, console_bodies, text_body}
 use Rattle.debug_session.specs.Request.{most_steps}
 use Rattle.debug_session.specs.Place.{Run, play_to, view_of}
-use Rattle.debug_session.specs.Session.{told}
+use Rattle.debug_session.specs.Session.{told_lines}
 use Rattle.session_laws.specs.ToldLines.{TellsBetween}
 use Rattle.session_laws.proofs.StepTexts.{lines-more}
 
@@ -35,7 +35,7 @@ cut-bodies (suc most) (byte ∷ text) few =
     }
 
 told-pieces : (run : Run) (from steps to : ℕ) → to ≡ steps + from → to ≤ most_steps
-    → TellsBetween run from to (told (view_of run) from steps)
+    → TellsBetween run from to (told_lines (view_of run) from steps)
 told-pieces run from zero to same within =
     let here : to ≡ from = omega (arith, same) in
     record {
@@ -47,7 +47,7 @@ told-pieces run from zero to same within =
 told-pieces run from (suc steps) to same within =
     let step : List ℕ = (view_of run from).next.lines in
     let before : List ℕ = lines_of run.start (play_to run from) in
-    let later : List (List ℕ) = told (view_of run) (suc from) steps in
+    let later : List (List ℕ) = told_lines (view_of run) (suc from) steps in
     let cut : IsCutTo step (console step) = cut-bodies (length step) step (omega arith) in
     let more = told-pieces run (suc from) steps to (omega (arith, same)) within in
     record {
@@ -65,6 +65,6 @@ told-pieces run from (suc steps) to same within =
     }
 
 pub tells-between : (run : Run) (from to : ℕ) → from ≤ to → to ≤ most_steps
-    → TellsBetween run from to (told (view_of run) from (to - from))
+    → TellsBetween run from to (told_lines (view_of run) from (to - from))
 tells-between run from to later within =
     told-pieces run from (to - from) to (omega (arith, later)) within

@@ -3,7 +3,7 @@ use Rattle.std.specs.Prelude.{◌≡◌, ℕ, List, drop}
 use Rattle.device_trace.specs.Play.{Play}
 use Rattle.device_trace.specs.Start.{Start}
 use Rattle.device_live.specs.Conversation.{conversation, talk_of}
-use Rattle.device_live.specs.Life.{lived}
+use Rattle.device_live.specs.Life.{play_lived}
 
 -- both have put the same, of it the same of the steps, and live on from the same life; and at the
 -- end of the input both put the same
@@ -17,4 +17,4 @@ AnswersAlike left right lines = (newest : ℕ) → IsOneTalk left right (drop ne
 
 -- the steps that were made behind all lines
 abbrev pub lived_behind : Start → List (List ℕ) → Play
-lived_behind start lines = lived (talk_of start lines).life
+lived_behind start lines = play_lived (talk_of start lines).life

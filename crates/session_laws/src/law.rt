@@ -8,7 +8,7 @@ ghost use Rattle.debug_link.specs.Conversation.{Input};
 ghost use Rattle.debug_session.specs.Cause.{cause};
 ghost use Rattle.debug_session.specs.Going.{seek_of, where_to};
 ghost use Rattle.debug_session.specs.Place.{Run, view_of};
-ghost use Rattle.debug_session.specs.Session.{Session, told};
+ghost use Rattle.debug_session.specs.Session.{Session, told_lines};
 ghost use Rattle.debug_session.specs.Sight.{View};
 ghost use Rattle.debug_session.specs.Stops.{Stops};
 ghost use Rattle.session_laws.specs.EarlyEnd.{MayEndEarly};
@@ -74,5 +74,5 @@ pub fn shown_is_of_the_play()
 pub fn told_are_the_lines_between()
     ensures { (run : Run) (from to : ℕ)
         → from ≤ to → to ≤ most_steps
-        → TellsBetween run from to (told (view_of run) from (to - from)) }
+        → TellsBetween run from to (told_lines (view_of run) from (to - from)) }
 {}

@@ -9,7 +9,7 @@ use Rattle.source_server.specs.declared.served.Served.{Served}
 use Rattle.source_server.specs.declared.served.Served.TheVariants.{Done, Spent, ReadFault, WriteFault, Own}
 use Rattle.source_server.specs.Responder.{Promise}
 use Rattle.source_server.specs.Serving.{EndsSo, Serves, StopsSo, served_of}
-use Rattle.source_server.specs.Taken.{KeepsLimit, joined, most_input}
+use Rattle.source_server.specs.Taken.{KeepsLimit, joined_pieces, most_input}
 
 -- no more were taken than were left
 few_taken : (bytes : List ℕ) (rest : Option (List ℕ)) (taken : List ℕ)
@@ -29,18 +29,18 @@ module _ {R X O : Type 0} (r : source.Ghosts R) (promise : Promise X O) (old new
   stops_somewhere : (pieces : List (List ℕ)) (why : Halt O)
       → StopsSo r promise old new now pieces why → StopsSomewhere why
   stops_somewhere pieces why (inl so) = (
-    joined (drop 1 pieces),
-    joined (take 1 pieces),
+    joined_pieces (drop 1 pieces),
+    joined_pieces (take 1 pieces),
     so.1,
   )
-  stops_somewhere pieces why (inr so) = (joined pieces, [], so.1)
+  stops_somewhere pieces why (inr so) = (joined_pieces pieces, [], so.1)
 
   pub unwritten : Serves r promise old new now WriteFault → StopsSomewhere halt.Write
   unwritten so = stops_somewhere so.pieces halt.Write so.ends
 
   spent_pieces : (pieces : List (List ℕ)) (served : Served O)
       → EndsSo r promise old new now pieces served → served ≡ Spent
-      → length (joined pieces) ≡ most_input
+      → length (joined_pieces pieces) ≡ most_input
   spent_pieces pieces Spent so is = so.1
   spent_pieces pieces Done so is = absurd (cc is)
   spent_pieces pieces ReadFault so is = absurd (cc is)
@@ -61,7 +61,7 @@ module _ {R X O : Type 0} (r : source.Ghosts R) (promise : Promise X O) (old new
   -- of what is told and within the limit all is answered, unless its responder stops
   whole_pieces : (pieces : List (List ℕ)) (served : Served O)
       → EndsSo r promise old new now pieces served
-      → length (joined pieces) < most_input
+      → length (joined_pieces pieces) < most_input
       → ¬ Rose (r.faults old) (r.faults new)
       → (served ≡ Done)
       ⊎ ((why : Halt O) × (served ≡ served_of why) × StopsSomewhere why)
@@ -80,5 +80,6 @@ module _ {R X O : Type 0} (r : source.Ghosts R) (promise : Promise X O) (old new
       → (served ≡ Done)
       ⊎ ((why : Halt O) × (served ≡ served_of why) × StopsSomewhere why)
   whole_or_stopped bytes served so is few sound =
-      let within = few_taken bytes (r.left new) (joined so.pieces) (rw is at so.given.gave.told) in
+      let within = few_taken bytes (r.left new) (joined_pieces so.pieces)
+      (rw is at so.given.gave.told) in
       whole_pieces so.pieces served so.ends (omega (arith, few, within)) sound

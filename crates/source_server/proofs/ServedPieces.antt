@@ -13,7 +13,7 @@ use Rattle.source_server.specs.declared.served.Served.{Served}
 use Rattle.source_server.specs.declared.served.Served.TheVariants as served
 use Rattle.source_server.specs.Responder.{Answers, Ends, Moment, Promise}
 use Rattle.source_server.specs.Serving.{EndsSo, Serves, StopsSo, served_after, served_of}
-use Rattle.source_server.specs.Taken.{Gave, HasGiven, IsAtEnd, IsLeft, joined, most_input}
+use Rattle.source_server.specs.Taken.{Gave, HasGiven, IsAtEnd, IsLeft, joined_pieces, most_input}
 
 -- one take after another, of the bytes that are told
 left_both : (left : Option (List ℕ)) (one two : List ℕ)
@@ -58,7 +58,7 @@ module _ {R X O : Type 0} (r : source.Ghosts R) (promise : Promise X O) (old new
   stops_so (halt.Own own) so = so
 
   ends_so : (result : Result Unit (Halt O)) → IsAtEnd r old new pieces
-      → Ends promise now (joined pieces) result
+      → Ends promise now (joined_pieces pieces) result
       → EndsSo r promise old new now pieces (served_after result)
   ends_so (Ok unit) at came = (at, came.all)
   ends_so (Err why) at came = stops_so why (inr (at, came.stops))
@@ -70,10 +70,10 @@ module _ {R T E Start O : Type 0} (r : source.Ghosts R)
       (room : ℕ) : Type 0 where
     pub pieces : List (List ℕ)
     pub given : HasGiven r source source_now pieces
-    pub count : length (joined pieces) + room ≡ most_input
+    pub count : length (joined_pieces pieces) + room ≡ most_input
     pub asked : IsLeft r source source_now pieces
     pub answered : (start : Start) → (promise start).answered first []
-        → (promise start).answered now (joined pieces)
+        → (promise start).answered now (joined_pieces pieces)
     pub grows : (one : Moment T E) → since one first → since one now
     pub rises : r.faults source ≤ r.faults source_now
 
@@ -96,7 +96,8 @@ module _ {R T E Start O : Type 0} (r : source.Ghosts R)
     none_more : Gave r source_now source_new [] → HasGiven r source source_new so.pieces
     none_more gave =
         record {
-          gave = gave_still r source source_now source_new (joined so.pieces) so.given.gave gave;
+          gave = gave_still r source source_now source_new
+              (joined_pieces so.pieces) so.given.gave gave;
           whole = so.given.whole;
           few = so.given.few;
         }
@@ -127,7 +128,7 @@ module _ {R T E Start O : Type 0} (r : source.Ghosts R)
             ),
             ends none,
           )
-              (came start (joined so.pieces) (so.answered start begins));
+              (came start (joined_pieces so.pieces) (so.answered start begins));
         }
 
     pub fault_served : 0 < room → Gave r source_now source_new []
@@ -162,7 +163,7 @@ module _ {R T E Start O : Type 0} (r : source.Ghosts R)
     piece_given {n} piece within some few gave =
         let count : length (take n piece) ≡ n = length-take-le n piece within in
         record {
-          gave = gave_both r source source_now source_new (joined so.pieces) (take n piece)
+          gave = gave_both r source source_now source_new (joined_pieces so.pieces) (take n piece)
               so.given.gave gave;
           whole = All-cons (λ piece. 0 < length piece) (take n piece) so.pieces
               (omega (arith, count, some)) so.given.whole;
@@ -170,7 +171,7 @@ module _ {R T E Start O : Type 0} (r : source.Ghosts R)
             arith,
             so.count,
             few,
-            length-append (joined so.pieces) (take n piece),
+            length-append (joined_pieces so.pieces) (take n piece),
             count,
           );
         }
@@ -192,12 +193,12 @@ module _ {R T E Start O : Type 0} (r : source.Ghosts R)
             arith,
             so.count,
             less,
-            length-append (joined so.pieces) (take n piece),
+            length-append (joined_pieces so.pieces) (take n piece),
             length-take-le n piece within,
           );
           asked = asked_piece piece within asked;
           answered = λ start begins.
-              (came start (joined so.pieces) (so.answered start begins)).goes_on;
+              (came start (joined_pieces so.pieces) (so.answered start begins)).goes_on;
           grows = λ one before. grows one (so.grows one before);
           rises = omega (arith, so.rises, rises);
         }
@@ -218,7 +219,7 @@ module _ {R T E Start O : Type 0} (r : source.Ghosts R)
           ends = stops_so r (promise start) source source_new new (take n piece ∷ so.pieces) why
               (inl (
                 asked_piece piece within asked,
-                (came start (joined so.pieces) (so.answered start begins)).stops,
+                (came start (joined_pieces so.pieces) (so.answered start begins)).stops,
               ));
         }
 
@@ -244,14 +245,15 @@ module _ {R X Y O : Type 0} (r : source.Ghosts R) (promise : Promise X O) (other
     → other.stopped y before last why) where
   stops_as : (pieces : List (List ℕ)) (why : Halt O)
       → StopsSo r promise old new x pieces why → StopsSo r other old new y pieces why
-  stops_as pieces why (inl so) = inl (so.0, stopped (joined (drop 1 pieces)) (joined (take 1 pieces)) why so.1)
-  stops_as pieces why (inr so) = inr (so.0, stopped (joined pieces) [] why so.1)
+  stops_as pieces why (inl so) = inl
+      (so.0, stopped (joined_pieces (drop 1 pieces)) (joined_pieces (take 1 pieces)) why so.1)
+  stops_as pieces why (inr so) = inr (so.0, stopped (joined_pieces pieces) [] why so.1)
 
   ends_as : (pieces : List (List ℕ)) (served : Served O)
       → EndsSo r promise old new x pieces served → EndsSo r other old new y pieces served
-  ends_as pieces served.Done so = (so.0, ended (joined pieces) so.1)
-  ends_as pieces served.Spent so = (so.0, so.1, answered (joined pieces) so.2)
-  ends_as pieces served.ReadFault so = (so.0, answered (joined pieces) so.1)
+  ends_as pieces served.Done so = (so.0, ended (joined_pieces pieces) so.1)
+  ends_as pieces served.Spent so = (so.0, so.1, answered (joined_pieces pieces) so.2)
+  ends_as pieces served.ReadFault so = (so.0, answered (joined_pieces pieces) so.1)
   ends_as pieces served.WriteFault so = stops_as pieces halt.Write so
   ends_as pieces (served.Own own) so = stops_as pieces (halt.Own own) so
 

@@ -6,7 +6,7 @@ use Rattle.source_server.specs.declared.halt.Halt.TheVariants as halt
 use Rattle.source_server.specs.declared.served.Served.{Served}
 use Rattle.source_server.specs.declared.served.Served.TheVariants.{Done, Spent, ReadFault, WriteFault, Own}
 use Rattle.source_server.specs.Responder.{Promise}
-use Rattle.source_server.specs.Taken.{HasGiven, IsAtEnd, IsAtFault, IsLeft, joined, most_input}
+use Rattle.source_server.specs.Taken.{HasGiven, IsAtEnd, IsAtFault, IsLeft, joined_pieces, most_input}
 
 -- where a responder stopped, and at the end of its source
 abbrev pub served_of : {O : Type 0} → Halt O → Served O
@@ -22,19 +22,19 @@ abbrev pub StopsSo : {R X O : Type 0} → source.Ghosts R → Promise X O → R 
     → List (List ℕ) → Halt O → Type 0
 StopsSo r promise old new now pieces why =
     (IsLeft r old new pieces
-    × promise.stopped now (joined (drop 1 pieces)) (joined (take 1 pieces)) why)
-    ⊎ (IsAtEnd r old new pieces × promise.stopped now (joined pieces) [] why)
+    × promise.stopped now (joined_pieces (drop 1 pieces)) (joined_pieces (take 1 pieces)) why)
+    ⊎ (IsAtEnd r old new pieces × promise.stopped now (joined_pieces pieces) [] why)
 
 -- what was answered of these pieces, and why no more was taken
 abbrev pub EndsSo : {R X O : Type 0} → source.Ghosts R → Promise X O → R → R → X
     → List (List ℕ) → Served O → Type 0
 EndsSo r promise old new now pieces Done =
-    IsAtEnd r old new pieces × promise.ended now (joined pieces)
+    IsAtEnd r old new pieces × promise.ended now (joined_pieces pieces)
 EndsSo r promise old new now pieces Spent =
-    IsLeft r old new pieces × (length (joined pieces) ≡ most_input)
-    × promise.answered now (joined pieces)
+    IsLeft r old new pieces × (length (joined_pieces pieces) ≡ most_input)
+    × promise.answered now (joined_pieces pieces)
 EndsSo r promise old new now pieces ReadFault =
-    IsAtFault r old new pieces × promise.answered now (joined pieces)
+    IsAtFault r old new pieces × promise.answered now (joined_pieces pieces)
 EndsSo r promise old new now pieces WriteFault = StopsSo r promise old new now pieces halt.Write
 EndsSo r promise old new now pieces (Own own) =
     StopsSo r promise old new now pieces (halt.Own own)

@@ -9,9 +9,9 @@ abbrev pub most_input : ℕ
 most_input = 1073741824
 
 -- pieces one behind the other, the newest first
-abbrev pub joined : List (List ℕ) → List ℕ
-joined [] = []
-joined (piece ∷ pieces) = joined pieces ++ piece
+abbrev pub joined_pieces : List (List ℕ) → List ℕ
+joined_pieces [] = []
+joined_pieces (piece ∷ pieces) = joined_pieces pieces ++ piece
 
 -- a source gave these bytes: what was left begins with them, where it is told
 pub record Gave {R : Type 0} (r : source.Ghosts R) (old new : R) (bytes : List ℕ) : Type 0 where
@@ -21,9 +21,9 @@ pub record Gave {R : Type 0} (r : source.Ghosts R) (old new : R) (bytes : List �
 -- of a source no more than the limit was taken, in these pieces, of which none is empty
 pub record HasGiven {R : Type 0} (r : source.Ghosts R) (old new : R) (pieces : List (List ℕ))
     : Type 0 where
-  pub gave : Gave r old new (joined pieces)
+  pub gave : Gave r old new (joined_pieces pieces)
   pub whole : All (λ piece. 0 < length piece) pieces
-  pub few : length (joined pieces) ≤ most_input
+  pub few : length (joined_pieces pieces) ≤ most_input
 
 -- it gave these pieces, one a call, the newest first, and was asked no more
 abbrev pub IsLeft : {R : Type 0} → source.Ghosts R → R → R → List (List ℕ) → Type 0
@@ -32,7 +32,8 @@ IsLeft r old new pieces =
 
 -- it gave these pieces and, before the limit, nothing at one more call, the last
 abbrev pub IsOver : {R : Type 0} → source.Ghosts R → R → R → List (List ℕ) → Type 0
-IsOver r old new pieces = IsLeft r old new ([] ∷ pieces) × (length (joined pieces) < most_input)
+IsOver r old new pieces = IsLeft r old new ([] ∷ pieces)
+    × (length (joined_pieces pieces) < most_input)
 
 -- which was its end, or failed
 abbrev pub IsAtEnd : {R : Type 0} → source.Ghosts R → R → R → List (List ℕ) → Type 0

@@ -67,26 +67,26 @@ impl HeldLine {
     }
 
     /// The line, where its LF has come now; `None` where it is too long.
-    pub fn ended(&self) -> Option<&[u8]>
+    pub fn line_at_newline(&self) -> Option<&[u8]>
         ensures { option_map (λ line. line.now) result ≡ ended_line self.now }
     {
-        match self.held() {
+        match self.held_bytes() {
             Some(bytes) => short(without_return(bytes)),
             None => None,
         }
     }
 
     /// The line, where the input has ended.
-    pub fn last(&self) -> Option<&[u8]>
+    pub fn line_at_end(&self) -> Option<&[u8]>
         ensures { option_map (λ line. line.now) result ≡ last_line self.now }
     {
-        match self.held() {
+        match self.held_bytes() {
             Some(bytes) => short(bytes),
             None => None,
         }
     }
 
-    fn held(&self) -> Option<&[u8]>
+    fn held_bytes(&self) -> Option<&[u8]>
         ensures { option_map (λ bytes. bytes.now) result ≡ self.now }
     {
         if self.is_over {

@@ -53,7 +53,7 @@ impl<E, L: LineResponder<E>> Responder<E> for Lines<L> {
         if self.held.is_empty() {
             return Ok(());
         }
-        self.responder.answer(self.held.last(), edge)?;
+        self.responder.answer(self.held.line_at_end(), edge)?;
         self.responder.settle(edge)
     }
 }
@@ -77,7 +77,7 @@ fn answer_lines<E, L: LineResponder<E>>(
     let mut rest = piece;
     while let Some(end) = line_end(rest) {
         held.push(&rest[..end]);
-        responder.answer(held.ended(), edge)?;
+        responder.answer(held.line_at_newline(), edge)?;
         held.clear();
         rest = &rest[end + 1..];
     }

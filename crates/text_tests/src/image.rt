@@ -154,7 +154,7 @@ fn an_image_is_written_as_it_was_read(rt: HostRuntime) -> Result<(), Fail> {
     let alloc = rt.alloc();
     let mut sink = MemSink::new(Vec::new(alloc), 100, 7, Vec::new(alloc))?;
     write_hex(&read_hex(alloc, FIRST)?, &mut sink)?;
-    assert_eq!(rt; sink.held(), FIRST);
+    assert_eq!(rt; sink.as_bytes(), FIRST);
     Ok(())
 }
 
@@ -174,7 +174,7 @@ fn records_are_cut_at_multiples_of_16_and_at_gaps(rt: HostRuntime) -> Result<(),
     let mut sink = MemSink::new(Vec::new(alloc), 100, 100, Vec::new(alloc))?;
     write_hex(&torn_image(alloc)?, &mut sink)?;
     let text = b":01020F00AB43\n:020210000102E9\n:0102130003E7\n:00000001FF\n";
-    assert_eq!(rt; sink.held(), text.as_slice());
+    assert_eq!(rt; sink.as_bytes(), text.as_slice());
     Ok(())
 }
 
@@ -184,15 +184,15 @@ fn a_memory_is_written_as_1536_records_and_the_end(rt: HostRuntime) -> Result<()
     let memory = Memory::new(alloc, &[0; 64], &torn_image(alloc)?)?;
     let mut sink = MemSink::new(Vec::new(alloc), 100_000, 100_000, Vec::new(alloc))?;
     write_memory(&memory, &mut sink)?;
-    assert_eq!(rt; sink.held().len(), 1536 * 44 + 12);
+    assert_eq!(rt; sink.as_bytes().len(), 1536 * 44 + 12);
     let first = b":10020000000000000000000000000000000000AB43\n:1002100001020003";
-    assert!(rt; sink.held().starts_with(first.as_slice()));
+    assert!(rt; sink.as_bytes().starts_with(first.as_slice()));
     assert!(rt;
-        sink.held().ends_with(
+        sink.as_bytes().ends_with(
             b":10FFF0000000000000000000000000000000000001\n:00000001FF\n".as_slice()
         )
     );
-    let image = read_hex(alloc, sink.held())?;
+    let image = read_hex(alloc, sink.as_bytes())?;
     for place in 0x0200..0x2200 {
         let byte = memory.read(place, Size::Byte);
         assert!(rt; image.get(place).map(u16::from) == Some(byte), "at {place}");

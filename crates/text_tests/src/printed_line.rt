@@ -21,7 +21,7 @@ fn each_line_has_its_form(rt: HostRuntime) -> Result<(), Fail> {
     }
     let text = b"tx 4 41\ntx 17 5a\ntx 9999999 0b\nreset 0 X0\nreset 106 A4\ndenied 84 3\n\
           denied 1136 2\nend 5 pc c006 exec 0\nend 560 pc c03e exec 1\nend 4 pc 0000 exec 0\n";
-    assert_eq!(rt; sink.held(), text.as_slice());
+    assert_eq!(rt; sink.as_bytes(), text.as_slice());
     Ok(())
 }
 
@@ -130,7 +130,7 @@ fn a_report_has_its_form(rt: HostRuntime) -> Result<(), Fail> {
         };
         let mut sink = MemSink::new(Vec::new(rt.alloc()), 400, 50, Vec::new(rt.alloc()))?;
         print_report(&view, &mut sink)?;
-        assert_eq!(rt; sink.held(), row.line);
+        assert_eq!(rt; sink.as_bytes(), row.line);
     }
     Ok(())
 }
@@ -141,6 +141,6 @@ fn a_sink_that_fails_took_a_prefix(rt: HostRuntime) -> Result<(), Fail> {
     let mut sink = MemSink::new(Vec::new(alloc), 200, 1, [10].to_vec(alloc)?)?;
     assert_eq!(rt; print_sent(4, 0x41, &mut sink), Ok(()));
     assert_eq!(rt; print_end(5, 0xC006, false, &mut sink), Err(Failed));
-    assert_eq!(rt; sink.held(), b"tx 4 41\ne".as_slice());
+    assert_eq!(rt; sink.as_bytes(), b"tx 4 41\ne".as_slice());
     Ok(())
 }

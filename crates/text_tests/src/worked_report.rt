@@ -1,6 +1,6 @@
 use mem_map::Image;
 use report_text::read_reports;
-use report_verifier::{Verdict, decide, read_policy, token};
+use report_verifier::{Verdict, read_policy, token, verdict_of};
 use std::alloc::Global;
 use std::process::Abort;
 use std::test::Fail;
@@ -39,7 +39,7 @@ fn verdict(rt: &impl Abort, alloc: Global, policy: &str, report: &str, code: &[u
         panic!(rt; "there is one report");
     };
     let image = image_of(rt, alloc, code);
-    decide(&key(), &image, policy.expect(0).as_ref(), &report.view())
+    verdict_of(&key(), &image, policy.expect(0).as_ref(), &report.view())
 }
 
 fn key() -> [u8; 64] {

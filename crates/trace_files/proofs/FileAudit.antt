@@ -10,7 +10,7 @@ use Rattle.trace_files.specs.declared.trace_line.TraceLine.{TraceLine}
 use Rattle.trace_files.specs.declared.audit.Audit.{Audit}
 use Rattle.trace_files.specs.declared.audited.Audited.{Audited}
 use Rattle.trace_files.specs.Audit.{AuditStandsFor}
-use Rattle.trace_files.specs.AuditText.{audited}
+use Rattle.trace_files.specs.AuditText.{audit_of_lines}
 use Rattle.trace_files.specs.Offence.{first_offence}
 
 -- an audit has seen lines, this was said of them, and the rest of the file gives what all of it
@@ -19,7 +19,7 @@ pub record HasSeen (all : Result (List TraceLine) FaultAt) (audit : Audit) (said
     (rest : List (ℕ × List ℕ)) : Type 0 where
   pub lines : List TraceLine
   pub stands : AuditStandsFor audit lines
-  pub tells : said ≡ audited lines
+  pub tells : said ≡ audit_of_lines lines
   pub same : all ≡ lines_after lines rest
 
 pub is_empty-length : (line : List ℕ) → is_empty line ≡ (length line == 0)
@@ -68,7 +68,7 @@ pub seen-line : (all : Result (List TraceLine) FaultAt) (audit after : Audit)
     (seen : HasSeen all audit before rest) → rest ≡ line ∷ lines → is_empty line.1 ≡ false
     → (entry : TraceLine)
     × (in_line line.0 (trace_line_of (length seen.lines) (words_of line.1)) ≡ Ok entry)
-    × AuditStandsFor after (entry ∷ seen.lines) × (said ≡ audited (entry ∷ seen.lines))
+    × AuditStandsFor after (entry ∷ seen.lines) × (said ≡ audit_of_lines (entry ∷ seen.lines))
     → HasSeen all after said lines
 seen-line all audit after before said line rest lines seen next says more =
     record {

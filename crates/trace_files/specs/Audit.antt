@@ -5,7 +5,7 @@ use Rattle.text_scan.specs.declared.fault_at.FaultAt.{FaultAt}
 use Rattle.trace_files.specs.declared.trace_line.TraceLine.{TraceLine}
 use Rattle.trace_files.specs.declared.audit.Audit.{Audit}
 use Rattle.trace_files.specs.declared.audited.Audited.{Audited}
-use Rattle.trace_files.specs.AuditText.{audited}
+use Rattle.trace_files.specs.AuditText.{audit_of_lines}
 use Rattle.trace_files.specs.Clean.{seen_in, right_exec}
 
 -- the audit is as these lines, the newest first, left it
@@ -19,5 +19,5 @@ abbrev pub SaysMore :
     Audit → List TraceLine → Result Audited FaultAt → Result TraceLine FaultAt → Type 0
 SaysMore audit before (Ok said) further =
     (line : TraceLine) × (further ≡ Ok line) × AuditStandsFor audit (line ∷ before)
-    × (said ≡ audited (line ∷ before))
+    × (said ≡ audit_of_lines (line ∷ before))
 SaysMore audit before (Err fault) further = further ≡ Err fault

@@ -13,12 +13,12 @@ use Rattle.trace_files.specs.declared.offence.Offence.TheVariants.{RuleIs, ExecI
 use Rattle.trace_files.specs.Offence.{first_offence}
 
 -- how many lines these are, the newest first, and their first offence
-abbrev pub audited : List TraceLine → Audited
-audited lines = record { lines = length lines; offence = first_offence lines }
+abbrev pub audit_of_lines : List TraceLine → Audited
+audit_of_lines lines = record { lines = length lines; offence = first_offence lines }
 
 -- of the lines of a trace file, or the file's first fault, which goes before every offence
 abbrev pub audit_of : List ℕ → Result Audited FaultAt
-audit_of text = value_as audited (trace_of text)
+audit_of text = value_as audit_of_lines (trace_of text)
 
 -- what would be right
 abbrev pub offence_pieces : Offence → List (List ℕ)

@@ -4,7 +4,7 @@ ghost use Rattle.text_scan.specs.Word.{words_of};
 ghost use Rattle.trace_files.specs.LineGrammar.{trace_line_of};
 ghost use Rattle.trace_files.specs.declared.trace_line.TraceLine.{TraceLine};
 ghost use Rattle.trace_files.specs.Audit.{AuditStandsFor, SaysMore};
-ghost use Rattle.trace_files.specs.AuditText.{audit_of, audited};
+ghost use Rattle.trace_files.specs.AuditText.{audit_of, audit_of_lines};
 ghost use Rattle.trace_files.specs.Offence.{or_first};
 
 use crate::audit::Audit;
@@ -41,7 +41,7 @@ fn see_text(
 ) -> Result<Audited, FaultAt>
     ensures { (lines : List TraceLine)
         → AuditStandsFor audit.old lines
-        → before ≡ audited lines
+        → before ≡ audit_of_lines lines
         → SaysMore audit.new lines result
         (in_line number (trace_line_of (length lines) (words_of text.now))) }
 {

@@ -126,7 +126,7 @@ fn access_in(word: &[u8]) -> Result<Option<Access>, FaultKind>
     match word {
         b"-" => Ok(None),
         _ => {
-            let (letter, digits) = cut(word, 1);
+            let (letter, digits) = split_at_most(word, 1);
             access_by(letter, digits)
         }
     }
@@ -176,8 +176,8 @@ fn write_in(size: Size, digits: &[u8]) -> Result<Option<Access>, FaultKind>
     ensures value { result ≡ write_in size digits.now }
     ensures formed { IfOk result (λ access. IfSome access IsFormed) }
 {
-    let (place, written) = cut(digits, 4);
-    let (sign, number) = cut(written, 1);
+    let (place, written) = split_at_most(digits, 4);
+    let (sign, number) = split_at_most(written, 1);
     let Ok(place) = hex_word(place) else {
         return Err(FaultKind::Word);
     };
@@ -219,7 +219,7 @@ fn is_aligned(size: Size, place: u16) -> bool
 }
 
 // The first bytes, as many as there are of so many, and those after them.
-fn cut(bytes: &[u8], count: usize) -> (&[u8], &[u8])
+fn split_at_most(bytes: &[u8], count: usize) -> (&[u8], &[u8])
     ensures first { result.0.now ≡ take count bytes.now }
     ensures rest { result.1.now ≡ drop count bytes.now }
 {

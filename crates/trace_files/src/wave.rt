@@ -61,7 +61,7 @@ impl Wave {
         ensures told { steps_told self.new ≡ steps_told self.old + 1 }
         ensures counts { CountsFaults W.faults sink.old sink.new result }
     {
-        let now = self.shown(sample);
+        let now = self.shown_sample(sample);
         let result = print_step(self.steps, self.last.as_ref(), &now, sink);
         self.steps += 1;
         self.last = Some(now);
@@ -71,7 +71,7 @@ impl Wave {
     }
 
     #[inline(always)]
-    fn shown(&self, sample: &Sample) -> Sample
+    fn shown_sample(&self, sample: &Sample) -> Sample
         ensures { result ≡ shown_now self.now sample.now }
     {
         Sample {
@@ -94,7 +94,7 @@ impl Wave {
         let Some(last) = self.last else {
             return Ok(());
         };
-        let after = self.shown(&last);
+        let after = self.shown_sample(&last);
         print_told(self.steps, self.last.as_ref(), &after, sink)
     }
 }

@@ -23,7 +23,7 @@ use Rattle.desk_memory.specs.DeviceState.{by_number, count_after, is_new, outsta
 use Rattle.desk_memory.specs.Entry.{Entry, entry_at, home_of, state_under}
 use Rattle.verifier_desk.specs.DeviceReply.{LAST_COUNT, answer_to_ask, answer_to_give, new_answer}
 use Rattle.verifier_desk.specs.Judged.{JudgedLine, answer_to, entry_after, entry_through, is_new_to, mark_of, state_before}
-use Rattle.verifier_desk.specs.Law.{Descends, IsAcceptedOnce, KeyCounter, StartsSound, accepted, accepted_counter, count_in, counter_in_state, counter_of, counters_in, outstanding_in, requested, under_mark}
+use Rattle.verifier_desk.specs.Law.{Descends, IsAcceptedOnce, KeyCounter, StartsSound, accepted_counters, accepted_counter, count_in, counter_in_state, counter_of, counters_in, outstanding_in, requested_counters, under_mark}
 
 -- an accepted report has the counter that is expected
 counts_agree : (version chal count : Bool) (later : Verdict)
@@ -281,11 +281,11 @@ line_counted old base name entry now requests accepts so =
 
 counted : (name : List ℕ) (start : Option Entry) (lines : List JudgedLine) → StartsSound start
     → AreCounted (outstanding_in start) (count_in start) (entry_through name start lines)
-    (requested name start lines) (accepted name start lines)
+    (requested_counters name start lines) (accepted_counters name start lines)
 counted name start [] sound = start_counted start sound
 counted name start (now ∷ earlier) sound =
     line_counted (outstanding_in start) (count_in start) name (entry_through name start earlier)
-    now (requested name start earlier) (accepted name start earlier)
+    now (requested_counters name start earlier) (accepted_counters name start earlier)
     (counted name start earlier sound)
 
 pub report_is_accepted_once : IsAcceptedOnce

@@ -8,7 +8,7 @@ use Rattle.std.proofs.lemmas.Slice.Eq.{bytes_eq-Decides}
 use Rattle.desk_memory.specs.declared.answer.Answer.{Answer}
 use Rattle.desk_memory.specs.declared.answer.Answer.TheVariants.{Stale}
 use Rattle.desk_memory.specs.declared.device_state.DeviceState.{DeviceState}
-use Rattle.desk_memory.specs.DeviceState.{by_number, is_new, renewed, with_answer}
+use Rattle.desk_memory.specs.DeviceState.{by_number, is_new, under_new_key, with_answer}
 use Rattle.desk_memory.specs.Entry.{Entry, entry_at, entry_state, home_of}
 use Rattle.verifier_desk.specs.DeviceReply.{new_answer}
 use Rattle.verifier_desk.specs.Judged.{JudgedLine, answer_to, entry_after, is_new_to, mark_of, state_before}
@@ -137,10 +137,11 @@ again_at name entry again number answer same last =
           let found = again_in name entry again entry.state number answer state last same in
           (found.0 ∙ sym told, found.1)
       | inr other ↦
-          let state : entry_state (mark_of again) entry ≡ renewed entry.state = rw other refl in
+          let state : entry_state (mark_of again) entry
+          ≡ under_new_key entry.state = rw other refl in
           let told : (if bytes_eq entry.mark (mark_of again) then answer else Stale) ≡ Stale =
           rw other refl in
-          let found = again_in name entry again (renewed entry.state) number Stale state
+          let found = again_in name entry again (under_new_key entry.state) number Stale state
           (ap (option_map (λ (last : ℕ × Answer). (last.0, Stale))) last) same in
           (found.0 ∙ sym told, found.1)
     ]

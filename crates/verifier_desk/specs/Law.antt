@@ -77,22 +77,22 @@ abbrev pub counters_in : List KeyCounter → List ℕ
 counters_in told = map (λ (one : KeyCounter). one.counter) told
 
 -- of the lines with new numbers, newest first, from a last entry at the start
-abbrev pub requested : List ℕ → Option Entry → List JudgedLine → List KeyCounter
-requested name start [] = []
-requested name start (now ∷ earlier) =
+abbrev pub requested_counters : List ℕ → Option Entry → List JudgedLine → List KeyCounter
+requested_counters name start [] = []
+requested_counters name start (now ∷ earlier) =
     let entry = entry_through name start earlier in
     (if is_new_to entry now then under_mark (mark_of now) (counter_of (answer_to entry now))
     else [])
-    ++ requested name start earlier
+    ++ requested_counters name start earlier
 
-abbrev pub accepted : List ℕ → Option Entry → List JudgedLine → List KeyCounter
-accepted name start [] = []
-accepted name start (now ∷ earlier) =
+abbrev pub accepted_counters : List ℕ → Option Entry → List JudgedLine → List KeyCounter
+accepted_counters name start [] = []
+accepted_counters name start (now ∷ earlier) =
     let entry = entry_through name start earlier in
     (if is_new_to entry now
     then under_mark (mark_of now)
     (accepted_counter (answer_to entry now) (report2_of now.line.words)) else [])
-    ++ accepted name start earlier
+    ++ accepted_counters name start earlier
 
 -- what is outstanding at the start, which was requested before
 abbrev pub counter_in_state : Option ℕ → List ℕ
@@ -125,11 +125,11 @@ Descends (n ∷ ns) = All (λ m. m < n) ns × Descends ns
 abbrev pub IsAcceptedOnce : Type 0
 IsAcceptedOnce =
     (name : List ℕ) (start : Option Entry) (lines : List JudgedLine) → StartsSound start
-    → Descends (counters_in (requested name start lines))
-    × Descends (counters_in (accepted name start lines))
-    × All (λ one. count_in start < one.counter) (requested name start lines)
-    × All (λ one. Contains (requested name start lines ++ outstanding_in start) one)
-    (accepted name start lines)
+    → Descends (counters_in (requested_counters name start lines))
+    × Descends (counters_in (accepted_counters name start lines))
+    × All (λ one. count_in start < one.counter) (requested_counters name start lines)
+    × All (λ one. Contains (requested_counters name start lines ++ outstanding_in start) one)
+    (accepted_counters name start lines)
 
 -- the same number again gets the same answer under the same key, and is stale under another one;
 -- either changes nothing

@@ -126,7 +126,7 @@ impl Desk {
     {
         match said {
             SaidLine::Silent => Ok(None),
-            SaidLine::Foreign => Ok(Some(Reply::refused())),
+            SaidLine::Foreign => Ok(Some(Reply::of_no_device())),
             SaidLine::Own(own) => Ok(Some(self.answer_own(own, memory)?)),
         }
     }
@@ -145,7 +145,7 @@ impl Desk {
         ensures only { OnlyNotes M.Memory memory.old memory.new }
     {
         match self.keys.place_of(own.name) {
-            None => Ok(Reply::refused()),
+            None => Ok(Reply::of_no_device()),
             Some(place) => self.answer_at(place, own, memory),
         }
     }

@@ -13,7 +13,7 @@ use crate::challenge::desk_challenge;
 use crate::desk_line::OwnLine;
 use desk_memory::{Answer, DeviceState};
 use report_text::read_report2;
-use report_verifier::{Expect, Policy, Verifier, decide};
+use report_verifier::{Expect, Policy, Verifier, verdict_of};
 use std::alloc::{AllocError, Global};
 use text_scan::{FaultKind, WordFault, Words};
 
@@ -54,13 +54,13 @@ pub fn answer_to_give(
         Err(WordFault::Memory(error)) => return Err(error),
     };
     let expect = expectation(verifier.key, verifier.policy, outstanding);
-    let decision = decide(
+    let verdict = verdict_of(
         verifier.key,
         verifier.image,
         expect.as_ref(),
         &report.view(),
     );
-    Ok(Answer::Judged(decision))
+    Ok(Answer::Judged(verdict))
 }
 
 // What a report shall name.

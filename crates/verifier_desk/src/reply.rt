@@ -30,7 +30,7 @@ impl Reply {
     }
 
     // To a line that is no line of a device.
-    pub(crate) fn refused() -> Reply
+    pub(crate) fn of_no_device() -> Reply
         ensures { result ≡ record { text = codes "refused\n"; is_noted = false } }
     {
         let mut line = LineBuffer::new();

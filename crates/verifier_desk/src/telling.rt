@@ -110,7 +110,7 @@ fn make_room<M: Memory, W: Sink>(
 }
 
 // Holds a reply back.
-fn hold(withheld: &mut Withheld, reply: &Reply)
+fn hold_back(withheld: &mut Withheld, reply: &Reply)
     requires { length withheld.old.replies + 256 ≤ 65536 }
     ensures { withheld.new ≡ record {
       replies = withheld.old.replies ++ reply.now.text;
@@ -160,7 +160,7 @@ pub fn serve_line<M: Memory, W: Sink>(
     match desk.answer(line, memory) {
         Ok(None) => Ok(()),
         Ok(Some(reply)) => {
-            hold(withheld, &reply);
+            hold_back(withheld, &reply);
             Ok(())
         }
         Err(AnswerFault::Memory) => Err(stop_before_report(withheld, memory, sink)),

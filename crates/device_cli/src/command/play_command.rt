@@ -7,7 +7,7 @@ use crate::power::{Power, PoweredDevice};
 use crate::task::Task;
 use bus_signals::TraceFlag;
 use device_play::PutFault;
-use execution_flags::IsrFlag;
+use execution_flags::AuxFlag;
 use hmac_core::{Digest32, Sha256Digest};
 use input_files::{Inputs, Refusal};
 use outside_edge::{Shelf, Sink};
@@ -41,7 +41,7 @@ impl<'a, T: Telling> Task<'a> for PlayCommand<'a, T> {
         (byte_in values.0.1) values.1) };
 
     ghost is_prepared = { λ command values device. HeldStandsFor
-        ⟦<Sha256Digest as Digest32>⟧.hash ⟦<IsrFlag as TraceFlag>⟧.flag device
+        ⟦<Sha256Digest as Digest32>⟧.hash ⟦<AuxFlag as TraceFlag>⟧.flag device
         (start_of values.0.0 (byte_in values.0.1)) [] };
 
     ghost once_put = { T.once_put };
@@ -75,7 +75,7 @@ impl<'a, T: Telling> Task<'a> for PlayCommand<'a, T> {
         sink: &mut W,
     ) -> Result<Ending, PutFault> {
         let script = &values.1;
-        tell::<T, Sha256Digest, IsrFlag, W>(device, script, self.arguments.steps, sink)?;
+        tell::<T, Sha256Digest, AuxFlag, W>(device, script, self.arguments.steps, sink)?;
         Ok(Ending::Done)
     }
 }

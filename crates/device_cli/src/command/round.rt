@@ -12,7 +12,7 @@ use crate::verdict::judging::Judging;
 use crate::verdict::unanswered::end_verdicts;
 use bus_signals::TraceFlag;
 use device_play::{PutFault, play_before};
-use execution_flags::IsrFlag;
+use execution_flags::AuxFlag;
 use hmac_core::{Digest32, Sha256Digest};
 use input_files::{File, Inputs, Policy, Refusal};
 use outside_edge::{Shelf, Sink};
@@ -80,7 +80,7 @@ impl<'a> Task<'a> for Round<'a> {
         (byte_in values.0.0.1) values.0.1 values.1 };
 
     ghost is_prepared = { λ round values device. HeldStandsFor
-        ⟦<Sha256Digest as Digest32>⟧.hash ⟦<IsrFlag as TraceFlag>⟧.flag device
+        ⟦<Sha256Digest as Digest32>⟧.hash ⟦<AuxFlag as TraceFlag>⟧.flag device
         (start_of values.0.0.0 (byte_in values.0.0.1)) [] };
 
     ghost once_put = { λ outcome. Unit {0} };

@@ -28,7 +28,7 @@ fn print_line<W: Sink>(i: usize, sink: &mut W) -> Result<(), Failed>
 }
 
 // The first request, from 0, that is not answered, where all have to be.
-fn unanswered(all: bool, policy: &Policy, tally: &Tally) -> Option<usize>
+fn first_unanswered(all: bool, policy: &Policy, tally: &Tally) -> Option<usize>
     ensures first { (decisions : List Verdict) → Counts decisions tally.now
         → result ≡ unanswered_if all policy.now.requests decisions }
     ensures place { IfSome result (λ i. i ≡ tally.now.leading_accepts) }
@@ -57,7 +57,7 @@ pub fn end_verdicts<W: Sink>(
         (is_none (unanswered_if all policy.now.requests decisions) && all_accept decisions)) }
     ensures counts { CountsFaults W.faults sink.old sink.new result }
 {
-    match unanswered(all, policy, tally) {
+    match first_unanswered(all, policy, tally) {
         Some(i) => {
             print_line(i, sink)?;
             Ok(Ending::Rejected)

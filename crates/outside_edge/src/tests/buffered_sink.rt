@@ -16,6 +16,6 @@ fn bytes_wait_until_the_buffer_is_full_or_ended(rt: HostRuntime) -> Result<(), F
     assert_eq!(rt; buffer.flush(), Err(Failed));
     let (sink, result) = buffer.finish();
     assert_eq!(rt; result, Ok(()));
-    assert_eq!(rt; sink.held().len(), 20_000);
+    assert_eq!(rt; sink.as_bytes().len(), 20_000);
     Ok(())
 }

@@ -13,7 +13,7 @@ fn long_names_and_large_rooms_have_room(rt: HostRuntime) -> Result<(), Fail> {
     let whole = read_whole(alloc, &mut shelf, name, 1_048_576)?;
     let mut sink = MemSink::new(Vec::new(alloc), 1_000_000, 999, Vec::new(alloc))?;
     assert_eq!(rt; put_all(&mut sink, &whole), Ok(()));
-    assert!(rt; sink.held() == bytes.as_slice());
+    assert!(rt; sink.as_bytes() == bytes.as_slice());
     Ok(())
 }
 

@@ -94,7 +94,7 @@ impl MemFiles {
         ensures unsettled { IfOk result (λ memory. memory.settled ≡ None) }
     {
         let desk = desk.to_vec(self.alloc)?;
-        MemMemory::made(self.alloc, desk, [self.failing].to_vec(self.alloc)?)
+        MemMemory::new_unsettled(self.alloc, desk, [self.failing].to_vec(self.alloc)?)
     }
 
     // Counts a call that is refused, where it is.

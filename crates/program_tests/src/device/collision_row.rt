@@ -70,6 +70,6 @@ fn a_pair_is_printed_where_all_lists_collide(rt: HostRuntime) -> Result<(), Fail
         panic!(rt; "all is put");
     };
     assert!(rt; tally.all_accept());
-    assert_eq!(rt; sink.held(), COLLISION.as_bytes());
+    assert_eq!(rt; sink.as_bytes(), COLLISION.as_bytes());
     Ok(())
 }

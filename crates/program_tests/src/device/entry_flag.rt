@@ -78,6 +78,6 @@ fn memory_shows_the_flag_after_a_call(rt: HostRuntime) -> Result<(), Fail> {
     let mut sink = MemSink::new(Vec::new(alloc), 1000, 100, Vec::new(alloc))?;
     let live = play_before(device, &script, 142, &LineWatcher, &mut sink);
     assert!(rt; live.is_ok());
-    assert_eq!(rt; sink.held(), TEXT);
+    assert_eq!(rt; sink.as_bytes(), TEXT);
     Ok(())
 }

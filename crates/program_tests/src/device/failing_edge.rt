@@ -234,7 +234,7 @@ fn run_failing(
     let mut sink = MemSink::new(Vec::new(alloc), 200_000, 1, [failing_put].to_vec(alloc)?)?;
     let words = words_of(alloc, words)?;
     let status = run(alloc, &words, &mut shelf, &mut sink);
-    Ok((status, sink.held().to_vec(alloc)?))
+    Ok((status, sink.as_bytes().to_vec(alloc)?))
 }
 
 // Among them is the second of the four reads of the policy in a round, between two that succeed.

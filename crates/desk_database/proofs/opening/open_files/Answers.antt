@@ -6,7 +6,7 @@ use Rattle.sqlite_trees.proofs.Doubt.{clean_of, no_doubt}
 use Rattle.sqlite_store.specs.FileStore.{view, faults}
 use Rattle.sqlite_store.specs.Laws.{settled_at}
 use Rattle.desk_database.specs.Table.{IsMemoryOf}
-use Rattle.desk_database.specs.Version.{counted}
+use Rattle.desk_database.specs.Version.{with_next_version}
 use Rattle.desk_database.specs.Opening.{WhyUnopened, faults_of, image_of}
 use Rattle.desk_database.proofs.TableRead.{can_be_founded, finds_rows, from_table, has_entries, has_tables, is_foreign, is_unfounded}
 use Rattle.desk_database.proofs.opening.open_files.Goals as goal
@@ -32,7 +32,7 @@ returns-in-Ok-clause-opened g c clean =
           (sym (opened.committed clean db may)) read;
       counts = λ held h db may.
           opened.committed clean db may
-          ∙ ap (λ (t : Trees). counted (counted t)) (finds.holds held h);
+          ∙ ap (λ (t : Trees). with_next_version (with_next_version t)) (finds.holds held h);
       shielded = opened.shield (c.in_ok-store.ensures.given.guarded (clean_of _ early));
       copied = opened.copied;
     }

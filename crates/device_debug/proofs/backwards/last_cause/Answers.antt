@@ -7,7 +7,7 @@ use Rattle.debug_walk.specs.Walk.{IsStretch, place_of}
 use Rattle.debug_walk.specs.declared.stretch.Stretch.{Stretch}
 use Rattle.debug_session.specs.declared.watch.Watch.{Watch}
 use Rattle.std.specs.Prelude.{List}
-use Rattle.device_debug.specs.Back.{IsLastBehind, placed, seek_back}
+use Rattle.device_debug.specs.Back.{IsLastBehind, stop_with_place, seek_back}
 use Rattle.device_debug.specs.Seek.{step_in, steps_by}
 use Rattle.device_debug.proofs.Kept.{exact-tells}
 use Rattle.device_debug.proofs.LookingBack.{looks-back, looks-first, looks-on}
@@ -64,7 +64,7 @@ loop-here-preserved g c =
           (subst
           (λ (stretch : Stretch). c.found_before-found.result
           ≡ (if nat_lt c.place-begin.result here.place
-          then option_or (placed here.place (stop_of stretch.last_hit here.is_broken
+          then option_or (stop_with_place here.place (stop_of stretch.last_hit here.is_broken
           (steps_by step stretch here.pc) (refusal_or stretch.refused None))) at.found
           else at.found))
           c.stretch.ensures c.found_before-found.ensures)

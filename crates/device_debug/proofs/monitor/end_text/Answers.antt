@@ -14,7 +14,7 @@ unfolding logs_at sight_at
 returns-clause-text g c = λ run walks.
     let place = place_of c.args.halted.now in
     grown-all _ _ _ _ (ap (λ (one : GrownText). one.bytes) c.new-text.ensures)
-    c.in_ok-grown.ensures.same
+    c.in_ok-memory_result.ensures.same
     (c.print_end_of.ensures.puts run.start (play_to run place) (rw c.live.ensures walks.stands))
     ∙ ap (λ (steps : ℕ). end_line steps (next_pc_of (logs_at run place).progress)
     (exec_of (logs_at run place))) (length-play_of run.events_at place)

@@ -1,7 +1,7 @@
 use Rattle.std.proofs.Common.{sym}
-use Rattle.device_live.specs.Life.{lived}
+use Rattle.device_live.specs.Life.{play_lived}
 use Rattle.device_live.proofs.shown.print_registers.Goals as goal
 
 pub returns-clause-puts : goal.returns-clause-puts
 returns-clause-puts g c = λ start life stands.
-    rw (c.registers.ensures start (lived life) stands) at c.print_words.ensures.puts
+    rw (c.registers.ensures start (play_lived life) stands) at c.print_words.ensures.puts

@@ -26,17 +26,18 @@ returns-then-next-step-clause-plays g c = λ start events_at here.
 pub returns-else-next-step-clause-plays : goal.returns-else-next-step-clause-plays
 returns-else-next-step-clause-plays g c = λ start events_at here.
     let from = steps_made c.args.live in
-    let until = steps_made c.play_on.result in
-    let begins = c.play_on.ensures.begins (omega arith) in
-    let within = c.play_on.ensures.within in
+    let until = steps_made c.run_to_line.result in
+    let begins = c.run_to_line.ensures.begins (omega arith) in
+    let within = c.run_to_line.ensures.within in
     let none : (step : ℕ) → from ≤ step → step < until → events_at step ≡ [] =
     λ step after below.
     sym (here.left step after) ∙ c.next_step-next.ensures.before step (omega arith) in
     record {
       midway = record {
-        stands = subst (LiveStandsFor g.D.Digest32.hash g.G.TraceFlag.flag c.play_on.result start)
+        stands = subst (LiveStandsFor g.D.Digest32.hash g.G.TraceFlag.flag c.run_to_line.result
+            start)
             (idle-play events_at from until (until - from) (omega arith) none)
-            (c.play_on.ensures.stands start (play_of events_at from) here.stands);
+            (c.run_to_line.ensures.stands start (play_of events_at from) here.stands);
         left = λ later after. here.left later (omega arith);
       };
       passed = λ step after below. (
@@ -45,6 +46,7 @@ returns-else-next-step-clause-plays g c = λ start events_at here.
             (idle-play events_at from (suc step) (suc (step - from)) (omega arith)
             (λ one after earlier. none one after (omega arith)))
             (silent-at start (play_of events_at from) (until - from - 1) (step - from)
-            (c.play_on.ensures.silent start (play_of events_at from) here.stands) (omega arith)),
+            (c.run_to_line.ensures.silent start (play_of events_at from) here.stands)
+            (omega arith)),
       );
     }

@@ -19,7 +19,7 @@ use Rattle.device_trace.specs.Start.{with_key, without_key}
 use Rattle.device_trace.specs.Step.{record_of, next_record}
 use Rattle.device_trace.specs.Text.{lines_of, play_text}
 use Rattle.device_trace.specs.Trace.{logs_after, released_words}
-use Rattle.key_isolation.specs.AttestedPlay.{attested_text, attested_words, attesting_start, requested}
+use Rattle.key_isolation.specs.AttestedPlay.{attested_text, attested_words, attesting_start, requested_image}
 use Rattle.key_isolation.specs.Example.{whole_call}
 use Rattle.key_isolation.proofs.CallDigests.{call_rows, looked_up, sha256-by_rows}
 use Rattle.key_isolation.proofs.TwoKeys.{looks_keyless}
@@ -31,10 +31,10 @@ releases_with key = released_words (attesting_start key) whole_call
 
 by_rows : (key : Bytes)
     → releases_with key
-    ≡ released_words (with_key aux (looked_up call_rows) key requested) whole_call
+    ≡ released_words (with_key aux (looked_up call_rows) key requested_image) whole_call
 unfolding releases_with
 by_rows key =
-    ap (λ (digest : Digest). released_words (with_key aux digest key requested) whole_call)
+    ap (λ (digest : Digest). released_words (with_key aux digest key requested_image) whole_call)
     sha256-by_rows
 
 releases : releases_with (upwards 0 64) ≡ attested_words
@@ -49,7 +49,7 @@ unfolding alu_result shift_result head_of call_items next_access entry_access ke
     logs_after aux looked_up
 denies = by_rows (upwards 1 64) ∙ refl
 
-prints : play_text (without_key aux attested_words requested) whole_call ≡ attested_text
+prints : play_text (without_key aux attested_words requested_image) whole_call ≡ attested_text
 unfolding digits encode_with alu_result shift_result head_of call_items next_access entry_access
     key_rule atomicity_rule exec with_events with_record signals_at first_rule record_of next_record
     logs_after aux lines_of play_text
@@ -63,7 +63,7 @@ pub returns-clause-printed : goal.returns-clause-printed
 unfolding releases_with
 returns-clause-printed c =
     (looks_keyless (attesting_start (upwards 0 64)) whole_call []).same_text
-    ∙ ap (λ (words : List ℕ). play_text (without_key aux words requested) whole_call)
+    ∙ ap (λ (words : List ℕ). play_text (without_key aux words requested_image) whole_call)
     (append-nil (released_words (attesting_start (upwards 0 64)) whole_call) ∙ releases)
     ∙ prints
 

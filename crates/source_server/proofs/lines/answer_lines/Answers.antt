@@ -27,7 +27,7 @@ loop-end-preserved g c =
           (drop (end + 1) rest) (c.loop-end.invariant.tells start)
           (split_at_end rest end c.in-Some.ensures.within c.in-Some.ensures.end)
           (take_rest rest (end + 1))
-          (plain_front rest end c.in-Some.ensures.before) c.push.ensures c.ended.ensures
+          (plain_front rest end c.in-Some.ensures.before) c.push.ensures c.line_at_newline.ensures
           c.clear.ensures (c.in_ok-answer.ensures.answers start);
       grows = λ first so. c.in_ok-answer.ensures.grows first (c.loop-end.invariant.grows first so);
     }
@@ -41,7 +41,7 @@ returns-in_err-answer-clause-tells g c =
     piece_stopped (g.L.LineResponder.promise start) (take end rest) (drop (end + 1) rest)
     c.in_err-answer.field-0.0 (c.loop-end.invariant.tells start)
     (split_at_end rest end c.in-Some.ensures.within c.in-Some.ensures.end)
-    (plain_front rest end c.in-Some.ensures.before) c.push.ensures c.ended.ensures
+    (plain_front rest end c.in-Some.ensures.before) c.push.ensures c.line_at_newline.ensures
     (c.in_err-answer.ensures.answers start) cut before)
 
 pub returns-in_err-answer-clause-grows : goal.returns-in_err-answer-clause-grows

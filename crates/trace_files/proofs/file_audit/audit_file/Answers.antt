@@ -1,7 +1,7 @@
 use Rattle.std.proofs.Common.{◌∙◌, ap, sym, Ok}
 use Rattle.std.proofs.lemmas.Result.{err_from_is_err_and}
 use Rattle.text_scan.specs.Reader.{value_as}
-use Rattle.trace_files.specs.AuditText.{audited}
+use Rattle.trace_files.specs.AuditText.{audit_of_lines}
 use Rattle.trace_files.proofs.FileAudit.{is_empty-length, seen-none, seen-passed, seen-line, seen-fault, seen-end}
 use Rattle.trace_files.proofs.file_audit.audit_file.Goals as goal
 
@@ -29,7 +29,7 @@ returns-in_err-audited c =
     let seen = c.loop-number.invariant in
     let p = err_from_is_err_and c.from_residual.result c.from_residual.ensures.1 in
     rw (p.1, p.2)
-    (sym (ap (value_as audited)
+    (sym (ap (value_as audit_of_lines)
     (seen-fault _ c.loop-number.audit c.loop-number.audited
     (c.in-Some.number, c.in-Some.line.now) _ c.next.new.self c.in_err-audited.field-0.0 seen
     c.in-Some.ensures.steps
@@ -40,5 +40,5 @@ pub returns : goal.returns
 returns c =
     let seen = c.loop-number.invariant in
     ap Ok seen.tells
-    ∙ sym (ap (value_as audited)
+    ∙ sym (ap (value_as audit_of_lines)
     (seen-end _ c.loop-number.audit c.loop-number.audited _ seen c.in-None.ensures.steps.0))

@@ -46,14 +46,14 @@ pub returns-in-Ok-Some-clause-goes_on : goal.returns-in-Ok-Some-clause-goes_on
 returns-in-Ok-Some-clause-goes_on g c = λ fields earlier bytes first tells line.
     reply_told g.M.Memory g.W.Sink first fields
     (record { memory = c.make_room.new.memory; sink = c.make_room.new.sink })
-    c.answer.new.memory c.make_room.new.withheld c.hold.new.withheld earlier bytes
+    c.answer.new.memory c.make_room.new.withheld c.hold_back.new.withheld earlier bytes
     c.answer.new.self (desk_line_of_words fields.devices (words_of c.in-Some.line.now))
     (reply_or_none c.in-Ok-Some.field-0)
     (says_short fields.devices bytes c.in-Some.line.now
     (sym (ap (option_map (λ (one : Bor (List ℕ)). one.now)) c.in-Some.is) ∙ line))
     (c.in-Ok.ensures.goes_on fields earlier first tells.told) c.answer.ensures.only
     (c.in-Ok-Some.ensures.answers fields (lines_said fields earlier) tells.stands)
-    (rw c.in-Ok-Some.field-0-is c.hold.ensures)
+    (rw c.in-Ok-Some.field-0-is c.hold_back.ensures)
 
 pub returns-in-Err-Memory-clause-stops : goal.returns-in-Err-Memory-clause-stops
 returns-in-Err-Memory-clause-stops g c = λ fields earlier bytes first tells line.

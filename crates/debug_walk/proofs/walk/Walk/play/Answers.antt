@@ -20,6 +20,6 @@ pub returns-clause-tells : goal.returns-clause-tells
 returns-clause-tells g c = λ stops empty run walks known.
     let walk = c.args.self in
     let later = steps_made c.play_to_shown-live.result in
-    subst (TellsCause stops false run later) (sym (c.begun-stretch.ensures run walks))
+    subst (TellsCause stops false run later) (sym (c.next_stretch-stretch.ensures run walks))
     (tells-unasked stops run (place_of walk) later walk.stretch empty
     c.play_to_shown-live.ensures.made known)

@@ -39,7 +39,7 @@ returns-clause-stretch g c = λ run walks known.
     subst (λ at. IsStretch watches run at c.with-stretch.result) (sym (add-one place))
     (subst (IsStretch watches run (suc place))
     (sym (c.with-stretch.ensures
-    ∙ rw (c.begun-stretch.ensures run walks, at, ← (entry-made made)) refl))
+    ∙ rw (c.next_stretch-stretch.ensures run walks, at, ← (entry-made made)) refl))
     is)
 
 pub returns-clause-tells : goal.returns-clause-tells
@@ -72,5 +72,5 @@ returns-clause-tells g c = λ stops asleep same run walks known.
     subst (λ at. TellsCause stops asleep run at c.with-stretch.result) (sym (add-one place))
     (subst (TellsCause stops asleep run (suc place))
     (sym (c.with-stretch.ensures
-    ∙ rw (c.begun-stretch.ensures run walks, at, ← (entry-made made), ← same) refl))
+    ∙ rw (c.next_stretch-stretch.ensures run walks, at, ← (entry-made made), ← same) refl))
     is)

@@ -11,7 +11,7 @@ returns-clause-stands g c = λ start logs stands.
       same_peripherals = c.in_ok-try_clone-2.ensures logs.peripherals stands.same_peripherals;
       same_monitors =
           subst (λ monitors. MonitorsStandFor g.G.TraceFlag.flag monitors logs.records)
-          (sym c.copied.ensures) stands.same_monitors;
+          (sym c.duplicate.ensures) stands.same_monitors;
       same_flag = stands.same_flag;
       same_last = stands.same_last;
     }

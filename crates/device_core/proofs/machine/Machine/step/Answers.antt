@@ -9,7 +9,7 @@ returns-clause-stands g c = λ start play stands.
     let logs = logs_after start play in
     let bus = c.take_events-script_reset.ensures.stands start logs stands.same.same_bus in
     rw c.take_events-script_reset.ensures.reset at
-    (c.go_from.ensures.stands start (with_events logs c.args.events.now)
+    (c.step_after_events.ensures.stands start (with_events logs c.args.events.now)
     (record {
       same_bus = bus;
       same_progress = stands.same.same_progress;

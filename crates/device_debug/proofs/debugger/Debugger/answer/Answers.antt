@@ -49,7 +49,7 @@ returns-in-Actions-clause-gives g c =
     c.say-in-Actions.ensures.gives)
 
 pub returns-in-Go-clause-gives : goal.returns-in-Go-clause-gives
-returns-in-Go-clause-gives g c = rw c.in-Go.is c.go.ensures.gives
+returns-in-Go-clause-gives g c = rw c.in-Go.is c.resume.ensures.gives
 
 pub returns-in-Monitor-clause-gives : goal.returns-in-Monitor-clause-gives
 returns-in-Monitor-clause-gives g c =

@@ -6,9 +6,9 @@ use Rattle.device_debug.proofs.debugger.Debugger.show_memory.Goals as goal
 
 pub returns-in_err-put_digits-clause-gives : goal.returns-in_err-put_digits-clause-gives
 returns-in_err-put_digits-clause-gives g c =
-    memory-said _ _ _ _ c.args.self.now c.args.first c.args.size _ c.in_ok-halted.field-0.now
+    memory-said _ _ _ _ c.args.self.now c.args.first c.args.size _ c.in_ok-current_walk.field-0.now
     c.deref.result.now c.shown_bytes.result.items c.if-size-eq0.false
-    (sym c.if-is_shown.ensures) c.deref.ensures.0 c.in_ok-halted.ensures.halted
+    (sym c.if-is_shown.ensures) c.deref.ensures.0 c.in_ok-current_walk.ensures.halted
     c.shown_bytes.ensures
     (half-said _ _ _ _ c.args.self.now (encode_lower c.deref.result.now) _
     c.from_residual-in_err-put_digits.ensures.0 c.in_err-put_digits.ensures.puts.prefix)
@@ -20,9 +20,9 @@ returns-then-size-eq0-clause-gives g c =
 
 pub returns-in_ok-put_digits-clause-gives : goal.returns-in_ok-put_digits-clause-gives
 returns-in_ok-put_digits-clause-gives g c =
-    memory-said _ _ _ _ c.args.self.now c.args.first c.args.size _ c.in_ok-halted.field-0.now
+    memory-said _ _ _ _ c.args.self.now c.args.first c.args.size _ c.in_ok-current_walk.field-0.now
     c.deref.result.now c.shown_bytes.result.items c.if-size-eq0.false
-    (sym c.if-is_shown.ensures) c.deref.ensures.0 c.in_ok-halted.ensures.halted
+    (sym c.if-is_shown.ensures) c.deref.ensures.0 c.in_ok-current_walk.ensures.halted
     c.shown_bytes.ensures
     (said _ _ _ _ c.args.self.now (encode_lower c.deref.result.now)
     c.in_ok-put_digits.ensures.puts.all c.put_digits.ensures.last)

@@ -6,4 +6,4 @@ use Rattle.device_debug.proofs.step_text.StepText.of.Goals as goal
 pub returns-clause-text : goal.returns-clause-text
 returns-clause-text g c = λ run stands.
     grown-all _ _ _ _ (ap (λ (one : GrownText). one.bytes) c.new-text.ensures)
-    c.in_ok-grown.ensures.same (c.print.ensures run stands)
+    c.in_ok-memory_result.ensures.same (c.print.ensures run stands)

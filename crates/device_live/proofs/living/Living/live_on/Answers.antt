@@ -9,9 +9,9 @@ returns-clause-lives g c = λ start life stands on.
     sym c.take.ensures.value ∙ c.in-Some.is in
     let live = alive g.D.Digest32.hash g.G.TraceFlag.flag c.args.self.now start life stands
     c.in-Some.live is in
-    let so = c.in_ok-play_on.ensures.plays start life live stands.to_come on in (
+    let so = c.in_ok-play_and_print.ensures.plays start life live stands.to_come on in (
       record {
-        live = c.in_ok-play_on.field-0;
+        live = c.in_ok-play_and_print.field-0;
         there = refl;
         stands = so.0;
         to_come = rw c.forget_before.ensures.events

@@ -12,12 +12,13 @@ returns-in_err-answer-clause-ends g c =
       all = tt;
       stops = last_stopped (g.L.LineResponder.promise start) bytes c.in_err-answer.field-0.0
           (λ is. false≢true (sym c.if-is_empty.false ∙ c.is_empty.ensures.1 is)) so.0
-          c.last.ensures (c.in_err-answer.ensures.answers start);
+          c.line_at_end.ensures (c.in_err-answer.ensures.answers start);
     })
 
 pub returns-clause-ends : goal.returns-clause-ends
 returns-clause-ends g c = λ start bytes so.
     let settled = last_settled (g.L.LineResponder.promise start) bytes c.settle.result
-    (λ is. false≢true (sym c.if-is_empty.false ∙ c.is_empty.ensures.1 is)) so.0 c.last.ensures
+    (λ is. false≢true (sym c.if-is_empty.false ∙ c.is_empty.ensures.1 is)) so.0
+    c.line_at_end.ensures
     (c.in_ok-answer.ensures.answers start) (c.settle.ensures.settles start) in
     record { all = settled.0; stops = settled.1 }

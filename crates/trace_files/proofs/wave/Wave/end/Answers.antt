@@ -14,7 +14,7 @@ returns-clause-puts g c = λ samples stands.
     subst (λ (text : List ℕ). Puts g.W.Sink.stands c.args.sink.now c.print_told.new.sink text
     c.print_told.result)
     (ap (λ (after : Sample). told_text wave.steps (option_copied c.as_ref.result) after)
-    c.shown-after.ensures
+    c.shown_sample-after.ensures
     ∙ ap (λ (before : Option Sample). told_text wave.steps before (shown_now wave last))
     c.as_ref.ensures.value
     ∙ sym (end_told wave samples last stands c.in-Some.is))

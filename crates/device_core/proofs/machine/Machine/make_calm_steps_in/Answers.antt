@@ -1,0 +1,52 @@
+use Rattle.std.proofs.Common.{◌+◌, refl, arith}
+use Rattle.device_core.specs.Silence.{with_idle}
+use Rattle.device_core.proofs.CalmRuns.{region-idle}
+use Rattle.device_core.proofs.Idle.{goes-idle, silent-more, silent-unkept}
+use Rattle.device_core.proofs.QuietSteps.{quiet-more}
+use Rattle.device_core.proofs.machine.Machine.make_calm_steps_in.Goals as goal
+
+pub loop-made-init : goal.loop-made-init
+loop-made-init g c = (
+  omega arith,
+  c.requires,
+  λ start play stands region. (stands, tt, tt, region),
+)
+
+pub loop-made-preserved : goal.loop-made-preserved
+loop-made-preserved g c = (
+  omega arith,
+  c.try_calm_step.ensures.last,
+  λ start play stands region.
+      let made = c.loop-made.made in
+      let (here, all, quiet, calm) = c.loop-made.invariant.2 start play stands region in
+      let (goes, after, quietly) =
+      c.try_calm_step.ensures.made c.if-not-try_calm_step.false start _ here.same here.same_stage
+      calm in
+      let next = goes-idle made play goes in
+      let silent =
+      silent-unkept start (with_idle (made + 1) play) _ next.same.same_bus.same_last
+      (rw c.try_calm_step.ensures.last refl) in (
+        next,
+        silent-more start made play silent all,
+        quiet-more start made play quietly silent quiet,
+        region-idle g.G.TraceFlag.flag c.args.code start made play after,
+      ),
+)
+
+pub returns-then-not-try_calm_step-clause-plays : goal.returns-then-not-try_calm_step-clause-plays
+returns-then-not-try_calm_step-clause-plays g c = λ start play stands region.
+    let (here, all, quiet, calm) = c.loop-made.invariant.2 start play stands region in
+    (rw (c.try_calm_step.ensures.unmade c.if-not-try_calm_step.true) here, all)
+
+pub returns-then-not-try_calm_step-clause-quietly :
+    goal.returns-then-not-try_calm_step-clause-quietly
+returns-then-not-try_calm_step-clause-quietly g c = λ start play stands region.
+    let (here, all, quiet, calm) = c.loop-made.invariant.2 start play stands region in quiet
+
+pub returns-clause-plays : goal.returns-clause-plays
+returns-clause-plays g c = λ start play stands region.
+    let (here, all, quiet, calm) = c.loop-made.invariant.2 start play stands region in (here, all)
+
+pub returns-clause-quietly : goal.returns-clause-quietly
+returns-clause-quietly g c = λ start play stands region.
+    let (here, all, quiet, calm) = c.loop-made.invariant.2 start play stands region in quiet

@@ -1,0 +1,12 @@
+use Rattle.std.proofs.Common.{sym, subst}
+use Rattle.device_core.specs.Machine.{PlaysOn}
+use Rattle.device_core.specs.declared.stage.Stage.{Stage}
+use Rattle.device_core.proofs.machine.Machine.take_fast_path_from.Goals as goal
+
+pub returns-in-Running-clause-plays : goal.returns-in-Running-clause-plays
+returns-in-Running-clause-plays g c =
+    subst
+    (λ (at : Stage).
+    PlaysOn g.D.Digest32.hash g.G.TraceFlag.flag at c.args.self.now c.take_fast_path.result
+    c.take_fast_path.new.self)
+    (sym c.in-Running.is) c.take_fast_path.ensures.plays

@@ -1,0 +1,27 @@
+use Rattle.std.proofs.Common.{◌≡◌, ◌≤◌, ◌-◌}
+use Rattle.debug_session.specs.Request.{most_steps}
+use Rattle.debug_session.specs.Place.{Run}
+use Rattle.debug_walk.specs.Copies.{TrackStandsFor}
+use Rattle.debug_walk.specs.Walk.{Walks, place_of}
+use Rattle.device_debug.specs.Going.{StandsAt}
+use Rattle.device_debug.specs.Seek.{step_in}
+use Rattle.device_debug.proofs.Going.{IsGoing}
+use Rattle.device_debug.proofs.forwards.go_forwards.Given as goal
+
+abbrev pub invariant-loop-look : goal.invariant-loop-look
+invariant-loop-look g l =
+    let hash = g.D.Digest32.hash in
+    record {
+      from_is : l.from ≡ place_of l.fn.walk;
+      rises : g.W.Sink.faults l.fn.packets.sink ≤ g.W.Sink.faults l.packets.sink;
+      same_run : l.track.run ≡ l.fn.track.run;
+      stays : (run : Run) → TrackStandsFor hash l.fn.track run → Walks hash run l.fn.walk
+          → TrackStandsFor hash l.track run × Walks hash run l.walk;
+      going : (run : Run) → TrackStandsFor hash l.fn.track run
+          → StandsAt hash run l.from l.fn.walk
+          → IsGoing hash g.W.Sink run l.stops (step_in l.seek) l.from l.fn.packets l.packets
+          l.walk l.waiting;
+    }
+
+abbrev pub decreases-loop-look : goal.decreases-loop-look
+decreases-loop-look g l = most_steps - place_of l.walk
